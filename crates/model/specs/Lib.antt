@@ -1,0 +1,16 @@
+pub mod Stamps
+pub mod Lists
+pub mod Values
+pub mod Texts
+pub mod Tables
+pub mod Statements
+pub mod Transactions
+pub mod Logs
+pub mod Answers
+pub mod Members
+pub mod Steps
+pub mod Worlds
+pub mod Agreement
+pub mod TableRows
+pub mod Rows
+pub mod Kept

@@ -1,0 +1,259 @@
+-- One step of one member, by what it is given: Figure 2 of "In search of an understandable consensus algorithm", with
+-- fixed members. Unlike there a term, a log and a message have limits, each entry has a stamp that rises, a new leader
+-- appends a Close at once, and a message that no honest member can send changes nothing, the term neither.
+use Rattle.std.specs.Prelude.{ℕ, zero, suc, ◌+◌, ◌-◌, ℤ, max, min, Bool, true, false, not, ◌&&◌, ◌||◌, ◌==◌, nat_lt, nat_le, if◌then◌else◌, Option, Some, None, option_map, is_ok, List, [], ◌∷◌, ◌++◌, map, length, take, drop, replicate}
+use Rattle.std.specs.List.{list_all}
+use Rattle.model.specs.Lists.{nth, nth_or, with_nth}
+use Rattle.fault.specs.declared.refusal.Refusal.{Refusal}
+use Rattle.fault.specs.declared.refusal.Refusal.TheVariants.{NotLeader, TimeFull, LogFull, TermFull}
+use Rattle.model.specs.Transactions.{Schema}
+use Rattle.model.specs.declared.entry.Entry.{Entry}
+use Rattle.model.specs.declared.entry.Request.{Request}
+use Rattle.model.specs.Stamps.{TIME_LAST, above, stamp}
+use Rattle.model.specs.Logs.{least_stamp}
+use Rattle.model.specs.declared.message.Body.{Body}
+use Rattle.model.specs.declared.message.Message.{Message}
+use Rattle.model.specs.Members.{Node, is_majority, is_in, others, is_leader, is_candidate, is_free_for, term_of, term_at, last_term, stands, is_up_to_date, agreed}
+use Rattle.model.specs.declared.message.Body.TheVariants.{RequestVote, Vote, Append, Reply}
+use Rattle.model.specs.declared.message.Role.TheVariants.{Follower, Candidate, Leader}
+use Rattle.model.specs.declared.message.Input.{Input}
+use Rattle.model.specs.declared.message.Input.TheVariants.{Timeout, Beat, Close, Submit}
+
+-- the last term, 2^63 - 1
+abbrev pub TERM_LAST : ℕ
+TERM_LAST = 9223372036854775807
+
+-- how many entries a log may have
+abbrev pub LOG_LIMIT : ℕ
+LOG_LIMIT = 100000
+
+-- a member after a step, and what it sends, in order of addressee
+pub record After : Type 0 where
+  pub node : Node
+  pub sent : List Message
+
+-- what comes of a step. After a refusal, and after nothing, all is as before
+pub data Effect : Type 0 where
+  Moves : After → Effect
+  Refuses : Refusal → Effect
+  Nothing : Effect
+
+-- ---- what is sent
+
+-- the entries from next on, at most 64
+abbrev pub append_to : Node → ℕ → ℕ → Message
+append_to x me to =
+    let prev = nth_or x.next to 0 - 1 in
+    record { sender = me; addressee = to; term = x.term; body = Append prev (term_at x.log prev) (take 64 (drop prev x.log)) x.commit }
+
+-- an Append to each other member
+abbrev pub append_to_all : ℕ → Node → ℕ → List Message
+append_to_all n x me = map (append_to x me) (others n me)
+
+-- one message, back to the sender
+abbrev pub answer : Node → ℕ → ℕ → Body → List Message
+answer x me to body = record { sender = me; addressee = to; term = x.term; body = body } ∷ []
+
+-- ---- a message of a greater term: the term is taken, vote and known leader are none, the role is follower
+
+abbrev pub in_term : ℕ → Node → Node
+in_term term x = record x { term = term; vote = None; role = Follower; known = None; votes = []; next = []; matched = [] }
+
+unfoldable pub hears : ℕ → Node → Node
+hears term x = if nat_lt x.term term then in_term term x else x
+
+-- ---- Timeout
+
+-- the leader that it knew stays known
+abbrev pub stands_up : ℕ → ℕ → Node → Node
+stands_up n me x = record x { term = x.term + 1; vote = Some me; role = Candidate; votes = with_nth (replicate n false) me true; next = []; matched = [] }
+
+-- what a candidate asks of a member, with the index and the term of its last entry
+abbrev pub vote_request : Node → ℕ → ℕ → Message
+vote_request x me to = record { sender = me; addressee = to; term = x.term; body = RequestVote (length x.log) (last_term x.log) }
+
+abbrev pub vote_requests : ℕ → ℕ → Node → List Message
+vote_requests n me x = map (vote_request x me) (others n me)
+
+unfoldable pub time_out : ℕ → ℕ → Node → Effect
+time_out n me x =
+    if is_leader x.role then Nothing
+    else if nat_le TERM_LAST x.term then Refuses TermFull
+    else Moves (record { node = stands_up n me x; sent = vote_requests n me (stands_up n me x) })
+
+-- ---- Close, Submit
+
+-- no stamp is left
+abbrev pub is_time_full : List Entry → Bool
+is_time_full log = nat_lt TIME_LAST (least_stamp log)
+
+abbrev pub is_log_full : List Entry → Bool
+is_log_full log = nat_le LOG_LIMIT (length log)
+
+-- the leader's own log with one entry more
+abbrev pub extended : ℤ → Option Request → Node → Node
+extended reading request x = record x { log = x.log ++ record { term = x.term; stamp = stamp reading (least_stamp x.log); request = request } ∷ [] }
+
+unfoldable pub append_own : ℕ → ℕ → ℤ → Option Request → Node → Effect
+append_own n me reading request x =
+    if not (is_leader x.role) then Refuses (NotLeader x.known)
+    else if is_time_full x.log then Refuses TimeFull
+    else if is_log_full x.log then Refuses LogFull
+    else Moves (record { node = extended reading request x; sent = append_to_all n (extended reading request x) me })
+
+-- ---- Beat, and every local input
+
+abbrev pub on_input : ℕ → ℕ → Input → Node → Effect
+on_input n me Timeout x = time_out n me x
+on_input n me Beat x = if is_leader x.role then Moves (record { node = x; sent = append_to_all n x me }) else Nothing
+on_input n me (Close reading) x = append_own n me reading None x
+on_input n me (Submit reading request) x = append_own n me reading (Some request) x
+
+-- ---- RequestVote
+
+-- of this very term, the vote still free, and the candidate's log at least as up to date
+abbrev pub grants : ℕ → ℕ → ℕ → ℕ → Node → Bool
+grants sender term last_index last_term_of x = (term == x.term) && is_free_for x.vote sender && is_up_to_date last_term_of last_index x.log
+
+unfoldable pub on_request_vote : ℕ → ℕ → ℕ → ℕ → ℕ → Node → After
+on_request_vote me sender term last_index last_term_of x =
+    if grants sender term last_index last_term_of x
+    then record { node = record x { vote = Some sender }; sent = answer x me sender (Vote true) }
+    else record { node = x; sent = answer x me sender (Vote false) }
+
+-- ---- Vote
+
+-- one vote more
+abbrev pub counted : ℕ → Node → Node
+counted sender x = record x { votes = with_nth x.votes sender true }
+
+-- a majority gave their vote: next is the index after the last entry, and nothing is known to match
+abbrev pub crowned : ℕ → Node → Node
+crowned n x = record x { role = Leader; votes = []; next = replicate n (length x.log + 1); matched = replicate n 0 }
+
+-- a new leader's Close, if a stamp and room are there
+abbrev pub opened : ℤ → Node → Node
+opened reading x = if is_time_full x.log || is_log_full x.log then x else extended reading None x
+
+unfoldable pub on_vote : ℕ → ℕ → ℤ → ℕ → ℕ → Bool → Node → After
+on_vote n me reading sender term given x =
+    let leading = opened reading (crowned n x) in
+    if given && (term == x.term) && is_candidate x.role
+    then (if is_majority n (is_in (counted sender x).votes)
+    then record { node = leading; sent = append_to_all n leading me }
+    else record { node = counted sender x; sent = [] })
+    else record { node = x; sent = [] }
+
+-- ---- Append
+
+-- the log stays where it has an entry of the same term at each index sent; else it is cut before the first index where it has not
+abbrev pub accepted : List Entry → ℕ → List Entry → List Entry
+accepted log prev es =
+    let j = agreed log prev es in
+    if j == prev + length es then log else (take j log ++ drop (j - prev) es)
+
+-- the cut is at or below commit
+abbrev pub cuts_below : ℕ → List Entry → ℕ → List Entry → Bool
+cuts_below commit log prev es = let j = agreed log prev es in nat_lt j (prev + length es) && nat_lt j commit
+
+-- entries go on after an entry: terms not falling and at most the bound, stamps rising
+abbrev pub go_on : Option Entry → ℕ → List Entry → Bool
+go_on prev bound [] = true
+go_on prev bound (e ∷ es) = nat_lt 0 e.term && nat_le (term_of prev) e.term && nat_le e.term bound && nat_le (above (option_map (λ d. d.stamp) prev)) e.stamp && go_on (Some e) bound es
+
+-- a candidate becomes follower; the sender is the known leader
+abbrev pub follows : ℕ → Node → Node
+follows sender x = record x { role = Follower; known = Some sender; votes = []; next = []; matched = [] }
+
+-- the entries are taken, and commit goes up to what the leader has committed of them
+abbrev pub takes_entries : ℕ → List Entry → ℕ → Node → Node
+takes_entries prev es commit x = record x { log = accepted x.log prev es; commit = max x.commit (min commit (prev + length es)) }
+
+-- Nothing: no honest member can send it
+unfoldable pub on_append : ℕ → ℕ → ℕ → ℕ → ℕ → List Entry → ℕ → Node → Effect
+on_append me sender term prev prev_term es commit x =
+    if nat_lt term x.term then Moves (record { node = x; sent = answer x me sender (Reply false 0) })
+    else if is_leader x.role then Nothing
+    else if not (stands x.log prev prev_term) then Moves (record { node = follows sender x; sent = answer x me sender (Reply false 0) })
+    else if not (go_on (nth x.log prev) term es) || cuts_below x.commit x.log prev es || nat_lt LOG_LIMIT (length (accepted x.log prev es)) then Nothing
+    else Moves (record { node = takes_entries prev es commit (follows sender x); sent = answer x me sender (Reply true (prev + length es)) })
+
+-- ---- Reply
+
+-- the greatest index up to n that passes, or 0
+abbrev pub greatest : (ℕ → Bool) → ℕ → ℕ
+greatest p zero = 0
+greatest p (suc n) = if p (suc n) then suc n else greatest p n
+
+-- the leader, which matches all its log, or a member that matches up to i
+abbrev pub holds_to : ℕ → List ℕ → ℕ → ℕ → Bool
+holds_to me matched i m = (m == me) || nat_le i (nth_or matched m 0)
+
+-- an entry of the leader's own term that a majority match
+abbrev pub is_matched : ℕ → ℕ → Node → ℕ → Bool
+is_matched n me x i = (term_at x.log i == x.term) && is_majority n (holds_to me x.matched i)
+
+-- match never falls, and next comes after it
+abbrev pub noted : ℕ → ℕ → Node → Node
+noted sender matched x =
+    let most = max (nth_or x.matched sender 0) matched in
+    record x { matched = with_nth x.matched sender most; next = with_nth x.next sender (most + 1) }
+
+-- commit goes up to the last such entry, if there is one above it
+abbrev pub commits : ℕ → ℕ → Node → Node
+commits n me x = record x { commit = max x.commit (greatest (is_matched n me x) (length x.log)) }
+
+-- Nothing: a matched beyond the log, which no honest member can send
+unfoldable pub on_reply_yes : ℕ → ℕ → ℕ → ℕ → Node → Effect
+on_reply_yes n me sender matched x =
+    let y = commits n me (noted sender matched x) in
+    if nat_lt (length x.log) matched then Nothing
+    else Moves (record {
+      node = y;
+      sent = if nat_lt x.commit y.commit then append_to_all n y me
+          else if nat_le (nth_or y.next sender 0) (length x.log) then (append_to y me sender ∷ []) else [];
+    })
+
+-- next falls by one, and not below 1
+abbrev pub stepped_back : ℕ → Node → Node
+stepped_back sender x = record x { next = with_nth x.next sender (max 1 (nth_or x.next sender 0 - 1)) }
+
+unfoldable pub on_reply_no : ℕ → ℕ → Node → Effect
+on_reply_no me sender x = Moves (record { node = stepped_back sender x; sent = append_to (stepped_back sender x) me sender ∷ [] })
+
+abbrev pub on_reply : ℕ → ℕ → ℕ → ℕ → Bool → ℕ → Node → Effect
+on_reply n me sender term ok matched x =
+    if is_leader x.role && (term == x.term)
+    then (if ok then on_reply_yes n me sender matched x else on_reply_no me sender x)
+    else Moves (record { node = x; sent = [] })
+
+-- ---- every message
+
+abbrev pub on_body : ℕ → ℕ → ℤ → ℕ → ℕ → Body → Node → Effect
+on_body n me reading sender term (RequestVote last_index last_term_of) x = Moves (on_request_vote me sender term last_index last_term_of x)
+on_body n me reading sender term (Vote given) x = Moves (on_vote n me reading sender term given x)
+on_body n me reading sender term (Append prev prev_term es commit) x = on_append me sender term prev prev_term es commit x
+on_body n me reading sender term (Reply ok matched) x = on_reply n me sender term ok matched x
+
+abbrev pub entries_of : Body → List Entry
+entries_of (Append prev prev_term es commit) = es
+entries_of (RequestVote i t) = []
+entries_of (Vote given) = []
+entries_of (Reply ok matched) = []
+
+-- the entry's text spells a transaction
+abbrev pub spells : Schema → Option Request → Bool
+spells schema None = true
+spells schema (Some r) = is_ok (schema.reads r.text)
+
+-- what an honest member can send to this one, save where the table comes to more
+abbrev pub is_honest : Schema → ℕ → ℕ → Message → Bool
+is_honest schema n me m =
+    (m.addressee == me) && nat_lt 0 m.sender && nat_le m.sender n && not (m.sender == me) && nat_lt 0 m.term && nat_le m.term TERM_LAST
+    && nat_le (length (entries_of m.body)) 64 && go_on None m.term (entries_of m.body) && list_all (λ e. spells schema e.request) (entries_of m.body)
+
+abbrev pub on_message : Schema → ℕ → ℕ → ℤ → Message → Node → Effect
+on_message schema n me reading m x =
+    if is_honest schema n me m
+    then on_body n me reading m.sender m.term m.body (hears m.term x)
+    else Nothing

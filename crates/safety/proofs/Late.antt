@@ -1,0 +1,55 @@
+-- What is stamped later changes nothing at an instant before.
+use Rattle.std.proofs.Common.{◌≡◌, ℕ, suc, ◌+◌, ◌<◌, ◌≤◌, List, ◌++◌, length, slice_get, Option, Some, None, reverse, sym, ap, ◌∙◌, subst, arith, ◌↔◌}
+use Rattle.std.proofs.lemmas.List.{reverse-append}
+use Rattle.std.proofs.lemmas.List.Elements.{All-weaker}
+use Rattle.model.specs.Tables.{Table, Row, IsRow}
+use Rattle.model.specs.Transactions.{Schema, State}
+use Rattle.model.specs.declared.entry.Entry.{Entry}
+use Rattle.model.specs.Logs.{state_at, accepted, run_all, closed, IsStamped}
+use Rattle.model.specs.Answers.{SystemTime, AsOf, From, Between, IsInstant, last_instant, Query, Answer, Shown, IsAnswer, IsAnswerOver, IsAsked, IsShownEnd}
+use Rattle.safety.proofs.Lists.{get_append_right, Rising}
+use Rattle.safety.proofs.Accepted.{Later, later_from, later_reverse, some_up_to, accepted_later}
+use Rattle.safety.proofs.Runs.{past_closed, rising_stamped}
+
+later_rest : (w t : ℕ) (list rest : List Entry) → Rising (list ++ rest) → closed list ≡ Some t → w ≤ t → Later w rest
+later_rest w t list rest R c h = later_from w rest (λ i e p. at i e p)
+  where
+    at : (i : ℕ) (e : Entry) → slice_get rest i ≡ Some e → w < e.stamp
+    at i e p = let l : t < e.stamp = past_closed list rest R t c (suc (length list + i)) e (omega arith) (get_append_right list rest i ∙ p) in omega arith
+
+-- the state at a closed instant is the same for every longer list
+pub same_state : (schema : Schema) (w t : ℕ) (list rest : List Entry) → Rising (list ++ rest) → closed list ≡ Some t → w ≤ t → state_at schema (list ++ rest) w ≡ state_at schema list w
+unfolding state_at
+same_state schema w t list rest R c h =
+    ap (λ es. run_all schema (some_up_to w (accepted schema es))) (reverse-append list rest)
+    ∙ ap (run_all schema) (accepted_later schema w (reverse rest) (reverse list) (later_reverse w rest (later_rest w t list rest R c h)))
+
+up_to_last : (s : SystemTime) (u : ℕ) → IsInstant s u → u ≤ last_instant s
+up_to_last (AsOf t) u h = omega (arith, h)
+up_to_last (From t v) u h = let l = h.1 in omega (arith, l)
+up_to_last (Between t v) u h = h.1
+
+-- two histories that agree up to the last instant of a query have the same answers
+asked_over : (old new : ℕ → Table) (q : Query) (row : Row) → ((w : ℕ) → w ≤ last_instant q.time → old w ≡ new w) → IsAsked old q row → IsAsked new q row
+asked_over old new q row same h = let at = h.1 in (h.0, (at.0, at.1, subst (λ t. IsRow t row) (same at.0 (up_to_last q.time at.0 at.1)) at.2))
+
+end_over : (old new : ℕ → Table) (last : ℕ) (row : Row) (end : Option ℕ) → ((w : ℕ) → w ≤ last → old w ≡ new w) → IsShownEnd old last row end → IsShownEnd new last row end
+end_over old new last row (Some end) same h =
+    (h.0, h.1, (λ r. h.2 (subst (λ t. IsRow t row) (sym (same end h.1)) r)), (λ w a b. subst (λ t. IsRow t row) (same w (omega (arith, h.1))) (h.3 w a b)))
+end_over old new last row None same h = λ w a b. subst (λ t. IsRow t row) (same w b) (h w a b)
+
+answer_over : (old new : ℕ → Table) (q : Query) (a : Answer) → ((w : ℕ) → w ≤ last_instant q.time → old w ≡ new w) → IsAnswerOver old q a → IsAnswerOver new q a
+answer_over old new q a same h = record {
+  last = h.last;
+  order = h.order;
+  rows = λ row. ((λ c. asked_over old new q row same ((h.rows row).0 c)), (λ k. (h.rows row).1 (asked_over new old q row (λ w b. sym (same w b)) k)));
+  ends = All-weaker (λ (s : Shown). IsShownEnd old (last_instant q.time) s.row s.end) (λ (s : Shown). IsShownEnd new (last_instant q.time) s.row s.end) (λ s e. end_over old new (last_instant q.time) s.row s.end same e) a.rows h.ends;
+}
+
+-- an answer to a query that is closed in a list is its answer in every longer one
+pub however_late : (schema : Schema) (q : Query) (t : ℕ) (list rest : List Entry) (a : Answer) → IsStamped (list ++ rest) → closed list ≡ Some t → last_instant q.time ≤ t →
+    IsAnswer schema q list a ↔ IsAnswer schema q (list ++ rest) a
+however_late schema q t list rest a s c l =
+    let table : List Entry → ℕ → Table = λ es w. state_at schema es w q.table in
+    let same : (w : ℕ) → w ≤ last_instant q.time → table (list ++ rest) w ≡ table list w = λ w b. ap (λ (x : State). x q.table) (same_state schema w t list rest (rising_stamped (list ++ rest) s) c (omega arith)) in
+    (answer_over (table list) (table (list ++ rest)) q a (λ w b. sym (same w b)), answer_over (table (list ++ rest)) (table list) q a same)
