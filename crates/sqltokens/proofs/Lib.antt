@@ -1,0 +1,9 @@
+pub mod Texts
+pub mod Lexemes
+pub mod Ascii
+pub mod Cuts
+pub mod Shapes
+pub mod Marks
+pub mod Whole
+pub mod Functions
+pub mod Told
