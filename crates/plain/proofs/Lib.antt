@@ -1,0 +1,12 @@
+pub mod Days
+pub mod Keys
+pub mod Members
+pub mod RowFacts
+pub mod Inserted
+pub mod Listed
+pub mod Executing
+pub mod Sessions
+pub mod Replaying
+pub mod Entries
+pub mod Lasting
+pub mod Ordered
