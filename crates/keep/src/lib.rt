@@ -1,0 +1,17 @@
+//! What a node keeps over a restart: its term, its vote and its log.
+#![tactic(auto)]
+
+pub mod change;
+pub mod error;
+pub mod keeper;
+pub mod memory;
+pub mod state;
+
+pub use change::Change;
+pub use error::StoreError;
+pub use keeper::Keeper;
+pub use memory::{MemImage, MemKeeper};
+pub use state::State;
+
+#[cfg(test)]
+mod tests;

@@ -1,0 +1,221 @@
+//! A keeper in memory.
+ghost use Rattle.std.specs.Prelude.{◌≡◌, ◌<◌, ◌≤◌, ◌++◌, ◌⊎◌, true, false, take, IfOk, IfErr, OnOk, OnErr};
+
+use crate::change::Change;
+use crate::error::StoreError;
+use crate::keeper::Keeper;
+use crate::state::State;
+use model::entry::Entry;
+use model::member::Member;
+use std::alloc::{AllocError, Global};
+
+/// A store in memory: a member's term, vote and log. It can be told which call of the keeper that
+/// opens it is to fail.
+#[derive(Debug, Drop)]
+pub struct MemImage {
+    term: u64,
+    vote: Option<Member>,
+    entries: Vec<Entry>,
+    /// The first call is 1; 0 is none.
+    fail_at: u64,
+}
+
+impl MemImage {
+    ghost use Rattle.keep.specs.Durable.{after, blank, failing_call, beginning, stored_in};
+
+    /// Nothing stored yet: term 0, no vote, an empty log. No call is to fail.
+    pub fn new(alloc: Global) -> MemImage
+        ensures stored { stored_in result ≡ blank }
+        ensures failing { failing_call result ≡ 0 }
+    {
+        MemImage::with_vote(alloc, 0, None)
+    }
+
+    /// A term and the vote in it, with an empty log. No call is to fail.
+    pub fn with_vote(alloc: Global, term: u64, vote: Option<Member>) -> MemImage
+        ensures stored { stored_in result ≡ beginning term vote }
+        ensures failing { failing_call result ≡ 0 }
+    {
+        MemImage {
+            term,
+            vote,
+            entries: Vec::new(alloc),
+            fail_at: 0,
+        }
+    }
+
+    /// Tells which call of the next keeper is to answer `StoreFault`: its open is 1, and then each
+    /// `state`, `entry` and `save` counts one more; 0 is none. What is stored stays.
+    pub fn fail_at(&mut self, call: u64)
+        ensures stored { stored_in self.new ≡ stored_in self.old }
+        ensures failing { failing_call self.new ≡ call }
+    {
+        self.fail_at = call;
+    }
+
+    /// Makes the change, where `tail` is a copy of its entries. Changes nothing where memory is
+    /// refused.
+    fn put(&mut self, change: &Change, tail: Vec<Entry>) -> Result<(), AllocError>
+        requires { tail.items ≡ change.now.entries.items }
+        ensures ok { OnOk result (stored_in self.new ≡ after change.now (stored_in self.old)) }
+        ensures err { OnErr result (stored_in self.new ≡ stored_in self.old) }
+    {
+        replace_tail(&mut self.entries, change.kept, tail)?;
+        self.term = change.term;
+        self.vote = change.vote;
+        Ok(())
+    }
+}
+
+/// Replaces all but the first `kept` entries. Changes nothing where memory is refused.
+fn replace_tail(log: &mut Vec<Entry>, kept: usize, mut tail: Vec<Entry>) -> Result<(), AllocError>
+    ensures ok { OnOk result (log.new.items ≡ take kept log.old.items ++ tail.items) }
+    ensures err { OnErr result (log.new.items ≡ log.old.items) }
+{
+    log.reserve(tail.len())?;
+    log.truncate(kept);
+    log.append(&mut tail)?;
+    Ok(())
+}
+
+fn copy_of(entry: &Entry) -> Result<Entry, AllocError>
+    ensures { IfOk result (λ e. e ≡ entry.now) }
+{
+    entry.clone()
+}
+
+fn copies_of(alloc: Global, entries: &[Entry]) -> Result<Vec<Entry>, AllocError>
+    ensures { IfOk result (λ copies. copies.items ≡ entries.now) }
+{
+    entries.to_vec(alloc)
+}
+
+/// A keeper whose store is a `MemImage`. It is always honest.
+#[derive(Debug, Drop)]
+pub struct MemKeeper {
+    image: MemImage,
+    /// Calls up to the one that is to fail, it included; 0 is none.
+    left: u64,
+    failures: u64,
+    is_up: bool,
+    ghost unfailed: { is_up ≡ true → failures ≡ 0 },
+}
+
+impl MemKeeper {
+    /// Counts a call, and says whether it may go on.
+    fn count_call(&mut self) -> Result<(), StoreError>
+        ensures image { self.new.image ≡ self.old.image }
+        ensures ok { OnOk result ((self.old.is_up ≡ true) × (self.new.is_up ≡ true) × (self.new.failures ≡ self.old.failures)) }
+        ensures err { OnErr result (self.new.is_up ≡ false) }
+        ensures store { result ≡ Err StoreError.StoreFault → (self.old.is_up ≡ true) × (self.old.failures < self.new.failures) }
+        ensures down { self.old.is_up ≡ false → (result ≡ Err StoreError.NodeDown) × (self.new.failures ≡ self.old.failures) }
+        ensures named { IfErr result (λ e. (e ≡ StoreError.StoreFault) ⊎ ((e ≡ StoreError.NodeDown) × (self.old.is_up ≡ false))) }
+        ensures counts { self.old.failures ≤ self.new.failures }
+    {
+        if !self.is_up {
+            return Err(StoreError::NodeDown);
+        }
+        if self.left == 1 {
+            self.is_up = false;
+            self.failures = 1;
+            return Err(StoreError::StoreFault);
+        }
+        if self.left > 1 {
+            self.left -= 1;
+        }
+        Ok(())
+    }
+
+    /// Goes down for want of memory.
+    fn lack_memory(&mut self) -> StoreError
+        ensures result { result ≡ StoreError.NoMemory }
+        ensures down { self.new.is_up ≡ false }
+        ensures same { (self.new.image ≡ self.old.image) × (self.new.failures ≡ self.old.failures) }
+    {
+        self.is_up = false;
+        StoreError::NoMemory
+    }
+}
+
+impl Keeper for MemKeeper {
+    ghost use Rattle.keep.specs.Durable.{stored_in};
+
+    type Image = MemImage;
+
+    ghost stored = { λ k. stored_in k.image };
+
+    ghost is_honest = { λ _. Unit {0} };
+
+    ghost is_up = { λ k. k.is_up };
+
+    ghost failed = { λ k. k.failures };
+
+    ghost may_hold = { λ k d. d ≡ stored_in k.image };
+
+    ghost holds = { λ i d. d ≡ stored_in i };
+
+    ghost only_honest = { λ _ _ _. tt };
+
+    ghost only_stored = { λ _ _ _ h. h };
+
+    fn open(alloc: Global, image: MemImage) -> Result<MemKeeper, (StoreError, MemImage)> {
+        let _ = alloc;
+        let fail_at = image.fail_at;
+        let image = MemImage {
+            fail_at: 0,
+            ..image
+        };
+        if fail_at == 1 {
+            return Err((StoreError::StoreFault, image));
+        }
+        Ok(MemKeeper {
+            image,
+            left: fail_at.saturating_sub(1),
+            failures: 0,
+            is_up: true,
+        })
+    }
+
+    fn state(&mut self, alloc: Global) -> Result<State, StoreError> {
+        self.count_call()?;
+        let Ok(entries) = copies_of(alloc, &self.image.entries) else {
+            return Err(self.lack_memory());
+        };
+        Ok(State {
+            term: self.image.term,
+            vote: self.image.vote,
+            entries,
+        })
+    }
+
+    fn entry(&mut self, alloc: Global, i: usize) -> Result<Option<Entry>, StoreError> {
+        let _ = alloc;
+        self.count_call()?;
+        let Some(entry) = self.image.entries.get(i) else {
+            return Ok(None);
+        };
+        let Ok(copy) = copy_of(entry) else {
+            return Err(self.lack_memory());
+        };
+        Ok(Some(copy))
+    }
+
+    fn save(&mut self, alloc: Global, change: &Change) -> Result<(), StoreError> {
+        self.count_call()?;
+        let Ok(tail) = copies_of(alloc, &change.entries) else {
+            return Err(self.lack_memory());
+        };
+        if self.image.put(change, tail).is_err() {
+            return Err(self.lack_memory());
+        }
+        Ok(())
+    }
+
+    fn failures(&self) -> u64 {
+        self.failures
+    }
+
+    fn close(self) -> MemImage {
+        self.image
+    }
+}

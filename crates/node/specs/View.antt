@@ -1,0 +1,86 @@
+-- What a node stores, tells and answers, in the words of the definitions and of its keeper.
+use Rattle.std.specs.Prelude.{◌≡◌, ℕ, ◌+◌, ◌-◌, ◌≤◌, ◌<◌, Bool, false, Option, Some, None, Result, Ok, Err, List, length, option_map, ◌⊎◌, ◌==◌, if◌then◌else◌}
+use Rattle.std.specs.List.{filter_map, range_with_len}
+use Rattle.model.specs.declared.entry.Entry.{Entry}
+use Rattle.model.specs.declared.entry.Told.{Told}
+use Rattle.model.specs.Transactions.{Schema}
+use Rattle.fault.specs.declared.refusal.Refusal.{Refusal}
+use Rattle.fault.specs.declared.refusal.Refusal.TheVariants.{NoMemory as NoMemoryRefusal, NotClosed}
+use Rattle.model.specs.Texts.{instant_text}
+use Rattle.model.specs.Answers.{IsAnswer, closed_query}
+use Rattle.model.specs.Logs.{told_at, closed}
+use Rattle.sqlread.specs.declared.answer.Answer.{Answer}
+use Rattle.sqlread.specs.declared.query.AsOf.{AsOf}
+use Rattle.sqlread.specs.Meaning.{query_of, select_of, answer_of}
+use Rattle.model.specs.Members.{Node}
+use Rattle.model.specs.Steps.{crowned, Effect, Moves, Refuses, Nothing}
+use Rattle.keep.specs.Durable.{Durable, after, IsBeforeOrAfter}
+use Rattle.raft.specs.declared.state.Core.{Core}
+use Rattle.keep.specs.declared.change.Change.{Change}
+use Rattle.keep.specs.declared.error.StoreError.{StoreError}
+use Rattle.keep.specs.declared.error.StoreError.TheVariants.{NoMemory, StoreFault}
+use Rattle.raft.specs.View.{after_of, opening}
+use Rattle.node.specs.declared.node.Out.{Out}
+use Rattle.node.specs.declared.node.Fault.{Fault}
+use Rattle.node.specs.declared.node.Fault.TheVariants.{Kept, Down}
+
+-- what of a member is stored
+abbrev pub durable_of : Node → Durable
+durable_of x = record { term = x.term; vote = x.vote; log = x.log }
+
+abbrev pub after_change : Option Change → Durable → Durable
+after_change None d = d
+after_change (Some c) d = after c d
+
+-- it keeps no more than there is
+abbrev pub Fits : Option Change → Durable → Type 0
+Fits None d = Unit {0}
+Fits (Some c) d = c.kept ≤ length d.log
+
+-- what is told of the entries after one index, up to another
+unfoldable pub told_between : Schema → List Entry → ℕ → ℕ → List Told
+told_between schema log before commit = filter_map (told_at schema log) (range_with_len (before + 1) (commit - before))
+
+-- member 1 leads the term that is stored, the others follow
+abbrev pub led_opening : ℕ → ℕ → Durable → Node
+led_opening n me d = if me == 1 then crowned n (opening d.term d.vote d.log) else opening d.term d.vote d.log
+
+-- the answer to a question that is closed in the list, or 33 where it is not
+abbrev pub IsAskedOf : Schema → AsOf → List Entry → Result Answer Refusal → Type 0
+IsAskedOf schema q list (Ok a) = (closed_query (select_of q) (closed list) ≡ Some (query_of q)) × IsAnswer schema (query_of q) list (answer_of a)
+IsAskedOf schema q list (Err refusal) = (refusal ≡ NoMemoryRefusal) ⊎ ((closed_query (select_of q) (closed list) ≡ None) × (refusal ≡ NotClosed (option_map instant_text (closed list))))
+
+-- the result of a step and the core after it are what the definition of a step says; a node that goes
+-- down says nothing
+abbrev pub Gave : Core → Effect → Result (Option Out) Fault → Type 0
+Gave c effect (Ok (Some out)) = Moves (after_of c out.messages.items) ≡ effect
+Gave c effect (Ok None) = Nothing ≡ effect
+Gave c effect (Err (Kept refusal)) = Refuses refusal ≡ effect
+Gave c effect (Err (Down error)) = Unit {0}
+
+-- a fault that is kept leaves the node up or down as it was, any other takes it down
+abbrev pub LeavesUp : Bool → Bool → Fault → Type 0
+LeavesUp up up' (Kept refusal) = up' ≡ up
+LeavesUp up up' (Down error) = up' ≡ false
+
+-- the cause is want of memory, or that the store failed just now
+abbrev pub IsCause : ℕ → ℕ → StoreError → Type 0
+IsCause failed failed' error = (error ≡ NoMemory) ⊎ ((error ≡ StoreFault) × (failed < failed'))
+
+-- each fault that takes the node down has such a cause
+abbrev pub HasCause : ℕ → ℕ → Fault → Type 0
+HasCause failed failed' (Kept refusal) = Unit {0}
+HasCause failed failed' (Down error) = IsCause failed failed' error
+
+-- a refusal changes nothing, nor does what no honest member can send
+abbrev pub IsSame : Node → Node → Result (Option Out) Fault → Type 0
+IsSame old new (Ok (Some out)) = Unit {0}
+IsSame old new (Ok None) = new ≡ old
+IsSame old new (Err (Kept refusal)) = new ≡ old
+IsSame old new (Err (Down error)) = Unit {0}
+
+-- after a step that goes down, what the keeper holds is what was stored before it, or after it
+abbrev pub IsTorn : Durable → Durable → (Durable → Type 0) → Result (Option Out) Fault → Type 0
+IsTorn before new held (Ok out) = Unit {0}
+IsTorn before new held (Err (Kept refusal)) = Unit {0}
+IsTorn before new held (Err (Down error)) = (d : Durable) → held d → IsBeforeOrAfter before new d

@@ -1,0 +1,11 @@
+//! One member with what it keeps over a restart, what it tells of requests, and what it answers.
+#![tactic(auto)]
+
+mod asking;
+pub mod node;
+mod telling;
+
+pub use node::{Fault, Node, Out};
+
+#[cfg(test)]
+mod tests;

@@ -1,0 +1,236 @@
+//! A member over a keeper.
+ghost use Rattle.std.specs.Prelude.{◌≡◌, ◌+◌, ◌≤◌, true, false, length, if◌then◌else◌, Some, None, IfOk, IfErr, OnOk, OnErr, MatchOption};
+ghost use Rattle.sqlread.specs.Meaning.{schema_of};
+ghost use Rattle.model.specs.Kept.{node_after};
+ghost use Rattle.model.specs.Logs.{IsStamped};
+ghost use Rattle.model.specs.Members.{applied};
+ghost use Rattle.keep.specs.Durable.{Durable, IsBeforeOrAfter};
+ghost use Rattle.raft.specs.View.{node_of, works};
+ghost use Rattle.node.specs.View.{durable_of, after_change, Fits, Gave, IsSame, IsTorn, IsCause, HasCause, LeavesUp, IsAskedOf, led_opening, told_between};
+
+use crate::asking;
+use crate::telling::tell;
+use fault::Refusal;
+use keep::change::Change;
+use keep::error::StoreError;
+use keep::keeper::Keeper;
+use keep::state::State;
+use model::entry::Told;
+use model::member::Member;
+use model::message::{LAST_TERM, LOG_ROOM, Message};
+use raft::state::{Core, Effect, Taken, Work};
+use sqlread::answer::Answer;
+use sqlread::query::AsOf;
+use sqlread::schema::Schema;
+use std::alloc::Global;
+
+/// What a step gives, once what it changed is stored.
+#[derive(Debug, Drop)]
+pub struct Out {
+    /// In the order of their addressees.
+    pub messages: Vec<Message>,
+    /// What is told of each request that became applied, in the order of the log.
+    pub told: Vec<Told>,
+}
+
+/// Why a step gives nothing.
+#[derive(Debug, Drop)]
+pub enum Fault {
+    /// Nothing changed.
+    Kept(Refusal),
+    /// The node is down till it is started again. No message leaves, and nothing is told.
+    Down(StoreError),
+}
+
+/// A member over a keeper: what it knows, and where its term, vote and log are stored.
+#[derive(Drop)]
+pub struct Node<K: Keeper> {
+    alloc: Global,
+    /// What the member knows.
+    pub core: Core,
+    /// Where its term, vote and log are stored.
+    pub keeper: K,
+    /// No step has failed.
+    pub is_up: bool,
+    ghost fresh: { is_up ≡ true → core.is_spent ≡ false },
+    ghost kept_up: { is_up ≡ true → K.is_up keeper ≡ true },
+    ghost synced: { is_up ≡ true → K.is_honest keeper → K.stored keeper ≡ durable_of (node_of core) },
+}
+
+/// Stores a change, if there is one.
+fn store<K: Keeper>(
+    alloc: Global,
+    keeper: &mut K,
+    change: &Option<Change>,
+) -> Result<(), StoreError>
+    requires kept { K.is_honest keeper.old → K.is_up keeper.old ≡ true → Fits change.now (K.stored keeper.old) }
+    requires short { MatchOption change.now (Unit {0}) (λ c. c.kept + length c.entries.items ≤ 100000) }
+    requires up { K.is_up keeper.old ≡ true }
+    ensures ok { OnOk result (K.is_honest keeper.new → K.stored keeper.new ≡ after_change change.now (K.stored keeper.old)) }
+    ensures up { OnOk result (K.is_up keeper.new ≡ true) }
+    ensures honest { K.is_honest keeper.new → K.is_honest keeper.old }
+    ensures torn { OnErr result ((d : Durable) → K.may_hold keeper.new d → IsBeforeOrAfter (K.stored keeper.old) (after_change change.now (K.stored keeper.old)) d) }
+    ensures cause { IfErr result (IsCause (K.failed keeper.old) (K.failed keeper.new)) }
+{
+    match change {
+        None => Ok(()),
+        Some(change) => keeper.save(alloc, change),
+    }
+}
+
+/// Stores what a step of the core changed, and only then gives its messages and what is told.
+fn finish<K: Keeper>(
+    alloc: Global,
+    core: &Core,
+    keeper: &mut K,
+    taken: Taken,
+) -> Result<Out, StoreError>
+    requires kept { K.is_honest keeper.old → K.is_up keeper.old ≡ true → Fits taken.change (K.stored keeper.old) }
+    requires short { MatchOption taken.change (Unit {0}) (λ c. c.kept + length c.entries.items ≤ 100000) }
+    requires up { K.is_up keeper.old ≡ true }
+    ensures messages { IfOk result (λ out. out.messages.items ≡ taken.messages.items) }
+    ensures told { IfOk result (λ out. out.told.items ≡ told_between (schema_of core.now.schema) core.now.log.items taken.committed_before core.now.commit) }
+    ensures ok { OnOk result (K.is_honest keeper.new → K.stored keeper.new ≡ after_change taken.change (K.stored keeper.old)) }
+    ensures up { OnOk result (K.is_up keeper.new ≡ true) }
+    ensures honest { K.is_honest keeper.new → K.is_honest keeper.old }
+    ensures torn { OnErr result ((d : Durable) → K.may_hold keeper.new d → IsBeforeOrAfter (K.stored keeper.old) (after_change taken.change (K.stored keeper.old)) d) }
+    ensures cause { IfErr result (IsCause (K.failed keeper.old) (K.failed keeper.new)) }
+{
+    let Taken {
+        change,
+        messages,
+        committed_before,
+    } = taken;
+    store(alloc, keeper, &change)?;
+    let told = tell(
+        alloc,
+        &core.schema,
+        &core.log,
+        committed_before,
+        core.commit,
+    )?;
+    Ok(Out { messages, told })
+}
+
+impl<K: Keeper> Node<K> {
+    /// Opens what the image holds. Member 1 leads the term that is stored, the others follow.
+    ///
+    /// `StoreFault` where the store fails, `NoMemory` where memory is refused, `BadStore` where the
+    /// image holds no state of a member. An error gives the image back, and what it holds is as it
+    /// was.
+    pub fn start(
+        alloc: Global,
+        image: K::Image,
+        schema: Schema,
+        members: usize,
+        me: Member,
+    ) -> Result<Node<K>, (StoreError, K::Image)>
+        requires few { members ≤ 7 }
+        ensures opened { IfOk result (λ n. K.is_honest n.keeper → K.holds image (durable_of (node_of n.core)) × (node_of n.core ≡ led_opening members me (durable_of (node_of n.core)))) }
+        ensures group { IfOk result (λ n. (n.is_up ≡ true) × (n.core.schema ≡ schema) × (n.core.members ≡ members) × (n.core.me ≡ me)) }
+        ensures back { IfErr result (λ e. (d : Durable) → K.holds e.1 d → K.holds image d) }
+        ensures not_down { IfErr result (λ e. e.0 ≡ StoreError.NodeDown → ⊥) }
+    {
+        let mut keeper = K::open(alloc, image)?;
+        let state = match keeper.state(alloc) {
+            Ok(state) => state,
+            Err(error) => return Err((error, keeper.close())),
+        };
+        let State {
+            term,
+            vote,
+            entries,
+        } = state;
+        if term > LAST_TERM || entries.len() > LOG_ROOM {
+            return Err((StoreError::BadStore, keeper.close()));
+        }
+        let mut core = Core::start(alloc, schema, members, me, term, vote, entries);
+        if me == 1 && core.become_leader().is_err() {
+            return Err((StoreError::NoMemory, keeper.close()));
+        }
+        Ok(Node {
+            alloc,
+            core,
+            keeper,
+            is_up: true,
+        })
+    }
+
+    /// Takes one step: the core's, then one save if what is stored changes, then what became applied
+    /// is told. None where the message is one that no honest member can send, or the input is one
+    /// that its role has no use for: nothing changed then.
+    ///
+    /// `Fault::Kept` is a refusal that leaves the node as it was: `NodeDown` where it is down, and
+    /// those of `Core::step`. `Fault::Down` takes the node down: `StoreFault` where the store fails,
+    /// `NoMemory` where memory is refused. What is stored is then what was so before the step, or
+    /// after it.
+    #[tactic(auto, using(crate::proofs::Stored::fits, crate::proofs::Stored::short, crate::proofs::Stored::synced))]
+    pub fn step(&mut self, work: Work) -> Result<Option<Out>, Fault>
+        ensures done { self.old.is_up ≡ true → Gave self.new.core (works self.old.core.schema self.old.core.members self.old.core.me work (node_of self.old.core)) result }
+        ensures told { IfOk result (λ o. MatchOption o (Unit {0}) (λ out. out.told.items ≡ told_between (schema_of self.old.core.schema) self.new.core.log.items self.old.core.commit self.new.core.commit)) }
+        ensures same { IsSame (node_of self.old.core) (node_of self.new.core) result }
+        ensures torn { IsTorn (durable_of (node_of self.old.core)) (durable_of (node_after (node_of self.old.core) (works self.old.core.schema self.old.core.members self.old.core.me work (node_of self.old.core)))) (K.may_hold self.new.keeper) result }
+        ensures up { OnOk result ((self.old.is_up ≡ true) × (self.new.is_up ≡ true)) }
+        ensures down { self.old.is_up ≡ false → result ≡ Err (Fault.Kept Refusal.NodeDown) }
+        ensures ends { IfErr result (λ f. f ≡ Fault.Kept Refusal.NodeDown → self.new.is_up ≡ self.old.is_up) }
+        ensures leaves { IfErr result (LeavesUp self.old.is_up self.new.is_up) }
+        ensures cause { IfErr result (HasCause (K.failed self.old.keeper) (K.failed self.new.keeper)) }
+        ensures group { (self.new.core.schema ≡ self.old.core.schema) × (self.new.core.members ≡ self.old.core.members) × (self.new.core.me ≡ self.old.core.me) }
+    {
+        if !self.is_up {
+            return Err(Fault::Kept(Refusal::NodeDown));
+        }
+        let finished = match self.core.step(work) {
+            Ok(Effect::Done(taken)) => finish(self.alloc, &self.core, &mut self.keeper, taken),
+            Ok(Effect::Ignored) => return Ok(None),
+            Ok(Effect::Refused(refusal)) => return Err(Fault::Kept(refusal)),
+            Err(error) => Err(StoreError::from(error)),
+        };
+        match finished {
+            Ok(out) => Ok(Some(out)),
+            Err(error) => {
+                self.is_up = false;
+                Err(Fault::Down(error))
+            }
+        }
+    }
+
+    /// Answers a question from the applied entries, and changes nothing. `NodeDown` where the node is
+    /// down, `NotClosed` with the closed time where the question's instant is later than it, or where
+    /// nothing is applied, `NoMemory` where memory is refused.
+    pub fn ask(&self, query: &AsOf) -> Result<Answer, Refusal>
+        ensures asked { self.now.is_up ≡ true → IsStamped (applied (node_of self.now.core)) → IsAskedOf (schema_of self.now.core.schema) query.now (applied (node_of self.now.core)) result }
+        ensures down { self.now.is_up ≡ false → result ≡ Err Refusal.NodeDown }
+    {
+        if !self.is_up {
+            return Err(Refusal::NodeDown);
+        }
+        asking::ask(self.alloc, &self.core.schema, self.core.applied(), query)
+    }
+
+    /// Whether it takes steps and answers: no step has failed.
+    pub fn is_up(&self) -> bool
+        ensures { result ≡ self.now.is_up }
+    {
+        self.is_up
+    }
+
+    /// Up to which index of the log it has applied, none where it is down.
+    pub fn commit(&self) -> Option<usize>
+        ensures { result ≡ (if self.now.is_up then Some self.now.core.commit else None) }
+    {
+        if !self.is_up {
+            return None;
+        }
+        Some(self.core.commit())
+    }
+
+    /// Stops it, and gives the image up. Of a node that is up the image holds the term, the vote and
+    /// the log that it has.
+    pub fn stop(self) -> K::Image
+        ensures held { (d : Durable) → K.holds result d → K.may_hold self.keeper d }
+        ensures last { self.is_up ≡ true → (d : Durable) → K.holds result d → d ≡ durable_of (node_of self.core) }
+    {
+        self.keeper.close()
+    }
+}

@@ -1,0 +1,103 @@
+-- A core in the words of the definitions of a member and its step.
+use Rattle.std.specs.Prelude.{◌≡◌, ℕ, ◌≤◌, true, List, [], ◌++◌, take, length, Option, Some, None, MatchOption}
+use Rattle.raft.specs.declared.state.Core.{Core}
+use Rattle.raft.specs.declared.state.Before.{Before}
+use Rattle.keep.specs.declared.change.Change.{Change}
+use Rattle.raft.specs.declared.state.Work.{Work}
+use Rattle.raft.specs.declared.state.Work.TheVariants.{Local, Delivered}
+use Rattle.raft.specs.declared.state.Effect.{Effect as Given}
+use Rattle.raft.specs.declared.state.Effect.TheVariants.{Refused as RefusedGiven, Ignored as IgnoredGiven, Done}
+use Rattle.raft.specs.declared.state.Outcome.{Outcome}
+use Rattle.raft.specs.declared.state.Outcome.TheVariants.{Refused, Ignored, Sent}
+use Rattle.model.specs.declared.message.Message.{Message}
+use Rattle.model.specs.declared.message.Role.TheVariants.{Follower}
+use Rattle.model.specs.declared.entry.Entry.{Entry}
+use Rattle.sqlread.specs.declared.schema.Schema.{Schema}
+use Rattle.sqlread.specs.Meaning.{schema_of}
+use Rattle.model.specs.Members.{Node}
+use Rattle.model.specs.Steps.{After, Effect, Moves, Refuses, Nothing, on_message}
+use Rattle.model.specs.Worlds.{hand}
+use Rattle.model.specs.Kept.{kept_at}
+
+abbrev pub node_of : Core → Node
+node_of c = record {
+  term = c.term;
+  vote = c.vote;
+  log = c.log.items;
+  up = true;
+  role = c.role;
+  commit = c.commit;
+  known = c.known;
+  votes = c.votes.items;
+  next = c.next.items;
+  matched = c.matched.items;
+}
+
+-- a node with its parts from before it heard of a term
+abbrev pub forgotten : Option Before → Node → Node
+forgotten None x = x
+forgotten (Some b) x = record x { term = b.term; vote = b.vote; role = b.role; known = b.known; votes = b.votes.items; next = b.next.items; matched = b.matched.items }
+
+-- a member that starts with what is stored
+abbrev pub opening : ℕ → Option ℕ → List Entry → Node
+opening term vote log = record { term = term; vote = vote; log = log; up = true; role = Follower; commit = 0; known = None; votes = []; next = []; matched = [] }
+
+-- what the definitions say of this work
+abbrev pub works : Schema → ℕ → ℕ → Work → Node → Effect
+works schema n me (Local input) x = hand (schema_of schema) n me input x
+works schema n me (Delivered reading message) x = on_message (schema_of schema) n me reading message x
+
+-- how much of the log this leaves
+abbrev pub kept_of : Work → List Entry → ℕ
+kept_of (Local input) log = length log
+kept_of (Delivered reading message) log = kept_at message.body log
+
+-- what a core is after a step, and what it sends
+abbrev pub after_of : Core → List Message → After
+after_of c messages = record { node = node_of c; sent = messages }
+
+-- what no step changes
+pub record IsSameSeat (old new : Core) : Type 0 where
+  pub schema : new.schema ≡ old.schema
+  pub members : new.members ≡ old.members
+  pub me : new.me ≡ old.me
+  pub is_spent : new.is_spent ≡ old.is_spent
+
+-- what an input or a message came to, in the words of the definitions
+abbrev pub outcome_of : Core → Outcome → Effect
+outcome_of c (Refused refusal) = Refuses refusal
+outcome_of c Ignored = Nothing
+outcome_of c (Sent messages) = Moves (after_of c messages.items)
+
+-- a refusal changes nothing
+abbrev pub SameIfNotSent : Core → Core → Outcome → Type 0
+SameIfNotSent old new (Refused refusal) = node_of new ≡ node_of old
+SameIfNotSent old new Ignored = node_of new ≡ node_of old
+SameIfNotSent old new (Sent messages) = Unit {0}
+
+-- what a whole step came to, in the same words
+abbrev pub effect_of : Core → Given → Effect
+effect_of c (RefusedGiven refusal) = Refuses refusal
+effect_of c IgnoredGiven = Nothing
+effect_of c (Done t) = Moves (after_of c t.messages.items)
+
+-- what is stored goes from that of x to that of y by this change
+pub record IsChange (x y : Node) (c : Change) : Type 0 where
+  pub term : c.term ≡ y.term
+  pub vote : c.vote ≡ y.vote
+  pub within : c.kept ≤ length x.log
+  pub log : take c.kept x.log ++ c.entries.items ≡ y.log
+
+pub record IsStoredAlready (x y : Node) : Type 0 where
+  pub term : y.term ≡ x.term
+  pub vote : y.vote ≡ x.vote
+  pub log : y.log ≡ x.log
+
+abbrev pub ChangeFits : Node → Node → Option Change → Type 0
+ChangeFits x y change = MatchOption change (IsStoredAlready x y) (λ c. IsChange x y c)
+
+-- what an effect tells of the step from old to new
+abbrev pub EffectFits : Core → Core → Given → Type 0
+EffectFits old new (RefusedGiven refusal) = node_of new ≡ node_of old
+EffectFits old new IgnoredGiven = node_of new ≡ node_of old
+EffectFits old new (Done t) = ChangeFits (node_of old) (node_of new) t.change × (t.committed_before ≡ old.commit)

@@ -1,0 +1,121 @@
+//! What a follower takes from its leader.
+ghost use Rattle.std.specs.Prelude.{◌≡◌, ◌+◌, ◌<◌, ◌≤◌, ◌^◌, ◌||◌, length, vec_len, IfOk, false, nat_lt};
+ghost use Rattle.model.specs.Lists.{nth};
+ghost use Rattle.model.specs.Members.{agreed};
+ghost use Rattle.model.specs.Steps.{on_append, go_on, cuts_below, accepted, takes_entries, follows, LOG_LIMIT};
+ghost use Rattle.raft.specs.View.{node_of, IsSameSeat, outcome_of, SameIfNotSent};
+
+use crate::logs::{accept, agreed, go_on, least_at, stands, term_at};
+use crate::state::{Core, Outcome};
+use model::entry::Entry;
+use model::member::Member;
+use model::message::{Body, LOG_ROOM, Role};
+use std::alloc::AllocError;
+
+impl Core {
+    /// The entries go on after the one at `prev`, in a message of this term.
+    #[tactic(auto, using(crate::proofs::Lists::go_on_is))]
+    fn continues(&self, term: u64, prev: usize, entries: &[Entry]) -> bool
+        ensures { result ≡ go_on (nth self.now.log.items prev) term entries.now }
+    {
+        go_on(
+            term_at(&self.log, prev),
+            least_at(&self.log, prev),
+            term,
+            entries,
+        )
+    }
+
+    /// A cut at or below commit, or a log past its limit.
+    #[tactic(auto, using(crate::proofs::Lists::room_accepted))]
+    fn cuts_too_far(&self, prev: usize, entries: &[Entry]) -> bool
+        requires fits { prev ≤ vec_len self.now.log }
+        requires few { length entries.now ≤ 64 }
+        ensures value { result ≡ (cuts_below self.now.commit self.now.log.items prev entries.now || nat_lt LOG_LIMIT (length (accepted self.now.log.items prev entries.now))) }
+        ensures room { result ≡ false
+            → agreed self.now.log.items prev entries.now < prev + length entries.now
+            → prev + length entries.now ≤ 100000 }
+    {
+        let index = agreed(&self.log, prev, entries);
+        let end = prev + entries.len();
+        let cuts = index < end && index < self.commit;
+        let is_long = index < end && LOG_ROOM < end;
+        cuts || is_long
+    }
+
+    /// Takes this member for the leader.
+    fn follow(&mut self, leader: Member)
+        ensures node { node_of self.new ≡ follows leader (node_of self.old) }
+        ensures seat { IsSameSeat self.old self.new }
+    {
+        self.role = Role::Follower;
+        self.known = Some(leader);
+        self.votes.clear();
+        self.next.clear();
+        self.matched.clear();
+    }
+
+    /// Takes the entries after `prev`, and what the leader says of its commit index.
+    fn take_entries(
+        &mut self,
+        prev: usize,
+        entries: Vec<Entry>,
+        commit: usize,
+    ) -> Result<(), AllocError>
+        requires fits { prev + vec_len entries < 2 ^ 63 }
+        requires room { agreed self.old.log.items prev entries.items < prev + vec_len entries
+            → prev + vec_len entries ≤ 100000 }
+        ensures done { IfOk result
+            (λ _. node_of self.new ≡ takes_entries prev entries.items commit (node_of self.old)) }
+        ensures seat { IsSameSeat self.old self.new }
+    {
+        let end = prev + entries.len();
+        accept(&mut self.log, prev, entries)?;
+        self.commit = self.commit.max(commit.min(end));
+        Ok(())
+    }
+
+    /// Takes entries of a leader, or answers no where it has not the entry before them.
+    #[tactic(auto, unfolding(model::specs::Steps::on_append))]
+    pub(crate) fn on_append(
+        &mut self,
+        sender: Member,
+        term: u64,
+        prev: usize,
+        prev_term: u64,
+        entries: Vec<Entry>,
+        commit: usize,
+    ) -> Result<Outcome, AllocError>
+        requires { vec_len entries ≤ 64 }
+        ensures done { IfOk result
+            (λ o. outcome_of self.new o
+            ≡ on_append self.old.me sender term prev prev_term entries.items commit (node_of self.old)) }
+        ensures same { IfOk result (SameIfNotSent self.old self.new) }
+        ensures seat { IsSameSeat self.old self.new }
+    {
+        let no = Body::Reply {
+            ok: false,
+            matched: 0,
+        };
+        if term < self.term {
+            let messages = self.answer(sender, no)?;
+            return Ok(Outcome::Sent(messages));
+        }
+        if self.is_leader() {
+            return Ok(Outcome::Ignored);
+        }
+        if !stands(&self.log, prev, prev_term) {
+            self.follow(sender);
+            let messages = self.answer(sender, no)?;
+            return Ok(Outcome::Sent(messages));
+        }
+        if !self.continues(term, prev, &entries) || self.cuts_too_far(prev, &entries) {
+            return Ok(Outcome::Ignored);
+        }
+        let matched = prev + entries.len();
+        self.follow(sender);
+        self.take_entries(prev, entries, commit)?;
+        let messages = self.answer(sender, Body::Reply { ok: true, matched })?;
+        Ok(Outcome::Sent(messages))
+    }
+}

@@ -1,0 +1,111 @@
+//! Local inputs: a timeout, a beat, and entries that a leader appends.
+ghost use Rattle.std.specs.Prelude.{◌≡◌, IfOk, false};
+ghost use Rattle.model.specs.Steps.{time_out, append_own, extended, is_time_full, is_log_full, on_input};
+ghost use Rattle.raft.specs.View.{node_of, IsSameSeat, outcome_of, SameIfNotSent};
+
+use crate::logs::least_stamp;
+use crate::state::{Core, Outcome};
+use fault::Refusal;
+use model::entry::{Entry, Request};
+use model::message::{Input, LAST_TERM, LOG_ROOM};
+use model::stamp::{LAST_MICROS, Stamp};
+use std::alloc::AllocError;
+
+impl Core {
+    /// Stands for election; a leader does nothing.
+    #[tactic(auto, unfolding(model::specs::Steps::time_out))]
+    fn time_out(&mut self) -> Result<Outcome, AllocError>
+        ensures done { IfOk result
+            (λ o. outcome_of self.new o ≡ time_out self.old.members self.old.me (node_of self.old)) }
+        ensures same { IfOk result (SameIfNotSent self.old self.new) }
+        ensures seat { IsSameSeat self.old self.new }
+    {
+        if self.is_leader() {
+            return Ok(Outcome::Ignored);
+        }
+        if self.term >= LAST_TERM {
+            return Ok(Outcome::Refused(Refusal::TermFull));
+        }
+        self.stand_up()?;
+        let messages = self.vote_requests()?;
+        Ok(Outcome::Sent(messages))
+    }
+
+    /// No stamp is left.
+    pub(crate) fn is_time_full(&self) -> bool
+        ensures { result ≡ is_time_full self.now.log.items }
+    {
+        least_stamp(&self.log) > LAST_MICROS
+    }
+
+    /// No room is left in the log.
+    pub(crate) fn is_log_full(&self) -> bool
+        ensures { result ≡ is_log_full self.now.log.items }
+    {
+        self.log.len() >= LOG_ROOM
+    }
+
+    /// Appends an entry of its own term, stamped after the last.
+    pub(crate) fn extend(
+        &mut self,
+        reading: i64,
+        request: Option<Request>,
+    ) -> Result<(), AllocError>
+        requires time { is_time_full self.old.log.items ≡ false }
+        requires room { is_log_full self.old.log.items ≡ false }
+        ensures done { IfOk result (λ _. node_of self.new ≡ extended reading request (node_of self.old)) }
+        ensures seat { IsSameSeat self.old self.new }
+    {
+        let stamp = Stamp::at(reading, least_stamp(&self.log));
+        self.log.push(Entry {
+            term: self.term,
+            stamp,
+            request,
+        })?;
+        Ok(())
+    }
+
+    /// Appends an entry and sends it, if it leads and a stamp and room are left.
+    #[tactic(auto, unfolding(model::specs::Steps::append_own))]
+    fn append_own(&mut self, reading: i64, request: Option<Request>) -> Result<Outcome, AllocError>
+        ensures done { IfOk result
+            (λ o. outcome_of self.new o
+            ≡ append_own self.old.members self.old.me reading request (node_of self.old)) }
+        ensures same { IfOk result (SameIfNotSent self.old self.new) }
+        ensures seat { IsSameSeat self.old self.new }
+    {
+        if !self.is_leader() {
+            return Ok(Outcome::Refused(Refusal::NotLeader(self.known)));
+        }
+        if self.is_time_full() {
+            return Ok(Outcome::Refused(Refusal::TimeFull));
+        }
+        if self.is_log_full() {
+            return Ok(Outcome::Refused(Refusal::LogFull));
+        }
+        self.extend(reading, request)?;
+        let messages = self.append_to_all()?;
+        Ok(Outcome::Sent(messages))
+    }
+
+    pub(crate) fn on_input(&mut self, input: Input) -> Result<Outcome, AllocError>
+        ensures done { IfOk result
+            (λ o. outcome_of self.new o
+            ≡ on_input self.old.members self.old.me input (node_of self.old)) }
+        ensures same { IfOk result (SameIfNotSent self.old self.new) }
+        ensures seat { IsSameSeat self.old self.new }
+    {
+        match input {
+            Input::Timeout => self.time_out(),
+            Input::Beat => {
+                if !self.is_leader() {
+                    return Ok(Outcome::Ignored);
+                }
+                let messages = self.append_to_all()?;
+                Ok(Outcome::Sent(messages))
+            }
+            Input::Close { reading } => self.append_own(reading, None),
+            Input::Submit { reading, request } => self.append_own(reading, Some(request)),
+        }
+    }
+}

@@ -1,0 +1,168 @@
+//! What a leader does with replies.
+ghost use Rattle.std.specs.Prelude.{◌≡◌, ◌+◌, ◌-◌, ◌*◌, ◌<◌, ◌≤◌, ◌^◌, length, max, vec_len, IfOk, OnOk, OnErr, replicate};
+ghost use Rattle.model.specs.Members.{count_members, is_majority, is_in};
+ghost use Rattle.model.specs.Steps.{holds_to, is_matched, commits, greatest, crowned, noted, on_reply, on_reply_yes, on_reply_no};
+ghost use Rattle.raft.specs.View.{node_of, after_of, outcome_of, IsSameSeat, SameIfNotSent};
+
+use crate::counted::{flag_at, number_at, set_number};
+use crate::logs::term_at;
+use crate::state::{Core, Outcome};
+use model::member::Member;
+use model::message::Role;
+use std::alloc::AllocError;
+
+/// How many members gave their vote.
+fn count_votes(votes: &[bool], members: usize) -> usize
+    requires { members ≤ 7 }
+    ensures value { result ≡ count_members members (is_in votes.now) }
+    ensures small { result ≤ members }
+{
+    let mut count = 0;
+    for index in 0..members {
+        if flag_at(votes, index + 1) {
+            count += 1;
+        }
+    }
+    count
+}
+
+/// How many members match the log up to a place. The leader matches all of its own.
+fn count_matching(matched: &[usize], members: usize, me: Member, place: usize) -> usize
+    requires { members ≤ 7 }
+    ensures value { result ≡ count_members members (holds_to me matched.now place) }
+    ensures small { result ≤ members }
+{
+    let mut count = 0;
+    for index in 0..members {
+        let member = index + 1;
+        if member == me || place <= number_at(matched, member) {
+            count += 1;
+        }
+    }
+    count
+}
+
+impl Core {
+    /// Whether a majority gave me their vote.
+    pub(crate) fn is_elected(&self) -> bool
+        ensures { result ≡ is_majority self.now.members (is_in self.now.votes.items) }
+    {
+        2 * count_votes(&self.votes, self.members) > self.members
+    }
+
+    /// An entry of its own term stands there, and a majority match it.
+    fn is_matched(&self, index: usize) -> bool
+        ensures { result ≡ is_matched self.now.members self.now.me (node_of self.now) index }
+    {
+        term_at(&self.log, index) == self.term
+            && 2 * count_matching(&self.matched, self.members, self.me, index) > self.members
+    }
+
+    /// The greatest index that can be committed now.
+    #[tactic(auto, using(crate::proofs::Greatest::greatest_hit, crate::proofs::Greatest::greatest_miss, crate::proofs::Greatest::greatest_le))]
+    pub(crate) fn commits(&self) -> usize
+        ensures { result ≡ max self.now.commit (greatest (is_matched self.now.members self.now.me (node_of self.now)) (vec_len self.now.log)) }
+    {
+        let mut index = self.log.len();
+        while index > self.commit && !self.is_matched(index) {
+            index -= 1;
+        }
+        index.max(self.commit)
+    }
+
+    /// Takes the lead of its term, as a member does that a majority chose: it is to send each member
+    /// what comes after its own log, and knows of no match yet. Changes nothing where memory is
+    /// refused.
+    #[tactic(auto, using(crate::proofs::Lists::zeros))]
+    pub fn become_leader(&mut self) -> Result<(), AllocError>
+        ensures node { OnOk result (node_of self.new ≡ crowned self.old.members (node_of self.old)) }
+        ensures err { OnErr result (node_of self.new ≡ node_of self.old) }
+        ensures seat { IsSameSeat self.old self.new }
+    {
+        let first = self.log.len() + 1;
+        let next = vec![in self.alloc; first; self.members]?;
+        let matched = vec![in self.alloc; 0; self.members]?;
+        self.role = Role::Leader;
+        self.votes.clear();
+        self.next = next;
+        self.matched = matched;
+        Ok(())
+    }
+
+    /// Notes up to where a member's log agrees.
+    #[tactic(auto, using(crate::proofs::Lists::noted_within))]
+    fn note(&mut self, sender: Member, matched: usize)
+        requires { matched ≤ vec_len self.old.log }
+        ensures node { node_of self.new ≡ noted sender matched (node_of self.old) }
+        ensures seat { IsSameSeat self.old self.new }
+    {
+        let most = number_at(&self.matched, sender).max(matched);
+        set_number(&mut self.matched, sender, most);
+        set_number(&mut self.next, sender, most + 1);
+    }
+
+    /// The sender's log agrees up to `matched`.
+    #[tactic(auto, unfolding(model::specs::Steps::on_reply_yes))]
+    fn on_reply_yes(&mut self, sender: Member, matched: usize) -> Result<Outcome, AllocError>
+        ensures done { IfOk result
+            (λ o. outcome_of self.new o
+            ≡ on_reply_yes self.old.members self.old.me sender matched (node_of self.old)) }
+        ensures same { IfOk result (SameIfNotSent self.old self.new) }
+        ensures seat { IsSameSeat self.old self.new }
+    {
+        if matched > self.log.len() {
+            return Ok(Outcome::Ignored);
+        }
+        self.note(sender, matched);
+        let commit = self.commits();
+        if self.commit < commit {
+            self.commit = commit;
+            let messages = self.append_to_all()?;
+            return Ok(Outcome::Sent(messages));
+        }
+        self.commit = commit;
+        if number_at(&self.next, sender) <= self.log.len() {
+            let messages = self.append_one(sender)?;
+            return Ok(Outcome::Sent(messages));
+        }
+        Ok(Outcome::Sent(Vec::new(self.alloc)))
+    }
+
+    /// The sender had not the entry before: goes one back, and sends again.
+    #[tactic(auto, unfolding(model::specs::Steps::on_reply_no))]
+    fn on_reply_no(&mut self, sender: Member) -> Result<Outcome, AllocError>
+        ensures done { IfOk result
+            (λ o. outcome_of self.new o ≡ on_reply_no self.old.me sender (node_of self.old)) }
+        ensures same { IfOk result (SameIfNotSent self.old self.new) }
+        ensures seat { IsSameSeat self.old self.new }
+    {
+        let back = number_at(&self.next, sender).saturating_sub(1).max(1);
+        set_number(&mut self.next, sender, back);
+        let messages = self.append_one(sender)?;
+        Ok(Outcome::Sent(messages))
+    }
+
+    /// Takes what a follower answers to an `Append`.
+    pub(crate) fn on_reply(
+        &mut self,
+        sender: Member,
+        term: u64,
+        ok: bool,
+        matched: usize,
+    ) -> Result<Outcome, AllocError>
+        ensures done { IfOk result
+            (λ o. outcome_of self.new o
+            ≡ on_reply self.old.members self.old.me sender term ok matched (node_of self.old)) }
+        ensures same { IfOk result (SameIfNotSent self.old self.new) }
+        ensures seat { IsSameSeat self.old self.new }
+    {
+        if !(self.is_leader() && term == self.term) {
+            return Ok(Outcome::Sent(Vec::new(self.alloc)));
+        }
+        if ok {
+            self.on_reply_yes(sender, matched)
+        } else {
+            self.on_reply_no(sender)
+        }
+    }
+}

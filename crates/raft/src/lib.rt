@@ -1,0 +1,19 @@
+//! One member of a group that replicates a log: what it keeps, and what it does at each input.
+//! After Figure 2 of "In search of an understandable consensus algorithm" by Ongaro and Ousterhout,
+//! with fixed members.
+#![tactic(auto)]
+
+mod counted;
+mod following;
+mod inputs;
+mod leading;
+mod logs;
+mod sending;
+pub mod state;
+mod step;
+mod voting;
+
+pub use state::{Core, Effect, Taken, Work};
+
+#[cfg(test)]
+mod tests;

@@ -1,0 +1,178 @@
+//! The state of a member, and what a step gives.
+ghost use Rattle.std.specs.Prelude.{◌≡◌, ℕ, ◌≤◌, vec_len};
+ghost use Rattle.model.specs.Lists.{nth_or};
+
+use fault::Refusal;
+use keep::change::Change;
+use model::entry::Entry;
+use model::member::Member;
+use model::message::{Input, LAST_TERM, LOG_ROOM, Message, Role};
+use sqlread::schema::Schema;
+use std::alloc::Global;
+
+/// What is brought to a member.
+#[derive(Debug, Drop)]
+pub enum Work {
+    /// A timeout, a beat, a close or a submit.
+    Local(Input),
+    /// A message, with what the clock shows in microseconds since 1970.
+    Delivered { reading: i64, message: Message },
+}
+
+/// What a step gives that changes or sends something.
+#[derive(Debug, Drop)]
+pub struct Taken {
+    /// What is to be stored before a message leaves, none where what is stored stays.
+    pub change: Option<Change>,
+    /// In the order of their addressees.
+    pub messages: Vec<Message>,
+    /// The commit index before the step: the entries after it, up to the commit index, are newly
+    /// committed.
+    pub committed_before: usize,
+}
+
+/// What a step gives.
+#[derive(Debug, Drop)]
+pub enum Effect {
+    /// Nothing changed.
+    Refused(Refusal),
+    /// Nothing changed, and nothing is sent.
+    Ignored,
+    Done(Taken),
+}
+
+/// What comes of an input or a message, before it is known what is to be stored.
+#[derive(Debug, Drop)]
+pub(crate) enum Outcome {
+    /// Nothing changed.
+    Refused(Refusal),
+    /// Nothing changed, and nothing is sent.
+    Ignored,
+    Sent(Vec<Message>),
+}
+
+/// What a member was before it heard of a greater term.
+#[derive(Drop)]
+pub(crate) struct Before {
+    pub term: u64,
+    pub vote: Option<Member>,
+    pub role: Role,
+    pub known: Option<Member>,
+    pub votes: Vec<bool>,
+    pub next: Vec<usize>,
+    pub matched: Vec<usize>,
+    ghost term_within: { term ≤ 9223372036854775807 },
+    ghost matches_within: { (m : ℕ) → nth_or matched.items m 0 ≤ 100000 },
+}
+
+/// A member of a group of up to seven, counted from 1, that all have the same tables.
+///
+/// Its term, vote and log are to be kept over a restart; its role, its commit index, the leader that
+/// it knows, and what a candidate or a leader knows of the others are not.
+#[derive(Drop)]
+pub struct Core {
+    pub(crate) alloc: Global,
+    /// The tables.
+    pub schema: Schema,
+    /// How many members the group has.
+    pub members: usize,
+    /// Which member this is.
+    pub me: Member,
+    pub(crate) term: u64,
+    pub(crate) vote: Option<Member>,
+    /// Up to 100,000 entries, the first of which has index 1.
+    pub log: Vec<Entry>,
+    pub(crate) role: Role,
+    /// Up to which index the log is known to be committed.
+    pub commit: usize,
+    pub(crate) known: Option<Member>,
+    /// On a candidate, for each member: whether it gave me its vote.
+    pub(crate) votes: Vec<bool>,
+    /// On a leader, for each member: the index of the entry to send next.
+    pub(crate) next: Vec<usize>,
+    /// On a leader, for each member: up to where its log is known to agree.
+    pub(crate) matched: Vec<usize>,
+    /// Memory was refused within a step, so that no further step is taken.
+    pub is_spent: bool,
+    ghost one_of_few: { members ≤ 7 },
+    ghost term_within: { term ≤ 9223372036854775807 },
+    ghost log_within: { vec_len log ≤ 100000 },
+    ghost matches_within: { (m : ℕ) → nth_or matched.items m 0 ≤ 100000 },
+}
+
+impl Core {
+    ghost use Rattle.std.specs.Prelude.{◌≡◌, false, ◌≤◌, vec_len};
+    ghost use Rattle.model.specs.Members.{applied};
+    ghost use Rattle.raft.specs.View.{node_of, opening};
+
+    /// A member that starts with what was stored, as a follower that knows of no leader and of no
+    /// committed entry.
+    pub fn start(
+        alloc: Global,
+        schema: Schema,
+        members: usize,
+        me: Member,
+        term: u64,
+        vote: Option<Member>,
+        log: Vec<Entry>,
+    ) -> Core
+        requires few { members ≤ 7 }
+        requires term { term ≤ LAST_TERM }
+        requires log { vec_len log ≤ LOG_ROOM }
+        ensures node { node_of result ≡ opening term vote log.items }
+        ensures group { (result.members ≡ members) × (result.me ≡ me) × (result.schema ≡ schema) × (result.is_spent ≡ false) }
+    {
+        Core {
+            alloc,
+            schema,
+            members,
+            me,
+            term,
+            vote,
+            log,
+            role: Role::Follower,
+            commit: 0,
+            known: None,
+            votes: Vec::new(alloc),
+            next: Vec::new(alloc),
+            matched: Vec::new(alloc),
+            is_spent: false,
+        }
+    }
+
+    /// The current term.
+    pub fn term(&self) -> u64
+        ensures { result ≡ (node_of self.now).term }
+    {
+        self.term
+    }
+
+    /// Whom it gave its vote in the current term.
+    pub fn vote(&self) -> Option<Member>
+        ensures { result ≡ (node_of self.now).vote }
+    {
+        self.vote
+    }
+
+    /// The whole log.
+    pub fn log(&self) -> &[Entry]
+        ensures { result.now ≡ self.now.log.items }
+    {
+        &self.log
+    }
+
+    /// Up to which index the log is known to be committed.
+    pub fn commit(&self) -> usize
+        ensures { result ≡ self.now.commit }
+    {
+        self.commit
+    }
+
+    /// The log up to the commit index.
+    pub fn applied(&self) -> &[Entry]
+        ensures { result.now ≡ applied (node_of self.now) }
+    {
+        let (applied, _) = self.log.split_at(self.commit.min(self.log.len()));
+        applied
+    }
+}

@@ -1,0 +1,290 @@
+//! One step of a member.
+ghost use Rattle.std.specs.Prelude.{◌≡◌, ◌<◌, ◌≤◌, length, drop, vec_len, IfOk, OnOk, OnErr, IsErr, nat_le, ◌&&◌, None, true, false};
+ghost use Rattle.std.specs.List.{list_all};
+ghost use Rattle.sqlread.specs.Meaning.{schema_of};
+ghost use Rattle.model.specs.Steps.{is_honest, entries_of, spells, on_message, on_body, go_on};
+ghost use Rattle.model.specs.Worlds.{hand};
+ghost use Rattle.model.specs.Kept.{kept_at};
+ghost use Rattle.raft.specs.View.{node_of, after_of, works, kept_of, IsSameSeat, outcome_of, SameIfNotSent, effect_of, EffectFits};
+
+use crate::logs::{copies_of, go_on, kept_under};
+use crate::state::{Core, Effect, Outcome, Taken, Work};
+use keep::change::Change;
+use model::entry::{Entry, Request};
+use model::member::Member;
+use model::message::{Body, CARRIED_MOST, Input, LAST_TERM, Message};
+use sqlread::schema::Schema;
+use std::alloc::{AllocError, Global};
+
+/// The entry's text spells a transaction.
+fn spells(alloc: Global, schema: &Schema, request: &Option<Request>) -> Result<bool, AllocError>
+    ensures { IfOk result (λ yes. yes ≡ spells (schema_of schema.now) request.now) }
+{
+    match request {
+        None => Ok(true),
+        Some(request) => {
+            let misreading = schema.misreading(alloc, &request.text)?;
+            Ok(misreading.is_none())
+        }
+    }
+}
+
+/// Each entry's text spells a transaction.
+fn all_spell(alloc: Global, schema: &Schema, entries: &[Entry]) -> Result<bool, AllocError>
+    ensures { IfOk result (λ yes. yes ≡ list_all (λ e. spells (schema_of schema.now) e.request) entries.now) }
+{
+    for entry in entries {
+        if !spells(alloc, schema, &entry.request)? {
+            return Ok(false);
+        }
+    }
+    Ok(true)
+}
+
+/// Entries that a message may carry.
+#[tactic(auto, using(crate::proofs::Lists::go_on_is))]
+fn may_carry(alloc: Global, schema: &Schema, term: u64, body: &Body) -> Result<bool, AllocError>
+    ensures value { IfOk result
+        (λ yes. yes
+        ≡ (nat_le (length (entries_of body.now)) 64 && go_on None term (entries_of body.now)
+        && list_all (λ e. spells (schema_of schema.now) e.request) (entries_of body.now))) }
+    ensures few { IfOk result (λ yes. yes ≡ true → length (entries_of body.now) ≤ 64) }
+{
+    match body {
+        Body::Append { entries, .. } => {
+            let entries = entries.as_slice();
+            if !(entries.len() <= CARRIED_MOST && go_on(0, 0, term, entries)) {
+                return Ok(false);
+            }
+            all_spell(alloc, schema, entries)
+        }
+        Body::RequestVote { .. } | Body::Vote { .. } | Body::Reply { .. } => Ok(true),
+    }
+}
+
+impl Core {
+    /// Whether a member that keeps the rules can have sent this to me.
+    fn is_honest(&self, message: &Message) -> Result<bool, AllocError>
+        ensures value { IfOk result (λ yes. yes ≡ is_honest (schema_of self.now.schema) self.now.members self.now.me message.now) }
+        ensures term { IfOk result (λ yes. yes ≡ true → message.now.term ≤ LAST_TERM) }
+        ensures few { IfOk result (λ yes. yes ≡ true → length (entries_of message.now.body) ≤ 64) }
+    {
+        if !(message.addressee == self.me
+            && 0 < message.sender
+            && message.sender <= self.members
+            && message.sender != self.me
+            && 0 < message.term
+            && message.term <= LAST_TERM)
+        {
+            return Ok(false);
+        }
+        may_carry(self.alloc, &self.schema, message.term, &message.body)
+    }
+
+    /// Takes a message of its own term or an older one.
+    fn on_body(
+        &mut self,
+        reading: i64,
+        sender: Member,
+        term: u64,
+        body: Body,
+    ) -> Result<Outcome, AllocError>
+        requires { length (entries_of body) ≤ 64 }
+        ensures done { IfOk result
+            (λ o. outcome_of self.new o
+            ≡ on_body self.old.members self.old.me reading sender term body (node_of self.old)) }
+        ensures same { IfOk result (SameIfNotSent self.old self.new) }
+        ensures seat { IsSameSeat self.old self.new }
+    {
+        match body {
+            Body::RequestVote {
+                last_index,
+                last_term,
+            } => {
+                let messages = self.on_request_vote(sender, term, last_index, last_term)?;
+                Ok(Outcome::Sent(messages))
+            }
+            Body::Vote { given } => {
+                let messages = self.on_vote(reading, sender, term, given)?;
+                Ok(Outcome::Sent(messages))
+            }
+            Body::Append {
+                prev_index,
+                prev_term,
+                entries,
+                commit,
+            } => self.on_append(
+                sender,
+                term,
+                prev_index,
+                prev_term,
+                entries.into_vec(),
+                commit,
+            ),
+            Body::Reply { ok, matched } => self.on_reply(sender, term, ok, matched),
+        }
+    }
+
+    /// Takes a message, if an honest member can have sent it.
+    fn receive(&mut self, reading: i64, message: Message) -> Result<Outcome, AllocError>
+        ensures done { IfOk result
+            (λ o. outcome_of self.new o
+            ≡ on_message (schema_of self.old.schema) self.old.members self.old.me reading message (node_of self.old)) }
+        ensures same { IfOk result (SameIfNotSent self.old self.new) }
+        ensures seat { IsSameSeat self.old self.new }
+    {
+        if !self.is_honest(&message)? {
+            return Ok(Outcome::Ignored);
+        }
+        let Message {
+            sender,
+            addressee: _,
+            term,
+            body,
+        } = message;
+        let heard = self.hear(term);
+        match self.on_body(reading, sender, term, body)? {
+            Outcome::Refused(refusal) => {
+                self.forget(heard);
+                Ok(Outcome::Refused(refusal))
+            }
+            Outcome::Ignored => {
+                self.forget(heard);
+                Ok(Outcome::Ignored)
+            }
+            Outcome::Sent(messages) => Ok(Outcome::Sent(messages)),
+        }
+    }
+
+    /// Takes a local input. A submitted text that spells no transaction is refused before all else.
+    fn on_hand(&mut self, input: Input) -> Result<Outcome, AllocError>
+        ensures done { IfOk result
+            (λ o. outcome_of self.new o
+            ≡ hand (schema_of self.old.schema) self.old.members self.old.me input (node_of self.old)) }
+        ensures same { IfOk result (SameIfNotSent self.old self.new) }
+        ensures seat { IsSameSeat self.old self.new }
+    {
+        match input {
+            Input::Timeout => self.on_input(Input::Timeout),
+            Input::Beat => self.on_input(Input::Beat),
+            Input::Close { reading } => self.on_input(Input::Close { reading }),
+            Input::Submit { reading, request } => {
+                if let Some(refusal) = self.schema.misreading(self.alloc, &request.text)? {
+                    return Ok(Outcome::Refused(refusal));
+                }
+                self.on_input(Input::Submit { reading, request })
+            }
+        }
+    }
+
+    /// Takes what is brought to it, and leaves aside what is to be stored.
+    fn on_work(&mut self, work: Work) -> Result<Outcome, AllocError>
+        ensures done { IfOk result
+            (λ o. outcome_of self.new o
+            ≡ works self.old.schema self.old.members self.old.me work (node_of self.old)) }
+        ensures same { IfOk result (SameIfNotSent self.old self.new) }
+        ensures seat { IsSameSeat self.old self.new }
+    {
+        match work {
+            Work::Local(input) => self.on_hand(input),
+            Work::Delivered { reading, message } => self.receive(reading, message),
+        }
+    }
+
+    /// How much of the log this leaves.
+    fn kept_of(&self, work: &Work) -> usize
+        ensures value { result ≡ kept_of work.now self.now.log.items }
+        ensures within { result ≤ vec_len self.now.log }
+    {
+        match work {
+            Work::Local(_) => self.log.len(),
+            Work::Delivered { message, .. } => match &message.body {
+                Body::Append {
+                    prev_index,
+                    entries,
+                    ..
+                } => kept_under(&self.log, *prev_index, entries.as_slice()),
+                Body::RequestVote { .. } | Body::Vote { .. } | Body::Reply { .. } => self.log.len(),
+            },
+        }
+    }
+
+    /// What is to be stored, after a step that kept so much of the log.
+    #[tactic(auto, using(crate::proofs::Lists::drop_min))]
+    fn change_from(&self, kept: usize) -> Result<Change, AllocError>
+        ensures { IfOk result
+            (λ c. (c.term ≡ self.now.term) × (c.vote ≡ self.now.vote) × (c.kept ≡ kept) × (c.entries.items ≡ drop kept self.now.log.items)) }
+    {
+        let (_, tail) = self.log.split_at(kept.min(self.log.len()));
+        let entries = copies_of(self.alloc, tail)?;
+        Ok(Change {
+            term: self.term,
+            vote: self.vote,
+            kept,
+            entries,
+        })
+    }
+
+    /// Does the work, and says what changes in what is stored.
+    fn take_work(&mut self, work: Work) -> Result<Effect, AllocError>
+        ensures done { IfOk result
+            (λ e. effect_of self.new e ≡ works self.old.schema self.old.members self.old.me work (node_of self.old)) }
+        ensures fits { IfOk result (EffectFits self.old self.new) }
+        ensures seat { IsSameSeat self.old self.new }
+    {
+        let kept = self.kept_of(&work);
+        let term = self.term;
+        let vote = self.vote;
+        let len = self.log.len();
+        let committed_before = self.commit;
+        let messages = match self.on_work(work)? {
+            Outcome::Refused(refusal) => return Ok(Effect::Refused(refusal)),
+            Outcome::Ignored => return Ok(Effect::Ignored),
+            Outcome::Sent(messages) => messages,
+        };
+        if self.term == term && self.vote == vote && kept == len && self.log.len() == len {
+            return Ok(Effect::Done(Taken {
+                change: None,
+                messages,
+                committed_before,
+            }));
+        }
+        let change = self.change_from(kept)?;
+        Ok(Effect::Done(Taken {
+            change: Some(change),
+            messages,
+            committed_before,
+        }))
+    }
+
+    /// Takes one step, by Figure 2 of "In search of an understandable consensus algorithm".
+    ///
+    /// A refusal leaves the member as it was: the reader's refusal of a submitted text, `NotLeader`
+    /// with the known leader where a close or a submit comes to no leader, then `TimeFull` where no
+    /// stamp is left, then `LogFull` where the log has 100,000 entries; `TermFull` at a timeout in the
+    /// last term. A message that no honest member can send, a timeout of a leader and a beat of
+    /// another are ignored.
+    ///
+    /// An `Err` is want of memory: the state may be half changed, and each later step gives an `Err`
+    /// too.
+    pub fn step(&mut self, work: Work) -> Result<Effect, AllocError>
+        ensures done { IfOk result
+            (λ e. effect_of self.new e ≡ works self.old.schema self.old.members self.old.me work (node_of self.old)) }
+        ensures fits { IfOk result (EffectFits self.old self.new) }
+        ensures group { (self.new.members ≡ self.old.members) × (self.new.me ≡ self.old.me) × (self.new.schema ≡ self.old.schema) }
+        ensures ok { OnOk result ((self.old.is_spent ≡ false) × (self.new.is_spent ≡ false)) }
+        ensures err { OnErr result (self.new.is_spent ≡ true) }
+        ensures spent { self.old.is_spent ≡ true → IsErr result }
+    {
+        if self.is_spent {
+            return Err(AllocError);
+        }
+        match self.take_work(work) {
+            Ok(effect) => Ok(effect),
+            Err(error) => {
+                self.is_spent = true;
+                Err(error)
+            }
+        }
+    }
+}
