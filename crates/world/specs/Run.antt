@@ -1,0 +1,25 @@
+-- A world as its run.
+use Rattle.std.specs.Prelude.{ℕ, List, map}
+use Rattle.model.specs.Transactions.{Schema}
+use Rattle.model.specs.Worlds.{World, Event, led_world, run}
+use Rattle.sqlread.specs.Meaning.{schema_of}
+use Rattle.world.specs.declared.history.World.{World as Whole}
+use Rattle.world.specs.View.{event_of}
+
+abbrev pub schema_in : Whole → Schema
+schema_in w = schema_of w.group.schema
+
+abbrev pub members_in : Whole → ℕ
+members_in w = w.group.members
+
+-- all up, with term 1, their vote for member 1, empty logs, and member 1 their leader
+abbrev pub opening_of : Whole → World
+opening_of w = led_world (members_in w)
+
+-- what happened, from the first event on
+abbrev pub events_of : Whole → List Event
+events_of w = map event_of w.kept.items
+
+-- the world after what happened
+abbrev pub now_of : Whole → World
+now_of w = run (schema_in w) (members_in w) (opening_of w) (events_of w)

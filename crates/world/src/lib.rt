@@ -1,0 +1,10 @@
+//! All members of a group in one program, through lists of events.
+#![tactic(auto)]
+
+pub mod event;
+mod group;
+pub mod history;
+mod opening;
+pub mod output;
+#[cfg(test)]
+mod tests;
