@@ -1,0 +1,4 @@
+pub mod Doubled
+pub mod Numbers
+pub mod Scripts
+pub mod Words

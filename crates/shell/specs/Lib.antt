@@ -1,0 +1,6 @@
+pub mod Player
+pub mod Printing
+pub mod Script
+pub mod Command
+pub mod Line
+pub mod Number

@@ -1,0 +1,13 @@
+//! The commands of the program, over readers and writers.
+#![tactic(auto)]
+
+pub mod command;
+pub mod line;
+pub mod number;
+pub mod player;
+pub mod printing;
+pub mod run_fault;
+pub mod script;
+pub mod sim;
+#[cfg(test)]
+mod tests;

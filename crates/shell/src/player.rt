@@ -1,0 +1,241 @@
+//! Playing scripts on a group.
+ghost use Rattle.std.specs.Prelude.{◌≡◌, false, IsTrue, OnOk, OnErr, IfOk, IfErr};
+ghost use Rattle.fault.specs.declared.refusal.Refusal.TheVariants.{NoMemory};
+
+use crate::line::{Line, MEMBERS};
+use crate::printing::Printed;
+use crate::run_fault::RunFault;
+use fault::{Refusal, Text};
+use model::entry::Request;
+use model::member::Member;
+use model::message::Input;
+use sqlread::query::read_as_of;
+use std::alloc::{AllocError, Global};
+use std::io;
+use world::event::Event;
+use world::history::World;
+use world::output::Output;
+
+// How many rounds a `settle` plays that names none.
+const ROUNDS_MOST: u8 = 100;
+
+/// A group, what the clock of each member shows, and which messages were delivered.
+#[derive(Drop)]
+pub struct Player {
+    alloc: Global,
+    world: World,
+    /// In order of the members, which count from 1.
+    clocks: Vec<i64>,
+    /// In order of the messages, which count from 1.
+    sent: Vec<Sent>,
+    has_failed: bool,
+}
+
+// A message that was sent.
+#[derive(Drop)]
+struct Sent {
+    addressee: Member,
+    is_delivered: bool,
+}
+
+impl Player {
+    ghost use Rattle.shell.specs.Player.{has_failed, IsPlayFault};
+
+    /// A group at its opening, where all clocks show 0.
+    pub fn new(alloc: Global) -> Result<Player, AllocError>
+        ensures { IfOk result (λ player. has_failed player ≡ false) }
+    {
+        Ok(Player {
+            alloc,
+            world: World::new(alloc, MEMBERS)?,
+            clocks: vec![in alloc; 0; MEMBERS]?,
+            sent: Vec::new(alloc),
+            has_failed: false,
+        })
+    }
+
+    /// Plays one line, and prints what it gives. It fails by want of memory or by the writer's
+    /// fault, and after either it answers only want of memory, and prints nothing.
+    pub fn play<W: io::Write>(&mut self, line: &Line, writer: &mut W) -> Result<(), RunFault>
+        ensures err { IfErr result IsPlayFault }
+        ensures fails { OnErr result (IsTrue (has_failed self.new)) }
+        ensures goes_on { OnOk result (has_failed self.new ≡ false) }
+        ensures stays { IsTrue (has_failed self.old) → (result ≡ Err (RunFault.Refused NoMemory)) × (writer.new ≡ writer.old) }
+    {
+        if self.has_failed {
+            return Err(RunFault::Refused(Refusal::NoMemory));
+        }
+        let played = self.play_line(line, writer);
+        self.has_failed = played.is_err();
+        played
+    }
+
+    fn play_line<W: io::Write>(&mut self, line: &Line, writer: &mut W) -> Result<(), RunFault>
+        ensures { IfErr result IsPlayFault }
+    {
+        match line {
+            Line::Clock { node, reading } => {
+                self.set_clock(*node, *reading);
+                Ok(())
+            }
+            Line::ClockAll { reading } => {
+                self.clocks.fill(*reading);
+                Ok(())
+            }
+            Line::Submit {
+                node,
+                client,
+                number,
+                text,
+            } => self.submit(*node, *client, *number, text, writer),
+            Line::Beat { node } => self.happen(Event::Hand(*node, Input::Beat), writer),
+            Line::Close { node } => {
+                let reading = self.reading_of(*node);
+                self.happen(Event::Hand(*node, Input::Close { reading }), writer)
+            }
+            Line::Deliver { message } => self.deliver(*message, writer),
+            Line::Settle { rounds } => self.settle(rounds.unwrap_or(ROUNDS_MOST), writer),
+            Line::Ask { node, text } => self.ask(*node, text, writer),
+        }
+    }
+
+    fn set_clock(&mut self, node: Member, reading: i64) {
+        if 1 <= node && node <= self.clocks.len() {
+            self.clocks[node - 1] = reading;
+        }
+    }
+
+    // What the clock of a member shows.
+    fn reading_of(&self, node: Member) -> i64 {
+        if 1 <= node && node <= self.clocks.len() {
+            self.clocks[node - 1]
+        } else {
+            0
+        }
+    }
+
+    fn submit<W: io::Write>(
+        &mut self,
+        node: Member,
+        client: u16,
+        number: u64,
+        text: &Text,
+        writer: &mut W,
+    ) -> Result<(), RunFault>
+        ensures { IfErr result IsPlayFault }
+    {
+        let reading = self.reading_of(node);
+        let request = Request {
+            client,
+            number,
+            text: text.clone()?,
+        };
+        self.happen(
+            Event::Hand(node, Input::Submit { reading, request }),
+            writer,
+        )
+    }
+
+    // A text that is no question is refused before the group is asked.
+    fn ask<W: io::Write>(
+        &mut self,
+        node: Member,
+        text: &Text,
+        writer: &mut W,
+    ) -> Result<(), RunFault>
+        ensures { IfErr result IsPlayFault }
+    {
+        match read_as_of(self.alloc, text.as_str()) {
+            Ok(question) => self.happen(Event::Ask(node, question), writer),
+            Err(Refusal::NoMemory) => Err(RunFault::Refused(Refusal::NoMemory)),
+            Err(refusal) => {
+                let refused = Output::Refused(node, refusal);
+                write!(writer, "{}", Printed(&refused))?;
+                Ok(())
+            }
+        }
+    }
+
+    // Delivers the message of this number, if one was sent.
+    fn deliver<W: io::Write>(&mut self, number: u64, writer: &mut W) -> Result<(), RunFault>
+        ensures { IfErr result IsPlayFault }
+    {
+        if number < 1 || number > self.sent.len() as u64 {
+            return Ok(());
+        }
+        self.deliver_at(number as usize - 1, writer)
+    }
+
+    // Delivers the message at this place among those sent, if there is one.
+    fn deliver_at<W: io::Write>(&mut self, place: usize, writer: &mut W) -> Result<(), RunFault>
+        ensures { IfErr result IsPlayFault }
+    {
+        if place >= self.sent.len() {
+            return Ok(());
+        }
+        self.sent[place].is_delivered = true;
+        let reading = self.reading_of(self.sent[place].addressee);
+        let message = place + 1;
+        self.happen(Event::Deliver { message, reading }, writer)
+    }
+
+    // Plays rounds until no message is left that was never delivered.
+    fn settle<W: io::Write>(&mut self, rounds: u8, writer: &mut W) -> Result<(), RunFault>
+        ensures { IfErr result IsPlayFault }
+    {
+        for _ in 0..rounds {
+            if !self.play_round(writer)? {
+                break;
+            }
+        }
+        Ok(())
+    }
+
+    // Delivers each message that was sent before now and never delivered, and says whether there
+    // was one.
+    fn play_round<W: io::Write>(&mut self, writer: &mut W) -> Result<bool, RunFault>
+        ensures { IfErr result IsPlayFault }
+    {
+        let mut was_left = false;
+        for place in 0..self.sent.len() {
+            if self.is_left(place) {
+                was_left = true;
+                self.deliver_at(place, writer)?;
+            }
+        }
+        Ok(was_left)
+    }
+
+    // Whether the message at this place was never delivered.
+    fn is_left(&self, place: usize) -> bool {
+        match self.sent.get(place) {
+            Some(sent) => !sent.is_delivered,
+            None => false,
+        }
+    }
+
+    // Lets an event happen, and prints what it gives.
+    fn happen<W: io::Write>(&mut self, event: Event, writer: &mut W) -> Result<(), RunFault>
+        ensures { IfErr result IsPlayFault }
+    {
+        for outputs in &self.world.run(&[event])? {
+            self.print(outputs.as_slice(), writer)?;
+        }
+        Ok(())
+    }
+
+    fn print<W: io::Write>(&mut self, outputs: &[Output], writer: &mut W) -> Result<(), RunFault>
+        ensures { IfErr result IsPlayFault }
+    {
+        for output in outputs {
+            if let Output::Sent(_, message) = output {
+                self.sent.push(Sent {
+                    addressee: message.addressee,
+                    is_delivered: false,
+                })?;
+            }
+            write!(writer, "{}", Printed(output))?;
+        }
+        Ok(())
+    }
+}

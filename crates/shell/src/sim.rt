@@ -1,0 +1,51 @@
+//! The command `sim`.
+ghost use Rattle.std.specs.Prelude.{◌≡◌, ◌⊎◌, ℕ, List, string_bytes, IfSome, IfOk, IfErr, OnOk, Err};
+ghost use Rattle.fault.specs.declared.refusal.Refusal.TheVariants.{NoMemory, BadScript};
+ghost use Rattle.shell.specs.declared.line.Line.{Line};
+ghost use Rattle.shell.specs.Player.{IsSimFault};
+ghost use Rattle.shell.specs.Script.{HasLines};
+
+use crate::player::Player;
+use crate::run_fault::RunFault;
+use crate::script::read_script;
+use fault::Refusal;
+use std::alloc::Global;
+use std::io;
+
+/// Reads a script to its end, plays it, and prints what it gives. It gives the exit status 0, or
+/// what ended the command: want of memory, the writer's fault, or a bad script, which prints
+/// nothing. A script that cannot be read, or is not UTF-8, is bad at line 0.
+pub fn run_sim<R: io::Read, W: io::Write>(
+    alloc: Global,
+    reader: &mut R,
+    writer: &mut W,
+) -> Result<u8, RunFault>
+    ensures status { IfOk result (λ status. status ≡ 0) }
+    ensures script { OnOk result (IfSome (R.remaining reader.old)
+        (λ bytes. (lines : List Line) × HasLines bytes lines)) }
+    ensures err { IfErr result IsSimFault }
+    ensures bad { (line : ℕ) → result ≡ Err (RunFault.Refused (BadScript line)) → writer.new ≡ writer.old }
+{
+    let script = read_text(alloc, reader)?;
+    let lines = read_script(alloc, script.as_str())?;
+    let mut player = Player::new(alloc)?;
+    for line in &lines {
+        player.play(line, writer)?;
+    }
+    writer.flush()?;
+    Ok(0)
+}
+
+// All that the reader has left, as text: what cannot be read, or is no text, is a bad script at
+// line 0.
+fn read_text<R: io::Read>(alloc: Global, reader: &mut R) -> Result<String, Refusal>
+    ensures text { IfOk result (λ text. IfSome (R.remaining reader.old) (λ bytes. string_bytes text ≡ bytes)) }
+    ensures err { IfErr result (λ refusal. (refusal ≡ NoMemory) ⊎ (refusal ≡ BadScript 0)) }
+{
+    let mut bytes = Vec::new(alloc);
+    match reader.read_to_end(&mut bytes) {
+        Ok(_) => String::from_utf8(bytes).map_err(|_| Refusal::BadScript(0)),
+        Err(error) if error.kind() == io::ErrorKind::OutOfMemory => Err(Refusal::NoMemory),
+        Err(_) => Err(Refusal::BadScript(0)),
+    }
+}

@@ -1,0 +1,346 @@
+use crate::command::{Command, read_command};
+use crate::line::Line;
+use crate::printing::Printed;
+use crate::run_fault::RunFault;
+use crate::script::read_script;
+use crate::sim::run_sim;
+use fault::{Refusal, Text};
+use model::entry::{Entries, Entry, Told};
+use model::message::{Body, Message};
+use model::stamp::Stamp;
+use model::value::Value;
+use period::{Day, Period};
+use sqlread::answer::{Answer, Shown};
+use std::alloc::{AllocError, Global};
+use std::io;
+use std::process::Abort;
+use std::test::Fail;
+use world::output::Output;
+
+fn text_of(alloc: Global, words: &str) -> Result<Text, AllocError> {
+    Ok(Text::new(String::from_str(alloc, words)?))
+}
+
+// What reading a script comes to, as `Debug` shows it.
+fn read(alloc: Global, script: &str) -> Result<String, AllocError> {
+    let read = read_script(alloc, script);
+    format!(in alloc; "{read:?}")
+}
+
+#[test]
+fn reads_good_lines(rt: HostRuntime) -> Result<(), Fail> {
+    let script = "# a comment
+
+members 3
+clock 1 0
+clock 3 -9223372036854775808
+clock all 9223372036854775807
+#
+submit 1 1 1 A  b
+submit 2 65535 4611686018427387904 
+beat 1
+close 3
+deliver 0
+deliver 18446744073709551615
+settle
+settle 1
+settle 100
+ask 2 # no comment
+ask 3 
+";
+    let alloc = rt.alloc();
+    let wanted = vec![in alloc;
+        Line::Clock {
+            node: 1,
+            reading: 0
+        },
+        Line::Clock {
+            node: 3,
+            reading: i64::MIN
+        },
+        Line::ClockAll { reading: i64::MAX },
+        Line::Submit {
+            node: 1,
+            client: 1,
+            number: 1,
+            text: text_of(alloc, "A  b")?
+        },
+        Line::Submit {
+            node: 2,
+            client: 65_535,
+            number: 4_611_686_018_427_387_904,
+            text: text_of(alloc, "")?
+        },
+        Line::Beat { node: 1 },
+        Line::Close { node: 3 },
+        Line::Deliver { message: 0 },
+        Line::Deliver { message: u64::MAX },
+        Line::Settle { rounds: None },
+        Line::Settle { rounds: Some(1) },
+        Line::Settle { rounds: Some(100) },
+        Line::Ask {
+            node: 2,
+            text: text_of(alloc, "# no comment")?
+        },
+        Line::Ask {
+            node: 3,
+            text: text_of(alloc, "")?
+        },
+    ]?;
+    let lines = read_script(alloc, script)?;
+    assert!(rt; lines == wanted, "{lines:?}");
+    assert!(rt; read_script(alloc, "members 3\n")?.is_empty());
+    Ok(())
+}
+
+// Each of these is the third line of a script.
+#[test]
+fn refuses_bad_lines(rt: HostRuntime) -> Result<(), Fail> {
+    for line in [
+        "members 3",
+        " beat 1",
+        "beat",
+        "beat ",
+        "beat 0",
+        "beat 4",
+        "beat 01",
+        "beat +1",
+        "beat  1",
+        "beat 1 ",
+        "Beat 1",
+        "beat 1\r",
+        "beat\t1",
+        "close",
+        "close 4",
+        "close all",
+        "clock 1",
+        "clock 1 ",
+        "clock 1 -0",
+        "clock 1 00",
+        "clock 1 -01",
+        "clock 1 +1",
+        "clock 1 -",
+        "clock 1 9223372036854775808",
+        "clock 1 -9223372036854775809",
+        "clock 0 1",
+        "clock ALL 1",
+        "clock all",
+        "submit 1 1 1",
+        "submit 1 0 1 A",
+        "submit 1 65536 1 A",
+        "submit 1 1 0 A",
+        "submit 1 1 4611686018427387905 A",
+        "submit 4 1 1 A",
+        "submit 1  1 1 A",
+        "deliver",
+        "deliver -1",
+        "deliver 01",
+        "deliver 18446744073709551616",
+        "settle 0",
+        "settle 101",
+        "settle ",
+        "settle 1 ",
+        "ask 1",
+        "ask 0 A",
+        "ask",
+        "stop 1",
+        "\u{e9}",
+    ] {
+        let script = format!(in rt.alloc(); "members 3\n\n{line}\nno line\n")?;
+        let shown = read(rt.alloc(), script.as_str())?;
+        assert_eq!(rt; shown.as_str(), "Err(BadScript(3))", "{line}");
+    }
+    Ok(())
+}
+
+#[test]
+fn refuses_scripts_with_bad_ends(rt: HostRuntime) -> Result<(), Fail> {
+    for (script, line) in [
+        ("", 1),
+        ("\n", 2),
+        ("# members 3\n\n", 3),
+        ("members 3", 1),
+        ("members 4\n", 1),
+        ("members 3 \n", 1),
+        ("members 03\n", 1),
+        ("beat 1\nmembers 3\n", 1),
+        ("members 3\nbeat 1", 2),
+        ("members 3\nbeat 1\n#", 3),
+        ("members 3\n ", 2),
+    ] {
+        let shown = read(rt.alloc(), script)?;
+        let wanted = format!(in rt.alloc(); "Err(BadScript({line}))")?;
+        assert_eq!(rt; shown.as_str(), wanted.as_str(), "{script:?}");
+    }
+    Ok(())
+}
+
+fn prints(rt: &impl Abort, alloc: Global, output: &Output, wanted: &str) -> Result<(), Fail> {
+    let printed = Printed(output);
+    let text = format!(in alloc; "{printed}")?;
+    assert_eq!(rt; text.as_str(), wanted);
+    Ok(())
+}
+
+fn sent(body: Body) -> Output {
+    let message = Message {
+        sender: 2,
+        addressee: 1,
+        term: 7,
+        body,
+    };
+    Output::Sent(12, message)
+}
+
+#[test]
+fn prints_messages(rt: HostRuntime) -> Result<(), Fail> {
+    let alloc = rt.alloc();
+    let body = Body::RequestVote {
+        last_index: 4,
+        last_term: 6,
+    };
+    prints(
+        &rt,
+        alloc,
+        &sent(body),
+        "sent 12 2->1 votereq term 7 last 4 6\n",
+    )?;
+    let body = Body::Vote { given: true };
+    prints(&rt, alloc, &sent(body), "sent 12 2->1 vote term 7 yes\n")?;
+    let body = Body::Reply {
+        ok: false,
+        matched: 0,
+    };
+    prints(&rt, alloc, &sent(body), "sent 12 2->1 reply term 7 no 0\n")?;
+    let close = Entry {
+        term: 7,
+        stamp: Stamp::new(5),
+        request: None,
+    };
+    let entries = Entries::new(vec![in alloc; close]?);
+    let body = Body::Append {
+        prev_index: 3,
+        prev_term: 6,
+        entries,
+        commit: 2,
+    };
+    let wanted = "sent 12 2->1 append term 7 prev 3 6 commit 2 entries 1\n";
+    prints(&rt, alloc, &sent(body), wanted)
+}
+
+#[test]
+fn prints_outcomes(rt: HostRuntime) -> Result<(), Fail> {
+    let outcome = Ok(Stamp::new(1_000_001));
+    let told = Told {
+        index: 9,
+        client: 7,
+        number: 1,
+        outcome,
+    };
+    let wanted = "node 3 entry 9 request 7 1 accepted 1970-01-01 00:00:01.000001\n";
+    prints(&rt, rt.alloc(), &Output::Applied(3, told), wanted)?;
+    let outcome = Err(Refusal::KeyOverlap);
+    let told = Told {
+        index: 9,
+        client: 7,
+        number: 1,
+        outcome,
+    };
+    let wanted = "node 3 entry 9 request 7 1 refused 20 key overlap\n";
+    prints(&rt, rt.alloc(), &Output::Applied(3, told), wanted)?;
+    let refused = Output::Refused(2, Refusal::NotLeader(Some(1)));
+    prints(
+        &rt,
+        rt.alloc(),
+        &refused,
+        "node 2 refused 32 not leader, try 1\n",
+    )
+}
+
+#[test]
+fn prints_answers(rt: HostRuntime) -> Result<(), Fail> {
+    let alloc = rt.alloc();
+    let period = Period::new(Day::read("2010-01-01", 0)?, Day::read("9999-12-31", 0)?)?;
+    let row = Shown {
+        key: vec![in alloc; Value::Number(-5)]?,
+        values: vec![in alloc; Value::Text(text_of(alloc, "'O''Brien'")?)]?,
+        period,
+        birth: Stamp::new(100),
+        end: Some(Stamp::new(101)),
+    };
+    let days = Shown {
+        key: vec![in alloc; Value::Day(0), Value::Day(3_652_059)]?,
+        values: Vec::new(alloc),
+        period,
+        birth: Stamp::new(0),
+        end: None,
+    };
+    let rows = vec![in alloc; row, days]?;
+    let answer = Answer {
+        last: Stamp::new(102),
+        rows,
+    };
+    let wanted = "node 1 answer
+last 1970-01-01 00:00:00.000102
+columns DNo,DStart,DEnd,DName,SysStart,SysEnd
+row -5,2010-01-01,9999-12-31,'''O''''Brien''',1970-01-01 00:00:00.000100,1970-01-01 00:00:00.000101
+row 0001-01-01,3652059,2010-01-01,9999-12-31,1970-01-01 00:00:00.000000,9999-12-31 23:59:59.999999
+rows 2
+";
+    prints(&rt, alloc, &Output::Answered(1, answer), wanted)
+}
+
+#[test]
+fn reads_commands(rt: HostRuntime) -> Result<(), Fail> {
+    let alloc = rt.alloc();
+    let sim = vec![in alloc;
+        String::from_str(alloc, "sim")?,
+        String::from_str(alloc, "a")?,
+    ]?;
+    assert_eq!(rt; read_command(sim.as_slice()), Some(Command::PlayFile("a")));
+    assert_eq!(rt; read_command(&sim[..1]), None);
+    assert_eq!(rt; read_command(&sim[..0]), Some(Command::PlayInput));
+    let help = vec![in alloc; String::from_str(alloc, "--help")?]?;
+    assert_eq!(rt; read_command(help.as_slice()), Some(Command::Help));
+    Ok(())
+}
+
+// A reader that fails after some bytes.
+#[derive(Drop)]
+struct Broken(bool);
+
+impl io::Read for Broken {
+    fn read(&mut self, buf: &mut [u8]) -> io::Result<usize> {
+        if self.0 || buf.is_empty() {
+            return Err(io::Error::from(io::ErrorKind::Other));
+        }
+        self.0 = true;
+        buf[0] = b'm';
+        Ok(1)
+    }
+}
+
+#[test]
+fn a_script_that_cannot_be_read_is_bad_at_line_0(rt: HostRuntime) -> Result<(), Fail> {
+    let mut writer = Vec::new(rt.alloc());
+    let broken = run_sim(rt.alloc(), &mut Broken(false), &mut writer);
+    let broken = format!(in rt.alloc(); "{broken:?}")?;
+    assert_eq!(rt; broken.as_str(), "Err(Refused(BadScript(0)))");
+    let mut no_text = b"members 3\n\xff\n".as_slice();
+    let no_text = run_sim(rt.alloc(), &mut no_text, &mut writer);
+    let no_text = format!(in rt.alloc(); "{no_text:?}")?;
+    assert_eq!(rt; no_text.as_str(), "Err(Refused(BadScript(0)))");
+    assert!(rt; writer.is_empty());
+    Ok(())
+}
+
+#[test]
+fn shows_faults(rt: HostRuntime) -> Result<(), Fail> {
+    let refused = RunFault::from(Refusal::BadScript(4));
+    let refused = format!(in rt.alloc(); "{refused}")?;
+    assert_eq!(rt; refused.as_str(), "60 bad script at line 4");
+    let output = RunFault::from(io::Error::from(io::ErrorKind::StorageFull));
+    let output = format!(in rt.alloc(); "{output}")?;
+    assert_eq!(rt; output.as_str(), "standard output: no storage space");
+    Ok(())
+}
