@@ -2,6 +2,7 @@
 #![tactic(auto)]
 
 mod asking;
+pub mod durable;
 pub mod node;
 mod telling;
 

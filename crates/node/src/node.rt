@@ -45,7 +45,7 @@ pub enum Fault {
 /// A member over a keeper: what it knows, and where its term, vote and log are stored.
 #[derive(Drop)]
 pub struct Node<K: Keeper> {
-    alloc: Global,
+    pub(crate) alloc: Global,
     /// What the member knows.
     pub core: Core,
     /// Where its term, vote and log are stored.
@@ -126,7 +126,8 @@ impl<K: Keeper> Node<K> {
         me: Member,
     ) -> Result<Node<K>, (StoreError, K::Image)>
         requires few { members ≤ 7 }
-        ensures opened { IfOk result (λ n. K.is_honest n.keeper → K.holds image (durable_of (node_of n.core)) × (node_of n.core ≡ led_opening members me (durable_of (node_of n.core)))) }
+        ensures opened { IfOk result (λ n. node_of n.core ≡ led_opening members me (durable_of (node_of n.core))) }
+        ensures found { IfOk result (λ n. K.is_honest n.keeper → K.holds image (durable_of (node_of n.core))) }
         ensures group { IfOk result (λ n. (n.is_up ≡ true) × (n.core.schema ≡ schema) × (n.core.members ≡ members) × (n.core.me ≡ me)) }
         ensures back { IfErr result (λ e. (d : Durable) → K.holds e.1 d → K.holds image d) }
         ensures not_down { IfErr result (λ e. e.0 ≡ StoreError.NodeDown → ⊥) }

@@ -1,0 +1,63 @@
+//! What a node keeps over a restart, as others ask for it.
+ghost use Rattle.std.specs.Prelude.{◌≡◌, true, false, IfOk, IfErr, OnOk, OnErr};
+ghost use Rattle.model.specs.Lists.{nth};
+ghost use Rattle.keep.specs.Durable.{Durable};
+ghost use Rattle.raft.specs.View.{node_of};
+ghost use Rattle.node.specs.View.{durable_of};
+ghost use Rattle.node.specs.Answered.{stored_of, IsFaultOf};
+
+use crate::node::{Fault, Node};
+use fault::Refusal;
+use keep::keeper::Keeper;
+use model::entry::Entry;
+use model::member::Member;
+
+/// What a node has stored: its term, its vote, and the length of its log.
+#[derive(Clone, Copy, PartialEq, Eq, Debug)]
+pub struct Stored {
+    pub term: u64,
+    pub vote: Option<Member>,
+    pub length: usize,
+}
+
+impl<K: Keeper> Node<K> {
+    /// What is stored, which takes no memory and asks no store: 41 where the node is down.
+    pub fn durable(&self) -> Result<Stored, Fault>
+        ensures ok { IfOk result (λ stored. (self.now.is_up ≡ true) × (stored ≡ stored_of (durable_of (node_of self.now.core)))) }
+        ensures kept { IfOk result (λ stored. K.is_honest self.now.keeper → stored ≡ stored_of (K.stored self.now.keeper)) }
+        ensures down { IfErr result (λ fault. (self.now.is_up ≡ false) × (fault ≡ Fault.Kept Refusal.NodeDown)) }
+    {
+        if !self.is_up {
+            return Err(Fault::Kept(Refusal::NodeDown));
+        }
+        Ok(Stored {
+            term: self.core.term(),
+            vote: self.core.vote(),
+            length: self.core.log.len(),
+        })
+    }
+
+    /// The entry at an index of the log, counted from 1, as it is stored; none where there is none.
+    /// 41 where the node is down, with nothing changed; after 40 and 43 it is down.
+    pub fn entry(&mut self, index: usize) -> Result<Option<Entry>, Fault>
+        ensures ok { IfOk result (λ found. K.is_honest self.new.keeper → found ≡ nth self.old.core.log.items index) }
+        ensures up { OnOk result ((self.old.is_up ≡ true) × (self.new.is_up ≡ true)) }
+        ensures fails { IfErr result (IsFaultOf self.old.is_up self.new.is_up) }
+        ensures core { self.new.core ≡ self.old.core }
+        ensures left { (d : Durable) → K.may_hold self.new.keeper d → K.may_hold self.old.keeper d }
+    {
+        if !self.is_up {
+            return Err(Fault::Kept(Refusal::NodeDown));
+        }
+        let Some(place) = index.checked_sub(1) else {
+            return Ok(None);
+        };
+        match self.keeper.entry(self.alloc, place) {
+            Ok(entry) => Ok(entry),
+            Err(error) => {
+                self.is_up = false;
+                Err(Fault::Down(error))
+            }
+        }
+    }
+}

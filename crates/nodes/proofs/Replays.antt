@@ -1,0 +1,63 @@
+-- A life with one step more.
+use Rattle.std.proofs.Common.{◌≡◌, ◌∙◌, ℕ, List, [], ◌∷◌, ◌++◌, fold, Option, Some, None, Ok, Err, refl, sym, ap}
+use Rattle.std.proofs.lemmas.List.Sums.{fold-append}
+use Rattle.std.proofs.lemmas.Grind.{merely}
+use Rattle.fault.specs.declared.refusal.Refusal.{Refusal}
+use Rattle.sqlread.specs.declared.schema.Schema.{Schema}
+use Rattle.model.specs.Members.{Node}
+use Rattle.model.specs.Kept.{node_after}
+use Rattle.keep.specs.Durable.{IsBeforeOrAfter, Durable}
+use Rattle.raft.specs.declared.state.Core.{Core}
+use Rattle.raft.specs.declared.state.Work.{Work}
+use Rattle.raft.specs.View.{node_of, works}
+use Rattle.node.specs.declared.node.Out.{Out}
+use Rattle.node.specs.declared.node.Fault.TheVariants.{Kept}
+use Rattle.node.specs.View.{Gave, IsSame, durable_of, led_opening}
+use Rattle.nodes.specs.declared.life.Step.{Step}
+use Rattle.nodes.specs.declared.life.Opening.{Opening}
+use Rattle.nodes.specs.Lives.{work_of, stepped, opened_with}
+
+-- the steps from an opening on
+abbrev pub taken_through : Core → Opening → List Step → Node
+taken_through c o steps = fold (stepped c.schema c.members c.me) (led_opening c.members c.me (opened_with o)) steps
+
+-- the seat is the same
+same_seat : (old new : Core) (o : Opening) (steps : List Step) → new.schema ≡ old.schema → new.members ≡ old.members → new.me ≡ old.me → taken_through new o steps ≡ taken_through old o steps
+same_seat old new o steps a b c = rw (a, b, c) refl
+
+-- one step more
+replay_more : (c : Core) (o : Opening) (steps : List Step) (s : Step) → taken_through c o (steps ++ s ∷ []) ≡ stepped c.schema c.members c.me (taken_through c o steps) s
+replay_more c o steps s = fold-append (stepped c.schema c.members c.me) (led_opening c.members c.me (opened_with o)) steps (s ∷ [])
+
+-- a step that was made whole
+stepped_given : (schema : Schema) (n me : ℕ) (x : Node) (s : Step) (w : Work) (c : Core) (given : Option Out) → w ≡ work_of s.packet → Gave c (works schema n me w x) (Ok given) → IsSame x (node_of c) (Ok given) → stepped schema n me x s ≡ node_of c
+unfolding stepped
+stepped_given schema n me x s w c (Some out) is gave same = rw (← is) (ap (node_after x) (sym gave))
+stepped_given schema n me x s w c None is gave same = rw (← is) (ap (node_after x) (sym gave) ∙ sym same)
+
+-- a step that was refused
+stepped_refused : (schema : Schema) (n me : ℕ) (x : Node) (s : Step) (w : Work) (c : Core) (refusal : Refusal) → w ≡ work_of s.packet → Gave c (works schema n me w x) (Err (Kept refusal)) → node_of c ≡ x → stepped schema n me x s ≡ node_of c
+unfolding stepped
+stepped_refused schema n me x s w c refusal is gave same = rw (← is) (ap (node_after x) (sym gave) ∙ sym same)
+
+replayed : (old new : Core) (o : Opening) (before after : List Step) (s : Step) → new.schema ≡ old.schema → new.members ≡ old.members → new.me ≡ old.me → after ≡ before ++ s ∷ [] → node_of old ≡ taken_through old o before → stepped old.schema old.members old.me (node_of old) s ≡ node_of new → node_of new ≡ taken_through new o after
+replayed old new o before after s a b c e was is = sym is ∙ ap (λ v. stepped old.schema old.members old.me v s) was ∙ sym (replay_more old o before s) ∙ sym (same_seat old new o (before ++ s ∷ []) a b c) ∙ ap (taken_through new o) (sym e)
+
+-- after a step that was made whole the node is what the longer life replays to
+pub replayed_given : (old new : Core) (o : Opening) (before after : List Step) (s : Step) (w : Work) (given : Option Out) → new.schema ≡ old.schema → new.members ≡ old.members → new.me ≡ old.me → after ≡ before ++ s ∷ [] → w ≡ work_of s.packet → node_of old ≡ taken_through old o before → Gave new (works old.schema old.members old.me w (node_of old)) (Ok given) → IsSame (node_of old) (node_of new) (Ok given) → node_of new ≡ taken_through new o after
+replayed_given old new o before after s w given a b c e is was gave same = replayed old new o before after s a b c e was (stepped_given old.schema old.members old.me (node_of old) s w new given is gave same)
+
+-- so it is after one that was refused
+pub replayed_refused : (old new : Core) (o : Opening) (before after : List Step) (s : Step) (w : Work) (refusal : Refusal) → new.schema ≡ old.schema → new.members ≡ old.members → new.me ≡ old.me → after ≡ before ++ s ∷ [] → w ≡ work_of s.packet → node_of old ≡ taken_through old o before → Gave new (works old.schema old.members old.me w (node_of old)) (Err (Kept refusal)) → node_of new ≡ node_of old → node_of new ≡ taken_through new o after
+replayed_refused old new o before after s w refusal a b c e is was gave same = replayed old new o before after s a b c e was (stepped_refused old.schema old.members old.me (node_of old) s w new refusal is gave same)
+
+-- what is left of a step that was cut short
+abbrev pub IsLeft : Core → Opening → List Step → Step → Durable → Type 0
+IsLeft c o steps s d = IsBeforeOrAfter (durable_of (taken_through c o steps)) (durable_of (stepped c.schema c.members c.me (taken_through c o steps) s)) d
+
+left_old : (old : Core) (o : Opening) (before : List Step) (s : Step) (w : Work) (d : Durable) → w ≡ work_of s.packet → node_of old ≡ taken_through old o before → IsBeforeOrAfter (durable_of (node_of old)) (durable_of (node_after (node_of old) (works old.schema old.members old.me w (node_of old)))) d → IsLeft old o before s d
+unfolding stepped
+left_old old o before s w d is was left = rw (← was, ← is) left
+
+pub torn_left : (old new : Core) (o : Opening) (before after : List Step) (s : Step) (w : Work) (d : Durable) → new.schema ≡ old.schema → new.members ≡ old.members → new.me ≡ old.me → after ≡ before → w ≡ work_of s.packet → node_of old ≡ taken_through old o before → IsBeforeOrAfter (durable_of (node_of old)) (durable_of (node_after (node_of old) (works old.schema old.members old.me w (node_of old)))) d → ∥ IsLeft new o after s d ∥₁
+torn_left old new o before after s w d a b c e is was left = rw (a, b, c, e) (merely (left_old old o before s w d is was left))

@@ -1,0 +1,9 @@
+//! Nodes with the lives that they lead.
+#![tactic(auto)]
+
+pub mod cell;
+pub mod copies;
+pub mod life;
+pub mod mark;
+#[cfg(test)]
+mod tests;
