@@ -9,9 +9,9 @@ use Rattle.fault.specs.declared.refusal.Refusal.TheVariants.{NoMemory as NoMemor
 use Rattle.model.specs.Texts.{instant_text}
 use Rattle.model.specs.Answers.{IsAnswer, closed_query}
 use Rattle.model.specs.Logs.{told_at, closed}
-use Rattle.sqlread.specs.declared.answer.Answer.{Answer}
-use Rattle.sqlread.specs.declared.query.AsOf.{AsOf}
-use Rattle.sqlread.specs.Meaning.{query_of, select_of, answer_of}
+use Rattle.cutread.specs.declared.answer.Answer.{Answer}
+use Rattle.cutread.specs.declared.query.AsOf.{AsOf}
+use Rattle.cutread.specs.Meaning.{query_of, select_of, answer_of}
 use Rattle.model.specs.Members.{Node}
 use Rattle.model.specs.Steps.{crowned, Effect, Moves, Refuses, Nothing}
 use Rattle.keep.specs.Durable.{Durable, after, IsBeforeOrAfter}

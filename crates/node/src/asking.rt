@@ -2,15 +2,15 @@
 ghost use Rattle.std.specs.Prelude.{◌≡◌, IfOk, option_map};
 ghost use Rattle.model.specs.Logs.{IsStamped, closed};
 ghost use Rattle.model.specs.Texts.{instant_text};
-ghost use Rattle.sqlread.specs.Meaning.{schema_of};
+ghost use Rattle.cutread.specs.Meaning.{schema_of};
 ghost use Rattle.node.specs.View.{IsAskedOf};
 
 use fault::{Refusal, Text};
 use model::entry::Entry;
 use model::stamp::Stamp;
-use sqlread::answer::Answer;
-use sqlread::query::AsOf;
-use sqlread::schema::Schema;
+use cutread::answer::Answer;
+use cutread::query::AsOf;
+use cutread::schema::Schema;
 use std::alloc::{AllocError, Global};
 
 /// The stamp of the last entry, none if there is none.

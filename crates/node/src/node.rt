@@ -1,6 +1,6 @@
 //! A member over a keeper.
 ghost use Rattle.std.specs.Prelude.{◌≡◌, ◌+◌, ◌≤◌, true, false, length, if◌then◌else◌, Some, None, IfOk, IfErr, OnOk, OnErr, MatchOption};
-ghost use Rattle.sqlread.specs.Meaning.{schema_of};
+ghost use Rattle.cutread.specs.Meaning.{schema_of};
 ghost use Rattle.model.specs.Kept.{node_after};
 ghost use Rattle.model.specs.Logs.{IsStamped};
 ghost use Rattle.model.specs.Members.{applied};
@@ -19,9 +19,9 @@ use model::entry::Told;
 use model::member::Member;
 use model::message::{LAST_TERM, LOG_ROOM, Message};
 use raft::state::{Core, Effect, Taken, Work};
-use sqlread::answer::Answer;
-use sqlread::query::AsOf;
-use sqlread::schema::Schema;
+use cutread::answer::Answer;
+use cutread::query::AsOf;
+use cutread::schema::Schema;
 use std::alloc::Global;
 
 /// What a step gives, once what it changed is stored.

@@ -1,10 +1,10 @@
 //! What a member tells of the requests that it applies.
 ghost use Rattle.std.specs.Prelude.{◌≡◌, ◌+◌, ◌-◌, ◌^◌, ◌<◌, IfOk};
-ghost use Rattle.sqlread.specs.Meaning.{schema_of};
+ghost use Rattle.cutread.specs.Meaning.{schema_of};
 ghost use Rattle.node.specs.View.{told_between};
 
 use model::entry::{Entry, Told};
-use sqlread::schema::Schema;
+use cutread::schema::Schema;
 use std::alloc::{AllocError, Global};
 
 /// What is told of the entries after one index, up to another.

@@ -3,7 +3,7 @@ use Rattle.std.proofs.Common.{◌≡◌, ◌∙◌, ℕ, List, [], ◌∷◌, �
 use Rattle.std.proofs.lemmas.List.Sums.{fold-append}
 use Rattle.std.proofs.lemmas.Grind.{merely}
 use Rattle.fault.specs.declared.refusal.Refusal.{Refusal}
-use Rattle.sqlread.specs.declared.schema.Schema.{Schema}
+use Rattle.cutread.specs.declared.schema.Schema.{Schema}
 use Rattle.model.specs.Members.{Node}
 use Rattle.model.specs.Kept.{node_after}
 use Rattle.keep.specs.Durable.{IsBeforeOrAfter, Durable}

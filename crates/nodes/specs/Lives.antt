@@ -1,6 +1,6 @@
 -- What a life replays to, and what a packet adds to it.
 use Rattle.std.specs.Prelude.{ℕ, Bool, true, max, nat_le, nat_lt, ◌&&◌, Option, None, List, [], ◌∷◌, ◌++◌, length, fold, if◌then◌else◌}
-use Rattle.sqlread.specs.declared.schema.Schema.{Schema}
+use Rattle.cutread.specs.declared.schema.Schema.{Schema}
 use Rattle.model.specs.Members.{Node}
 use Rattle.model.specs.Kept.{node_after}
 use Rattle.keep.specs.Durable.{Durable, IsBeforeOrAfter}

@@ -1,6 +1,6 @@
 //! A node with its life.
 ghost use Rattle.std.specs.Prelude.{◌≡◌, ◌≢◌, ◌≤◌, ◌⊎◌, [], ◌++◌, ◌∷◌, true, false, Some, None, IfOk, IfErr, OnOk, MatchOption, unwrap_or};
-ghost use Rattle.sqlread.specs.Meaning.{schema_of};
+ghost use Rattle.cutread.specs.Meaning.{schema_of};
 ghost use Rattle.keep.specs.Durable.{Durable};
 ghost use Rattle.raft.specs.View.{node_of, works};
 ghost use Rattle.node.specs.View.{durable_of, Gave, LeavesUp, HasCause, told_between};
@@ -16,7 +16,7 @@ use fault::Refusal;
 use keep::keeper::Keeper;
 use model::member::Member;
 use node::{Fault, Node, Out as NodeOut};
-use sqlread::schema::Schema;
+use cutread::schema::Schema;
 use std::alloc::Global;
 
 /// What a step gives: its mark, and what the node gave, none where the packet had no effect.

@@ -10,7 +10,7 @@ use model::entry::Request;
 use model::member::Member;
 use model::message::{Body, Input, Message};
 use node::node::Fault;
-use sqlread::schema::Schema;
+use cutread::schema::Schema;
 use std::alloc::{AllocError, Global};
 use std::collections::VecDeque;
 use std::process::Abort;

@@ -12,8 +12,8 @@ use Rattle.model.specs.Tables.{days, Cell, Table, Row, IsRow}
 use Rattle.model.specs.Statements.{inserted, insert_overlaps, row_count}
 use Rattle.model.specs.Transactions.{State, Schema, Statement, transacted, changed, first_orphan, is_orphan, places, Place, with_table, unless_orphan}
 use Rattle.model.specs.Logs.{outcome_at, next_state}
-use Rattle.sqlread.specs.declared.insert.Insert.{Insert}
-use Rattle.sqlread.specs.Meaning.{period_of, statement_of}
+use Rattle.cutread.specs.declared.insert.Insert.{Insert}
+use Rattle.cutread.specs.Meaning.{period_of, statement_of}
 use Rattle.plain.specs.declared.table.Row.{Row as Stored}
 use Rattle.plain.specs.declared.table.Verdict.{Verdict}
 use Rattle.plain.specs.declared.table.Verdict.TheVariants.{Accepted, KeyOverlap, RowLimit}

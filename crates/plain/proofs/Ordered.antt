@@ -18,9 +18,9 @@ use Rattle.model.specs.Transactions.{State}
 use Rattle.model.specs.Logs.{state_at, IsStamped}
 use Rattle.model.specs.Answers.{Shown, row_cmp, IsAnswer, IsAsked, IsShownEnd}
 use Rattle.safety.specs.Answers.{up_to, StateUpTo}
-use Rattle.sqlread.specs.declared.schema.Schema.{Schema as Given}
-use Rattle.sqlread.specs.declared.query.AsOf.{AsOf}
-use Rattle.sqlread.specs.Meaning.{schema_of, query_of}
+use Rattle.cutread.specs.declared.schema.Schema.{Schema as Given}
+use Rattle.cutread.specs.declared.query.AsOf.{AsOf}
+use Rattle.cutread.specs.Meaning.{schema_of, query_of}
 use Rattle.plain.specs.declared.table.Row.{Row as Stored}
 use Rattle.plain.specs.declared.replay.Replay.{Replay}
 use Rattle.plain.specs.Rows.{Has, Apart}

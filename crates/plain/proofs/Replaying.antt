@@ -7,9 +7,9 @@ use Rattle.model.specs.declared.entry.Request.{Request}
 use Rattle.model.specs.Tables.{IsRow}
 use Rattle.model.specs.Transactions.{State, Schema, read_statements, executed_text, transacted}
 use Rattle.model.specs.Logs.{Outcome, executed, is_request, is_first, state_after, after_request, first_outcome, outcome_at, next_state, kept, kept_request, outcome}
-use Rattle.sqlread.specs.declared.schema.Schema.{Schema as Given}
-use Rattle.sqlread.specs.Texts.{insert_in}
-use Rattle.sqlread.specs.Meaning.{schema_of, statements_of}
+use Rattle.cutread.specs.declared.schema.Schema.{Schema as Given}
+use Rattle.cutread.specs.Texts.{insert_in}
+use Rattle.cutread.specs.Meaning.{schema_of, statements_of}
 use Rattle.plain.specs.declared.table.Verdict.{Verdict}
 use Rattle.plain.specs.declared.replay.Session.{Session}
 use Rattle.plain.specs.declared.replay.Replay.{Replay}

@@ -4,8 +4,8 @@ use Rattle.model.specs.declared.entry.Entry.{Entry}
 use Rattle.model.specs.Tables.{Row, IsRow}
 use Rattle.model.specs.Transactions.{Schema}
 use Rattle.model.specs.Logs.{Outcome, state_after, executed, kept}
-use Rattle.sqlread.specs.declared.schema.Schema.{Schema as Given}
-use Rattle.sqlread.specs.Meaning.{schema_of}
+use Rattle.cutread.specs.declared.schema.Schema.{Schema as Given}
+use Rattle.cutread.specs.Meaning.{schema_of}
 use Rattle.plain.specs.declared.replay.Session.{Session}
 use Rattle.plain.specs.declared.replay.Replay.{Replay}
 use Rattle.plain.specs.Stored.{AreRows, outcome_of}

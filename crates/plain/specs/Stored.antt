@@ -6,8 +6,8 @@ use Rattle.model.specs.declared.value.Value.TheVariants.{Number, Text}
 use Rattle.model.specs.Tables.{Table, Row, IsRow}
 use Rattle.model.specs.Transactions.{State, Schema, Statement, transacted}
 use Rattle.model.specs.Logs.{Outcome, outcome_at, next_state}
-use Rattle.sqlread.specs.declared.insert.Insert.{Insert}
-use Rattle.sqlread.specs.Meaning.{period_of, statement_of}
+use Rattle.cutread.specs.declared.insert.Insert.{Insert}
+use Rattle.cutread.specs.Meaning.{period_of, statement_of}
 use Rattle.plain.specs.declared.table.Row.{Row as Stored}
 use Rattle.plain.specs.declared.table.Verdict.{Verdict}
 use Rattle.plain.specs.declared.table.Verdict.TheVariants.{Accepted, KeyOverlap, RowLimit}

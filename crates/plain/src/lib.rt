@@ -4,7 +4,7 @@
 ghost use Rattle.std.specs.Prelude.{◌≡◌, Ok, None, IfOk};
 ghost use Rattle.model.specs.Logs.{IsStamped, told_at};
 ghost use Rattle.model.specs.Answers.{IsAnswer};
-ghost use Rattle.sqlread.specs.Meaning.{schema_of, query_of, answer_of};
+ghost use Rattle.cutread.specs.Meaning.{schema_of, query_of, answer_of};
 
 mod replay;
 mod showing;
@@ -14,10 +14,10 @@ mod tests;
 
 use crate::replay::Replay;
 use crate::showing::{put_in_order, show_all};
+use cutread::answer::Answer;
+use cutread::query::AsOf;
+use cutread::schema::Schema;
 use model::entry::{Entry, Told};
-use sqlread::answer::Answer;
-use sqlread::query::AsOf;
-use sqlread::schema::Schema;
 use std::alloc::{AllocError, Global};
 
 /// What is told of the entry at an index of the log, counted from 1, if it is a request: its client,

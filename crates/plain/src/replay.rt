@@ -4,8 +4,8 @@ ghost use Rattle.fault.specs.declared.refusal.Refusal.TheVariants.{Old};
 ghost use Rattle.model.specs.declared.entry.Entry.{Entry as Logged};
 ghost use Rattle.model.specs.Logs.{outcome};
 ghost use Rattle.safety.specs.Answers.{up_to};
-ghost use Rattle.sqlread.specs.declared.schema.Schema.{Schema as Given};
-ghost use Rattle.sqlread.specs.Meaning.{schema_of};
+ghost use Rattle.cutread.specs.declared.schema.Schema.{Schema as Given};
+ghost use Rattle.cutread.specs.Meaning.{schema_of};
 ghost use Rattle.plain.specs.Replay.{IsAfter, session_of, executed_in, kept_in};
 
 use crate::table::{Row, Verdict, execute, read};

@@ -1,12 +1,12 @@
 //! Rows as an answer shows them.
 ghost use Rattle.std.specs.Prelude.{◌≡◌, map, IfOk};
 ghost use Rattle.std.specs.List.Sorted.{IsPermutation, IsSorted};
-ghost use Rattle.sqlread.specs.Meaning.{shown_of};
+ghost use Rattle.cutread.specs.Meaning.{shown_of};
 ghost use Rattle.plain.specs.Showing.{place_cmp, open_row};
 
 use crate::table::Row;
+use cutread::answer::Shown;
 use model::value::Value;
-use sqlread::answer::Shown;
 use std::alloc::{AllocError, Global};
 
 /// Puts rows in the order of key and start.

@@ -2,14 +2,14 @@
 ghost use Rattle.std.specs.Prelude.{◌≡◌, [], IfOk, OnErr};
 ghost use Rattle.std.specs.List.{list_any};
 ghost use Rattle.model.specs.Transactions.{Schema, State, read_statements};
-ghost use Rattle.sqlread.specs.Texts.{insert_in};
-ghost use Rattle.sqlread.specs.Meaning.{statements_of};
+ghost use Rattle.cutread.specs.Texts.{insert_in};
+ghost use Rattle.cutread.specs.Meaning.{statements_of};
 ghost use Rattle.plain.specs.Stored.{AreRows, Executes, clashes, outcome_of, statements_given};
 
+use cutread::insert::{Insert, read_insert};
 use fault::{Refusal, Text};
 use model::stamp::Stamp;
 use period::Period;
-use sqlread::insert::{Insert, read_insert};
 use std::alloc::{AllocError, Global};
 
 /// How many rows the table may have.

@@ -1,13 +1,13 @@
 use crate::table::{ROW_LIMIT, Row, Verdict, execute};
 use crate::{answer, told_at};
+use cutread::insert::Insert;
+use cutread::query::AsOf;
+use cutread::schema::Schema;
 use fault::{Refusal, Text};
 use model::entry::{Entry, Request};
 use model::stamp::Stamp;
 use model::value::Value;
 use period::{Day, Period};
-use sqlread::insert::Insert;
-use sqlread::query::AsOf;
-use sqlread::schema::Schema;
 use std::alloc::{AllocError, Global};
 use std::test::Fail;
 

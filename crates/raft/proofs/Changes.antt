@@ -1,7 +1,7 @@
 -- What a step tells the keeper.
 use Rattle.std.proofs.Common.{◌≡◌, ℕ, ◌≤◌, ◌++◌, take, drop, length, sym, subst}
-use Rattle.sqlread.specs.declared.schema.Schema.{Schema}
-use Rattle.sqlread.specs.Meaning.{schema_of}
+use Rattle.cutread.specs.declared.schema.Schema.{Schema}
+use Rattle.cutread.specs.Meaning.{schema_of}
 use Rattle.model.specs.Members.{Node}
 use Rattle.model.specs.Steps.{After, Effect, Moves}
 use Rattle.model.specs.Kept.{Leaves}

@@ -12,8 +12,8 @@ use Rattle.raft.specs.declared.state.Outcome.TheVariants.{Refused, Ignored, Sent
 use Rattle.model.specs.declared.message.Message.{Message}
 use Rattle.model.specs.declared.message.Role.TheVariants.{Follower}
 use Rattle.model.specs.declared.entry.Entry.{Entry}
-use Rattle.sqlread.specs.declared.schema.Schema.{Schema}
-use Rattle.sqlread.specs.Meaning.{schema_of}
+use Rattle.cutread.specs.declared.schema.Schema.{Schema}
+use Rattle.cutread.specs.Meaning.{schema_of}
 use Rattle.model.specs.Members.{Node}
 use Rattle.model.specs.Steps.{After, Effect, Moves, Refuses, Nothing, on_message}
 use Rattle.model.specs.Worlds.{hand}

@@ -7,7 +7,7 @@ use keep::change::Change;
 use model::entry::Entry;
 use model::member::Member;
 use model::message::{Input, LAST_TERM, LOG_ROOM, Message, Role};
-use sqlread::schema::Schema;
+use cutread::schema::Schema;
 use std::alloc::Global;
 
 /// What is brought to a member.

@@ -1,7 +1,7 @@
 //! One step of a member.
 ghost use Rattle.std.specs.Prelude.{◌≡◌, ◌<◌, ◌≤◌, length, drop, vec_len, IfOk, OnOk, OnErr, IsErr, nat_le, ◌&&◌, None, true, false};
 ghost use Rattle.std.specs.List.{list_all};
-ghost use Rattle.sqlread.specs.Meaning.{schema_of};
+ghost use Rattle.cutread.specs.Meaning.{schema_of};
 ghost use Rattle.model.specs.Steps.{is_honest, entries_of, spells, on_message, on_body, go_on};
 ghost use Rattle.model.specs.Worlds.{hand};
 ghost use Rattle.model.specs.Kept.{kept_at};
@@ -13,7 +13,7 @@ use keep::change::Change;
 use model::entry::{Entry, Request};
 use model::member::Member;
 use model::message::{Body, CARRIED_MOST, Input, LAST_TERM, Message};
-use sqlread::schema::Schema;
+use cutread::schema::Schema;
 use std::alloc::{AllocError, Global};
 
 /// The entry's text spells a transaction.

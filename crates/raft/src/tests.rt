@@ -3,7 +3,7 @@ ghost use Rattle.std.specs.Prelude.{◌≡◌};
 use crate::{Core, Effect, Taken, Work};
 use model::member::Member;
 use model::message::{Input, Message};
-use sqlread::schema::Schema;
+use cutread::schema::Schema;
 use std::alloc::{AllocError, Global};
 use std::process::Abort;
 use std::test::Fail;

@@ -13,8 +13,8 @@ use Rattle.model.specs.declared.entry.Told.{Told}
 use Rattle.model.specs.declared.message.Message.{Message}
 use Rattle.model.specs.declared.message.Body.{Body}
 use Rattle.model.specs.declared.message.Body.TheVariants.{RequestVote, Vote, Append, Reply}
-use Rattle.sqlread.specs.declared.answer.Answer.{Answer}
-use Rattle.sqlread.specs.declared.answer.Shown.{Shown}
+use Rattle.cutread.specs.declared.answer.Answer.{Answer}
+use Rattle.cutread.specs.declared.answer.Shown.{Shown}
 use Rattle.world.specs.declared.output.Output.{Output}
 use Rattle.world.specs.declared.output.Output.TheVariants.{Sent, Applied, Refused, Answered}
 

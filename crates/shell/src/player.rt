@@ -9,7 +9,7 @@ use fault::{Refusal, Text};
 use model::entry::Request;
 use model::member::Member;
 use model::message::Input;
-use sqlread::query::read_as_of;
+use cutread::query::read_as_of;
 use std::alloc::{AllocError, Global};
 use std::io;
 use world::event::Event;

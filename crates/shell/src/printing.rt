@@ -12,7 +12,7 @@ use model::message::{Body, Message};
 use model::stamp::Stamp;
 use model::value::Value;
 use period::{Day, SystemEnd};
-use sqlread::answer::{Answer, Shown};
+use cutread::answer::{Answer, Shown};
 use std::fmt;
 use world::output::Output;
 

@@ -10,7 +10,7 @@ use model::message::{Body, Message};
 use model::stamp::Stamp;
 use model::value::Value;
 use period::{Day, Period};
-use sqlread::answer::{Answer, Shown};
+use cutread::answer::{Answer, Shown};
 use std::alloc::{AllocError, Global};
 use std::io;
 use std::process::Abort;

@@ -12,9 +12,9 @@ use Rattle.model.specs.Worlds.{Output, IsGivenIn, IsGivenAt}
 use Rattle.model.specs.Worlds.Output.{Answered, Refused}
 use Rattle.fault.specs.declared.refusal.Refusal.{Refusal}
 use Rattle.fault.specs.declared.refusal.Refusal.TheVariants.{NoMemory, NotClosed}
-use Rattle.sqlread.specs.declared.query.AsOf.{AsOf}
-use Rattle.sqlread.specs.declared.answer.Answer.{Answer}
-use Rattle.sqlread.specs.Meaning.{select_of, answer_of}
+use Rattle.cutread.specs.declared.query.AsOf.{AsOf}
+use Rattle.cutread.specs.declared.answer.Answer.{Answer}
+use Rattle.cutread.specs.Meaning.{select_of, answer_of}
 use Rattle.raft.specs.View.{node_of}
 use Rattle.node.specs.View.{IsAskedOf}
 use Rattle.world.specs.View.{Seat, nodes_of}

@@ -10,8 +10,8 @@ use Rattle.model.specs.Worlds.Output.{Applied, Refused}
 use Rattle.model.specs.declared.message.Message.{Message}
 use Rattle.model.specs.declared.message.Input.{Input}
 use Rattle.fault.specs.declared.refusal.Refusal.{Refusal}
-use Rattle.sqlread.specs.declared.schema.Schema.{Schema}
-use Rattle.sqlread.specs.Meaning.{schema_of}
+use Rattle.cutread.specs.declared.schema.Schema.{Schema}
+use Rattle.cutread.specs.Meaning.{schema_of}
 use Rattle.raft.specs.declared.state.Work.{Work}
 use Rattle.raft.specs.declared.state.Work.TheVariants.{Local, Delivered}
 use Rattle.raft.specs.View.{works, node_of}

@@ -5,7 +5,7 @@ use Rattle.model.specs.Transactions.{Schema}
 use Rattle.model.specs.Agreement.{Agree}
 use Rattle.model.specs.Worlds.{World, Event, Output, happens, run, Gives, GivesAll, led_world}
 use Rattle.world.specs.declared.event.Event.{Event as Given}
-use Rattle.sqlread.specs.Meaning.{schema_of}
+use Rattle.cutread.specs.Meaning.{schema_of}
 use Rattle.world.specs.declared.group.Group.{Group}
 use Rattle.world.specs.View.{event_of, seats_of, world_of, AllStamped, IsGroup, IsRun}
 

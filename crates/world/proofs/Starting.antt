@@ -8,7 +8,7 @@ use Rattle.std.proofs.lemmas.Bool.Decides.{nat_tests}
 use Rattle.model.specs.Worlds.{fresh, led_nodes}
 use Rattle.raft.specs.View.{node_of}
 use Rattle.node.specs.View.{led_opening}
-use Rattle.sqlread.specs.declared.schema.Schema.{Schema}
+use Rattle.cutread.specs.declared.schema.Schema.{Schema}
 use Rattle.world.specs.View.{first_stored, nodes_of, Seat, IsSeat}
 use Rattle.world.proofs.Running.{map_append}
 

@@ -6,8 +6,8 @@ use Rattle.std.proofs.Math.ListN.{length-set}
 use Rattle.model.specs.Members.{Node}
 use Rattle.model.specs.Steps.{Moves, Refuses, Nothing}
 use Rattle.model.specs.Worlds.Output.{Applied}
-use Rattle.sqlread.specs.declared.schema.Schema.{Schema}
-use Rattle.sqlread.specs.Meaning.{schema_of}
+use Rattle.cutread.specs.declared.schema.Schema.{Schema}
+use Rattle.cutread.specs.Meaning.{schema_of}
 use Rattle.raft.specs.declared.state.Work.{Work}
 use Rattle.raft.specs.View.{node_of, works, after_of}
 use Rattle.node.specs.declared.node.Out.{Out}

@@ -2,7 +2,7 @@
 use Rattle.std.specs.Prelude.{ℕ, List, map}
 use Rattle.model.specs.Transactions.{Schema}
 use Rattle.model.specs.Worlds.{World, Event, led_world, run}
-use Rattle.sqlread.specs.Meaning.{schema_of}
+use Rattle.cutread.specs.Meaning.{schema_of}
 use Rattle.world.specs.declared.history.World.{World as Whole}
 use Rattle.world.specs.View.{event_of}
 

@@ -12,8 +12,8 @@ use Rattle.keep.specs.Durable.{Durable}
 use Rattle.raft.specs.declared.state.Core.{Core}
 use Rattle.raft.specs.declared.state.Work.{Work}
 use Rattle.raft.specs.View.{node_of, works}
-use Rattle.sqlread.specs.declared.schema.Schema.{Schema}
-use Rattle.sqlread.specs.Meaning.{schema_of, select_of, answer_of}
+use Rattle.cutread.specs.declared.schema.Schema.{Schema}
+use Rattle.cutread.specs.Meaning.{schema_of, select_of, answer_of}
 use Rattle.world.specs.declared.event.Event.{Event as Given}
 use Rattle.world.specs.declared.event.Event.TheVariants.{Hand as HandGiven, Deliver as DeliverGiven, Ask as AskGiven}
 use Rattle.world.specs.declared.output.Output.{Output as Out}

@@ -4,7 +4,7 @@ ghost use Rattle.std.specs.Prelude.{◌≡◌, IfOk};
 use model::entry::Request;
 use model::member::Member;
 use model::message::Input;
-use sqlread::query::AsOf;
+use cutread::query::AsOf;
 use std::alloc::AllocError;
 
 /// One thing that happens to the members of a group.

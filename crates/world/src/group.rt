@@ -7,7 +7,7 @@ ghost use Rattle.model.specs.Worlds.{happens, numbered, Gives, IsGivenAt};
 ghost use Rattle.model.specs.Worlds.Event.{Deliver, Hand};
 ghost use Rattle.model.specs.Worlds.Output.{Applied as ModelApplied};
 ghost use Rattle.raft.specs.View.{works};
-ghost use Rattle.sqlread.specs.Meaning.{schema_of, select_of};
+ghost use Rattle.cutread.specs.Meaning.{schema_of, select_of};
 ghost use Rattle.world.specs.View.{brings, brought, event_of, AllStamped, IsGroup, IsStep, nodes_of, outputs_of, seats_of, world_of};
 
 use crate::event::{Event, copy_of_input};
@@ -18,8 +18,8 @@ use model::member::Member;
 use model::message::{Input, Message};
 use node::node::{Fault, Node, Out};
 use raft::state::Work;
-use sqlread::query::AsOf;
-use sqlread::schema::Schema;
+use cutread::query::AsOf;
+use cutread::schema::Schema;
 use std::alloc::{AllocError, Global};
 
 /// All members, in order, and every message ever sent, in order.

@@ -9,7 +9,7 @@ use crate::group::Group;
 use keep::memory::{MemImage, MemKeeper};
 use model::member::Member;
 use node::node::Node;
-use sqlread::schema::Schema;
+use cutread::schema::Schema;
 use std::alloc::{AllocError, Global};
 
 /// A member in term 1 with an empty log, whose vote member 1 has, and which leads if it is member 1.

@@ -8,7 +8,7 @@ use fault::Refusal;
 use model::entry::{Entries, Told};
 use model::member::Member;
 use model::message::{Body, Message};
-use sqlread::answer::Answer;
+use cutread::answer::Answer;
 use std::alloc::{AllocError, Global};
 
 /// What an event gives.

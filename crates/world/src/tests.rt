@@ -5,7 +5,7 @@ use crate::history::World;
 use crate::output::Output;
 use model::message::Input;
 use model::stamp::Stamp;
-use sqlread::query::AsOf;
+use cutread::query::AsOf;
 use std::alloc::{AllocError, Global};
 use std::test::Fail;
 

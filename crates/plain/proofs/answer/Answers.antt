@@ -1,7 +1,7 @@
 use Rattle.std.proofs.Common.{List, sym, subst, rules}
 use Rattle.std.specs.List.Sorted.{IsPermutation}
 use Rattle.model.specs.Answers.{Shown, IsAnswer}
-use Rattle.sqlread.specs.Meaning.{schema_of, query_of}
+use Rattle.cutread.specs.Meaning.{schema_of, query_of}
 use Rattle.plain.proofs.Ordered.{answer_is}
 use Rattle.plain.proofs.answer.Goals as goal
 

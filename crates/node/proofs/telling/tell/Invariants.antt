@@ -1,5 +1,5 @@
 use Rattle.std.proofs.Common.{◌≡◌}
-use Rattle.sqlread.specs.Meaning.{schema_of}
+use Rattle.cutread.specs.Meaning.{schema_of}
 use Rattle.node.specs.View.{told_between}
 use Rattle.node.proofs.telling.tell.Given as goal
 

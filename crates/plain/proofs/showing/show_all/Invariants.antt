@@ -1,5 +1,5 @@
 use Rattle.std.proofs.Common.{◌≡◌, map}
-use Rattle.sqlread.specs.Meaning.{shown_of}
+use Rattle.cutread.specs.Meaning.{shown_of}
 use Rattle.plain.specs.Showing.{open_row}
 use Rattle.plain.proofs.showing.show_all.Given as goal
 

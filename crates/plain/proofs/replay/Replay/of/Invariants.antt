@@ -1,5 +1,5 @@
 use Rattle.std.proofs.Common.{take, reverse}
-use Rattle.sqlread.specs.declared.schema.Schema.{Schema as Given}
+use Rattle.cutread.specs.declared.schema.Schema.{Schema as Given}
 use Rattle.plain.specs.Replay.{IsAfter}
 use Rattle.plain.proofs.replay.Replay.of.Given as goal
 

@@ -1,8 +1,8 @@
 use Rattle.std.proofs.Common.{◌≡◌, ◌∙◌, ◌+◌, ◌<◌, subst, sym, refl, arith, rules}
 use Rattle.model.specs.Transactions.{read_statements}
 use Rattle.model.specs.Logs.{state_after}
-use Rattle.sqlread.specs.Texts.{insert_in}
-use Rattle.sqlread.specs.Meaning.{schema_of, statements_of}
+use Rattle.cutread.specs.Texts.{insert_in}
+use Rattle.cutread.specs.Meaning.{schema_of, statements_of}
 use Rattle.plain.specs.declared.replay.Session.{Session}
 use Rattle.plain.specs.Stored.{Executes}
 use Rattle.plain.specs.Replay.{session_of, executed_in}

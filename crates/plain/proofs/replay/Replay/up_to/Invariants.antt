@@ -1,6 +1,6 @@
 use Rattle.std.proofs.Common.{take, reverse}
 use Rattle.safety.specs.Answers.{up_to}
-use Rattle.sqlread.specs.declared.schema.Schema.{Schema as Given}
+use Rattle.cutread.specs.declared.schema.Schema.{Schema as Given}
 use Rattle.plain.specs.Replay.{IsAfter}
 use Rattle.plain.proofs.replay.Replay.up_to.Given as goal
 

@@ -3,8 +3,8 @@ use Rattle.std.proofs.lemmas.Result.{IfOk-weaker}
 use Rattle.model.specs.Members.{applied}
 use Rattle.raft.specs.View.{node_of}
 use Rattle.node.specs.View.{IsAskedOf}
-use Rattle.sqlread.specs.Meaning.{schema_of}
-use Rattle.sqlread.specs.declared.schema.Schema.{Schema}
+use Rattle.cutread.specs.Meaning.{schema_of}
+use Rattle.cutread.specs.declared.schema.Schema.{Schema}
 use Rattle.world.specs.View.{outputs_of}
 use Rattle.world.proofs.Asking.{node_at, answered, refused, given}
 use Rattle.world.proofs.Stepping.{seat}

@@ -4,7 +4,7 @@ use Rattle.model.specs.Members.{Node}
 use Rattle.model.specs.Worlds.{numbered, World}
 use Rattle.model.specs.Worlds.Output.{Applied}
 use Rattle.raft.specs.View.{works}
-use Rattle.sqlread.specs.Meaning.{schema_of}
+use Rattle.cutread.specs.Meaning.{schema_of}
 use Rattle.world.specs.declared.group.Step.{Step}
 use Rattle.world.specs.View.{nodes_of, outputs_of, seats_of, IsStep}
 use Rattle.world.proofs.Bringing.{within_nodes, moved_gives, refused_world, refused_gives, ignored_world}

@@ -1,6 +1,6 @@
 use Rattle.std.proofs.Common.{rules, ◌≡◌, ◌++◌, ◌∷◌, [], map}
 use Rattle.model.specs.Worlds.{led_world}
-use Rattle.sqlread.specs.Meaning.{schema_of}
+use Rattle.cutread.specs.Meaning.{schema_of}
 use Rattle.world.specs.View.{event_of, world_of}
 use Rattle.world.proofs.Running.{all_stamped, run_is}
 use Rattle.world.proofs.history.World.happen.Goals as goal

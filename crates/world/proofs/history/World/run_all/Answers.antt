@@ -1,8 +1,8 @@
 use Rattle.std.proofs.Common.{rules, ◌≡◌, ◌∙◌, ◌+◌, ◌<◌, ◌++◌, ◌∷◌, [], ℕ, map, length, take, subst, sym, ap, List, append_assoc}
 use Rattle.std.proofs.lemmas.List.{take_more}
 use Rattle.model.specs.Worlds.{led_world, run, Gives, Output, GivesAll}
-use Rattle.sqlread.specs.declared.schema.Schema.{Schema}
-use Rattle.sqlread.specs.Meaning.{schema_of}
+use Rattle.cutread.specs.declared.schema.Schema.{Schema}
+use Rattle.cutread.specs.Meaning.{schema_of}
 use Rattle.world.specs.declared.event.Event.{Event as Given}
 use Rattle.world.specs.Run.{schema_in, members_in, now_of}
 use Rattle.world.specs.View.{event_of, outputs_of}
