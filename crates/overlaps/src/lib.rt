@@ -1,0 +1,13 @@
+//! The periods that the rows of a table have, by key, and the search for one that shares a day with
+//! another.
+#![tactic(auto)]
+
+pub mod index;
+pub mod key;
+pub mod laws;
+mod order;
+#[cfg(test)]
+mod tests;
+
+pub use index::{Found, KeyIndex};
+pub use key::Key;
