@@ -1,0 +1,11 @@
+pub mod Rows
+pub mod Cutting
+pub mod Changes
+pub mod Touching
+pub mod Statements
+pub mod Covering
+pub mod Sorting
+pub mod Transactions
+pub mod Logs
+pub mod Parts
+pub mod WorkedRows

@@ -1,0 +1,85 @@
+-- What a change touches: the rows that go and those that come.
+use Rattle.std.specs.Prelude.{◌≡◌, ◌⊎◌, ℕ, ◌<◌, ◌==◌, Bool, ◌&&◌, not, Ok, List, [], ◌∷◌, ◌++◌, filter, flat_map}
+use Rattle.std.specs.List.{list_any}
+use Rattle.model.specs.Values.{same_key}
+use Rattle.model.specs.Tables.{Table, Row, IsRow}
+use Rattle.model.specs.Statements.{meets}
+use Rattle.model.specs.Transactions.{Change, Insert, Update, Delete, changed}
+use Rattle.rowlaws.specs.Rows.{Has, Apart, Lists}
+use Rattle.rowlaws.specs.Cutting.{pieces, rest}
+use Rattle.rowlaws.specs.Changes.{IsFine, Follows, new_row}
+
+-- the two are one row: each row is its key, period, values and birth
+abbrev pub same_row : Row → Row → Bool
+same_row a b = same_key a.key b.key && a.period.start == b.period.start && a.period.end == b.period.end && same_key a.values b.values && a.birth == b.birth
+
+-- the rows of the first list that are not in the second
+unfoldable pub rows_without : List Row → List Row → List Row
+rows_without rows more = filter (λ r. not (list_any (same_row r) more)) rows
+
+-- the rows that the older table has and the newer not, and those that the newer has and the older not, each once
+pub record IsTouched (old new : Table) (gone come : List Row) : Type 0 where
+  pub went : (row : Row) → Has gone row → IsRow old row × (IsRow new row → ⊥)
+  pub stay : (row : Row) → IsRow old row → IsRow new row ⊎ Has gone row
+  pub came : (row : Row) → Has come row → IsRow new row × (IsRow old row → ⊥)
+  pub comes : (row : Row) → IsRow new row → IsRow old row ⊎ Has come row
+  pub gone_once : Apart gone
+  pub come_once : Apart come
+
+-- ---- one change, by the rows that it meets alone
+
+-- the rows that a change meets
+abbrev pub met_by : Change → List Row → List Row
+met_by (Insert key values p) rows = []
+met_by (Update passes p set) rows = filter (meets passes p) rows
+met_by (Delete passes p) rows = filter (meets passes p) rows
+
+-- what it makes of them
+abbrev pub made_by : Change → ℕ → List Row → List Row
+made_by (Insert key values p) t rows = new_row key values p t ∷ []
+made_by (Update passes p set) t rows = flat_map (pieces p set t) (filter (meets passes p) rows)
+made_by (Delete passes p) t rows = flat_map (rest p t) (filter (meets passes p) rows)
+
+-- the rows that go: one that is made again as it was stays
+abbrev pub gone_by : Change → ℕ → List Row → List Row
+gone_by c t rows = rows_without (met_by c rows) (made_by c t rows)
+
+-- the rows that come
+abbrev pub come_by : Change → ℕ → List Row → List Row
+come_by c t rows = rows_without (made_by c t rows) (met_by c rows)
+
+-- ---- two changes in turn: a row that comes and goes is in neither list
+
+-- the rows that go with both
+abbrev pub gone_both : List Row → List Row → List Row → List Row
+gone_both gone come later_gone = gone ++ rows_without later_gone come
+
+-- the rows that come with both
+abbrev pub come_both : List Row → List Row → List Row → List Row
+come_both come later_gone later_come = rows_without come later_gone ++ later_come
+
+-- ---- laws
+
+-- between a table and itself nothing is touched
+abbrev pub Untouched : Type 0
+Untouched = (table : Table) → IsTouched table table [] []
+
+-- what is touched is found by comparing two lists of rows
+abbrev pub Touched : Type 0
+Touched = (rows more : List Row) (old new : Table) → Lists rows old → Lists more new → IsTouched old new (rows_without rows more) (rows_without more rows)
+
+-- what an accepted change touches, by the rows that it meets alone
+abbrev pub TouchedBy : Type 0
+TouchedBy = (c : Change) (t : ℕ) (rows : List Row) (old new : Table) →
+    IsFine c → Lists rows old → changed c t old ≡ Ok new → IsTouched old new (gone_by c t rows) (come_by c t rows)
+
+-- what two changes touch in one transaction, at an instant after each birth in the first table
+abbrev pub TouchedThen : Type 0
+TouchedThen = (t : ℕ) (a b c : Table) (gone come later_gone later_come : List Row) →
+    IsTouched a b gone come → IsTouched b c later_gone later_come → Follows t a b → Follows t b c → ((r : Row) → IsRow a r → r.birth < t) →
+    IsTouched a c (gone_both gone come later_gone) (come_both come later_gone later_come)
+
+-- the rows before a change, from those after it and what it touched
+abbrev pub Undo : Type 0
+Undo = (rows more : List Row) (old new : Table) (gone come : List Row) →
+    Lists rows old → Lists more new → IsTouched old new gone come → Lists (rows_without more come ++ gone) old

@@ -1,0 +1,5 @@
+mod Lasting
+mod Committed
+mod Kept
+mod Found
+mod Answered

@@ -1,0 +1,5 @@
+use Rattle.versionlaws.proofs.Kept.{commit_entry_holds}
+use Rattle.versionlaws.proofs.commit_entry.Goals as goal
+
+pub returns : goal.returns
+returns c = commit_entry_holds c.state_up_to.ensures c.logs_follow.ensures

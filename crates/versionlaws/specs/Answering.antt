@@ -1,0 +1,74 @@
+-- The answer that versions give.
+use Rattle.std.specs.Prelude.{◌≡◌, ◌↔◌, ℕ, ◌≤◌, Bool, true, ◌&&◌, nat_lt, nat_le, IsTrue, Option, Some, None, List, map, filter, reverse, if◌then◌else◌}
+use Rattle.std.specs.declared.cmp.Ordering.{Ordering}
+use Rattle.model.specs.declared.entry.Entry.{Entry}
+use Rattle.model.specs.Tables.{Table, Row}
+use Rattle.model.specs.Transactions.{Schema}
+use Rattle.model.specs.Logs.{IsStamped}
+use Rattle.model.specs.Answers.{SystemTime, AsOf, From, Between, IsInstant, last_instant, Query, Shown, Answer, row_cmp, IsAsked, IsShownEnd, IsAnswerOver, IsAnswer}
+use Rattle.rowlaws.specs.Rows.{Has, Apart}
+use Rattle.rowlaws.specs.Sorting.{in_order}
+use Rattle.rowlaws.specs.Logs.{AllFine}
+use Rattle.versionlaws.specs.Versions.{Version, IsBefore, Keeps}
+use Rattle.versionlaws.specs.Committing.{versions_after}
+
+-- some instant is one of the system time's
+abbrev pub HasInstant : SystemTime → Type 0
+HasInstant time = (u : ℕ) × IsInstant time u
+
+-- the least of the system time's instants
+abbrev pub first_instant : SystemTime → ℕ
+first_instant (AsOf t) = t
+first_instant (From t v) = t
+first_instant (Between t v) = t
+
+-- the version's row passes, and its system period has one of the query's instants
+abbrev pub IsFound : Query → Version → Type 0
+IsFound q v = IsTrue (q.passes v.row) × (v.row.birth ≤ last_instant q.time) × IsBefore (first_instant q.time) v.end
+
+-- the same as tests
+abbrev pub is_before : ℕ → Option ℕ → Bool
+is_before u None = true
+is_before u (Some end) = nat_lt u end
+
+abbrev pub is_found : Query → Version → Bool
+is_found q v = q.passes v.row && nat_le v.row.birth (last_instant q.time) && is_before (first_instant q.time) v.end
+
+-- the end is shown where it is at or before the last instant
+abbrev pub shown_end : (last : ℕ) → Option ℕ → Option ℕ
+shown_end last None = None
+shown_end last (Some end) = if nat_le end last then Some end else None
+
+-- the version as an answer shows it
+abbrev pub show : Query → Version → Shown
+show q v = record { row = v.row; end = shown_end (last_instant q.time) v.end }
+
+-- by key, start and birth
+abbrev pub version_cmp : Version → Version → Ordering
+version_cmp v w = row_cmp v.row w.row
+
+-- the versions that are found, in order, as they are shown
+unfoldable pub answer_from : Query → List Version → Answer
+answer_from q versions = record { last = last_instant q.time; rows = map (show q) (in_order version_cmp (filter (is_found q) versions)) }
+
+-- ---- laws. In what follows `history u` is the table at the instant u.
+
+-- a row is asked for exactly where a version of it is found
+abbrev pub VersionsRows : Type 0
+VersionsRows = (versions : List Version) (history : ℕ → Table) (now : ℕ) (q : Query) (row : Row) → Keeps versions history now → HasInstant q.time → last_instant q.time ≤ now →
+    IsAsked history q row ↔ ((v : Version) × Has versions v × (v.row ≡ row) × IsFound q v)
+
+-- a version's end is the row's shown end where it is at or before the last instant
+abbrev pub VersionsEnds : Type 0
+VersionsEnds = (versions : List Version) (history : ℕ → Table) (now : ℕ) (v : Version) (last : ℕ) → Keeps versions history now → Has versions v → last ≤ now →
+    IsShownEnd history last v.row (shown_end last v.end)
+
+-- the versions that are kept give the answer
+abbrev pub VersionsGive : Type 0
+VersionsGive = (versions : List Version) (history : ℕ → Table) (now : ℕ) (q : Query) → Keeps versions history now → Apart versions → HasInstant q.time → last_instant q.time ≤ now →
+    IsAnswerOver history q (answer_from q versions)
+
+-- the versions that a log leaves give the answer
+abbrev pub VersionsAnswer : Type 0
+VersionsAnswer = (schema : Schema) (q : Query) (list : List Entry) → IsStamped list → AllFine schema list → HasInstant q.time →
+    IsAnswer schema q list (answer_from q (versions_after schema q.table (reverse list)))

@@ -1,0 +1,4 @@
+pub mod Versions
+pub mod Committing
+pub mod Answering
+pub mod WorkedRows

@@ -1,0 +1,111 @@
+//! Versions of rows with two system times, in place of tables at each instant: what a commit, a log
+//! and a question come to on them. No function here does anything, save to call upon other laws: what
+//! it is for is its contract, which a caller has as a fact. So there is no code that an edit could
+//! turn wrong.
+#![tactic(auto)]
+
+ghost use Rattle.versionlaws.specs.Versions.{NoVersions, HeldBefore, HeldOn, HeldKept};
+ghost use Rattle.versionlaws.specs.Committing.{Commit, CommitEntry, EntryStays, Lasts, HoldsAfter, KeepsAfter};
+ghost use Rattle.versionlaws.specs.Answering.{VersionsRows, VersionsEnds, VersionsGive, VersionsAnswer};
+ghost use Rattle.versionlaws.specs.WorkedRows.{DeletedVersion, CutVersion};
+
+/// Before the first instant no versions are held, whatever comes.
+pub fn no_versions()
+    ensures { NoVersions }
+{}
+
+/// The current rows are born before the bound.
+pub fn held_before()
+    ensures { HeldBefore }
+{}
+
+/// Where the current rows stay, the same versions hold on.
+pub fn held_on()
+    ensures { HeldOn }
+{}
+
+/// What is held is kept up to each instant until which the current rows stay.
+pub fn held_kept()
+    ensures { HeldKept }
+{}
+
+/// A commit of what a transaction at an instant touches: versions that held what the table was before
+/// hold what it is then, and was before.
+pub fn commit()
+    ensures { Commit }
+{}
+
+/// A commit of what one more entry of a log touches, over the log's own instants.
+pub fn commit_entry()
+    ensures { CommitEntry }
+{
+    safety::state_up_to();
+    rowlaws::logs_follow();
+}
+
+/// Where an entry of a log leaves a table as it was, the same versions hold on.
+pub fn entry_stays()
+    ensures { EntryStays }
+{
+    safety::state_up_to();
+}
+
+/// A row is there at each instant from its birth on, as long as it is there at all.
+pub fn lasts()
+    ensures { Lasts }
+{
+    safety::state_up_to();
+    rowlaws::logs_follow();
+}
+
+/// The versions that a log leaves hold what its tables are, instant by instant.
+pub fn holds()
+    ensures { HoldsAfter }
+{
+    safety::state_up_to();
+    rowlaws::logs_on_rows();
+    rowlaws::logs_follow();
+    rowlaws::touched();
+}
+
+/// The versions that a log leaves say what the rows of a table are at each instant.
+pub fn keeps()
+    ensures { KeepsAfter }
+{
+    safety::state_up_to();
+    rowlaws::logs_on_rows();
+    rowlaws::logs_follow();
+    rowlaws::touched();
+}
+
+/// A row is asked for exactly where a version of it is found by the query's instants.
+pub fn versions_rows()
+    ensures { VersionsRows }
+{}
+
+/// A version's end is the shown end of its row where it is at or before the query's last instant.
+pub fn versions_ends()
+    ensures { VersionsEnds }
+{}
+
+/// Of versions that keep what a table was, those that are found, by key, start and birth, are the
+/// answer.
+pub fn versions_give()
+    ensures { VersionsGive }
+{}
+
+/// Of the versions that a log leaves, those that are found, by key, start and birth, are the answer
+/// in the log.
+pub fn versions_answer()
+    ensures { VersionsAnswer }
+{
+    holds();
+    keeps();
+}
+
+/// Rows by computation: the versions of a row that is deleted, and of one that is cut, and what the
+/// three kinds of system time answer of them.
+pub fn rows_of_versions()
+    ensures deleted_version { DeletedVersion }
+    ensures cut_version { CutVersion }
+{}
