@@ -1,0 +1,14 @@
+//! Laws of what texts spell.
+ghost use Rattle.sqltokens.specs.Syntax.{IsTold};
+ghost use Rattle.sqlsyntax.specs.Queries.{query};
+ghost use Rattle.sqlsyntax.specs.Transactions.{statements};
+ghost use Rattle.sqlsyntax.specs.Schemas.{tables};
+
+/// Each reader answers by its grammar alone: Ok with a form exactly where the text's tokens are the
+/// spelling of that form, and a syntax error at a byte exactly where no form spells the text and the
+/// first token begins there after which no spelling goes on, or the text ends there.
+pub fn forms_told()
+    ensures query { IsTold query }
+    ensures transaction { IsTold statements }
+    ensures schema { IsTold tables }
+{}
