@@ -1,0 +1,72 @@
+//! Measures how fast texts are read. Without words it reads each text once and tells what it found; with the word
+//! `rates` it reads each for about a megabyte, and prints how many bytes it reads in a second.
+#![tactic(auto)]
+
+use anyhow::Result;
+use schema::Schema;
+use sqlread::schemas::read_schema;
+use sqlread::transaction::read_transaction;
+use std::alloc::{AllocError, Global};
+use std::env;
+use std::rt::{Clock, Env};
+use std::time::Instant;
+
+const SCHEMA: &str = "CREATE TABLE Dept (DNo INTEGER, DStart DATE, DEnd DATE, DName VARCHAR(30),
+ SysStart TIMESTAMP(6) GENERATED ALWAYS AS ROW START,
+ SysEnd TIMESTAMP(6) GENERATED ALWAYS AS ROW END,
+ PERIOD FOR DPeriod (DStart, DEnd),
+ PERIOD FOR SYSTEM_TIME (SysStart, SysEnd),
+ PRIMARY KEY (DNo, DPeriod WITHOUT OVERLAPS)) WITH SYSTEM VERSIONING;
+";
+
+// How many bytes each measurement reads.
+const MEASURED: usize = 1_048_576;
+
+fn main(rt: HostRuntime) -> Result<()> {
+    let alloc = rt.alloc();
+    let schema = read_schema(alloc, SCHEMA)?;
+    let measures = asks_for_rates(&rt)?;
+    for size in [256, 1_024, 4_096] {
+        let text = text_of(alloc, size)?;
+        if measures {
+            let rate = rate_of(&rt, alloc, &schema, text.as_str())?;
+            println!(rt; "{size} bytes: {rate} bytes a second")?;
+        } else {
+            let read = read_transaction(alloc, &schema, text.as_str())?;
+            let statements = read.statements.len();
+            println!(rt; "{size} bytes: statements {statements}")?;
+        }
+    }
+    Ok(())
+}
+
+fn asks_for_rates<R: AllocGlobal + Env>(rt: &R) -> Result<bool> {
+    let mut words = env::args(rt)?;
+    let _program = words.next();
+    Ok(words.next().is_some_and(|word| word.as_str() == "rates"))
+}
+
+// A transaction of so many bytes: one DELETE with as many comparisons as fit.
+fn text_of(alloc: Global, size: usize) -> Result<String, AllocError> {
+    let mut text = String::from_str(alloc, "DELETE FROM Dept WHERE DNo = 1")?;
+    for _ in 0..size.saturating_sub(text.len() + 1) / 12 {
+        text.push_str(" AND DNo = 1")?;
+    }
+    for _ in text.len() + 1..size {
+        text.push(' ')?;
+    }
+    text.push(';')?;
+    Ok(text)
+}
+
+// How many bytes of this text are read in a second.
+fn rate_of<R: Clock>(rt: &R, alloc: Global, schema: &Schema, text: &str) -> Result<u128> {
+    let rounds = MEASURED / text.len().max(1);
+    let start = Instant::now(rt)?;
+    for _ in 0..rounds {
+        let _ = read_transaction(alloc, schema, text)?;
+    }
+    let micros = start.elapsed(rt)?.as_micros().max(1);
+    let bytes = rounds as u128 * text.len() as u128;
+    Ok(bytes.saturating_mul(1_000_000) / micros)
+}

@@ -1,0 +1,4 @@
+pub mod Answering
+pub mod Literals
+pub mod Columns
+pub mod Comparisons

@@ -1,0 +1,10 @@
+pub mod Each
+pub mod Lists
+pub mod Numbers
+pub mod Days
+pub mod Periods
+pub mod Declared
+pub mod Refusals
+pub mod Saying
+pub mod OneSchema
+pub mod SayingSchemas

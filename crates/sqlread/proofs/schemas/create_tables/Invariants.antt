@@ -1,0 +1,7 @@
+use Rattle.std.proofs.Common.{map, take}
+use Rattle.sqlsyntax.specs.Schemas.{table_form}
+use Rattle.sqlread.specs.Schemas.{AreSaid}
+use Rattle.sqlread.proofs.schemas.create_tables.Given as goal
+
+abbrev pub invariant-loop-next : goal.invariant-loop-next
+invariant-loop-next l = AreSaid (map table_form (take l.next-index l.forms)) l.tables.items

@@ -1,0 +1,30 @@
+//! Laws of what texts say.
+ghost use Rattle.sqlchecks.specs.Columns.{Tables};
+ghost use Rattle.sqlread.specs.Laws.{SaysTransaction, SaysQuery, SaysSchema, SaysOneSchema, IsBounded, IsBoundedSchema};
+ghost use Rattle.sqlread.specs.Texts.{transaction_in, query_in};
+
+/// `read_transaction` answers by the grammar of transactions and the checks of statements.
+pub fn transaction_says()
+    ensures says { SaysTransaction }
+    ensures bounded { (schema : Tables) → IsBounded (transaction_in schema) }
+{
+    sqlsyntax::laws::forms_told();
+}
+
+/// `read_query` answers by the grammar of queries and the checks of a query.
+pub fn query_says()
+    ensures says { SaysQuery }
+    ensures bounded { (schema : Tables) → IsBounded (query_in schema) }
+{
+    sqlsyntax::laws::forms_told();
+}
+
+/// `read_schema` answers by the grammar of schemas and the checks of CREATE TABLE statements, and two answers to one
+/// text, memory aside, are the same.
+pub fn schema_says()
+    ensures says { SaysSchema }
+    ensures bounded { IsBoundedSchema }
+    ensures one { SaysOneSchema }
+{
+    sqlsyntax::laws::forms_told();
+}

@@ -1,0 +1,14 @@
+//! Reading schemas, transactions and queries.
+#![tactic(auto)]
+
+mod assignment;
+mod change;
+mod given;
+mod insert;
+pub mod laws;
+pub mod query;
+pub mod schemas;
+pub mod statement;
+pub mod term;
+pub mod token;
+pub mod transaction;
