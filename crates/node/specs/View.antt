@@ -1,5 +1,5 @@
 -- What a node stores, tells and answers, in the words of the definitions and of its keeper.
-use Rattle.std.specs.Prelude.{◌≡◌, ℕ, ◌+◌, ◌-◌, ◌≤◌, ◌<◌, Bool, false, Option, Some, None, Result, Ok, Err, List, length, option_map, ◌⊎◌, ◌==◌, if◌then◌else◌}
+use Rattle.std.specs.Prelude.{◌≡◌, ℕ, ◌+◌, ◌-◌, ◌≤◌, ◌<◌, Bool, false, Option, Some, None, Result, Ok, Err, List, length, option_map, ◌⊎◌}
 use Rattle.std.specs.List.{filter_map, range_with_len}
 use Rattle.model.specs.declared.entry.Entry.{Entry}
 use Rattle.model.specs.declared.entry.Told.{Told}
@@ -13,13 +13,14 @@ use Rattle.cutread.specs.declared.answer.Answer.{Answer}
 use Rattle.cutread.specs.declared.query.AsOf.{AsOf}
 use Rattle.cutread.specs.Meaning.{query_of, select_of, answer_of}
 use Rattle.model.specs.Members.{Node}
-use Rattle.model.specs.Steps.{crowned, Effect, Moves, Refuses, Nothing}
+use Rattle.model.specs.Steps.{Effect, Moves, Refuses, Nothing}
+use Rattle.model.specs.Worlds.{fresh, started}
 use Rattle.keep.specs.Durable.{Durable, after, IsBeforeOrAfter}
 use Rattle.raft.specs.declared.state.Core.{Core}
 use Rattle.keep.specs.declared.change.Change.{Change}
 use Rattle.keep.specs.declared.error.StoreError.{StoreError}
 use Rattle.keep.specs.declared.error.StoreError.TheVariants.{NoMemory, StoreFault}
-use Rattle.raft.specs.View.{after_of, opening}
+use Rattle.raft.specs.View.{after_of}
 use Rattle.node.specs.declared.node.Out.{Out}
 use Rattle.node.specs.declared.node.Fault.{Fault}
 use Rattle.node.specs.declared.node.Fault.TheVariants.{Kept, Down}
@@ -41,9 +42,9 @@ Fits (Some c) d = c.kept ≤ length d.log
 unfoldable pub told_between : Schema → List Entry → ℕ → ℕ → List Told
 told_between schema log before commit = filter_map (told_at schema log) (range_with_len (before + 1) (commit - before))
 
--- member 1 leads the term that is stored, the others follow
-abbrev pub led_opening : ℕ → ℕ → Durable → Node
-led_opening n me d = if me == 1 then crowned n (opening d.term d.vote d.log) else opening d.term d.vote d.log
+-- a member that is started with this stored
+abbrev pub started_from : Durable → Node
+started_from d = started (record (fresh d.term d.vote) { log = d.log })
 
 -- the answer to a question that is closed in the list, or 33 where it is not
 abbrev pub IsAskedOf : Schema → AsOf → List Entry → Result Answer Refusal → Type 0

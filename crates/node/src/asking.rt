@@ -5,12 +5,12 @@ ghost use Rattle.model.specs.Texts.{instant_text};
 ghost use Rattle.cutread.specs.Meaning.{schema_of};
 ghost use Rattle.node.specs.View.{IsAskedOf};
 
-use fault::{Refusal, Text};
-use model::entry::Entry;
-use model::stamp::Stamp;
 use cutread::answer::Answer;
 use cutread::query::AsOf;
 use cutread::schema::Schema;
+use fault::{Refusal, Text};
+use model::entry::Entry;
+use model::stamp::Stamp;
 use std::alloc::{AllocError, Global};
 
 /// The stamp of the last entry, none if there is none.

@@ -6,10 +6,13 @@ ghost use Rattle.model.specs.Logs.{IsStamped};
 ghost use Rattle.model.specs.Members.{applied};
 ghost use Rattle.keep.specs.Durable.{Durable, IsBeforeOrAfter};
 ghost use Rattle.raft.specs.View.{node_of, works};
-ghost use Rattle.node.specs.View.{durable_of, after_change, Fits, Gave, IsSame, IsTorn, IsCause, HasCause, LeavesUp, IsAskedOf, led_opening, told_between};
+ghost use Rattle.node.specs.View.{durable_of, after_change, Fits, Gave, IsSame, IsTorn, IsCause, HasCause, LeavesUp, IsAskedOf, started_from, told_between};
 
 use crate::asking;
 use crate::telling::tell;
+use cutread::answer::Answer;
+use cutread::query::AsOf;
+use cutread::schema::Schema;
 use fault::Refusal;
 use keep::change::Change;
 use keep::error::StoreError;
@@ -19,9 +22,6 @@ use model::entry::Told;
 use model::member::Member;
 use model::message::{LAST_TERM, LOG_ROOM, Message};
 use raft::state::{Core, Effect, Taken, Work};
-use cutread::answer::Answer;
-use cutread::query::AsOf;
-use cutread::schema::Schema;
 use std::alloc::Global;
 
 /// What a step gives, once what it changed is stored.
@@ -113,7 +113,8 @@ fn finish<K: Keeper>(
 }
 
 impl<K: Keeper> Node<K> {
-    /// Opens what the image holds. Member 1 leads the term that is stored, the others follow.
+    /// Opens what the image holds, as a follower with the term, the vote and the log that are stored,
+    /// which knows of no leader and has applied nothing.
     ///
     /// `StoreFault` where the store fails, `NoMemory` where memory is refused, `BadStore` where the
     /// image holds no state of a member. An error gives the image back, and what it holds is as it
@@ -126,7 +127,7 @@ impl<K: Keeper> Node<K> {
         me: Member,
     ) -> Result<Node<K>, (StoreError, K::Image)>
         requires few { members ≤ 7 }
-        ensures opened { IfOk result (λ n. node_of n.core ≡ led_opening members me (durable_of (node_of n.core))) }
+        ensures opened { IfOk result (λ n. node_of n.core ≡ started_from (durable_of (node_of n.core))) }
         ensures found { IfOk result (λ n. K.is_honest n.keeper → K.holds image (durable_of (node_of n.core))) }
         ensures group { IfOk result (λ n. (n.is_up ≡ true) × (n.core.schema ≡ schema) × (n.core.members ≡ members) × (n.core.me ≡ me)) }
         ensures back { IfErr result (λ e. (d : Durable) → K.holds e.1 d → K.holds image d) }
@@ -145,10 +146,7 @@ impl<K: Keeper> Node<K> {
         if term > LAST_TERM || entries.len() > LOG_ROOM {
             return Err((StoreError::BadStore, keeper.close()));
         }
-        let mut core = Core::start(alloc, schema, members, me, term, vote, entries);
-        if me == 1 && core.become_leader().is_err() {
-            return Err((StoreError::NoMemory, keeper.close()));
-        }
+        let core = Core::start(alloc, schema, members, me, term, vote, entries);
         Ok(Node {
             alloc,
             core,

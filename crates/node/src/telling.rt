@@ -3,8 +3,8 @@ ghost use Rattle.std.specs.Prelude.{◌≡◌, ◌+◌, ◌-◌, ◌^◌, ◌<�
 ghost use Rattle.cutread.specs.Meaning.{schema_of};
 ghost use Rattle.node.specs.View.{told_between};
 
-use model::entry::{Entry, Told};
 use cutread::schema::Schema;
+use model::entry::{Entry, Told};
 use std::alloc::{AllocError, Global};
 
 /// What is told of the entries after one index, up to another.

@@ -12,14 +12,14 @@ use Rattle.raft.specs.declared.state.Work.{Work}
 use Rattle.raft.specs.View.{node_of, works}
 use Rattle.node.specs.declared.node.Out.{Out}
 use Rattle.node.specs.declared.node.Fault.TheVariants.{Kept}
-use Rattle.node.specs.View.{Gave, IsSame, durable_of, led_opening}
+use Rattle.node.specs.View.{Gave, IsSame, durable_of, started_from}
 use Rattle.nodes.specs.declared.life.Step.{Step}
 use Rattle.nodes.specs.declared.life.Opening.{Opening}
 use Rattle.nodes.specs.Lives.{work_of, stepped, opened_with}
 
 -- the steps from an opening on
 abbrev pub taken_through : Core → Opening → List Step → Node
-taken_through c o steps = fold (stepped c.schema c.members c.me) (led_opening c.members c.me (opened_with o)) steps
+taken_through c o steps = fold (stepped c.schema c.members c.me) (started_from (opened_with o)) steps
 
 -- the seat is the same
 same_seat : (old new : Core) (o : Opening) (steps : List Step) → new.schema ≡ old.schema → new.members ≡ old.members → new.me ≡ old.me → taken_through new o steps ≡ taken_through old o steps
@@ -27,7 +27,7 @@ same_seat old new o steps a b c = rw (a, b, c) refl
 
 -- one step more
 replay_more : (c : Core) (o : Opening) (steps : List Step) (s : Step) → taken_through c o (steps ++ s ∷ []) ≡ stepped c.schema c.members c.me (taken_through c o steps) s
-replay_more c o steps s = fold-append (stepped c.schema c.members c.me) (led_opening c.members c.me (opened_with o)) steps (s ∷ [])
+replay_more c o steps s = fold-append (stepped c.schema c.members c.me) (started_from (opened_with o)) steps (s ∷ [])
 
 -- a step that was made whole
 stepped_given : (schema : Schema) (n me : ℕ) (x : Node) (s : Step) (w : Work) (c : Core) (given : Option Out) → w ≡ work_of s.packet → Gave c (works schema n me w x) (Ok given) → IsSame x (node_of c) (Ok given) → stepped schema n me x s ≡ node_of c

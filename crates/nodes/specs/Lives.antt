@@ -7,7 +7,7 @@ use Rattle.keep.specs.Durable.{Durable, IsBeforeOrAfter}
 use Rattle.raft.specs.declared.state.Work.{Work}
 use Rattle.raft.specs.declared.state.Work.TheVariants as work
 use Rattle.raft.specs.View.{works}
-use Rattle.node.specs.View.{durable_of, led_opening}
+use Rattle.node.specs.View.{durable_of, started_from}
 use Rattle.nodes.specs.Marks.{mark_after}
 use Rattle.nodes.specs.declared.life.Packet.{Packet}
 use Rattle.nodes.specs.declared.life.Packet.TheVariants.{Local, Delivered}
@@ -34,7 +34,7 @@ opened_with o = record { term = o.term; vote = o.vote; log = o.entries.items }
 
 -- member `me` of n, started from what was stored and taken through each step in turn
 abbrev pub replay : Schema → ℕ → ℕ → Life → Node
-replay schema n me life = fold (stepped schema n me) (led_opening n me (opened_with life.opening)) life.steps.items
+replay schema n me life = fold (stepped schema n me) (started_from (opened_with life.opening)) life.steps.items
 
 -- the member after the ending, had its step been made whole
 abbrev pub ended : Schema → ℕ → ℕ → Node → Ending → Node

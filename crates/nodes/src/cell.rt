@@ -12,11 +12,11 @@ ghost use Rattle.nodes.specs.declared.life.Ending.TheVariants.{Up};
 use crate::copies::{copy_of_entries, work_of};
 use crate::life::{Ending, Life, Opening, Packet, Step};
 use crate::mark::Mark;
+use cutread::schema::Schema;
 use fault::Refusal;
 use keep::keeper::Keeper;
 use model::member::Member;
 use node::{Fault, Node, Out as NodeOut};
-use cutread::schema::Schema;
 use std::alloc::Global;
 
 /// What a step gives: its mark, and what the node gave, none where the packet had no effect.

@@ -1,6 +1,7 @@
 use crate::cell::Cell;
 use crate::life::{Ending, LIFE_STEPS, Packet};
 use crate::mark::{LAST_MARK, Mark};
+use cutread::schema::Schema;
 use fault::{Refusal, Text};
 use keep::error::StoreError;
 use keep::keeper::Keeper;
@@ -10,15 +11,14 @@ use model::entry::Request;
 use model::member::Member;
 use model::message::{Body, Input, Message};
 use node::node::Fault;
-use cutread::schema::Schema;
 use std::alloc::{AllocError, Global};
 use std::collections::VecDeque;
 use std::process::Abort;
 use std::test::Fail;
 
-// Term 1, its vote for member 1, and an empty log. This call of its next keeper fails, 0 is none.
+// Nothing stored yet. This call of its next keeper fails, 0 is none.
 fn image_failing_at(alloc: Global, call: u64) -> MemImage {
-    let mut image = MemImage::with_vote(alloc, 1, Some(1));
+    let mut image = MemImage::new(alloc);
     image.fail_at(call);
     image
 }
@@ -43,8 +43,26 @@ fn start(
     Cell::start(alloc, image, Schema, 3, me, last).map_err(|(refusal, _)| refusal)
 }
 
+fn timeout() -> Packet {
+    Packet::Local(Input::Timeout)
+}
+
 fn close(reading: i64) -> Packet {
     Packet::Local(Input::Close { reading })
+}
+
+// Member 2 gives member 1 its vote in term 1, in a step of this mark.
+fn vote(mark: Mark) -> Packet {
+    Packet::Delivered {
+        mark,
+        reading: 100,
+        message: Message {
+            sender: 2,
+            addressee: 1,
+            term: 1,
+            body: Body::Vote { given: true },
+        },
+    }
 }
 
 fn beat() -> Packet {
@@ -76,9 +94,11 @@ fn shown(alloc: Global, message: &Message) -> Result<String, AllocError> {
         Body::Reply { ok, matched } => {
             format!(in alloc; "{sender}->{addressee} reply {ok} {matched}")
         }
-        Body::RequestVote { .. } | Body::Vote { .. } => {
-            format!(in alloc; "{sender}->{addressee} of an election")
-        }
+        Body::RequestVote {
+            last_index,
+            last_term,
+        } => { format!(in alloc; "{sender}->{addressee} votereq last {last_index} {last_term}") }
+        Body::Vote { given } => { format!(in alloc; "{sender}->{addressee} vote {given}") }
     }
 }
 
@@ -121,12 +141,17 @@ fn feed(
     Ok(())
 }
 
-// Hands the input to the first of three cells, and delivers all that follows in order.
-fn run(alloc: Global, input: Input) -> Result<(Vec<Cell<MemKeeper>>, Vec<String>), Fail> {
+// Three cells that have seen nothing.
+fn three_cells(alloc: Global) -> Result<Vec<Cell<MemKeeper>>, Fail> {
     let mut cells = Vec::new(alloc);
     for me in 1..4usize {
         cells.push(start(alloc, image_failing_at(alloc, 0), me, None)?)?;
     }
+    Ok(cells)
+}
+
+// Hands the input to the first cell, and delivers all that follows in order. What is seen.
+fn run(alloc: Global, cells: &mut Vec<Cell<MemKeeper>>, input: Input) -> Result<Vec<String>, Fail> {
     let mut post = Post {
         sent: VecDeque::new(alloc),
         lines: Vec::new(alloc),
@@ -143,20 +168,32 @@ fn run(alloc: Global, input: Input) -> Result<(Vec<Cell<MemKeeper>>, Vec<String>
         };
         let packet = Packet::Delivered {
             mark,
-            reading: 0,
+            reading: 100,
             message,
         };
         if let Some(cell) = cells.get_mut(place) {
             feed(alloc, cell, packet, &mut post)?;
         }
     }
-    Ok((cells, post.lines))
+    Ok(post.lines)
+}
+
+fn are(rt: &impl Abort, lines: &Vec<String>, wanted: &[&str]) {
+    assert_eq!(rt; lines.len(), wanted.len());
+    for (line, wanted) in lines.iter().zip(wanted.iter()) {
+        assert_eq!(rt; line.as_str(), *wanted);
+    }
 }
 
 #[test]
-fn closes_three(rt: HostRuntime) -> Result<(), Fail> {
-    let (cells, lines) = run(rt.alloc(), Input::Close { reading: 100 })?;
-    let want = [
+fn elects_and_closes(rt: HostRuntime) -> Result<(), Fail> {
+    let mut cells = three_cells(rt.alloc())?;
+    let lines = run(rt.alloc(), &mut cells, Input::Timeout)?;
+    let wanted: &[&str] = &[
+        "1->2 votereq last 0 0",
+        "1->3 votereq last 0 0",
+        "2->1 vote true",
+        "3->1 vote true",
         "1->2 append prev 0 0 commit 0 entries 1",
         "1->3 append prev 0 0 commit 0 entries 1",
         "2->1 reply true 1",
@@ -166,11 +203,8 @@ fn closes_three(rt: HostRuntime) -> Result<(), Fail> {
         "2->1 reply true 1",
         "3->1 reply true 1",
     ];
-    assert_eq!(rt; lines.len(), want.len());
-    for (line, want) in lines.iter().zip(want.iter()) {
-        assert_eq!(rt; line.as_str(), *want);
-    }
-    let marks: [&[u64]; 3] = [&[2, 4, 5, 6, 7], &[3, 5], &[3, 5]];
+    are(&rt, &lines, wanted);
+    let marks: [&[u64]; 3] = [&[2, 4, 5, 6, 7, 8, 9], &[3, 5, 7], &[3, 5, 7]];
     for (cell, marks) in cells.iter().zip(marks.iter()) {
         assert_eq!(rt; marks_of(rt.alloc(), cell)?.as_slice(), *marks);
         assert_eq!(rt; cell.node.commit(), Some(1));
@@ -191,24 +225,23 @@ fn applies_at_three(rt: HostRuntime) -> Result<(), Fail> {
         reading: 100,
         request,
     };
-    let (_, lines) = run(rt.alloc(), input)?;
-    let want = [
-        "1->2 append prev 0 0 commit 0 entries 1",
-        "1->3 append prev 0 0 commit 0 entries 1",
-        "2->1 reply true 1",
-        "3->1 reply true 1",
-        "1->2 append prev 1 1 commit 1 entries 0",
-        "1->3 append prev 0 0 commit 1 entries 1",
-        "told 1 of 7 1 accepted 100",
-        "2->1 reply true 1",
-        "told 1 of 7 1 accepted 100",
-        "3->1 reply true 1",
-        "told 1 of 7 1 accepted 100",
+    let mut cells = three_cells(rt.alloc())?;
+    let _ = run(rt.alloc(), &mut cells, Input::Timeout)?;
+    let lines = run(rt.alloc(), &mut cells, input)?;
+    let wanted: &[&str] = &[
+        "1->2 append prev 1 1 commit 1 entries 1",
+        "1->3 append prev 1 1 commit 1 entries 1",
+        "2->1 reply true 2",
+        "3->1 reply true 2",
+        "1->2 append prev 2 1 commit 2 entries 0",
+        "1->3 append prev 1 1 commit 2 entries 1",
+        "told 2 of 7 1 accepted 101",
+        "2->1 reply true 2",
+        "told 2 of 7 1 accepted 101",
+        "3->1 reply true 2",
+        "told 2 of 7 1 accepted 101",
     ];
-    assert_eq!(rt; lines.len(), want.len());
-    for (line, want) in lines.iter().zip(want.iter()) {
-        assert_eq!(rt; line.as_str(), *want);
-    }
+    are(&rt, &lines, wanted);
     Ok(())
 }
 
@@ -217,21 +250,8 @@ fn marks_follow_the_envelope(rt: HostRuntime) -> Result<(), Fail> {
     let image = image_failing_at(rt.alloc(), 0);
     let mut cell = start(rt.alloc(), image, 1, None)?;
     assert_eq!(rt; cell.life.last_mark().number(), 1);
-    let first = cell.feed(close(100))?;
-    let reply = Packet::Delivered {
-        mark: Mark::new(5),
-        reading: 0,
-        message: Message {
-            sender: 2,
-            addressee: 1,
-            term: 1,
-            body: Body::Reply {
-                ok: true,
-                matched: 1,
-            },
-        },
-    };
-    let second = cell.feed(reply)?;
+    let first = cell.feed(timeout())?;
+    let second = cell.feed(vote(Mark::new(5)))?;
     assert_eq!(rt; (first.mark.number(), second.mark.number()), (2, 6));
     assert_eq!(rt; marks_of(rt.alloc(), &cell)?.as_slice(), [2, 6].as_slice());
     Ok(())
@@ -289,7 +309,7 @@ fn runs_out_of_marks(rt: HostRuntime) -> Result<(), Fail> {
     };
     assert_eq!(rt; refusal, Refusal::LifeFull);
     let state = stored(rt.alloc(), image)?;
-    assert_eq!(rt; state.term, 1);
+    assert_eq!(rt; state.term, 0);
     Ok(())
 }
 
@@ -297,7 +317,7 @@ fn runs_out_of_marks(rt: HostRuntime) -> Result<(), Fail> {
 fn tears_a_life(rt: HostRuntime) -> Result<(), Fail> {
     let image = image_failing_at(rt.alloc(), 3);
     let mut cell = start(rt.alloc(), image, 1, None)?;
-    let down = cell.feed(close(100));
+    let down = cell.feed(timeout());
     assert!(rt; matches!(&down, Err(Fault::Down(StoreError::StoreFault))));
     let late = cell.feed(beat());
     assert!(rt; matches!(&late, Err(Fault::Kept(Refusal::NodeDown))));
@@ -312,17 +332,21 @@ fn tears_a_life(rt: HostRuntime) -> Result<(), Fail> {
     Ok(())
 }
 
+// Started again it follows, with the term, the vote and the log that it had.
 #[test]
 fn stops_and_starts_again(rt: HostRuntime) -> Result<(), Fail> {
     let image = image_failing_at(rt.alloc(), 0);
     let mut cell = start(rt.alloc(), image, 1, None)?;
-    let _ = cell.feed(close(100))?;
+    let _ = cell.feed(timeout())?;
+    let _ = cell.feed(vote(Mark::new(1)))?;
     let (image, life) = cell.stop();
-    assert_eq!(rt; life.steps.len(), 1);
+    assert_eq!(rt; life.steps.len(), 2);
     assert!(rt; matches!(&life.ending, Ending::Stopped));
     let mut cell = start(rt.alloc(), image, 1, Some(life.last_mark()))?;
-    assert_eq!(rt; cell.life.last_mark().number(), 3);
+    assert_eq!(rt; cell.life.last_mark().number(), 4);
     assert_eq!(rt; cell.life.opening.entries.len(), 1);
+    let refused = cell.feed(close(200));
+    assert!(rt; matches!(&refused, Err(Fault::Kept(Refusal::NotLeader(None)))));
     let stored = cell.node.durable()?;
     assert_eq!(rt; (stored.term, stored.vote, stored.length), (1, Some(1), 1));
     let entry = cell.node.entry(1)?;
@@ -333,10 +357,10 @@ fn stops_and_starts_again(rt: HostRuntime) -> Result<(), Fail> {
 
 // Each answer is that of a step that was made, or of want of memory: before the step, which changes
 // nothing, or within it, which tears the life.
-fn try_close(rt: &impl Abort, cell: &mut Cell<MemKeeper>, reading: i64) {
+fn try_timeout(rt: &impl Abort, cell: &mut Cell<MemKeeper>) {
     let before = cell.life.steps.len();
     let is_up = cell.node.is_up;
-    let answer = cell.feed(close(reading));
+    let answer = cell.feed(timeout());
     let after = cell.life.steps.len();
     let is_torn = matches!(&cell.life.ending, Ending::Torn(_));
     match answer {
@@ -366,8 +390,8 @@ fn answers_want_of_memory(rt: HostRuntime) -> Result<(), Fail> {
             return Ok(());
         }
     };
-    for reading in 100..104i64 {
-        try_close(&rt, &mut cell, reading);
+    for _ in 0..4 {
+        try_timeout(&rt, &mut cell);
     }
     let is_up = cell.node.is_up;
     let (image, life) = cell.stop();
@@ -376,8 +400,8 @@ fn answers_want_of_memory(rt: HostRuntime) -> Result<(), Fail> {
         return Err(Fail::from("the image does not open"));
     };
     if let Ok(state) = keeper.state(rt.alloc()) {
-        assert!(rt; life.steps.len() <= state.entries.len());
-        assert!(rt; state.entries.len() <= 4);
+        assert!(rt; life.steps.len() as u64 <= state.term);
+        assert!(rt; state.term <= 4);
     }
     Ok(())
 }

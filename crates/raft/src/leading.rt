@@ -74,7 +74,7 @@ impl Core {
     /// what comes after its own log, and knows of no match yet. Changes nothing where memory is
     /// refused.
     #[tactic(auto, using(crate::proofs::Lists::zeros))]
-    pub fn become_leader(&mut self) -> Result<(), AllocError>
+    pub(crate) fn become_leader(&mut self) -> Result<(), AllocError>
         ensures node { OnOk result (node_of self.new ≡ crowned self.old.members (node_of self.old)) }
         ensures err { OnErr result (node_of self.new ≡ node_of self.old) }
         ensures seat { IsSameSeat self.old self.new }

@@ -2,12 +2,12 @@
 ghost use Rattle.std.specs.Prelude.{◌≡◌, ℕ, ◌≤◌, vec_len};
 ghost use Rattle.model.specs.Lists.{nth_or};
 
+use cutread::schema::Schema;
 use fault::Refusal;
 use keep::change::Change;
 use model::entry::Entry;
 use model::member::Member;
 use model::message::{Input, LAST_TERM, LOG_ROOM, Message, Role};
-use cutread::schema::Schema;
 use std::alloc::Global;
 
 /// What is brought to a member.

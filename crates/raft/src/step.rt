@@ -9,11 +9,11 @@ ghost use Rattle.raft.specs.View.{node_of, after_of, works, kept_of, IsSameSeat,
 
 use crate::logs::{copies_of, go_on, kept_under};
 use crate::state::{Core, Effect, Outcome, Taken, Work};
+use cutread::schema::Schema;
 use keep::change::Change;
 use model::entry::{Entry, Request};
 use model::member::Member;
 use model::message::{Body, CARRIED_MOST, Input, LAST_TERM, Message};
-use cutread::schema::Schema;
 use std::alloc::{AllocError, Global};
 
 /// The entry's text spells a transaction.

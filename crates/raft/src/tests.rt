@@ -1,9 +1,9 @@
 ghost use Rattle.std.specs.Prelude.{◌≡◌};
 
 use crate::{Core, Effect, Taken, Work};
+use cutread::schema::Schema;
 use model::member::Member;
 use model::message::{Input, Message};
-use cutread::schema::Schema;
 use std::alloc::{AllocError, Global};
 use std::process::Abort;
 use std::test::Fail;

@@ -2,4 +2,8 @@
 #![tactic(auto)]
 
 #[cfg(test)]
+mod elections;
+#[cfg(test)]
+mod playing;
+#[cfg(test)]
 mod tests;

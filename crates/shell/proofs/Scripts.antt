@@ -1,16 +1,21 @@
 -- Lemmas on the lines of scripts.
-use Rattle.std.proofs.Common.{◌≡◌, ◌∙◌, ◌<◌, sym, length, Option, Some, None, Bor, ℕ, Bool, true, false, List, [], ◌∷◌, map}
-use Rattle.std.specs.Prelude.{codes, ◌==◌, IfSome, MatchOption}
+use Rattle.std.proofs.Common.{◌≡◌, ◌∙◌, ◌<◌, sym, length, Option, Some, None, Bor, ℕ, List, [], ◌∷◌, map}
+use Rattle.std.specs.Prelude.{◌==◌, ◌≤◌, All, IfSome, MatchOption}
 use Rattle.std.specs.List.{position_or_len, before_first, after_first}
 use Rattle.std.proofs.lemmas.List.Splits.{slice_split_first}
-use Rattle.shell.specs.Script.{pieces}
+use Rattle.shell.specs.Script.{pieces, members_text}
 use Rattle.shell.specs.declared.line.Line.{Line}
-use Rattle.shell.specs.Line.{line_text}
+use Rattle.shell.specs.Line.{line_text, IsInRange}
 
 -- the opening line once it was read, and the lines after it
-abbrev pub read_so_far : Bool → List Line → List (List ℕ)
-read_so_far true lines = codes "members 3" ∷ map line_text lines
-read_so_far false lines = []
+abbrev pub read_so_far : Option ℕ → List Line → List (List ℕ)
+read_so_far (Some members) lines = members_text members ∷ map line_text lines
+read_so_far None lines = []
+
+-- the opening line was for 3 to 7 members, and the lines after it are in range for as many
+abbrev pub AreInRange : Option ℕ → List Line → Type 0
+AreInRange (Some members) lines = ((3 ≤ members) × (members ≤ 7)) × All (IsInRange members) lines
+AreInRange None lines = lines ≡ []
 
 -- a split at the first LF takes the first piece off
 pub pieces_split : (A : Type 0) (text : List ℕ) (r : Option (Bor (List ℕ) × Bor (List ℕ)))

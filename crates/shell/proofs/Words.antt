@@ -16,7 +16,7 @@ module _ {X Y : Type 0} (f : X → Y) where
   map_two (v ∷ w ∷ []) x y some few first second = λ i. f (sym first i) ∷ f (sym second i) ∷ []
   map_two (v ∷ w ∷ z ∷ zs) x y some few first second = absurd (omega arith)
 
-pub script_known : (known : Option (List ℕ)) (text : List ℕ) (lines : List Line) → IfSome known (λ bytes. text ≡ bytes) → HasLines text lines
-    → IfSome known (λ bytes. (ls : List Line) × HasLines bytes ls)
-script_known None text lines e h = tt
-script_known (Some bytes) text lines e h = (lines, subst (λ b. HasLines b lines) e h)
+pub script_known : (known : Option (List ℕ)) (text : List ℕ) (members : ℕ) (lines : List Line) → IfSome known (λ bytes. text ≡ bytes) → HasLines text members lines
+    → IfSome known (λ bytes. (n : ℕ) × (ls : List Line) × HasLines bytes n ls)
+script_known None text members lines e h = tt
+script_known (Some bytes) text members lines e h = (members, lines, subst (λ b. HasLines b members lines) e h)

@@ -1,5 +1,5 @@
 -- Which lines of a script count.
-use Rattle.std.specs.Prelude.{◌≡◌, ℕ, ◌+◌, ◌==◌, ◌≤◌, Bool, true, not, List, [], ◌∷◌, length, codes, map, filter, ◌⊎◌}
+use Rattle.std.specs.Prelude.{◌≡◌, ℕ, ◌+◌, ◌==◌, ◌≤◌, Bool, true, not, List, [], ◌∷◌, ◌++◌, length, codes, decimal, map, filter, ◌⊎◌}
 use Rattle.std.specs.List.{slice_split}
 use Rattle.fault.specs.declared.refusal.Refusal.{Refusal}
 use Rattle.fault.specs.declared.refusal.Refusal.TheVariants.{NoMemory, BadScript}
@@ -19,9 +19,13 @@ pieces text = slice_split (λ c. c == 10) text
 abbrev pub script_lines : List ℕ → List (List ℕ)
 script_lines text = filter (λ line. not (is_skipped line)) (pieces text)
 
--- the script has its opening line and then these lines
-abbrev pub HasLines : List ℕ → List Line → Type 0
-HasLines text lines = script_lines text ≡ codes "members 3" ∷ map line_text lines
+-- the opening line
+abbrev pub members_text : ℕ → List ℕ
+members_text members = codes "members " ++ decimal members
+
+-- the script has an opening line for so many members, and then these lines
+abbrev pub HasLines : List ℕ → ℕ → List Line → Type 0
+HasLines text members lines = script_lines text ≡ members_text members ∷ map line_text lines
 
 -- a fault at one of the script's lines or after the last, or want of memory
 abbrev pub IsScriptFault : List ℕ → Refusal → Type 0

@@ -1,14 +1,28 @@
 //! The lines of scripts.
 ghost use Rattle.std.specs.Prelude.{◌≡◌, ◌≤◌, ◌^◌, ◌∷◌, ◌++◌, codes, decimal, IfSome, IfOk};
-ghost use Rattle.shell.specs.Line.{line_text, IsInRange, IsNode};
+ghost use Rattle.shell.specs.Line.{line_text, left_text, job_text, IsInRange, IsJobInRange, IsRequest, IsNode};
 
 use crate::number::{read_number, read_signed};
 use fault::Text;
 use model::member::Member;
 use std::alloc::{AllocError, Global};
+use world::event::Left;
 
-/// How many members the group of a script has.
-pub const MEMBERS: usize = 3;
+/// What a step that is cut short was about.
+#[derive(Debug, PartialEq, Drop)]
+pub enum Job {
+    Timeout,
+    Beat,
+    Close,
+    Submit {
+        client: u16,
+        number: u64,
+        text: Text,
+    },
+    Deliver {
+        message: u64,
+    },
+}
 
 /// What one line of a script says.
 #[derive(Debug, PartialEq, Drop)]
@@ -29,6 +43,10 @@ pub enum Line {
         number: u64,
         text: Text,
     },
+    /// `timeout N`: a node heard of no leader for some time.
+    Timeout {
+        node: Member,
+    },
     /// `beat N`: a node is told to send its heartbeats.
     Beat {
         node: Member,
@@ -41,9 +59,29 @@ pub enum Line {
     Deliver {
         message: u64,
     },
+    /// `lose M`: the message of this number is lost, if it was sent.
+    Lose {
+        message: u64,
+    },
+    /// `lose all`: all messages that were sent so far are lost.
+    LoseAll,
     /// `settle` or `settle R`: messages are delivered in rounds, 100 at most or as many as it names.
     Settle {
         rounds: Option<u8>,
+    },
+    /// `stop N`: a node goes down, and keeps only what it has stored.
+    Stop {
+        node: Member,
+    },
+    /// `start N`: a node that is down comes up again.
+    Start {
+        node: Member,
+    },
+    /// `torn N old|new ..`: a step of a node is cut short, before or after its save.
+    Torn {
+        node: Member,
+        left: Left,
+        job: Job,
     },
     /// `ask N TEXT`: a node is asked a question.
     Ask {
@@ -52,9 +90,9 @@ pub enum Line {
     },
 }
 
-/// The line that a text spells, if it spells one.
-pub fn read_line(alloc: Global, text: &str) -> Result<Option<Line>, AllocError>
-    ensures { IfOk result (λ read. IfSome read (λ line. IsInRange line × (text.now ≡ line_text line))) }
+/// The line that a text spells in a script of so many members, if it spells one.
+pub fn read_line(alloc: Global, members: usize, text: &str) -> Result<Option<Line>, AllocError>
+    ensures { IfOk result (λ read. IfSome read (λ line. IsInRange members line × (text.now ≡ line_text line))) }
 {
     let Some((word, rest)) = split_word(text) else {
         return Ok(if text == "settle" {
@@ -64,9 +102,11 @@ pub fn read_line(alloc: Global, text: &str) -> Result<Option<Line>, AllocError>
         });
     };
     match word {
-        "submit" => read_submit(alloc, rest),
-        "ask" => read_ask(alloc, rest),
-        _ => Ok(read_short(word, rest)),
+        "submit" => read_submit(alloc, members, rest),
+        "torn" => read_torn(alloc, members, rest),
+        "ask" => read_ask(alloc, members, rest),
+        "clock" => Ok(read_clock(members, rest)),
+        _ => Ok(read_short(members, word, rest)),
     }
 }
 
@@ -77,19 +117,32 @@ fn split_word(text: &str) -> Option<(&str, &str)>
     text.split_once(' ')
 }
 
-// A line without a text of its own, from its first word and what follows the space after it.
-fn read_short(word: &str, rest: &str) -> Option<Line>
-    ensures { IfSome result (λ line. IsInRange line × (word.now ++ 32 ∷ rest.now ≡ line_text line)) }
+// A line that names a node, a message or rounds and no more, from its first word and what follows
+// the space after it.
+fn read_short(members: usize, word: &str, rest: &str) -> Option<Line>
+    ensures { IfSome result (λ line. IsInRange members line × (word.now ++ 32 ∷ rest.now ≡ line_text line)) }
 {
     match word {
-        "clock" => read_clock(rest),
+        "timeout" => Some(Line::Timeout {
+            node: read_node(members, rest)?,
+        }),
         "beat" => Some(Line::Beat {
-            node: read_node(rest)?,
+            node: read_node(members, rest)?,
         }),
         "close" => Some(Line::Close {
-            node: read_node(rest)?,
+            node: read_node(members, rest)?,
+        }),
+        "stop" => Some(Line::Stop {
+            node: read_node(members, rest)?,
+        }),
+        "start" => Some(Line::Start {
+            node: read_node(members, rest)?,
         }),
         "deliver" => Some(Line::Deliver {
+            message: read_number(rest)?,
+        }),
+        "lose" if rest == "all" => Some(Line::LoseAll),
+        "lose" => Some(Line::Lose {
             message: read_number(rest)?,
         }),
         "settle" => Some(Line::Settle {
@@ -99,8 +152,8 @@ fn read_short(word: &str, rest: &str) -> Option<Line>
     }
 }
 
-fn read_clock(rest: &str) -> Option<Line>
-    ensures { IfSome result (λ line. IsInRange line × (codes "clock " ++ rest.now ≡ line_text line)) }
+fn read_clock(members: usize, rest: &str) -> Option<Line>
+    ensures { IfSome result (λ line. IsInRange members line × (codes "clock " ++ rest.now ≡ line_text line)) }
 {
     let (node, reading) = split_word(rest)?;
     let reading = read_signed(reading)?;
@@ -108,15 +161,21 @@ fn read_clock(rest: &str) -> Option<Line>
         return Some(Line::ClockAll { reading });
     }
     Some(Line::Clock {
-        node: read_node(node)?,
+        node: read_node(members, node)?,
         reading,
     })
 }
 
-fn read_submit(alloc: Global, rest: &str) -> Result<Option<Line>, AllocError>
-    ensures { IfOk result (λ read. IfSome read (λ line. IsInRange line × (codes "submit " ++ rest.now ≡ line_text line))) }
+fn read_submit(alloc: Global, members: usize, rest: &str) -> Result<Option<Line>, AllocError>
+    ensures { IfOk result (λ read. IfSome read (λ line. IsInRange members line × (codes "submit " ++ rest.now ≡ line_text line))) }
 {
-    let Some((node, client, number, text)) = split_submit(rest) else {
+    let Some((node, request)) = split_word(rest) else {
+        return Ok(None);
+    };
+    let (Some(node), Some((client, number, text))) = (
+        read_node(members, node),
+        split_request(request),
+    ) else {
         return Ok(None);
     };
     let text = Text::new(String::from_str(alloc, text)?);
@@ -128,41 +187,103 @@ fn read_submit(alloc: Global, rest: &str) -> Result<Option<Line>, AllocError>
     }))
 }
 
-// The node, the client, the request's number and the text of a `submit`.
-fn split_submit(rest: &str) -> Option<(Member, u16, u64, &str)>
-    ensures range { IfSome result (λ p. IsNode p.0 × (1 ≤ p.1) × ((1 ≤ p.2) × (p.2 ≤ 2 ^ 62))) }
-    ensures text { IfSome result (λ p. rest.now ≡ decimal p.0 ++ 32 ∷ (decimal p.1 ++ 32 ∷ (decimal p.2 ++ 32 ∷ p.3.now))) }
+// The client, the number and the text of a request.
+fn split_request(rest: &str) -> Option<(u16, u64, &str)>
+    ensures range { IfSome result (λ p. IsRequest p.0 p.1) }
+    ensures text { IfSome result (λ p. rest.now ≡ decimal p.0 ++ 32 ∷ (decimal p.1 ++ 32 ∷ p.2.now)) }
 {
-    let (node, rest) = split_word(rest)?;
     let (client, rest) = split_word(rest)?;
     let (number, text) = split_word(rest)?;
-    Some((
-        read_node(node)?,
-        read_client(client)?,
-        read_request_number(number)?,
-        text,
-    ))
+    Some((read_client(client)?, read_request_number(number)?, text))
 }
 
-fn read_ask(alloc: Global, rest: &str) -> Result<Option<Line>, AllocError>
-    ensures { IfOk result (λ read. IfSome read (λ line. IsInRange line × (codes "ask " ++ rest.now ≡ line_text line))) }
+fn read_torn(alloc: Global, members: usize, rest: &str) -> Result<Option<Line>, AllocError>
+    ensures { IfOk result (λ read. IfSome read (λ line. IsInRange members line × (codes "torn " ++ rest.now ≡ line_text line))) }
+{
+    let Some((node, left, job)) = split_torn(members, rest) else {
+        return Ok(None);
+    };
+    let Some(job) = read_job(alloc, job)? else {
+        return Ok(None);
+    };
+    Ok(Some(Line::Torn { node, left, job }))
+}
+
+// The node of a `torn`, what is left in its store, and what follows.
+fn split_torn(members: usize, rest: &str) -> Option<(Member, Left, &str)>
+    ensures range { IfSome result (λ p. IsNode members p.0) }
+    ensures text { IfSome result (λ p. rest.now ≡ decimal p.0 ++ 32 ∷ (left_text p.1 ++ 32 ∷ p.2.now)) }
+{
+    let (node, rest) = split_word(rest)?;
+    let (left, job) = split_word(rest)?;
+    let left = match left {
+        "old" => Left::Old,
+        "new" => Left::New,
+        _ => return None,
+    };
+    Some((read_node(members, node)?, left, job))
+}
+
+// What the step of a `torn` was about.
+fn read_job(alloc: Global, text: &str) -> Result<Option<Job>, AllocError>
+    ensures { IfOk result (λ read. IfSome read (λ job. IsJobInRange job × (text.now ≡ job_text job))) }
+{
+    let Some((word, rest)) = split_word(text) else {
+        return Ok(match text {
+            "timeout" => Some(Job::Timeout),
+            "beat" => Some(Job::Beat),
+            "close" => Some(Job::Close),
+            _ => None,
+        });
+    };
+    match word {
+        "submit" => read_torn_submit(alloc, rest),
+        "deliver" => Ok(read_torn_delivery(rest)),
+        _ => Ok(None),
+    }
+}
+
+fn read_torn_submit(alloc: Global, rest: &str) -> Result<Option<Job>, AllocError>
+    ensures { IfOk result (λ read. IfSome read (λ job. IsJobInRange job × (codes "submit " ++ rest.now ≡ job_text job))) }
+{
+    let Some((client, number, text)) = split_request(rest) else {
+        return Ok(None);
+    };
+    let text = Text::new(String::from_str(alloc, text)?);
+    Ok(Some(Job::Submit {
+        client,
+        number,
+        text,
+    }))
+}
+
+fn read_torn_delivery(rest: &str) -> Option<Job>
+    ensures { IfSome result (λ job. IsJobInRange job × (codes "deliver " ++ rest.now ≡ job_text job)) }
+{
+    Some(Job::Deliver {
+        message: read_number(rest)?,
+    })
+}
+
+fn read_ask(alloc: Global, members: usize, rest: &str) -> Result<Option<Line>, AllocError>
+    ensures { IfOk result (λ read. IfSome read (λ line. IsInRange members line × (codes "ask " ++ rest.now ≡ line_text line))) }
 {
     let Some((node, text)) = split_word(rest) else {
         return Ok(None);
     };
-    let Some(node) = read_node(node) else {
+    let Some(node) = read_node(members, node) else {
         return Ok(None);
     };
     let text = Text::new(String::from_str(alloc, text)?);
     Ok(Some(Line::Ask { node, text }))
 }
 
-fn read_node(word: &str) -> Option<Member>
-    ensures range { IfSome result (λ n. IsNode n) }
+fn read_node(members: usize, word: &str) -> Option<Member>
+    ensures range { IfSome result (λ n. IsNode members n) }
     ensures text { IfSome result (λ n. word.now ≡ decimal n) }
 {
     let number = read_number(word)?;
-    if 1 <= number && number <= 3 {
+    if 1 <= number && number <= members as u64 {
         Some(number as usize)
     } else {
         None

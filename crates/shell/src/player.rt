@@ -1,25 +1,25 @@
 //! Playing scripts on a group.
-ghost use Rattle.std.specs.Prelude.{◌≡◌, false, IsTrue, OnOk, OnErr, IfOk, IfErr};
+ghost use Rattle.std.specs.Prelude.{◌≡◌, ◌≤◌, ◌<◌, length, false, IsTrue, IfSome, OnOk, OnErr, IfOk, IfErr};
 ghost use Rattle.fault.specs.declared.refusal.Refusal.TheVariants.{NoMemory};
 
-use crate::line::{Line, MEMBERS};
+use crate::line::{Job, Line};
 use crate::printing::Printed;
 use crate::run_fault::RunFault;
+use cutread::query::read_as_of;
 use fault::{Refusal, Text};
 use model::entry::Request;
 use model::member::Member;
 use model::message::Input;
-use cutread::query::read_as_of;
 use std::alloc::{AllocError, Global};
 use std::io;
-use world::event::Event;
+use world::event::{self, Event, Left};
 use world::history::World;
 use world::output::Output;
 
 // How many rounds a `settle` plays that names none.
 const ROUNDS_MOST: u8 = 100;
 
-/// A group, what the clock of each member shows, and which messages were delivered.
+/// A group, what the clock of each member shows, and which messages were delivered or lost.
 #[derive(Drop)]
 pub struct Player {
     alloc: Global,
@@ -36,19 +36,22 @@ pub struct Player {
 struct Sent {
     addressee: Member,
     is_delivered: bool,
+    is_lost: bool,
 }
 
 impl Player {
     ghost use Rattle.shell.specs.Player.{has_failed, IsPlayFault};
 
-    /// A group at its opening, where all clocks show 0.
-    pub fn new(alloc: Global) -> Result<Player, AllocError>
+    /// A group of 3 to 7 members at its opening, where all clocks show 0.
+    pub fn new(alloc: Global, members: usize) -> Result<Player, AllocError>
+        requires least { 3 ≤ members }
+        requires most { members ≤ 7 }
         ensures { IfOk result (λ player. has_failed player ≡ false) }
     {
         Ok(Player {
             alloc,
-            world: World::new(alloc, MEMBERS)?,
-            clocks: vec![in alloc; 0; MEMBERS]?,
+            world: World::new(alloc, members)?,
+            clocks: vec![in alloc; 0; members]?,
             sent: Vec::new(alloc),
             has_failed: false,
         })
@@ -74,12 +77,8 @@ impl Player {
         ensures { IfErr result IsPlayFault }
     {
         match line {
-            Line::Clock { node, reading } => {
-                self.set_clock(*node, *reading);
-                Ok(())
-            }
-            Line::ClockAll { reading } => {
-                self.clocks.fill(*reading);
+            Line::Clock { .. } | Line::ClockAll { .. } | Line::Lose { .. } | Line::LoseAll => {
+                self.note(line);
                 Ok(())
             }
             Line::Submit {
@@ -87,7 +86,11 @@ impl Player {
                 client,
                 number,
                 text,
-            } => self.submit(*node, *client, *number, text, writer),
+            } => {
+                let input = self.submission(*node, *client, *number, text)?;
+                self.happen(Event::Hand(*node, input), writer)
+            }
+            Line::Timeout { node } => self.happen(Event::Hand(*node, Input::Timeout), writer),
             Line::Beat { node } => self.happen(Event::Hand(*node, Input::Beat), writer),
             Line::Close { node } => {
                 let reading = self.reading_of(*node);
@@ -95,7 +98,21 @@ impl Player {
             }
             Line::Deliver { message } => self.deliver(*message, writer),
             Line::Settle { rounds } => self.settle(rounds.unwrap_or(ROUNDS_MOST), writer),
+            Line::Stop { node } => self.happen(Event::Stop(*node), writer),
+            Line::Start { node } => self.happen(Event::Start(*node), writer),
+            Line::Torn { node, left, job } => self.tear(*node, *left, job, writer),
             Line::Ask { node, text } => self.ask(*node, text, writer),
+        }
+    }
+
+    // What a line says that brings nothing to the group.
+    fn note(&mut self, line: &Line) {
+        match line {
+            Line::Clock { node, reading } => self.set_clock(*node, *reading),
+            Line::ClockAll { reading } => self.clocks.fill(*reading),
+            Line::Lose { message } => self.lose(*message),
+            Line::LoseAll => self.lose_all(),
+            _ => {}
         }
     }
 
@@ -114,26 +131,101 @@ impl Player {
         }
     }
 
-    fn submit<W: io::Write>(
-        &mut self,
+    // Whether a member is up.
+    fn is_up(&self, node: Member) -> bool {
+        self.world.commit(node).is_some()
+    }
+
+    // The place of the message of this number among those sent, if it was.
+    fn place_of(&self, number: u64) -> Option<usize>
+        ensures { IfSome result (λ place. place < length self.now.sent.items) }
+    {
+        if number < 1 || number > self.sent.len() as u64 {
+            return None;
+        }
+        Some(number as usize - 1)
+    }
+
+    fn lose(&mut self, number: u64) {
+        if let Some(place) = self.place_of(number) {
+            self.sent[place].is_lost = true;
+        }
+    }
+
+    fn lose_all(&mut self) {
+        for sent in &mut self.sent {
+            sent.is_lost = true;
+        }
+    }
+
+    // A client's request, as it is brought to a member.
+    fn submission(
+        &self,
         node: Member,
         client: u16,
         number: u64,
         text: &Text,
-        writer: &mut W,
-    ) -> Result<(), RunFault>
-        ensures { IfErr result IsPlayFault }
-    {
+    ) -> Result<Input, AllocError> {
         let reading = self.reading_of(node);
         let request = Request {
             client,
             number,
             text: text.clone()?,
         };
-        self.happen(
-            Event::Hand(node, Input::Submit { reading, request }),
-            writer,
-        )
+        Ok(Input::Submit { reading, request })
+    }
+
+    // What a step that is cut short is about, if it can be. A message counts as delivered then.
+    fn torn_job(&mut self, node: Member, job: &Job) -> Result<Option<event::Job>, AllocError> {
+        match job {
+            Job::Timeout => Ok(Some(event::Job::Local(Input::Timeout))),
+            Job::Beat => Ok(Some(event::Job::Local(Input::Beat))),
+            Job::Close => {
+                let reading = self.reading_of(node);
+                Ok(Some(event::Job::Local(Input::Close { reading })))
+            }
+            Job::Submit {
+                client,
+                number,
+                text,
+            } => {
+                let input = self.submission(node, *client, *number, text)?;
+                Ok(Some(event::Job::Local(input)))
+            }
+            Job::Deliver { message } => Ok(self.torn_delivery(node, *message)),
+        }
+    }
+
+    // A delivery to this member that is cut short, if the message was sent to it.
+    fn torn_delivery(&mut self, node: Member, number: u64) -> Option<event::Job> {
+        let place = self.place_of(number)?;
+        if self.sent[place].addressee != node {
+            return None;
+        }
+        self.sent[place].is_delivered = true;
+        Some(event::Job::Delivery {
+            message: place + 1,
+            reading: self.reading_of(node),
+        })
+    }
+
+    // A step that is cut short. One of a member that is down changes nothing.
+    fn tear<W: io::Write>(
+        &mut self,
+        node: Member,
+        left: Left,
+        job: &Job,
+        writer: &mut W,
+    ) -> Result<(), RunFault>
+        ensures { IfErr result IsPlayFault }
+    {
+        if !self.is_up(node) {
+            return Ok(());
+        }
+        match self.torn_job(node, job)? {
+            Some(job) => self.happen(Event::Torn(node, job, left), writer),
+            None => Ok(()),
+        }
     }
 
     // A text that is no question is refused before the group is asked.
@@ -160,10 +252,10 @@ impl Player {
     fn deliver<W: io::Write>(&mut self, number: u64, writer: &mut W) -> Result<(), RunFault>
         ensures { IfErr result IsPlayFault }
     {
-        if number < 1 || number > self.sent.len() as u64 {
-            return Ok(());
+        match self.place_of(number) {
+            Some(place) => self.deliver_at(place, writer),
+            None => Ok(()),
         }
-        self.deliver_at(number as usize - 1, writer)
     }
 
     // Delivers the message at this place among those sent, if there is one.
@@ -179,6 +271,21 @@ impl Player {
         self.happen(Event::Deliver { message, reading }, writer)
     }
 
+    // Delivers a message within a round. One to a member that is down counts as delivered, and
+    // nothing is printed.
+    fn settle_at<W: io::Write>(&mut self, place: usize, writer: &mut W) -> Result<(), RunFault>
+        ensures { IfErr result IsPlayFault }
+    {
+        match self.sent.get(place) {
+            Some(sent) if self.is_up(sent.addressee) => self.deliver_at(place, writer),
+            Some(_) => {
+                self.sent[place].is_delivered = true;
+                Ok(())
+            }
+            None => Ok(()),
+        }
+    }
+
     // Plays rounds until no message is left that was never delivered.
     fn settle<W: io::Write>(&mut self, rounds: u8, writer: &mut W) -> Result<(), RunFault>
         ensures { IfErr result IsPlayFault }
@@ -191,8 +298,8 @@ impl Player {
         Ok(())
     }
 
-    // Delivers each message that was sent before now and never delivered, and says whether there
-    // was one.
+    // Delivers each message that was sent before now, was never delivered and is not lost, and says
+    // whether there was one.
     fn play_round<W: io::Write>(&mut self, writer: &mut W) -> Result<bool, RunFault>
         ensures { IfErr result IsPlayFault }
     {
@@ -200,16 +307,16 @@ impl Player {
         for place in 0..self.sent.len() {
             if self.is_left(place) {
                 was_left = true;
-                self.deliver_at(place, writer)?;
+                self.settle_at(place, writer)?;
             }
         }
         Ok(was_left)
     }
 
-    // Whether the message at this place was never delivered.
+    // Whether the message at this place was never delivered, and is not lost.
     fn is_left(&self, place: usize) -> bool {
         match self.sent.get(place) {
-            Some(sent) => !sent.is_delivered,
+            Some(sent) => !sent.is_delivered && !sent.is_lost,
             None => false,
         }
     }
@@ -232,6 +339,7 @@ impl Player {
                 self.sent.push(Sent {
                     addressee: message.addressee,
                     is_delivered: false,
+                    is_lost: false,
                 })?;
             }
             write!(writer, "{}", Printed(output))?;

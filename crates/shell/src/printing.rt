@@ -5,6 +5,7 @@ ghost use Rattle.std.specs.List.{flat_map};
 ghost use Rattle.period.specs.SystemEnd.{end_text as system_end_text};
 ghost use Rattle.shell.specs.Printing.{yes_or_no as word_of, body_text, sent_text, node_text, told_text, outcome_text, doubled, value_text, column_text, row_text, end_text, heading_text, count_text, answer_text, output_text};
 
+use cutread::answer::{Answer, Shown};
 use fault::Text;
 use model::entry::Told;
 use model::member::Member;
@@ -12,7 +13,6 @@ use model::message::{Body, Message};
 use model::stamp::Stamp;
 use model::value::Value;
 use period::{Day, SystemEnd};
-use cutread::answer::{Answer, Shown};
 use std::fmt;
 use world::output::Output;
 

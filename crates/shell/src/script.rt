@@ -1,23 +1,33 @@
 //! Reading whole scripts.
-ghost use Rattle.std.specs.Prelude.{◌≡◌, ◌+◌, ◌∷◌, IfSome, IfOk, IfErr, All, length};
+ghost use Rattle.std.specs.Prelude.{◌≡◌, ◌≤◌, ◌+◌, ◌∷◌, IfSome, IfOk, IfErr, All, length};
 ghost use Rattle.shell.specs.Line.{IsInRange};
-ghost use Rattle.shell.specs.Script.{is_skipped as skips, pieces, HasLines, IsScriptFault};
+ghost use Rattle.shell.specs.Script.{is_skipped as skips, pieces, members_text, HasLines, IsScriptFault};
 
 use crate::line::{Line, read_line};
+use crate::number::read_number;
 use fault::Refusal;
 use std::alloc::Global;
 
-/// The lines of a script after its opening line `members 3`, without the empty ones and those
-/// that begin with `#`. A script with a fault is refused as 60 at the line of the first fault,
-/// where the first line is 1; one that ends too early, at the line after its last. The only other
-/// refusal is want of memory.
-pub fn read_script(alloc: Global, text: &str) -> Result<Vec<Line>, Refusal>
-    ensures lines { IfOk result (λ lines. HasLines text.now lines.items) }
-    ensures range { IfOk result (λ lines. All IsInRange lines.items) }
+/// A whole script.
+#[derive(Debug, Drop)]
+pub struct Script {
+    /// How many members its group has, from 3 to 7.
+    pub members: usize,
+    pub lines: Vec<Line>,
+}
+
+/// A script: its opening line `members N`, with N from 3 to 7, and the lines after it, without the
+/// empty ones and those that begin with `#`. A script with a fault is refused as 60 at the line of
+/// the first fault, where the first line is 1; one that ends too early, at the line after its last.
+/// The only other refusal is want of memory.
+pub fn read_script(alloc: Global, text: &str) -> Result<Script, Refusal>
+    ensures lines { IfOk result (λ script. HasLines text.now script.members script.lines.items) }
+    ensures members { IfOk result (λ script. (3 ≤ script.members) × (script.members ≤ 7)) }
+    ensures range { IfOk result (λ script. All (IsInRange script.members) script.lines.items) }
     ensures err { IfErr result (λ refusal. IsScriptFault text.now refusal) }
 {
     let mut lines = Vec::new(alloc);
-    let mut is_open = false;
+    let mut opened = None;
     let mut number = 0;
     let mut rest = text;
     while !rest.is_empty() {
@@ -29,21 +39,33 @@ pub fn read_script(alloc: Global, text: &str) -> Result<Vec<Line>, Refusal>
         if is_skipped(content) {
             continue;
         }
-        if is_open {
-            match read_line(alloc, content)? {
+        if let Some(members) = opened {
+            match read_line(alloc, members, content)? {
                 Some(line) => lines.push(line)?,
                 None => return Err(Refusal::BadScript(number)),
             }
-        } else if content == "members 3" {
-            is_open = true;
         } else {
-            return Err(Refusal::BadScript(number));
+            opened = read_members(content);
+            if opened.is_none() {
+                return Err(Refusal::BadScript(number));
+            }
         }
     }
-    if is_open {
-        Ok(lines)
+    match opened {
+        Some(members) => Ok(Script { members, lines }),
+        None => Err(Refusal::BadScript(number + 1)),
+    }
+}
+
+// The number of members that an opening line names.
+fn read_members(line: &str) -> Option<usize>
+    ensures { IfSome result (λ n. ((3 ≤ n) × (n ≤ 7)) × (line.now ≡ members_text n)) }
+{
+    let number = read_number(line.strip_prefix("members ")?)?;
+    if 3 <= number && number <= 7 {
+        Some(number as usize)
     } else {
-        Err(Refusal::BadScript(number + 1))
+        None
     }
 }
 

@@ -22,14 +22,14 @@ pub fn run_sim<R: io::Read, W: io::Write>(
 ) -> Result<u8, RunFault>
     ensures status { IfOk result (λ status. status ≡ 0) }
     ensures script { OnOk result (IfSome (R.remaining reader.old)
-        (λ bytes. (lines : List Line) × HasLines bytes lines)) }
+        (λ bytes. (members : ℕ) × (lines : List Line) × HasLines bytes members lines)) }
     ensures err { IfErr result IsSimFault }
     ensures bad { (line : ℕ) → result ≡ Err (RunFault.Refused (BadScript line)) → writer.new ≡ writer.old }
 {
-    let script = read_text(alloc, reader)?;
-    let lines = read_script(alloc, script.as_str())?;
-    let mut player = Player::new(alloc)?;
-    for line in &lines {
+    let text = read_text(alloc, reader)?;
+    let script = read_script(alloc, text.as_str())?;
+    let mut player = Player::new(alloc, script.members)?;
+    for line in &script.lines {
         player.play(line, writer)?;
     }
     writer.flush()?;

@@ -1,20 +1,21 @@
 use crate::command::{Command, read_command};
-use crate::line::Line;
+use crate::line::{Job, Line};
 use crate::printing::Printed;
 use crate::run_fault::RunFault;
 use crate::script::read_script;
 use crate::sim::run_sim;
+use cutread::answer::{Answer, Shown};
 use fault::{Refusal, Text};
 use model::entry::{Entries, Entry, Told};
 use model::message::{Body, Message};
 use model::stamp::Stamp;
 use model::value::Value;
 use period::{Day, Period};
-use cutread::answer::{Answer, Shown};
 use std::alloc::{AllocError, Global};
 use std::io;
 use std::process::Abort;
 use std::test::Fail;
+use world::event::Left;
 use world::output::Output;
 
 fn text_of(alloc: Global, words: &str) -> Result<Text, AllocError> {
@@ -87,10 +88,58 @@ ask 3
             text: text_of(alloc, "")?
         },
     ]?;
-    let lines = read_script(alloc, script)?;
-    assert!(rt; lines == wanted, "{lines:?}");
-    assert!(rt; read_script(alloc, "members 3\n")?.is_empty());
+    let script = read_script(alloc, script)?;
+    assert_eq!(rt; script.members, 3);
+    assert!(rt; script.lines == wanted, "{script:?}");
+    assert!(rt; read_script(alloc, "members 3\n")?.lines.is_empty());
     Ok(())
+}
+
+#[test]
+fn reads_lines_of_failures(rt: HostRuntime) -> Result<(), Fail> {
+    let script = "members 7
+timeout 7
+lose 0
+lose 18446744073709551615
+lose all
+stop 4
+start 7
+torn 1 old timeout
+torn 2 new beat
+torn 3 old close
+torn 4 new deliver 5
+torn 5 new submit 65535 1  A
+";
+    let alloc = rt.alloc();
+    let wanted = vec![in alloc;
+        Line::Timeout { node: 7 },
+        Line::Lose { message: 0 },
+        Line::Lose { message: u64::MAX },
+        Line::LoseAll,
+        Line::Stop { node: 4 },
+        Line::Start { node: 7 },
+        torn(1, Left::Old, Job::Timeout),
+        torn(2, Left::New, Job::Beat),
+        torn(3, Left::Old, Job::Close),
+        torn(4, Left::New, Job::Deliver { message: 5 }),
+        torn(
+            5,
+            Left::New,
+            Job::Submit {
+                client: 65_535,
+                number: 1,
+                text: text_of(alloc, " A")?
+            }
+        ),
+    ]?;
+    let script = read_script(alloc, script)?;
+    assert_eq!(rt; script.members, 7);
+    assert!(rt; script.lines == wanted, "{script:?}");
+    Ok(())
+}
+
+fn torn(node: usize, left: Left, job: Job) -> Line {
+    Line::Torn { node, left, job }
 }
 
 // Each of these is the third line of a script.
@@ -143,7 +192,20 @@ fn refuses_bad_lines(rt: HostRuntime) -> Result<(), Fail> {
         "ask 1",
         "ask 0 A",
         "ask",
-        "stop 1",
+        "stop 4",
+        "start 0",
+        "timeout",
+        "lose",
+        "lose ALL",
+        "lose -1",
+        "torn 1",
+        "torn 1 old",
+        "torn 1 older beat",
+        "torn 4 old beat",
+        "torn 1 old beat 1",
+        "torn 1 new ask 1",
+        "torn 1 new submit 1 0 A",
+        "torn 1 new deliver",
         "\u{e9}",
     ] {
         let script = format!(in rt.alloc(); "members 3\n\n{line}\nno line\n")?;
@@ -160,7 +222,8 @@ fn refuses_scripts_with_bad_ends(rt: HostRuntime) -> Result<(), Fail> {
         ("\n", 2),
         ("# members 3\n\n", 3),
         ("members 3", 1),
-        ("members 4\n", 1),
+        ("members 2\n", 1),
+        ("members 8\n", 1),
         ("members 3 \n", 1),
         ("members 03\n", 1),
         ("beat 1\nmembers 3\n", 1),

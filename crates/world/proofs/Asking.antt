@@ -1,39 +1,45 @@
 -- What a member answers, and what an Ask gives.
-use Rattle.std.proofs.Common.{◌≡◌, ◌∙◌, ℕ, ◌+◌, ◌<◌, ⊎_elim, true, Option, Some, None, Ok, Err, List, [], ◌∷◌, map, length, slice_index_or, refl, sym, ap, subst, option_map}
-use Rattle.std.proofs.lemmas.Option.{slice_get-map, slice_get_read}
-use Rattle.model.specs.Lists.{nth}
-use Rattle.model.specs.Logs.{closed}
+use Rattle.std.proofs.Common.{◌≡◌, ◌∙◌, ℕ, ⊎_elim, Bool, true, false, Option, Some, None, Ok, Err, List, [], ◌∷◌, sym, ap, subst, option_map}
+use Rattle.model.specs.Logs.{closed, IsStamped}
 use Rattle.model.specs.Texts.{instant_text}
 use Rattle.model.specs.Answers.{Query, closed_query}
 use Rattle.model.specs.Members.{Node, applied}
 use Rattle.model.specs.Transactions.{Schema as TheSchema}
 use Rattle.model.specs.declared.entry.Entry.{Entry}
-use Rattle.model.specs.Worlds.{Output, IsGivenIn, IsGivenAt}
+use Rattle.model.specs.Worlds.{Output, IsGivenIn, IsGivenAt, IsGivenBy}
 use Rattle.model.specs.Worlds.Output.{Answered, Refused}
 use Rattle.fault.specs.declared.refusal.Refusal.{Refusal}
 use Rattle.fault.specs.declared.refusal.Refusal.TheVariants.{NoMemory, NotClosed}
 use Rattle.cutread.specs.declared.query.AsOf.{AsOf}
 use Rattle.cutread.specs.declared.answer.Answer.{Answer}
 use Rattle.cutread.specs.Meaning.{select_of, answer_of}
-use Rattle.raft.specs.View.{node_of}
 use Rattle.node.specs.View.{IsAskedOf}
-use Rattle.world.specs.View.{Seat, nodes_of}
-use Rattle.world.proofs.Bringing.{nth_next}
+use Rattle.world.specs.View.{IsAskedAt}
 
--- the member at a place
-pub node_at : {A : Type 0} (f : A → Seat) (xs : List A) (m i : ℕ) (x : A) → m ≡ i + 1 → i < length xs → x ≡ slice_index_or xs i x → nth (nodes_of (map f xs)) m ≡ Some (node_of (f x).core)
-node_at f xs m i x next within at =
-    nth_next (nodes_of (map f xs)) m i next ∙ slice_get-map (λ (s : Seat). node_of s.core) (map f xs) i ∙ ap (option_map (λ (s : Seat). node_of s.core)) (slice_get-map f xs i ∙ ap (option_map f) (slice_get_read xs (length xs) i x refl within at))
-
-pub answered : (schema : TheSchema) (m : ℕ) (q : AsOf) (list : List Entry) (a : Answer) (out : List Output) → IsAskedOf schema q list (Ok a) → out ≡ Answered m (answer_of a) ∷ [] → IsGivenIn schema m list (closed_query (select_of q) (closed list)) out
-answered schema m q list a out h is =
+answered_in : (schema : TheSchema) (m : ℕ) (q : AsOf) (list : List Entry) (a : Answer) (out : List Output) → IsAskedOf schema q list (Ok a) → out ≡ Answered m (answer_of a) ∷ [] → IsGivenIn schema m list (closed_query (select_of q) (closed list)) out
+answered_in schema m q list a out h is =
     let P : Option Query → Type 0 = λ o. IsGivenIn schema m list o out in
     subst P (sym h.0) (answer_of a, h.1, is)
 
-pub refused : (schema : TheSchema) (m : ℕ) (q : AsOf) (list : List Entry) (refusal : Refusal) (out : List Output) → IsAskedOf schema q list (Err refusal) → (refusal ≡ NoMemory → ⊥) → out ≡ Refused m refusal ∷ [] → IsGivenIn schema m list (closed_query (select_of q) (closed list)) out
-refused schema m q list refusal out h other is =
+refused_in : (schema : TheSchema) (m : ℕ) (q : AsOf) (list : List Entry) (refusal : Refusal) (out : List Output) → IsAskedOf schema q list (Err refusal) → (refusal ≡ NoMemory → ⊥) → out ≡ Refused m refusal ∷ [] → IsGivenIn schema m list (closed_query (select_of q) (closed list)) out
+refused_in schema m q list refusal out h other is =
     let P : Option Query → Type 0 = λ o. IsGivenIn schema m list o out in
     ⊎_elim (λ (e : refusal ≡ NoMemory). absurd (other e)) (λ (p : (closed_query (select_of q) (closed list) ≡ None) × (refusal ≡ NotClosed (option_map instant_text (closed list)))). subst P (sym p.0) (is ∙ ap (λ r. Refused m r ∷ []) p.1)) h
 
-pub given : (schema : TheSchema) (m : ℕ) (q : AsOf) (x : Node) (o : Option Node) (out : List Output) → o ≡ Some x → x.up ≡ true → IsGivenIn schema m (applied x) (closed_query (select_of q) (closed (applied x))) out → IsGivenAt schema m (select_of q) o out
-given schema m q x o out is up h = rw (is, up) h
+answered_by : (schema : TheSchema) (m : ℕ) (q : AsOf) (x : Node) (up : Bool) (a : Answer) (out : List Output) → IsAskedAt schema q x up (Ok a) → IsStamped (applied x) → out ≡ Answered m (answer_of a) ∷ [] → IsGivenBy schema m (select_of q) x up out
+answered_by schema m q x true a out h stamped is = answered_in schema m q (applied x) a out (h stamped) is
+answered_by schema m q x false a out h stamped is = absurd (cc h)
+
+refused_by : (schema : TheSchema) (m : ℕ) (q : AsOf) (x : Node) (up : Bool) (refusal : Refusal) (out : List Output) → IsAskedAt schema q x up (Err refusal) → IsStamped (applied x) → (refusal ≡ NoMemory → ⊥) → out ≡ Refused m refusal ∷ [] → IsGivenBy schema m (select_of q) x up out
+refused_by schema m q x true refusal out h stamped other is = refused_in schema m q (applied x) refusal out (h stamped) other is
+refused_by schema m q x false refusal out h stamped other is = cc
+
+given : (schema : TheSchema) (m : ℕ) (q : AsOf) (x : Node) (o : Option Node) (out : List Output) → o ≡ Some x → IsGivenBy schema m (select_of q) x x.up out → IsGivenAt schema m (select_of q) o out
+given schema m q x o out is h = rw is h
+
+-- the member there answers, or refuses
+pub answered : (schema : TheSchema) (m : ℕ) (q : AsOf) (x : Node) (o : Option Node) (a : Answer) (out : List Output) → o ≡ Some x → IsAskedAt schema q x x.up (Ok a) → IsStamped (applied x) → out ≡ Answered m (answer_of a) ∷ [] → IsGivenAt schema m (select_of q) o out
+answered schema m q x o a out at h stamped is = given schema m q x o out at (answered_by schema m q x x.up a out h stamped is)
+
+pub refused : (schema : TheSchema) (m : ℕ) (q : AsOf) (x : Node) (o : Option Node) (refusal : Refusal) (out : List Output) → o ≡ Some x → IsAskedAt schema q x x.up (Err refusal) → IsStamped (applied x) → (refusal ≡ NoMemory → ⊥) → out ≡ Refused m refusal ∷ [] → IsGivenAt schema m (select_of q) o out
+refused schema m q x o refusal out at h stamped other is = given schema m q x o out at (refused_by schema m q x x.up refusal out h stamped other is)

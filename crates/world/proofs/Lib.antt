@@ -1,6 +1,8 @@
 pub mod Numbers
-pub mod Stepping
+pub mod Running
+pub mod Seating
+pub mod Placing
+pub mod Restarts
 pub mod Bringing
 pub mod Asking
-pub mod Running
 pub mod Starting

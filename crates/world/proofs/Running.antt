@@ -3,11 +3,11 @@ use Rattle.std.proofs.Common.{◌≡◌, ◌∙◌, ℕ, List, [], ◌∷◌, �
 use Rattle.model.specs.Lists.{nth}
 use Rattle.model.specs.Transactions.{Schema}
 use Rattle.model.specs.Agreement.{Agree}
-use Rattle.model.specs.Worlds.{World, Event, Output, happens, run, Gives, GivesAll, led_world}
+use Rattle.model.specs.Worlds.{World, Event, Output, happens, run, Gives, GivesAll, new_world}
 use Rattle.world.specs.declared.event.Event.{Event as Given}
 use Rattle.cutread.specs.Meaning.{schema_of}
 use Rattle.world.specs.declared.group.Group.{Group}
-use Rattle.world.specs.View.{event_of, seats_of, world_of, AllStamped, IsGroup, IsRun}
+use Rattle.world.specs.View.{event_of, world_of, AllStamped, IsGroup, IsRun}
 
 run_more : (s : Schema) (n : ℕ) (w : World) (es fs : List Event) → run s n w (es ++ fs) ≡ run s n (run s n w es) fs
 run_more s n w [] fs = refl
@@ -40,9 +40,9 @@ pub all_stamped : (s : Schema) (n : ℕ) (w v : World) (es : List Event) → Agr
 all_stamped s n w v es agree is m x at =
     (agree.applied_is_decided es [] m x (append-nil es) (ap (λ (u : World). nth u.nodes m) (sym is) ∙ at)).1
 
-pub run_is : (old new : Group) (kept after : List Given) (e : Given) → IsRun old kept → IsGroup old.schema old.members (seats_of new) →
+pub run_is : (old new : Group) (kept after : List Given) (e : Given) → IsRun old kept → IsGroup old.schema old.members new.seats.items →
     world_of new ≡ happens (schema_of old.schema) old.members (world_of old) (event_of e) → new.schema ≡ old.schema → new.members ≡ old.members → after ≡ kept ++ e ∷ [] → IsRun new after
 run_is old new kept after e r g w schema members is = record {
   group = rw (schema, members) g;
-  world = rw (schema, members, is) (w ∙ ap (λ (v : World). happens (schema_of old.schema) old.members v (event_of e)) r.world ∙ sym (run_next (schema_of old.schema) old.members (led_world old.members) kept e));
+  world = rw (schema, members, is) (w ∙ ap (λ (v : World). happens (schema_of old.schema) old.members v (event_of e)) r.world ∙ sym (run_next (schema_of old.schema) old.members (new_world old.members) kept e));
 }

@@ -1,7 +1,9 @@
 -- A world as its run.
-use Rattle.std.specs.Prelude.{ℕ, List, map}
+use Rattle.std.specs.Prelude.{ℕ, List, map, Option}
+use Rattle.model.specs.Lists.{nth}
+use Rattle.model.specs.Members.{Node}
 use Rattle.model.specs.Transactions.{Schema}
-use Rattle.model.specs.Worlds.{World, Event, led_world, run}
+use Rattle.model.specs.Worlds.{World, Event, new_world, run}
 use Rattle.cutread.specs.Meaning.{schema_of}
 use Rattle.world.specs.declared.history.World.{World as Whole}
 use Rattle.world.specs.View.{event_of}
@@ -12,9 +14,9 @@ schema_in w = schema_of w.group.schema
 abbrev pub members_in : Whole → ℕ
 members_in w = w.group.members
 
--- all up, with term 1, their vote for member 1, empty logs, and member 1 their leader
+-- all up, with term 0, no vote, empty logs
 abbrev pub opening_of : Whole → World
-opening_of w = led_world (members_in w)
+opening_of w = new_world (members_in w)
 
 -- what happened, from the first event on
 abbrev pub events_of : Whole → List Event
@@ -23,3 +25,7 @@ events_of w = map event_of w.kept.items
 -- the world after what happened
 abbrev pub now_of : Whole → World
 now_of w = run (schema_in w) (members_in w) (opening_of w) (events_of w)
+
+-- the member there now, if there is one
+abbrev pub member_of : Whole → ℕ → Option Node
+member_of w m = nth (now_of w).nodes m

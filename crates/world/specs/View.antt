@@ -1,33 +1,59 @@
 -- Events, outputs and a group as the definitions see them.
-use Rattle.std.specs.Prelude.{◌≡◌, ℕ, ◌+◌, Bool, true, Option, Some, None, List, [], map, length, slice_get, slice_set}
+use Rattle.std.specs.Prelude.{◌≡◌, ℕ, ◌≤◌, ◌+◌, Bool, true, false, Option, Some, None, Result, Err, List, [], map, length, slice_get, option_map, option_and_then, if◌then◌else◌}
+use Rattle.std.specs.Option.{ForSome}
+use Rattle.fault.specs.declared.refusal.Refusal.{Refusal}
+use Rattle.fault.specs.declared.refusal.Refusal.TheVariants.{NodeDown}
+use Rattle.model.specs.declared.entry.Entry.{Entry}
 use Rattle.model.specs.Lists.{nth}
 use Rattle.model.specs.Logs.{IsStamped}
 use Rattle.model.specs.Transactions.{Schema as TheSchema}
 use Rattle.model.specs.Members.{Node, applied}
 use Rattle.model.specs.Steps.{Effect, Moves, Refuses, Nothing}
-use Rattle.model.specs.Worlds.{World, Event, Output, done, effect_gives, led_world, run, tells}
-use Rattle.model.specs.Worlds.Event.{Hand, Deliver, Ask}
+use Rattle.model.specs.Worlds as model
+use Rattle.model.specs.Worlds.{World, Event, Output, done, effect_gives, fresh, new_world, run, stopped, tells}
 use Rattle.model.specs.Worlds.Output.{Sent, Applied, Refused, Answered}
-use Rattle.keep.specs.Durable.{Durable}
+use Rattle.keep.specs.Durable.{Durable, stored_in}
+use Rattle.node.specs.Answered.{stored_of}
+use Rattle.node.specs.View.{durable_of, IsAskedOf}
+use Rattle.node.specs.declared.durable.Stored.{Stored}
 use Rattle.raft.specs.declared.state.Core.{Core}
 use Rattle.raft.specs.declared.state.Work.{Work}
 use Rattle.raft.specs.View.{node_of, works}
+use Rattle.cutread.specs.declared.answer.Answer.{Answer}
+use Rattle.cutread.specs.declared.query.AsOf.{AsOf}
 use Rattle.cutread.specs.declared.schema.Schema.{Schema}
 use Rattle.cutread.specs.Meaning.{schema_of, select_of, answer_of}
 use Rattle.world.specs.declared.event.Event.{Event as Given}
-use Rattle.world.specs.declared.event.Event.TheVariants.{Hand as HandGiven, Deliver as DeliverGiven, Ask as AskGiven}
+use Rattle.world.specs.declared.event.Event.TheVariants.{Hand, Deliver, Stop, Start, Torn, Ask}
+use Rattle.world.specs.declared.event.Job.{Job}
+use Rattle.world.specs.declared.event.Job.TheVariants.{Local, Delivery}
+use Rattle.world.specs.declared.event.Left.{Left}
+use Rattle.world.specs.declared.event.Left.TheVariants.{Old, New}
 use Rattle.world.specs.declared.output.Output.{Output as Out}
 use Rattle.world.specs.declared.output.Output.TheVariants.{Sent as SentOut, Applied as AppliedOut, Refused as RefusedOut, Answered as AnsweredOut}
 use Rattle.world.specs.declared.group.Group.{Group}
-use Rattle.world.specs.declared.group.Step.{Step}
-use Rattle.world.specs.declared.group.Step.TheVariants.{Moved, Refused as RefusedStep, Ignored}
+use Rattle.world.specs.declared.seat.Seat.{Seat}
+use Rattle.world.specs.declared.seat.Seat.TheVariants.{Up, Down}
+use Rattle.world.specs.declared.seat.Step.{Step}
+use Rattle.world.specs.declared.seat.Step.TheVariants.{Moved, Refused as RefusedStep, Ignored}
 
 -- ---- events and outputs
 
+abbrev pub job_of : Job → model.Job
+job_of (Local input) = model.Local input
+job_of (Delivery k reading) = model.Delivery k reading
+
+abbrev pub left_of : Left → model.Left
+left_of Old = model.Old
+left_of New = model.New
+
 abbrev pub event_of : Given → Event
-event_of (HandGiven m input) = Hand m input
-event_of (DeliverGiven k reading) = Deliver k reading
-event_of (AskGiven m query) = Ask m (select_of query)
+event_of (Hand m input) = model.Hand m input
+event_of (Deliver k reading) = model.Deliver k reading
+event_of (Stop m) = model.Stop m
+event_of (Start m) = model.Start m
+event_of (Torn m job left) = model.Torn m (job_of job) (left_of left)
+event_of (Ask m query) = model.Ask m (select_of query)
 
 abbrev pub output_of : Out → Output
 output_of (SentOut number message) = Sent number message
@@ -38,61 +64,96 @@ output_of (AnsweredOut m answer) = Answered m (answer_of answer)
 abbrev pub outputs_of : List Out → List Output
 outputs_of = map output_of
 
--- ---- a group
+-- ---- a member
 
--- what a group has of a member
-pub record Seat : Type 0 where
+-- a member that is down, with this stored
+abbrev pub at_rest : Durable → Node
+at_rest d = stopped (record (fresh d.term d.vote) { log = d.log })
+
+abbrev pub node_in : Seat → Node
+node_in (Up x) = node_of x.core
+node_in (Down image) = at_rest (stored_in image)
+
+-- what a seat has of a member that is up
+pub record Occupant : Type 0 where
   pub core : Core
   pub is_up : Bool
 
-abbrev pub seats_of : Group → List Seat
-seats_of g = map (λ x. record { core = x.core; is_up = x.is_up }) g.nodes.items
+abbrev pub occupant : Seat → Option Occupant
+occupant (Up x) = Some (record { core = x.core; is_up = x.is_up })
+occupant (Down image) = None
 
--- what each member has stored at the start
-abbrev pub first_stored : Durable
-first_stored = record { term = 1; vote = Some 1; log = [] }
+-- member m of n, which no step took down
+pub record IsMember (tables : Schema) (n m : ℕ) (o : Occupant) : Type 0 where
+  pub is_up : o.is_up ≡ true
+  pub schema : o.core.schema ≡ tables
+  pub members : o.core.members ≡ n
+  pub me : o.core.me ≡ m
 
--- members that are up
+-- the seat of member m of n
+abbrev pub IsSeat : Schema → ℕ → ℕ → Seat → Type 0
+IsSeat tables n m s = ForSome (occupant s) (IsMember tables n m)
+
+-- what the definitions say of this work at member m, which refuses all while it is down
+abbrev pub works_at : Schema → ℕ → ℕ → Work → Node → Effect
+works_at schema n m work x = if x.up then works schema n m work x else Refuses NodeDown
+
+-- a step that takes member m from x to y
+abbrev pub IsStep : TheSchema → ℕ → Node → Node → Effect → Step → Type 0
+IsStep schema m x y effect (Moved out) = (Moves (record { node = y; sent = out.messages.items }) ≡ effect) × (map (Applied m) out.told.items ≡ tells schema m x y)
+IsStep schema m x y effect (RefusedStep refusal) = (Refuses refusal ≡ effect) × (y ≡ x)
+IsStep schema m x y effect Ignored = (Nothing ≡ effect) × (y ≡ x)
+
+-- ---- what is told of a member: nothing of one that is down, or not there
+
+abbrev pub if_up : Option Node → Option Node
+if_up None = None
+if_up (Some x) = if x.up then Some x else None
+
+abbrev pub durable_in : Option Node → Option Stored
+durable_in member = option_map (λ x. stored_of (durable_of x)) (if_up member)
+
+-- none outside the log
+abbrev pub entry_in : ℕ → Option Node → Option Entry
+entry_in i member = option_and_then (λ x. nth x.log i) (if_up member)
+
+abbrev pub commit_in : Option Node → Option ℕ
+commit_in member = option_map (λ x. x.commit) (if_up member)
+
+-- what it answers, by whether it is up
+abbrev pub IsAskedAt : TheSchema → AsOf → Node → Bool → Result Answer Refusal → Type 0
+IsAskedAt schema q x true r = IsStamped (applied x) → IsAskedOf schema q (applied x) r
+IsAskedAt schema q x false r = r ≡ Err NodeDown
+
+-- ---- a group
+
 abbrev pub nodes_of : List Seat → List Node
-nodes_of = map (λ s. node_of s.core)
+nodes_of = map node_in
 
 abbrev pub world_of : Group → World
-world_of g = record { nodes = nodes_of (seats_of g); sent = g.sent.items }
+world_of g = record { nodes = nodes_of g.seats.items; sent = g.sent.items }
 
--- member m of n is up
-pub record IsSeat (tables : Schema) (n m : ℕ) (s : Seat) : Type 0 where
-  pub is_up : s.is_up ≡ true
-  pub schema : s.core.schema ≡ tables
-  pub members : s.core.members ≡ n
-  pub me : s.core.me ≡ m
-
--- the members from 1 to n, all up
+-- the seats of the members from 1 to n
 pub record IsGroup (tables : Schema) (n : ℕ) (seats : List Seat) : Type 0 where
+  pub few : n ≤ 7
   pub all : length seats ≡ n
   pub each : (k : ℕ) (s : Seat) → slice_get seats k ≡ Some s → IsSeat tables n (k + 1) s
-
--- a step of the member at a place, counted from 0, takes the members from xs to ys
-abbrev pub IsStep : TheSchema → ℕ → List Node → List Node → Node → Effect → Step → Type 0
-IsStep schema i xs ys x effect (Moved out) =
-    (y : Node) × (ys ≡ slice_set xs i y) × (Moves (record { node = y; sent = out.messages.items }) ≡ effect) × (map (Applied (i + 1)) out.told.items ≡ tells schema (i + 1) x y)
-IsStep schema i xs ys x effect (RefusedStep refusal) = (ys ≡ xs) × (Refuses refusal ≡ effect)
-IsStep schema i xs ys x effect Ignored = (ys ≡ xs) × (Nothing ≡ effect)
 
 -- the world after work was brought to a member, if there is one
 abbrev pub brings : Schema → ℕ → World → ℕ → Work → Option Node → World
 brings schema n w m work None = w
-brings schema n w m work (Some x) = done w m (works schema n m work x)
+brings schema n w m work (Some x) = done w m (works_at schema n m work x)
 
 -- and what that gives
 abbrev pub brought : Schema → ℕ → World → ℕ → Work → Option Node → List Output
 brought schema n w m work None = []
-brought schema n w m work (Some x) = effect_gives (schema_of schema) w m x (works schema n m work x)
+brought schema n w m work (Some x) = effect_gives (schema_of schema) w m x (works_at schema n m work x)
 
 -- the stamps of what a member applied rise
 abbrev pub AllStamped : World → Type 0
 AllStamped w = (m : ℕ) (x : Node) → nth w.nodes m ≡ Some x → IsStamped (applied x)
 
--- a group of members that are all up, in the world after these events, in which the first member led from the start
+-- a group in the world after these events, which began before any term
 pub record IsRun (g : Group) (events : List Given) : Type 0 where
-  pub group : IsGroup g.schema g.members (seats_of g)
-  pub world : world_of g ≡ run (schema_of g.schema) g.members (led_world g.members) (map event_of events)
+  pub group : IsGroup g.schema g.members g.seats.items
+  pub world : world_of g ≡ run (schema_of g.schema) g.members (new_world g.members) (map event_of events)

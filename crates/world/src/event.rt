@@ -1,16 +1,39 @@
 //! What happens to a group.
 ghost use Rattle.std.specs.Prelude.{◌≡◌, IfOk};
 
+use cutread::query::AsOf;
 use model::entry::Request;
 use model::member::Member;
 use model::message::Input;
-use cutread::query::AsOf;
 use std::alloc::AllocError;
 
-/// One thing that happens to the members of a group.
+/// What is brought to a member in a step that is cut short.
+#[derive(Debug, Drop)]
+pub enum Job {
+    Local(Input),
+    /// A message that was sent to it.
+    Delivery {
+        /// Which message, counted from 1 in the order in which all were sent.
+        message: usize,
+        /// What the member's clock shows, in microseconds since 1970.
+        reading: i64,
+    },
+}
+
+/// What a step that is cut short leaves in the store.
+#[derive(Clone, Copy, PartialEq, Eq, Debug)]
+pub enum Left {
+    /// What was stored before the step.
+    Old,
+    /// What is stored once the step is made. Of a step that is refused, or has no effect, that is
+    /// what was stored before.
+    New,
+}
+
+/// One thing that happens to the members of a group. Members count from 1.
 #[derive(Debug, Drop)]
 pub enum Event {
-    /// A local input is handed to a member, counted from 1.
+    /// A local input is handed to a member.
     Hand(Member, Input),
     /// A message reaches the member that it is addressed to.
     Deliver {
@@ -19,8 +42,29 @@ pub enum Event {
         /// What the addressee's clock shows, in microseconds since 1970.
         reading: i64,
     },
-    /// A question is asked of a member, counted from 1.
+    /// A member that is up goes down, and keeps only what it has stored.
+    Stop(Member),
+    /// A member that is down comes up again with what it has stored, as a follower that has applied
+    /// nothing.
+    Start(Member),
+    /// A step of a member that is up is cut short: nothing is sent or told, and the member is down.
+    Torn(Member, Job, Left),
+    /// A question is asked of a member.
     Ask(Member, AsOf),
+}
+
+impl Clone for Job {
+    ghost is_clone = { λ j copy. copy ≡ j };
+
+    fn clone(&self) -> Result<Job, AllocError> {
+        match self {
+            Job::Local(input) => Ok(Job::Local(copy_of_input(input)?)),
+            Job::Delivery { message, reading } => Ok(Job::Delivery {
+                message: *message,
+                reading: *reading,
+            }),
+        }
+    }
 }
 
 impl Clone for Event {
@@ -33,9 +77,18 @@ impl Clone for Event {
                 message: *message,
                 reading: *reading,
             }),
+            Event::Stop(member) => Ok(Event::Stop(*member)),
+            Event::Start(member) => Ok(Event::Start(*member)),
+            Event::Torn(member, job, left) => Ok(Event::Torn(*member, copy_of_job(job)?, *left)),
             Event::Ask(member, query) => Ok(Event::Ask(*member, *query)),
         }
     }
+}
+
+fn copy_of_job(job: &Job) -> Result<Job, AllocError>
+    ensures { IfOk result (λ j. j ≡ job.now) }
+{
+    job.clone()
 }
 
 pub(crate) fn copy_of_input(input: &Input) -> Result<Input, AllocError>

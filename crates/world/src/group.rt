@@ -1,25 +1,26 @@
 //! The members of a group, and every message that they sent.
-ghost use Rattle.std.specs.Prelude.{◌≡◌, ◌+◌, ◌++◌, ◌<◌, ℕ, Some, length, map, slice_get, vec_len, IfOk, OnOk};
+ghost use Rattle.std.specs.Prelude.{◌≡◌, ◌+◌, ◌++◌, ◌<◌, ℕ, None, true, false, length, map, vec_len, IfOk, OnOk, MatchOption};
 ghost use Rattle.model.specs.Lists.{nth};
-ghost use Rattle.model.specs.Logs.{IsStamped};
-ghost use Rattle.model.specs.Members.{Node as TheNode, applied};
-ghost use Rattle.model.specs.Worlds.{happens, numbered, Gives, IsGivenAt};
-ghost use Rattle.model.specs.Worlds.Event.{Deliver, Hand};
+ghost use Rattle.model.specs.Members.{Node as TheNode};
+ghost use Rattle.model.specs.Worlds.{effect, happens, is_for, numbered, Gives, IsGivenAt};
+ghost use Rattle.model.specs.Worlds.Event.{Deliver, Hand, Stop, Start, Torn};
 ghost use Rattle.model.specs.Worlds.Output.{Applied as ModelApplied};
 ghost use Rattle.raft.specs.View.{works};
+ghost use Rattle.cutread.specs.declared.schema.Schema.{Schema as Tables};
 ghost use Rattle.cutread.specs.Meaning.{schema_of, select_of};
-ghost use Rattle.world.specs.View.{brings, brought, event_of, AllStamped, IsGroup, IsStep, nodes_of, outputs_of, seats_of, world_of};
+ghost use Rattle.world.specs.View.{brings, brought, commit_in, durable_in, entry_in, event_of, job_of, left_of, outputs_of, world_of, AllStamped, IsGroup};
 
-use crate::event::{Event, copy_of_input};
+use crate::event::{Event, Job, Left, copy_of_input};
 use crate::output::{Output, announce, apply_all, copy_of, refused, single};
-use fault::Refusal;
-use keep::memory::MemKeeper;
-use model::member::Member;
-use model::message::{Input, Message};
-use node::node::{Fault, Node, Out};
-use raft::state::Work;
+use crate::seat::{Seat, Step};
 use cutread::query::AsOf;
 use cutread::schema::Schema;
+use model::entry::Entry;
+use model::member::Member;
+use model::message::{Input, Message};
+use node::durable::Stored;
+use node::node::Out;
+use raft::state::Work;
 use std::alloc::{AllocError, Global};
 
 /// All members, in order, and every message ever sent, in order.
@@ -28,34 +29,22 @@ pub(crate) struct Group {
     pub alloc: Global,
     pub schema: Schema,
     pub members: usize,
-    pub nodes: Vec<Node<MemKeeper>>,
+    pub seats: Vec<Seat>,
     pub sent: Vec<Message>,
 }
 
-/// What a step of a member came to.
-#[derive(Drop)]
-pub(crate) enum Step {
-    Moved(Out),
-    Refused(Refusal),
-    Ignored,
-}
-
 impl Group {
-    /// A step of the member at this place, counted from 0.
-    fn step_at(&mut self, index: usize, work: Work) -> Result<Step, AllocError>
-        requires within { index < vec_len self.old.nodes }
-        requires group { IsGroup self.old.schema self.old.members (seats_of self.old) }
-        ensures group { OnOk result (IsGroup self.old.schema self.old.members (seats_of self.new)) }
-        ensures step { IfOk result (λ s. (x : TheNode) → slice_get (nodes_of (seats_of self.old)) index ≡ Some x →
-            IsStep (schema_of self.old.schema) index (nodes_of (seats_of self.old)) (nodes_of (seats_of self.new)) x (works self.old.schema self.old.members (index + 1) work x) s) }
-        ensures same { self.new ≡ record self.old { nodes = self.new.nodes } }
+    /// The place of a member's seat, counted from 0, none where there is no such member.
+    fn place(&self, member: Member) -> Option<usize>
+        ensures { MatchOption result (nth self.now.seats.items member ≡ None) (λ place. (member ≡ place + 1) × (place < vec_len self.now.seats)) }
     {
-        match self.nodes[index].step(work) {
-            Ok(Some(out)) => Ok(Step::Moved(out)),
-            Ok(None) => Ok(Step::Ignored),
-            Err(Fault::Kept(refusal)) => Ok(Step::Refused(refusal)),
-            Err(Fault::Down(_)) => Err(AllocError),
+        let Some(place) = member.checked_sub(1) else {
+            return None;
+        };
+        if place >= self.seats.len() {
+            return None;
         }
+        Some(place)
     }
 
     /// Sends what a member sends in a step, and tells what it tells.
@@ -73,16 +62,16 @@ impl Group {
 
     /// Brings work to a member. Where there is no such member nothing comes of it.
     fn bring(&mut self, member: Member, work: Work) -> Result<Vec<Output>, AllocError>
-        requires group { IsGroup self.old.schema self.old.members (seats_of self.old) }
-        ensures group { OnOk result (IsGroup self.old.schema self.old.members (seats_of self.new)) }
+        requires group { IsGroup self.old.schema self.old.members self.old.seats.items }
+        ensures group { OnOk result (IsGroup self.old.schema self.old.members self.new.seats.items) }
         ensures world { OnOk result (world_of self.new ≡ brings self.old.schema self.old.members (world_of self.old) member work (nth (world_of self.old).nodes member)) }
         ensures gives { IfOk result (λ outs. outputs_of outs.items ≡ brought self.old.schema self.old.members (world_of self.old) member work (nth (world_of self.old).nodes member)) }
         ensures same { (self.new.schema ≡ self.old.schema) × (self.new.members ≡ self.old.members) }
     {
-        if member == 0 || member > self.nodes.len() {
+        let Some(place) = self.place(member) else {
             return Ok(Vec::new(self.alloc));
-        }
-        match self.step_at(member - 1, work)? {
+        };
+        match self.seats[place].step(work)? {
             Step::Moved(out) => self.publish(member, out),
             Step::Refused(refusal) => single(self.alloc, Output::Refused(member, refusal)),
             Step::Ignored => Ok(Vec::new(self.alloc)),
@@ -91,8 +80,8 @@ impl Group {
 
     /// Hands an input to a member.
     fn hand(&mut self, member: Member, input: &Input) -> Result<Vec<Output>, AllocError>
-        requires group { IsGroup self.old.schema self.old.members (seats_of self.old) }
-        ensures group { OnOk result (IsGroup self.old.schema self.old.members (seats_of self.new)) }
+        requires group { IsGroup self.old.schema self.old.members self.old.seats.items }
+        ensures group { OnOk result (IsGroup self.old.schema self.old.members self.new.seats.items) }
         ensures world { OnOk result (world_of self.new ≡ happens (schema_of self.old.schema) self.old.members (world_of self.old) (Hand member input.now)) }
         ensures gives { IfOk result (λ outs. Gives (schema_of self.old.schema) self.old.members (world_of self.old) (Hand member input.now) (outputs_of outs.items)) }
         ensures same { (self.new.schema ≡ self.old.schema) × (self.new.members ≡ self.old.members) }
@@ -116,8 +105,8 @@ impl Group {
 
     /// Brings a message to the member that it is addressed to. Nothing comes of a number that no message has.
     fn deliver(&mut self, number: usize, reading: i64) -> Result<Vec<Output>, AllocError>
-        requires group { IsGroup self.old.schema self.old.members (seats_of self.old) }
-        ensures group { OnOk result (IsGroup self.old.schema self.old.members (seats_of self.new)) }
+        requires group { IsGroup self.old.schema self.old.members self.old.seats.items }
+        ensures group { OnOk result (IsGroup self.old.schema self.old.members self.new.seats.items) }
         ensures world { OnOk result (world_of self.new ≡ happens (schema_of self.old.schema) self.old.members (world_of self.old) (Deliver number reading)) }
         ensures gives { IfOk result (λ outs. Gives (schema_of self.old.schema) self.old.members (world_of self.old) (Deliver number reading) (outputs_of outs.items)) }
         ensures same { (self.new.schema ≡ self.old.schema) × (self.new.members ≡ self.old.members) }
@@ -128,16 +117,82 @@ impl Group {
         }
     }
 
+    /// Stops a member. Nothing comes of one that is down or not there.
+    fn stop(&mut self, member: Member)
+        requires group { IsGroup self.old.schema self.old.members self.old.seats.items }
+        ensures group { IsGroup self.old.schema self.old.members self.new.seats.items }
+        ensures world { world_of self.new ≡ happens (schema_of self.old.schema) self.old.members (world_of self.old) (Stop member) }
+        ensures same { self.new ≡ record self.old { seats = self.new.seats } }
+    {
+        let Some(place) = self.place(member) else {
+            return;
+        };
+        self.seats[place].stop(self.alloc);
+    }
+
+    /// Starts a member. Nothing comes of one that is up or not there.
+    fn start(&mut self, member: Member) -> Result<(), AllocError>
+        requires group { IsGroup self.old.schema self.old.members self.old.seats.items }
+        ensures group { OnOk result (IsGroup self.old.schema self.old.members self.new.seats.items) }
+        ensures world { OnOk result (world_of self.new ≡ happens (schema_of self.old.schema) self.old.members (world_of self.old) (Start member)) }
+        ensures same { self.new ≡ record self.old { seats = self.new.seats } }
+    {
+        let Some(place) = self.place(member) else {
+            return Ok(());
+        };
+        self.seats[place].start(self.alloc, self.schema, self.members, member)
+    }
+
+    /// The work that this is to a member, none where it is a message that was not sent to it.
+    fn work_for(&self, member: Member, job: &Job) -> Result<Option<Work>, AllocError>
+        ensures { IfOk result (λ found. MatchOption found (is_for (world_of self.now) member (job_of job.now) ≡ false)
+            (λ work. (is_for (world_of self.now) member (job_of job.now) ≡ true)
+            × ((t : Tables) (n : ℕ) (x : TheNode) → works t n member work x ≡ effect (schema_of t) n (world_of self.now) member (job_of job.now) x))) }
+    {
+        match job {
+            Job::Local(input) => Ok(Some(Work::Local(copy_of_input(input)?))),
+            Job::Delivery { message, reading } => match self.message(*message)? {
+                Some(message) => {
+                    if message.addressee != member {
+                        return Ok(None);
+                    }
+                    Ok(Some(Work::Delivered {
+                        reading: *reading,
+                        message,
+                    }))
+                }
+                None => Ok(None),
+            },
+        }
+    }
+
+    /// Cuts a step of a member short. Nothing comes of it where the member is down or not there, or
+    /// where no such message was sent to it.
+    fn tear(&mut self, member: Member, job: &Job, left: Left) -> Result<(), AllocError>
+        requires group { IsGroup self.old.schema self.old.members self.old.seats.items }
+        ensures group { OnOk result (IsGroup self.old.schema self.old.members self.new.seats.items) }
+        ensures world { OnOk result (world_of self.new ≡ happens (schema_of self.old.schema) self.old.members (world_of self.old) (Torn member (job_of job.now) (left_of left))) }
+        ensures same { self.new ≡ record self.old { seats = self.new.seats } }
+    {
+        let Some(place) = self.place(member) else {
+            return Ok(());
+        };
+        match self.work_for(member, job)? {
+            Some(work) => self.seats[place].tear(self.alloc, work, left),
+            None => Ok(()),
+        }
+    }
+
     /// What a member answers. Where there is no such member nothing comes of it.
     fn ask(&self, member: Member, query: &AsOf) -> Result<Vec<Output>, AllocError>
-        requires group { IsGroup self.now.schema self.now.members (seats_of self.now) }
+        requires group { IsGroup self.now.schema self.now.members self.now.seats.items }
         requires stamped { AllStamped (world_of self.now) }
         ensures { IfOk result (λ outs. IsGivenAt (schema_of self.now.schema) member (select_of query.now) (nth (world_of self.now).nodes member) (outputs_of outs.items)) }
     {
-        if member == 0 || member > self.nodes.len() {
+        let Some(place) = self.place(member) else {
             return Ok(Vec::new(self.alloc));
-        }
-        match self.nodes[member - 1].ask(query) {
+        };
+        match self.seats[place].ask(query) {
             Ok(answer) => single(self.alloc, Output::Answered(member, answer)),
             Err(refusal) => refused(self.alloc, member, refusal),
         }
@@ -145,9 +200,9 @@ impl Group {
 
     /// What comes of an event. One that cannot be changes nothing.
     pub(crate) fn happen(&mut self, event: &Event) -> Result<Vec<Output>, AllocError>
-        requires group { IsGroup self.old.schema self.old.members (seats_of self.old) }
+        requires group { IsGroup self.old.schema self.old.members self.old.seats.items }
         requires stamped { AllStamped (world_of self.old) }
-        ensures group { OnOk result (IsGroup self.old.schema self.old.members (seats_of self.new)) }
+        ensures group { OnOk result (IsGroup self.old.schema self.old.members self.new.seats.items) }
         ensures world { OnOk result (world_of self.new ≡ happens (schema_of self.old.schema) self.old.members (world_of self.old) (event_of event.now)) }
         ensures gives { IfOk result (λ outs. Gives (schema_of self.old.schema) self.old.members (world_of self.old) (event_of event.now) (outputs_of outs.items)) }
         ensures same { (self.new.schema ≡ self.old.schema) × (self.new.members ≡ self.old.members) }
@@ -155,7 +210,59 @@ impl Group {
         match event {
             Event::Hand(member, input) => self.hand(*member, input),
             Event::Deliver { message, reading } => self.deliver(*message, *reading),
+            Event::Stop(member) => {
+                self.stop(*member);
+                Ok(Vec::new(self.alloc))
+            }
+            Event::Start(member) => {
+                self.start(*member)?;
+                Ok(Vec::new(self.alloc))
+            }
+            Event::Torn(member, job, left) => {
+                self.tear(*member, job, *left)?;
+                Ok(Vec::new(self.alloc))
+            }
             Event::Ask(member, query) => self.ask(*member, query),
         }
+    }
+
+    /// What a member has stored, none where it is down or not there.
+    pub(crate) fn durable(&self, member: Member) -> Option<Stored>
+        requires { IsGroup self.now.schema self.now.members self.now.seats.items }
+        ensures { result ≡ durable_in (nth (world_of self.now).nodes member) }
+    {
+        let Some(place) = self.place(member) else {
+            return None;
+        };
+        self.seats[place].durable()
+    }
+
+    /// The entry that a member has stored at an index, none where it is down or not there.
+    pub(crate) fn entry(
+        &mut self,
+        member: Member,
+        index: usize,
+    ) -> Result<Option<Entry>, AllocError>
+        requires group { IsGroup self.old.schema self.old.members self.old.seats.items }
+        ensures found { IfOk result (λ found. found ≡ entry_in index (nth (world_of self.old).nodes member)) }
+        ensures group { OnOk result (IsGroup self.old.schema self.old.members self.new.seats.items) }
+        ensures world { world_of self.new ≡ world_of self.old }
+        ensures same { (self.new.schema ≡ self.old.schema) × (self.new.members ≡ self.old.members) }
+    {
+        let Some(place) = self.place(member) else {
+            return Ok(None);
+        };
+        self.seats[place].entry(index)
+    }
+
+    /// Up to which index a member has applied its log, none where it is down or not there.
+    pub(crate) fn commit(&self, member: Member) -> Option<usize>
+        requires { IsGroup self.now.schema self.now.members self.now.seats.items }
+        ensures { result ≡ commit_in (nth (world_of self.now).nodes member) }
+    {
+        let Some(place) = self.place(member) else {
+            return None;
+        };
+        self.seats[place].commit()
     }
 }

@@ -1,13 +1,16 @@
 //! A group, and all that happened to it.
-ghost use Rattle.std.specs.Prelude.{◌≡◌, ◌++◌, ◌∷◌, ◌≤◌, [], true, false, map, IfOk, IsErr, OnErr, OnOk};
+ghost use Rattle.std.specs.Prelude.{◌≡◌, ◌++◌, ◌∷◌, ◌≤◌, ◌↔◌, [], true, false, map, None, IfOk, IsErr, OnErr, OnOk, if◌then◌else◌};
 ghost use Rattle.model.specs.Agreement.{Agree};
-ghost use Rattle.model.specs.Worlds.{Gives, GivesAll, led_world};
-ghost use Rattle.world.specs.View.{event_of, outputs_of, world_of, IsRun};
+ghost use Rattle.model.specs.Worlds.{Gives, GivesAll, new_world};
+ghost use Rattle.world.specs.View.{commit_in, durable_in, entry_in, event_of, outputs_of, world_of, IsRun};
 
 use crate::event::Event;
 use crate::group::Group;
 use crate::opening::open_group;
 use crate::output::Output;
+use model::entry::Entry;
+use model::member::Member;
+use node::durable::Stored;
 use std::alloc::{AllocError, Global};
 
 /// All members of a group, and the events that happened to it so far.
@@ -20,16 +23,16 @@ pub struct World {
 }
 
 impl World {
-    ghost use Rattle.world.specs.Run.{schema_in, members_in, opening_of, events_of, now_of};
+    ghost use Rattle.world.specs.Run.{schema_in, members_in, opening_of, events_of, now_of, member_of};
 
-    /// A group of 3 to 7 members in one program: all up, in term 1, with their vote for member 1,
-    /// empty logs, and member 1 their leader. Nothing has happened yet.
+    /// A group of 3 to 7 members in one program: all up, as followers in term 0 with no vote and empty
+    /// logs. Nothing has happened yet.
     ///
     /// The one error is want of memory.
     pub fn new(alloc: Global, members: usize) -> Result<World, AllocError>
         requires least { 3 ≤ members }
         requires most { members ≤ 7 }
-        ensures opening { IfOk result (λ w. world_of w.group ≡ led_world members) }
+        ensures opening { IfOk result (λ w. world_of w.group ≡ new_world members) }
         ensures members { IfOk result (λ w. members_in w ≡ members) }
         ensures nothing { IfOk result (λ w. w.kept.items ≡ []) }
         ensures live { IfOk result (λ w. w.is_spent ≡ false) }
@@ -54,6 +57,16 @@ impl World {
         ensures { result.now ≡ self.now.kept.items }
     {
         &self.kept
+    }
+
+    /// An error where the world is spent.
+    fn check_live(&self) -> Result<(), AllocError>
+        ensures { IsErr result ↔ (self.now.is_spent ≡ true) }
+    {
+        if self.is_spent {
+            return Err(AllocError);
+        }
+        Ok(())
     }
 
     /// One event. The world is spent unless all of it was done.
@@ -92,8 +105,10 @@ impl World {
     ///
     /// The outputs are exactly those that the events have in the run after all that happened
     /// before: messages with their numbers, then the requests that were applied with what came of
-    /// each; or a refusal, or an answer. An event that cannot be gives nothing and changes nothing:
-    /// at a member that is not there, or of a message that was not sent.
+    /// each; or a refusal, or an answer. A member that is down refuses what it is given and what it
+    /// is asked with `NodeDown`. An event that cannot be gives nothing and changes nothing: at a
+    /// member that is not there, of a message that was not sent, a start of a member that is up, a
+    /// stop or a cut step of one that is down, or a cut step by a message to another.
     ///
     /// All members agree about all that happened so far: the State Machine Safety Property of "In
     /// Search of an Understandable Consensus Algorithm", and what it comes to for answers.
@@ -109,9 +124,7 @@ impl World {
         ensures spent { self.old.is_spent ≡ true → IsErr result }
     {
         safety::agreement();
-        if self.is_spent {
-            return Err(AllocError);
-        }
+        self.check_live()?;
         match self.run_all(events) {
             Ok(outs) => Ok(outs),
             Err(error) => {
@@ -119,5 +132,46 @@ impl World {
                 Err(error)
             }
         }
+    }
+
+    /// What a member has stored: its term, its vote, and the length of its log. None for a member that
+    /// is down or not there. An error exactly where the world is spent.
+    pub fn durable(&mut self, member: Member) -> Result<Option<Stored>, AllocError>
+        ensures ok { IfOk result (λ found. found ≡ durable_in (member_of self.old member)) }
+        ensures same { self.new ≡ self.old }
+        ensures spent { IsErr result ↔ (self.old.is_spent ≡ true) }
+    {
+        self.check_live()?;
+        Ok(self.group.durable(member))
+    }
+
+    /// The entry that a member has stored at an index of its log, counted from 1. None outside the
+    /// log, and for a member that is down or not there.
+    ///
+    /// The one error is want of memory. The world is spent then.
+    pub fn entry(&mut self, member: Member, index: usize) -> Result<Option<Entry>, AllocError>
+        ensures found { IfOk result (λ found. found ≡ entry_in index (member_of self.old member)) }
+        ensures kept { self.new.kept.items ≡ self.old.kept.items }
+        ensures same { (schema_in self.new ≡ schema_in self.old) × (members_in self.new ≡ members_in self.old) }
+        ensures ok { OnOk result ((self.old.is_spent ≡ false) × (self.new.is_spent ≡ false)) }
+        ensures err { OnErr result (self.new.is_spent ≡ true) }
+        ensures spent { self.old.is_spent ≡ true → IsErr result }
+    {
+        self.check_live()?;
+        self.is_spent = true;
+        let entry = self.group.entry(member, index)?;
+        self.is_spent = false;
+        Ok(entry)
+    }
+
+    /// Up to which index of its log a member has applied. None for a member that is down or not
+    /// there, and where the world is spent. Takes no memory.
+    pub fn commit(&self, member: Member) -> Option<usize>
+        ensures { result ≡ (if self.now.is_spent then None else commit_in (member_of self.now member)) }
+    {
+        if self.is_spent {
+            return None;
+        }
+        self.group.commit(member)
     }
 }

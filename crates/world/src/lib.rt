@@ -6,5 +6,6 @@ mod group;
 pub mod history;
 mod opening;
 pub mod output;
+mod seat;
 #[cfg(test)]
 mod tests;

@@ -1,53 +1,50 @@
 //! The start of a group.
-ghost use Rattle.std.specs.Prelude.{◌≡◌, ◌<◌, ◌≤◌, true, IfOk};
-ghost use Rattle.model.specs.Worlds.{led_world};
-ghost use Rattle.node.specs.View.{led_opening};
-ghost use Rattle.raft.specs.View.{node_of};
-ghost use Rattle.world.specs.View.{first_stored, seats_of, world_of, IsGroup};
+ghost use Rattle.std.specs.Prelude.{◌≡◌, ◌≤◌, None, IfOk};
+ghost use Rattle.model.specs.Worlds.{fresh, new_world};
+ghost use Rattle.world.specs.View.{node_in, world_of, IsGroup, IsSeat};
 
 use crate::group::Group;
-use keep::memory::{MemImage, MemKeeper};
+use crate::seat::Seat;
+use cutread::schema::Schema;
+use keep::memory::MemImage;
 use model::member::Member;
 use node::node::Node;
-use cutread::schema::Schema;
 use std::alloc::{AllocError, Global};
 
-/// A member in term 1 with an empty log, whose vote member 1 has, and which leads if it is member 1.
+/// A member that has seen nothing: a follower in term 0 with no vote and an empty log.
 fn start_member(
     alloc: Global,
     schema: Schema,
     members: usize,
     me: Member,
-) -> Result<Node<MemKeeper>, AllocError>
+) -> Result<Seat, AllocError>
     requires { members ≤ 7 }
-    ensures node { IfOk result (λ n. node_of n.core ≡ led_opening members me first_stored) }
-    ensures seat { IfOk result (λ n. (n.is_up ≡ true) × (n.core.schema ≡ schema) × (n.core.members ≡ members) × (n.core.me ≡ me)) }
+    ensures node { IfOk result (λ s. node_in s ≡ fresh 0 None) }
+    ensures seat { IfOk result (IsSeat schema members me) }
 {
-    let image = MemImage::with_vote(alloc, 1, Some(1));
-    match Node::start(alloc, image, schema, members, me) {
-        Ok(node) => Ok(node),
+    match Node::start(alloc, MemImage::new(alloc), schema, members, me) {
+        Ok(node) => Ok(Seat::Up(node)),
         Err(_) => Err(AllocError),
     }
 }
 
-/// All members up, in term 1, with their vote for member 1, empty logs, and member 1 their leader.
+/// All members up, in term 0, with no vote and empty logs.
 pub(crate) fn open_group(alloc: Global, members: usize) -> Result<Group, AllocError>
-    requires some { 0 < members }
-    requires few { members ≤ 7 }
-    ensures group { IfOk result (λ g. IsGroup g.schema g.members (seats_of g)) }
-    ensures world { IfOk result (λ g. world_of g ≡ led_world members) }
+    requires { members ≤ 7 }
+    ensures group { IfOk result (λ g. IsGroup g.schema g.members g.seats.items) }
+    ensures world { IfOk result (λ g. world_of g ≡ new_world members) }
     ensures members { IfOk result (λ g. g.members ≡ members) }
 {
     let schema = Schema;
-    let mut nodes = Vec::new(alloc);
+    let mut seats = Vec::new(alloc);
     for index in 0..members {
-        nodes.push(start_member(alloc, schema, members, index + 1)?)?;
+        seats.push(start_member(alloc, schema, members, index + 1)?)?;
     }
     Ok(Group {
         alloc,
         schema,
         members,
-        nodes,
+        seats,
         sent: Vec::new(alloc),
     })
 }

@@ -4,11 +4,11 @@ ghost use Rattle.model.specs.Worlds.{numbered};
 ghost use Rattle.model.specs.Worlds.Output.{Applied as ModelApplied};
 ghost use Rattle.world.specs.View.{output_of, outputs_of};
 
+use cutread::answer::Answer;
 use fault::Refusal;
 use model::entry::{Entries, Told};
 use model::member::Member;
 use model::message::{Body, Message};
-use cutread::answer::Answer;
 use std::alloc::{AllocError, Global};
 
 /// What an event gives.

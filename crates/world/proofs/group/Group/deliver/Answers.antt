@@ -3,8 +3,8 @@ use Rattle.std.proofs.lemmas.Int.{to_z-of_z}
 use Rattle.raft.specs.declared.state.Work.TheVariants.{Delivered}
 use Rattle.std.proofs.lemmas.Result.{IfOk-weaker}
 use Rattle.model.specs.Lists.{nth}
-use Rattle.world.specs.View.{brings, brought, seats_of, world_of}
-use Rattle.world.proofs.Bringing.{all_up, delivered, delivered_gives}
+use Rattle.world.specs.View.{brings, brought, world_of}
+use Rattle.world.proofs.Bringing.{delivered, delivered_gives}
 use Rattle.world.proofs.group.Group.deliver.Goals as goal
 
 pub returns-in-Some-clause-world : goal.returns-in-Some-clause-world
@@ -15,7 +15,7 @@ returns-in-Some-clause-world c =
     let fits : FitsSigned w64 c.args.reading = search rules in
     let read = to_z-of_z w64 c.args.reading fits in
     let sent : nth old.sent.items c.args.number ≡ Some c.in-Some.message = search rules in
-    IfOk-weaker c.bring.result _ _ (λ _ e. e ∙ ap (λ r. brings old.schema old.members w to (Delivered r c.in-Some.message) (nth w.nodes to)) read ∙ delivered old.schema old.members c.args.number c.args.reading w c.in-Some.message sent (all_up (seats_of old))) c.bring.ensures.world
+    IfOk-weaker c.bring.result _ _ (λ _ e. e ∙ ap (λ r. brings old.schema old.members w to (Delivered r c.in-Some.message) (nth w.nodes to)) read ∙ delivered old.schema old.members c.args.number c.args.reading w c.in-Some.message sent) c.bring.ensures.world
 
 pub returns-in-Some-clause-gives : goal.returns-in-Some-clause-gives
 returns-in-Some-clause-gives c =
@@ -25,4 +25,4 @@ returns-in-Some-clause-gives c =
     let fits : FitsSigned w64 c.args.reading = search rules in
     let read = to_z-of_z w64 c.args.reading fits in
     let sent : nth old.sent.items c.args.number ≡ Some c.in-Some.message = search rules in
-    IfOk-weaker c.bring.result _ _ (λ outs e. (e ∙ ap (λ r. brought old.schema old.members w to (Delivered r c.in-Some.message) (nth w.nodes to)) read ∙ delivered_gives old.schema old.members c.args.number c.args.reading w c.in-Some.message sent (all_up (seats_of old)))) c.bring.ensures.gives
+    IfOk-weaker c.bring.result _ _ (λ outs e. (e ∙ ap (λ r. brought old.schema old.members w to (Delivered r c.in-Some.message) (nth w.nodes to)) read ∙ delivered_gives old.schema old.members c.args.number c.args.reading w c.in-Some.message sent)) c.bring.ensures.gives

@@ -1,0 +1,122 @@
+-- A group in which one seat is looked at, or changed.
+use Rattle.std.proofs.Common.{◌≡◌, ◌∙◌, ℕ, zero, suc, ◌+◌, ◌<◌, ◌⊎◌, inl, inr, ⊎_elim, Some, None, List, [], ◌∷◌, ◌++◌, map, length, slice_get, slice_set, slice_index_or, refl, sym, ap, subst, option_map, add-one, append-nil}
+use Rattle.std.proofs.lemmas.Option.{same_Some, slice_get-map, slice_get_read, get_or_from_slice_get}
+use Rattle.std.proofs.lemmas.List.{map-set, set-get_or}
+use Rattle.std.proofs.Math.ListN.{length-set}
+use Rattle.model.specs.Lists.{nth, with_nth}
+use Rattle.model.specs.Members.{Node}
+use Rattle.model.specs.Steps.{Effect}
+use Rattle.model.specs.Worlds.{World, done, effect_gives, numbered, with_node}
+use Rattle.model.specs.Worlds.Output.{Applied, Refused}
+use Rattle.model.specs.declared.message.Message.{Message}
+use Rattle.fault.specs.declared.refusal.Refusal.{Refusal}
+use Rattle.node.specs.declared.node.Out.{Out}
+use Rattle.raft.specs.declared.state.Work.{Work}
+use Rattle.cutread.specs.declared.schema.Schema.{Schema}
+use Rattle.cutread.specs.Meaning.{schema_of}
+use Rattle.world.specs.declared.seat.Seat.{Seat}
+use Rattle.world.specs.declared.seat.Step.TheVariants.{Moved, Refused as RefusedStep, Ignored}
+use Rattle.world.specs.View.{brings, brought, node_in, nodes_of, works_at, IsGroup, IsSeat, IsStep}
+
+get_set : {A : Type 0} (xs : List A) (i k : ℕ) (v s : A) → slice_get (slice_set xs i v) k ≡ Some s → ((k ≡ i) × (v ≡ s)) ⊎ (slice_get xs k ≡ Some s)
+get_set {A} [] i k v s e = inr e
+get_set (x ∷ xs) zero zero v s e = inl (refl, same_Some v s e)
+get_set (x ∷ xs) zero (suc k) v s e = inr e
+get_set (x ∷ xs) (suc i) zero v s e = inr e
+get_set (x ∷ xs) (suc i) (suc k) v s e = ⊎_elim (λ h. inl (ap suc h.0, h.1)) (λ h. inr h) (get_set xs i k v s e)
+
+nth_next : {A : Type 0} (xs : List A) (m i : ℕ) → m ≡ i + 1 → nth xs m ≡ slice_get xs i
+nth_next xs m i e = rw (e, add-one) refl
+
+set_next : {A : Type 0} (xs : List A) (m i : ℕ) (y : A) → m ≡ i + 1 → slice_set xs i y ≡ with_nth xs m y
+set_next xs m i y e = rw (e, add-one) refl
+
+-- there is no such member
+pub nobody : (seats : List Seat) (m : ℕ) → nth seats m ≡ None → nth (nodes_of seats) m ≡ None
+nobody seats zero e = refl
+nobody seats (suc k) e = slice_get-map node_in seats k ∙ ap (option_map node_in) e
+
+-- the world of these members
+abbrev pub world_with : List Node → List Message → World
+world_with nodes sent = record { nodes = nodes; sent = sent }
+
+-- seat s is that of member m
+pub record IsPlaced (t : Schema) (n : ℕ) (seats : List Seat) (m i : ℕ) (s : Seat) : Type 0 where
+  pub next : m ≡ i + 1
+  pub within : i < length seats
+  pub at : s ≡ slice_index_or seats i s
+  pub group : IsGroup t n seats
+
+module _ {t : Schema} {n : ℕ} {seats : List Seat} {m i : ℕ} {s : Seat} (p : IsPlaced t n seats m i s) where
+  there : slice_get seats i ≡ Some s
+  there = slice_get_read seats (length seats) i s refl p.within p.at
+
+  pub seat : IsSeat t n m s
+  seat = let P : ℕ → Type 0 = λ k. IsSeat t n k s in subst P (sym p.next) (p.group.each i s there)
+
+  pub group_after : (v : Seat) → IsSeat t n m v → IsGroup t n (slice_set seats i v)
+  group_after v h =
+      let P : ℕ → Seat → Type 0 = λ k w. IsSeat t n (k + 1) w in
+      let new : P i v = let Q : ℕ → Type 0 = λ k. IsSeat t n k v in subst Q p.next h in
+      record {
+        few = p.group.few;
+        all = length-set seats i v ∙ p.group.all;
+        each = λ k w e. ⊎_elim (λ (q : (k ≡ i) × (v ≡ w)). subst (P k) q.1 (let R : ℕ → Type 0 = λ j. P j v in subst R (sym q.0) new)) (λ (q : slice_get seats k ≡ Some w). p.group.each k w q) (get_set seats i k v w e);
+      }
+
+  node_there : slice_get (nodes_of seats) i ≡ Some (node_in s)
+  node_there = slice_get-map node_in seats i ∙ ap (option_map node_in) there
+
+  pub here : nth (nodes_of seats) m ≡ Some (node_in s)
+  here = nth_next (nodes_of seats) m i p.next ∙ node_there
+
+  nodes_after : (v : Seat) → nodes_of (slice_set seats i v) ≡ with_nth (nodes_of seats) m (node_in v)
+  nodes_after v = map-set node_in seats i v ∙ set_next (nodes_of seats) m i (node_in v) p.next
+
+  same_nodes : (v : Seat) → node_in v ≡ node_in s → nodes_of (slice_set seats i v) ≡ nodes_of seats
+  same_nodes v e =
+      map-set node_in seats i v ∙ ap (slice_set (nodes_of seats) i) (e ∙ sym (get_or_from_slice_get (nodes_of seats) i (node_in s) (node_in s) node_there)) ∙ set-get_or (nodes_of seats) i (node_in s)
+
+  pub world_after : (sent : List Message) (v : Seat) → world_with (nodes_of (slice_set seats i v)) sent ≡ with_node (world_with (nodes_of seats) sent) m (node_in v) []
+  world_after sent v = ap (λ xs. world_with xs sent) (nodes_after v) ∙ ap (world_with (with_nth (nodes_of seats) m (node_in v))) (sym (append-nil sent))
+
+  pub same_world : (sent : List Message) (v : Seat) → node_in v ≡ node_in s → world_with (nodes_of (slice_set seats i v)) sent ≡ world_with (nodes_of seats) sent
+  same_world sent v e = ap (λ xs. world_with xs sent) (same_nodes v e)
+
+  -- what comes of a step of the member
+  module _ (sent : List Message) (v : Seat) (work : Work) where
+    abbrev w : World
+    w = world_with (nodes_of seats) sent
+
+    abbrev effect : Effect
+    effect = works_at t n m work (node_in s)
+
+    brought_there : done w m effect ≡ brings t n w m work (nth (nodes_of seats) m)
+    brought_there = sym (ap (brings t n w m work) here)
+
+    gives_there : effect_gives (schema_of t) w m (node_in s) effect ≡ brought t n w m work (nth (nodes_of seats) m)
+    gives_there = sym (ap (brought t n w m work) here)
+
+    pub moved_world : (out : Out) → IsStep (schema_of t) m (node_in s) (node_in v) effect (Moved out) →
+        world_with (nodes_of (slice_set seats i v)) (sent ++ out.messages.items) ≡ brings t n w m work (nth (nodes_of seats) m)
+    moved_world out step = ap (λ xs. world_with xs (sent ++ out.messages.items)) (nodes_after v) ∙ ap (done w m) step.0 ∙ brought_there
+
+    pub moved_gives : (out : Out) → IsStep (schema_of t) m (node_in s) (node_in v) effect (Moved out) →
+        numbered (length sent) out.messages.items ++ map (Applied m) out.told.items ≡ brought t n w m work (nth (nodes_of seats) m)
+    moved_gives out step = ap (λ told. numbered (length sent) out.messages.items ++ told) step.1 ∙ ap (effect_gives (schema_of t) w m (node_in s)) step.0 ∙ gives_there
+
+    pub refused_world : (refusal : Refusal) → IsStep (schema_of t) m (node_in s) (node_in v) effect (RefusedStep refusal) →
+        world_with (nodes_of (slice_set seats i v)) sent ≡ brings t n w m work (nth (nodes_of seats) m)
+    refused_world refusal step = same_world sent v step.1 ∙ ap (done w m) step.0 ∙ brought_there
+
+    pub refused_gives : (refusal : Refusal) → IsStep (schema_of t) m (node_in s) (node_in v) effect (RefusedStep refusal) →
+        Refused m refusal ∷ [] ≡ brought t n w m work (nth (nodes_of seats) m)
+    refused_gives refusal step = ap (effect_gives (schema_of t) w m (node_in s)) step.0 ∙ gives_there
+
+    pub ignored_world : IsStep (schema_of t) m (node_in s) (node_in v) effect Ignored →
+        world_with (nodes_of (slice_set seats i v)) sent ≡ brings t n w m work (nth (nodes_of seats) m)
+    ignored_world step = same_world sent v step.1 ∙ ap (done w m) step.0 ∙ brought_there
+
+    pub ignored_gives : IsStep (schema_of t) m (node_in s) (node_in v) effect Ignored →
+        [] ≡ brought t n w m work (nth (nodes_of seats) m)
+    ignored_gives step = ap (effect_gives (schema_of t) w m (node_in s)) step.0 ∙ gives_there

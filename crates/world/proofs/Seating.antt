@@ -1,0 +1,71 @@
+-- What a step, a stop and a start come to at the seat of a member.
+use Rattle.std.proofs.Common.{◌≡◌, ◌∙◌, ℕ, Bool, true, false, Some, None, Result, Ok, Err, IfOk, IfErr, map, refl, sym, ap, if◌then◌else◌}
+use Rattle.std.specs.Result.{result_ok}
+use Rattle.fault.specs.declared.refusal.Refusal.{Refusal}
+use Rattle.fault.specs.declared.refusal.Refusal.TheVariants.{NodeDown}
+use Rattle.model.specs.Logs.{IsStamped}
+use Rattle.model.specs.Members.{Node, applied}
+use Rattle.model.specs.Transactions.{Schema as TheSchema}
+use Rattle.model.specs.Steps.{Effect, Moves, Refuses, Nothing}
+use Rattle.model.specs.Worlds.{New, node_left, stopped}
+use Rattle.model.specs.Worlds.Output.{Applied}
+use Rattle.keep.specs.Durable.{Durable, stored_in}
+use Rattle.keep.specs.declared.memory.MemImage.{MemImage}
+use Rattle.cutread.specs.declared.schema.Schema.{Schema}
+use Rattle.cutread.specs.Meaning.{schema_of}
+use Rattle.raft.specs.declared.state.Core.{Core}
+use Rattle.raft.specs.declared.state.Work.{Work}
+use Rattle.raft.specs.View.{node_of, works, after_of}
+use Rattle.cutread.specs.declared.answer.Answer.{Answer}
+use Rattle.cutread.specs.declared.query.AsOf.{AsOf}
+use Rattle.node.specs.Answered.{stored_of}
+use Rattle.node.specs.declared.durable.Stored.{Stored}
+use Rattle.node.specs.declared.node.Fault.{Fault}
+use Rattle.node.specs.declared.node.Fault.TheVariants.{Kept}
+use Rattle.node.specs.declared.node.Out.{Out}
+use Rattle.node.specs.View.{durable_of, told_between, IsAskedOf}
+use Rattle.world.specs.View.{at_rest, commit_in, durable_in, IsAskedAt, node_in, occupant, works_at, IsMember, IsSeat, IsStep}
+use Rattle.world.specs.declared.seat.Seat.{Seat}
+use Rattle.world.specs.declared.seat.Step.{Step}
+use Rattle.world.specs.declared.seat.Step.TheVariants.{Moved, Refused as RefusedStep, Ignored}
+
+-- a member that is up sits there
+module _ (t : Schema) (n m : ℕ) (s : Seat) (core : Core) (is_up : Bool) (there : occupant s ≡ Some (record { core = core; is_up = is_up })) (node : node_in s ≡ node_of core) (seat : IsSeat t n m s) where
+  pub member : IsMember t n m (record { core = core; is_up = is_up })
+  member = seat (record { core = core; is_up = is_up }) there
+
+  pub commit_there : (if is_up then Some core.commit else None) ≡ commit_in (Some (node_in s))
+  commit_there = rw (node, member.is_up) refl
+
+  pub durable_there : (r : Result Stored Fault) → IfOk r (λ d. (is_up ≡ true) × (d ≡ stored_of (durable_of (node_of core)))) → IfErr r (λ f. (is_up ≡ false) × (f ≡ Kept NodeDown)) → result_ok r ≡ durable_in (Some (node_in s))
+  durable_there (Ok d) good bad = rw node (ap Some good.1)
+  durable_there (Err f) good bad = let up = member.is_up in absurd (cc (up, bad.0))
+
+  pub asked_there : (q : AsOf) (r : Result Answer Refusal) → (is_up ≡ true → IsStamped (applied (node_of core)) → IsAskedOf (schema_of core.schema) q (applied (node_of core)) r) → IsAskedAt (schema_of t) q (node_in s) (node_in s).up r
+  asked_there q r h = rw (node, ← member.schema) (h member.is_up)
+
+  pub stopped_there : (image : MemImage) → (is_up ≡ true → (d : Durable) → d ≡ stored_in image → d ≡ durable_of (node_of core)) → at_rest (stored_in image) ≡ stopped (node_in s)
+  stopped_there image h = ap at_rest (h member.is_up (stored_in image) refl) ∙ ap stopped (sym node)
+
+  works_there : (work : Work) → works core.schema core.members core.me work (node_of core) ≡ works_at t n m work (node_in s)
+  works_there work = rw (node, member.schema, member.members, member.me) refl
+
+  pub moved : (y : Core) (work : Work) (out : Out) → Moves (after_of y out.messages.items) ≡ works core.schema core.members core.me work (node_of core) →
+      out.told.items ≡ told_between (schema_of core.schema) y.log.items core.commit y.commit →
+      IsStep (schema_of t) m (node_in s) (node_of y) (works_at t n m work (node_in s)) (Moved out)
+  unfolding told_between
+  moved y work out did told = (did ∙ works_there work, ap (map (Applied m)) told ∙ rw (node, member.schema) refl)
+
+  pub kept : (y : Core) (work : Work) (refusal : Refusal) → Refuses refusal ≡ works core.schema core.members core.me work (node_of core) → node_of y ≡ node_of core →
+      IsStep (schema_of t) m (node_in s) (node_of y) (works_at t n m work (node_in s)) (RefusedStep refusal)
+  kept y work refusal did same = (did ∙ works_there work, same ∙ sym node)
+
+  pub ignored : (y : Core) (work : Work) → Nothing ≡ works core.schema core.members core.me work (node_of core) → node_of y ≡ node_of core →
+      IsStep (schema_of t) m (node_in s) (node_of y) (works_at t n m work (node_in s)) Ignored
+  ignored y work did same = (did ∙ works_there work, same ∙ sym node)
+
+-- a step that was made
+pub made : (t : TheSchema) (m : ℕ) (x y : Node) (effect : Effect) (s : Step) → IsStep t m x y effect s → y ≡ node_left New x effect
+made t m x y effect (Moved out) h = ap (node_left New x) h.0
+made t m x y effect (RefusedStep refusal) h = h.1 ∙ ap (node_left New x) h.0
+made t m x y effect Ignored h = h.1 ∙ ap (node_left New x) h.0

@@ -1,0 +1,158 @@
+//! A member's place in a group.
+ghost use Rattle.std.specs.Prelude.{◌≡◌, ◌≤◌, ℕ, Some, IfOk, OnOk, if◌then◌else◌};
+ghost use Rattle.model.specs.Worlds.{node_left, started, stopped};
+ghost use Rattle.cutread.specs.declared.schema.Schema.{Schema as Tables};
+ghost use Rattle.cutread.specs.Meaning.{schema_of};
+ghost use Rattle.world.specs.View.{commit_in, durable_in, entry_in, left_of, node_in, works_at, IsAskedAt, IsSeat, IsStep};
+
+use crate::event::Left;
+use cutread::answer::Answer;
+use cutread::query::AsOf;
+use cutread::schema::Schema;
+use fault::Refusal;
+use keep::memory::{MemImage, MemKeeper};
+use model::entry::Entry;
+use model::member::Member;
+use node::durable::Stored;
+use node::node::{Fault, Node, Out};
+use raft::state::Work;
+use std::alloc::{AllocError, Global};
+use std::mem;
+
+/// A member that is up, or what one that is down has stored.
+#[derive(Drop)]
+pub(crate) enum Seat {
+    Up(Node<MemKeeper>),
+    Down(MemImage),
+}
+
+/// What a step of a member came to.
+#[derive(Drop)]
+pub(crate) enum Step {
+    Moved(Out),
+    Refused(Refusal),
+    Ignored,
+}
+
+impl Seat {
+    /// A step of the member. One that is down refuses all.
+    pub(crate) fn step(&mut self, work: Work) -> Result<Step, AllocError>
+        ensures seat { OnOk result ((t : Tables) (n m : ℕ) → IsSeat t n m self.old → IsSeat t n m self.new) }
+        ensures step { IfOk result (λ s. (t : Tables) (n m : ℕ) → IsSeat t n m self.old →
+            IsStep (schema_of t) m (node_in self.old) (node_in self.new) (works_at t n m work (node_in self.old)) s) }
+    {
+        match self {
+            Seat::Up(node) => match node.step(work) {
+                Ok(Some(out)) => Ok(Step::Moved(out)),
+                Ok(None) => Ok(Step::Ignored),
+                Err(Fault::Kept(refusal)) => Ok(Step::Refused(refusal)),
+                Err(Fault::Down(_)) => Err(AllocError),
+            },
+            Seat::Down(_) => Ok(Step::Refused(Refusal::NodeDown)),
+        }
+    }
+
+    /// Stops the member, so that what it has stored is all that is left. One that is down stays as it is.
+    pub(crate) fn stop(&mut self, alloc: Global)
+        ensures seat { (t : Tables) (n m : ℕ) → IsSeat t n m self.new }
+        ensures node { (t : Tables) (n m : ℕ) → IsSeat t n m self.old → node_in self.new ≡ stopped (node_in self.old) }
+    {
+        match mem::replace(self, Seat::Down(MemImage::new(alloc))) {
+            Seat::Up(node) => *self = Seat::Down(node.stop()),
+            Seat::Down(image) => *self = Seat::Down(image),
+        }
+    }
+
+    /// Starts the member with what it has stored. One that is up stays as it is.
+    pub(crate) fn start(
+        &mut self,
+        alloc: Global,
+        schema: Schema,
+        members: usize,
+        me: Member,
+    ) -> Result<(), AllocError>
+        requires few { members ≤ 7 }
+        requires seat { IsSeat schema members me self.old }
+        ensures seat { OnOk result (IsSeat schema members me self.new) }
+        ensures node { OnOk result (node_in self.new ≡ (if (node_in self.old).up then node_in self.old else started (node_in self.old))) }
+    {
+        match mem::replace(self, Seat::Down(MemImage::new(alloc))) {
+            Seat::Up(node) => {
+                *self = Seat::Up(node);
+                Ok(())
+            }
+            Seat::Down(image) => match Node::start(alloc, image, schema, members, me) {
+                Ok(node) => {
+                    *self = Seat::Up(node);
+                    Ok(())
+                }
+                Err(_) => Err(AllocError),
+            },
+        }
+    }
+
+    /// Cuts a step of the member short: what it has stored from before the step, or from after it, is
+    /// all that is left. One that is down stays as it is.
+    pub(crate) fn tear(&mut self, alloc: Global, work: Work, left: Left) -> Result<(), AllocError>
+        ensures seat { OnOk result ((t : Tables) (n m : ℕ) → IsSeat t n m self.new) }
+        ensures node { OnOk result ((t : Tables) (n m : ℕ) → IsSeat t n m self.old →
+            node_in self.new ≡ stopped (node_left (left_of left) (node_in self.old) (works_at t n m work (node_in self.old)))) }
+    {
+        match left {
+            Left::Old => {
+                self.stop(alloc);
+                Ok(())
+            }
+            Left::New => {
+                let _ = self.step(work)?;
+                self.stop(alloc);
+                Ok(())
+            }
+        }
+    }
+
+    /// What the member has stored, none where it is down.
+    pub(crate) fn durable(&self) -> Option<Stored>
+        ensures { (t : Tables) (n m : ℕ) → IsSeat t n m self.now → result ≡ durable_in (Some (node_in self.now)) }
+    {
+        match self {
+            Seat::Up(node) => node.durable().ok(),
+            Seat::Down(_) => None,
+        }
+    }
+
+    /// The entry that the member has stored at an index, none where it is down.
+    pub(crate) fn entry(&mut self, index: usize) -> Result<Option<Entry>, AllocError>
+        ensures found { IfOk result (λ found. (t : Tables) (n m : ℕ) → IsSeat t n m self.old → found ≡ entry_in index (Some (node_in self.old))) }
+        ensures seat { OnOk result ((t : Tables) (n m : ℕ) → IsSeat t n m self.old → IsSeat t n m self.new) }
+        ensures same { node_in self.new ≡ node_in self.old }
+    {
+        match self {
+            Seat::Up(node) => match node.entry(index) {
+                Ok(entry) => Ok(entry),
+                Err(_) => Err(AllocError),
+            },
+            Seat::Down(_) => Ok(None),
+        }
+    }
+
+    /// Up to which index the member has applied its log, none where it is down.
+    pub(crate) fn commit(&self) -> Option<usize>
+        ensures { (t : Tables) (n m : ℕ) → IsSeat t n m self.now → result ≡ commit_in (Some (node_in self.now)) }
+    {
+        match self {
+            Seat::Up(node) => node.commit(),
+            Seat::Down(_) => None,
+        }
+    }
+
+    /// What the member answers.
+    pub(crate) fn ask(&self, query: &AsOf) -> Result<Answer, Refusal>
+        ensures { (t : Tables) (n m : ℕ) → IsSeat t n m self.now → IsAskedAt (schema_of t) query.now (node_in self.now) (node_in self.now).up result }
+    {
+        match self {
+            Seat::Up(node) => node.ask(query),
+            Seat::Down(_) => Err(Refusal::NodeDown),
+        }
+    }
+}
