@@ -1,9 +1,9 @@
 -- Where no check fails, the tables are sound.
-use Rattle.std.proofs.Common.{◌≡◌, ℕ, zero, suc, ◌+◌, ◌<◌, ◌≤◌, Bool, true, false, not, List, [], ◌∷◌, ◌++◌, length, map, slice_get, All, Option, Some, None, is_some, find, true≢false, refl, sym, ◌∙◌, ap, subst, if◌then◌else◌, cond, arith, add-zero, zero-add, length-append, unwrap_or}
-use Rattle.std.proofs.lemmas.List.{length-map, map-append}
+use Rattle.std.proofs.Common.{◌≡◌, ℕ, zero, suc, ◌+◌, ◌<◌, ◌≤◌, Bool, true, false, not, List, [], ◌∷◌, ◌++◌, length, map, slice_get, All, Option, Some, None, is_some, find, true≢false, refl, sym, ◌∙◌, ap, subst, if◌then◌else◌, cond, arith, add-zero, zero-add, length-append, append_assoc, unwrap_or}
+use Rattle.std.proofs.lemmas.List.{length-map, map-append, get_or_append_left}
 use Rattle.std.proofs.lemmas.List.Folds.{find_at}
 use Rattle.std.proofs.lemmas.List.Elements.{All-from_recursion, All-append, All-nil}
-use Rattle.std.proofs.lemmas.Option.{slice_get-map, slice_get_within}
+use Rattle.std.proofs.lemmas.Option.{slice_get-map, slice_get_within, slice_get-get_or, get_or_from_slice_get}
 use Rattle.std.proofs.lemmas.Bool.{lt-ltb}
 use Rattle.std.specs.List.{position_or_len, AllByRecursion}
 use Rattle.std.specs.Option.{option_map, option_map_or}
@@ -177,6 +177,53 @@ module _ (earlier : List CreateTable) (t : CreateTable) where
     children_within (before ++ key ∷ []) keys (none_behind (foreign_key_checks earlier t before key) (each_after (before ++ key ∷ []) (foreign_key_checks earlier t) keys) none),
   )
 
+-- ---- keys of parents
+
+slice_get-append : {A : Type 0} (xs ys : List A) (i : ℕ) (x : A) → slice_get xs i ≡ Some x → slice_get (xs ++ ys) i ≡ Some x
+slice_get-append xs ys i x at =
+    let within = slice_get_within xs i x at in
+    slice_get-get_or (xs ++ ys) i x (rw (length-append xs ys) (omega (arith, within)))
+    ∙ ap Some (get_or_append_left xs ys x i within ∙ get_or_from_slice_get xs i x x at)
+
+key_lengths : (earlier : List (List ℕ)) (tables : List CreateTable) → map (λ e. length e.1.key) (tables_after earlier tables) ≡ map (λ t. length t.key.columns.items) tables
+unfolding shape_of
+key_lengths earlier [] = refl
+key_lengths earlier (t ∷ tables) =
+    ap (λ n. n ∷ map (λ e. length e.1.key) (tables_after (earlier ++ t.name ∷ []) tables)) (length-map t.key.columns.items (place (names_of t.columns.items)))
+    ∙ ap (λ ns. length t.key.columns.items ∷ ns) (key_lengths (earlier ++ t.name ∷ []) tables)
+
+-- how many columns the key of a table has, by its statement
+key_length : (tables : List CreateTable) (i : ℕ) (t : CreateTable) → slice_get tables i ≡ Some t → option_map (λ e. length e.1.key) (slice_get (schema_of tables) i) ≡ Some (length t.key.columns.items)
+key_length tables i t at =
+    sym (slice_get-map (λ e. length e.1.key) (schema_of tables) i)
+    ∙ ap (λ ns. slice_get ns i) (key_lengths [] tables)
+    ∙ slice_get-map (λ t. length t.key.columns.items) tables i
+    ∙ ap (option_map (λ t. length t.key.columns.items)) at
+
+module _ (earlier rest : List CreateTable) (t : CreateTable) where
+  count_is : (key : ForeignKey) (parent : CreateTable) → first_failing (parent_checks t key (Some parent)) ≡ None → length key.names.columns.items ≡ length parent.key.columns.items
+  unfolding parent_checks
+  count_is key parent none = grind (arith, none)
+
+  count_matches : (key : ForeignKey) → first_failing (reference_checks earlier t key) ≡ None → option_map (λ e. length e.1.key) (slice_get (schema_of (earlier ++ rest)) (place (table_names earlier) key.parent)) ≡ Some (length (map (place (names_of t.columns.items)) key.names.columns.items))
+  count_matches key none = by (table_named earlier key.parent) refl
+    where
+      passes : first_failing (parent_checks t key (table_named earlier key.parent)) ≡ None
+      passes = none_behind (key_names_checks t key.names) (parent_checks t key (table_named earlier key.parent)) none
+
+      by : (found : Option CreateTable) → table_named earlier key.parent ≡ found → option_map (λ e. length e.1.key) (slice_get (schema_of (earlier ++ rest)) (place (table_names earlier) key.parent)) ≡ Some (length (map (place (names_of t.columns.items)) key.names.columns.items))
+      by None absent = absurd (true≢false (sym (parent_is earlier t key (table_named earlier key.parent) passes) ∙ ap is_some absent))
+      by (Some parent) found =
+          key_length (earlier ++ rest) (place (table_names earlier) key.parent) parent (slice_get-append earlier rest (place (table_names earlier) key.parent) parent (slice_get-place (λ t. t.name) earlier key.parent parent found))
+          ∙ ap Some (sym (length-map key.names.columns.items (place (names_of t.columns.items)) ∙ count_is key parent (subst (λ f. first_failing (parent_checks t key f) ≡ None) found passes)))
+
+  counts_match : (before keys : List ForeignKey) → first_failing (each_after before (foreign_key_checks earlier t) keys) ≡ None → AllByRecursion (λ r. option_map (λ e. length e.1.key) (slice_get (schema_of (earlier ++ rest)) r.parent) ≡ Some (length r.columns)) (map (reference_of (table_names earlier) (names_of t.columns.items)) keys)
+  counts_match before [] none = tt
+  counts_match before (key ∷ keys) none = (
+    count_matches key (reference_passes earlier t before key (none_before (foreign_key_checks earlier t before key) (each_after (before ++ key ∷ []) (foreign_key_checks earlier t) keys) none)),
+    counts_match (before ++ key ∷ []) keys (none_behind (foreign_key_checks earlier t before key) (each_after (before ++ key ∷ []) (foreign_key_checks earlier t) keys) none),
+  )
+
 -- ---- tables
 
 within_columns : (columns : List Column) (places : List ℕ) → All (λ c. c < length columns) places → All (λ c. c < length (map entry_of columns)) places
@@ -189,9 +236,9 @@ all_children columns references h = subst (λ n. All (λ r. All (λ c. c < n) r.
 column_at : (table : TableShape) (columns : List Column) (at : ℕ) (kind : Kind) → table.columns ≡ map entry_of columns → at < length columns → option_map (λ c. c.1) (slice_get (map entry_of columns) at) ≡ Some kind → IsColumn table at kind
 column_at table columns at kind e h k = record { within = rw (e, length-map columns entry_of) h; of_kind = rw e k }
 
-pub sound_table : (earlier : List CreateTable) (t : CreateTable) → PartsPass earlier t → IsSound (length earlier) (shape_of (table_names earlier) t)
+pub sound_table : (earlier rest : List CreateTable) (t : CreateTable) → PartsPass earlier t → IsSound (schema_of (earlier ++ rest)) (length earlier) (shape_of (table_names earlier) t)
 unfolding shape_of
-sound_table earlier t parts =
+sound_table earlier rest t parts =
     let columns = t.columns.items in
     let start = application_start t parts.application_period in
     let end = application_end t parts.application_period in
@@ -208,18 +255,21 @@ sound_table earlier t parts =
       values = within_columns columns shape.values (numbers_within (length columns) (length columns) _ (omega arith));
       parents = All-from_recursion (λ r. r.parent < length earlier) shape.references (parents_within earlier t [] t.foreign_keys.items parts.foreign_keys);
       children = all_children columns shape.references (children_within earlier t [] t.foreign_keys.items parts.foreign_keys);
+      counts = All-from_recursion (λ r. option_map (λ e. length e.1.key) (slice_get (schema_of (earlier ++ rest)) r.parent) ≡ Some (length r.columns)) shape.references (counts_match earlier rest t [] t.foreign_keys.items parts.foreign_keys);
     }
 
-sound_after : (before tables : List CreateTable) → first_failing (each_after before table_checks tables) ≡ None → (i : ℕ) (name : List ℕ) (shape : TableShape) → slice_get (tables_after (table_names before) tables) i ≡ Some (name, shape) → IsSound (length before + i) shape
+sound_after : (before tables : List CreateTable) → first_failing (each_after before table_checks tables) ≡ None → (i : ℕ) (name : List ℕ) (shape : TableShape) → slice_get (tables_after (table_names before) tables) i ≡ Some (name, shape) → IsSound (schema_of (before ++ tables)) (length before + i) shape
 sound_after before [] none i name shape at = absurd (omega (arith, slice_get_within [] i (name, shape) at))
 sound_after before (t ∷ tables) none zero name shape at =
-    subst (λ s. IsSound (length before + 0) s) (ap (λ (o : Option (List ℕ × TableShape)). (unwrap_or o (t.name, shape)).1) at)
-    (subst (λ n. IsSound n (shape_of (table_names before) t)) (sym (add-zero (length before)))
-    (sound_table before t (parts_pass before t (none_before (table_checks before t) (each_after (before ++ t ∷ []) table_checks tables) none))))
+    let all = schema_of (before ++ t ∷ tables) in
+    subst (λ s. IsSound all (length before + 0) s) (ap (λ (o : Option (List ℕ × TableShape)). (unwrap_or o (t.name, shape)).1) at)
+    (subst (λ n. IsSound all n (shape_of (table_names before) t)) (sym (add-zero (length before)))
+    (sound_table before (t ∷ tables) t (parts_pass before t (none_before (table_checks before t) (each_after (before ++ t ∷ []) table_checks tables) none))))
 sound_after before (t ∷ tables) none (suc i) name shape at =
-    subst (λ n. IsSound n shape) (rw (length-append before (t ∷ [])) (omega arith))
+    subst (λ ts. IsSound (schema_of ts) (length before + suc i) shape) (append_assoc before (t ∷ []) tables)
+    (subst (λ n. IsSound (schema_of ((before ++ t ∷ []) ++ tables)) n shape) (rw (length-append before (t ∷ [])) (omega arith))
     (sound_after (before ++ t ∷ []) tables (none_behind (table_checks before t) (each_after (before ++ t ∷ []) table_checks tables) none) i name shape
-    (ap (λ names. slice_get (tables_after names tables) i) (map-append (λ t. t.name) before (t ∷ [])) ∙ at))
+    (ap (λ names. slice_get (tables_after names tables) i) (map-append (λ t. t.name) before (t ∷ [])) ∙ at)))
 
 pub sound_schema : (tables : List CreateTable) → first_failing (schema_checks tables) ≡ None → AreSound (schema_of tables)
-sound_schema tables none i name table at = subst (λ n. IsSound n table) (zero-add i) (sound_after [] tables (tables_pass tables none) i name table at)
+sound_schema tables none i name table at = subst (λ n. IsSound (schema_of tables) n table) (zero-add i) (sound_after [] tables (tables_pass tables none) i name table at)

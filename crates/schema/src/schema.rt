@@ -67,7 +67,7 @@ impl Schema {
     pub fn table(&self, place: usize) -> (&Name, &Table)
         requires { place < length self.now }
         ensures table { slice_get self.now place ≡ Some (result.0.now, result.1.now) }
-        ensures sound { IsSound place result.1.now }
+        ensures sound { IsSound self.now place result.1.now }
     {
         match self.tables.get_index(place) {
             Some(table) => table,

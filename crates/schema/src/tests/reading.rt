@@ -43,8 +43,8 @@ fn shown(alloc: Global, schema: &Schema) -> Result<String, AllocError> {
     let mut text = String::new(alloc);
     for place in 0..schema.len() {
         let (name, table) = schema.table(place);
-        let heading = format!(in alloc; "{name}\n")?;
-        text.push_str(heading.as_str())?;
+        text.push_str(name.as_str())?;
+        text.push_str("\n")?;
         show_columns(alloc, table, &mut text)?;
         show_places(alloc, table, &mut text)?;
         show_references(alloc, table, &mut text)?;
@@ -130,6 +130,21 @@ fn in_other_orders(rt: HostRuntime) -> Result<(), Fail> {
     );
     tells(&rt, alloc, two(alloc, parent, child), IN_OTHER_ORDERS)?;
     Ok(())
+}
+
+/// What is told of Dept and Emp.
+fn told(alloc: Global) -> Result<String, Refusal> {
+    let schema = schema_of(alloc, two(alloc, dept(alloc), emp(alloc)))?;
+    Ok(shown(alloc, &schema)?)
+}
+
+// Passes as well where any one request for memory is refused.
+#[test]
+fn all_or_no_memory(rt: HostRuntime) {
+    match told(rt.alloc()) {
+        Ok(text) => assert_eq!(rt; text.as_str(), DEPT_AND_EMP),
+        Err(refusal) => assert_eq!(rt; refusal, Refusal::NoMemory),
+    }
 }
 
 #[test]
