@@ -68,7 +68,7 @@ impl Requests {
             Judged::Old
         } else if number == latest.number {
             Judged::Kept(&latest.outcome)
-        } else if number - latest.number == 1 {
+        } else if latest.number.checked_add(1) == Some(number) {
             Judged::New
         } else {
             Judged::Gap
