@@ -1,0 +1,41 @@
+-- The test of two rows tells whether they are one.
+use Rattle.std.proofs.Common.{◌≡◌, true, not, List, refl, sym, subst, inl, inr}
+use Rattle.std.specs.List.{list_any}
+use Rattle.rowlaws.specs.Rows.{Has}
+use Rattle.rowlaws.proofs.Members.{has_filter, filter_has}
+use Rattle.rowlaws.proofs.RowFacts.{both}
+use Rattle.rowlaws.proofs.Anys.{any_has, has_any}
+use Rattle.std.proofs.lemmas.Bool.{cases_Bool, and_parts, and_from, eq-eqb, eqb-true, not-true, not_from_false}
+use Rattle.model.specs.Tables.{Row}
+use Rattle.rowlaws.specs.Touching.{same_row, rows_without}
+use Rattle.rowlaws.proofs.Keys.{same_key-true, same_key-itself}
+
+pub same_row-true : (a b : Row) → same_row a b ≡ true → a ≡ b
+same_row-true a b h =
+    let h4 = and_parts _ _ h in
+    let h3 = and_parts _ _ h4.0 in
+    let h2 = and_parts _ _ h3.0 in
+    let h1 = and_parts _ _ h2.0 in
+    let key = same_key-true a.key b.key h1.0 in
+    let start = eqb-true a.period.start b.period.start h1.1 in
+    let end = eqb-true a.period.end b.period.end h2.1 in
+    let values = same_key-true a.values b.values h3.1 in
+    let birth = eqb-true a.birth b.birth h4.1 in
+    λ i. record { key = key i; period = record { start = start i; end = end i }; values = values i; birth = birth i }
+
+pub same_row-itself : (a : Row) → same_row a a ≡ true
+same_row-itself a = and_from _ _ (and_from _ _ (and_from _ _ (and_from _ _ (same_key-itself a.key) (eq-eqb _ _ refl)) (eq-eqb _ _ refl)) (same_key-itself a.values)) (eq-eqb _ _ refl)
+
+-- a row that is not left out is in the second list
+pub without_has : (rows more : List Row) (r : Row) → Has (rows_without rows more) r → Has rows r × (Has more r → ⊥)
+unfolding rows_without
+without_has rows more r h =
+    let f = filter_has (λ (q : Row). not (list_any (same_row q) more)) rows r h in
+    (f.0, λ g. both (has_any (same_row r) more r g (same_row-itself r)) (not-true _ f.1))
+
+pub has_without : (rows more : List Row) (r : Row) → Has rows r → (Has more r → ⊥) → Has (rows_without rows more) r
+unfolding rows_without
+has_without rows more r h n = elim (cases_Bool (list_any (same_row r) more)) [
+  | inl y ↦ let m = any_has (same_row r) more y in absurd (n (subst (λ x. Has more x) (sym (same_row-true r m.0 m.2)) m.1))
+  | inr f ↦ has_filter (λ (q : Row). not (list_any (same_row q) more)) rows r h (not_from_false _ f)
+]

@@ -1,0 +1,10 @@
+use Rattle.std.proofs.Common.{◌≡◌, ℕ, [], length}
+use Rattle.current.specs.Table.{rows_of_table}
+use Rattle.current.specs.Places.{rows_at}
+use Rattle.current.proofs.current.Current.new.Given as goal
+
+abbrev pub invariant-loop : goal.invariant-loop
+invariant-loop l = record {
+  long : length l.all.items ≡ l.counter;
+  rows : (n : ℕ) → rows_at rows_of_table l.all.items n ≡ [];
+}

@@ -1,0 +1,41 @@
+use Rattle.std.proofs.Common.{◌∙◌, ap, sym, subst, length}
+use Rattle.std.proofs.Common.{arith}
+use Rattle.std.proofs.lemmas.Grind.{common_steps}
+use Rattle.current.specs.Rows.{row_of}
+use Rattle.current.specs.Stored.{lines_of}
+use Rattle.current.proofs.Moves.{InLines, put_in_lines, length_put, row_put, in_calendar}
+use Rattle.current.proofs.table.TableRows.put.Goals as goal
+
+pub invariant_of-self : goal.invariant_of-self
+invariant_of-self c =
+    let t = c.args.self.now in
+    record {
+      ordered = c.keys_in_order.ensures;
+      in_lines = subst (λ l. InLines l) (sym (c.in_err-added.ensures.err)) t.in_lines;
+      counted = t.counted ∙ sym (ap length c.in_err-added.ensures.kept);
+    }
+
+pub invariant_of-self-2 : goal.invariant_of-self-2
+invariant_of-self-2 c =
+    let t = c.args.self.now in
+    let m = t.lines in
+    let n = c.put_row-added.new.lines in
+    let row = c.args.row in
+    let e = c.in_ok-added.ensures.ok in
+    let in_lines = put_in_lines (row_of row) (lines_of m) (lines_of n) e t.in_lines row.period.ordered (in_calendar row) c.requires in
+    let long = length_put m n t.ordered c.keys_in_order.ensures t.in_lines in_lines (row_of row) e c.requires row.period.ordered in
+    record {
+      ordered = c.keys_in_order.ensures;
+      in_lines = in_lines;
+      counted = grind (arith, common_steps, long, t.counted);
+    }
+
+pub returns-clause-ok : goal.returns-clause-ok
+returns-clause-ok c =
+    let t = c.args.self.now in
+    let m = t.lines in
+    let n = c.put_row-added.new.lines in
+    let row = c.args.row in
+    let e = c.in_ok-added.ensures.ok in
+    let in_lines = put_in_lines (row_of row) (lines_of m) (lines_of n) e t.in_lines row.period.ordered (in_calendar row) c.requires in
+    row_put m n t.ordered c.keys_in_order.ensures t.in_lines in_lines (row_of row) e

@@ -1,0 +1,48 @@
+use Rattle.std.proofs.Common.{◌≡◌, ◌∙◌, drop, map, subst, sym, ◌+◌, ◌⊎◌, inl, inr, false}
+use Rattle.std.specs.List.{list_any}
+use Rattle.model.specs.Tables.{Row}
+use Rattle.rowlaws.specs.Rows.{Has}
+use Rattle.rowlaws.specs.Changes.{clashes}
+use Rattle.current.specs.Rows.{row_of}
+use Rattle.current.specs.Stored.{lines_of}
+use Rattle.current.specs.Table.{rows_of_table, CanPut, IsWith}
+use Rattle.current.proofs.Lists.{drop_here, drop_none}
+use Rattle.current.proofs.Moves.{any_line}
+use Rattle.current.proofs.Undoing.{put_clear, put_more, join_more}
+use Rattle.current.proofs.table.TableRows.put_all.Goals as goal
+
+pub loop-row-init : goal.loop-row-init
+loop-row-init c = record { fits = c.requires; joined = λ r. ((λ h. h), (λ h. h)) }
+
+pub put-requires : goal.put-requires
+put-requires c =
+    let rows = c.args.rows.now in
+    let i = c.loop-row.row-index in
+    let row = c.row-item.result in
+    let s = c.loop-row.self in
+    let fits = subst (λ xs. CanPut (rows_of_table s) (map row_of xs)) (drop_here rows i row c.loop-row-test.true c.row-item.is) c.loop-row.invariant.fits in
+    let clear = put_clear (row_of row) (map row_of (drop (i + 1) rows)) (rows_of_table s) fits in
+    let line = any_line s.lines s.ordered s.in_lines row.key (row_of row).period ∙ clear in
+    subst (λ (r : Row). list_any (clashes r.key r.period) (lines_of s.lines r.key) ≡ false) (sym c.in_ok-clone.ensures.cases) line
+
+pub loop-row-preserved : goal.loop-row-preserved
+loop-row-preserved c =
+    let rows = c.args.rows.now in
+    let i = c.loop-row.row-index in
+    let row = c.row-item.result in
+    let rest = map row_of (drop (i + 1) rows) in
+    let s = c.loop-row.self in
+    let old = rows_of_table c.args.self.now in
+    let now = rows_of_table s in
+    let more = rows_of_table c.put.new.self in
+    let here = drop_here rows i row c.loop-row-test.true c.row-item.is in
+    let fits = subst (λ xs. CanPut now (map row_of xs)) here c.loop-row.invariant.fits in
+    let joined = subst (λ xs. (r : Row) → ((Has now r ⊎ Has (map row_of xs) r) → (Has old r ⊎ Has (map row_of rows) r)) × ((Has old r ⊎ Has (map row_of rows) r) → (Has now r ⊎ Has (map row_of xs) r))) here c.loop-row.invariant.joined in
+    let put : IsWith (row_of row) now more = subst (λ r. IsWith r now more) c.in_ok-clone.ensures.cases c.in_ok-put.ensures.ok in
+    record { fits = put_more (row_of row) rest now more fits put; joined = join_more (row_of row) rest now more old (map row_of rows) put joined }
+
+pub returns : goal.returns
+returns c = λ r.
+    let left = drop_none c.args.rows.now c.loop-row.row-index c.loop-row-test.false in
+    let inv = c.loop-row.invariant.joined r in
+    ((λ h. inv.0 (inl h)), (λ h. elim (inv.1 h) [ inl a ↦ a | inr b ↦ absurd (subst (λ xs. Has (map row_of xs) r) left b) ]))

@@ -1,0 +1,14 @@
+use Rattle.std.proofs.Common.{drop, map, ◌⊎◌}
+use Rattle.model.specs.Tables.{Row}
+use Rattle.rowlaws.specs.Rows.{Has}
+use Rattle.current.specs.Rows.{row_of}
+use Rattle.current.specs.Table.{rows_of_table, CanPut}
+use Rattle.current.proofs.table.TableRows.put_all.Given as goal
+
+abbrev pub invariant-loop-row : goal.invariant-loop-row
+invariant-loop-row l =
+    let left = map row_of (drop l.row-index l.rows) in
+    record {
+      fits : CanPut (rows_of_table l.self) left;
+      joined : (r : Row) → ((Has (rows_of_table l.self) r ⊎ Has left r) → (Has (rows_of_table l.fn.self) r ⊎ Has (map row_of l.rows) r)) × ((Has (rows_of_table l.fn.self) r ⊎ Has (map row_of l.rows) r) → (Has (rows_of_table l.self) r ⊎ Has left r));
+    }

@@ -1,0 +1,9 @@
+pub mod Rows
+pub mod Cuts
+pub mod Stored
+pub mod Table
+pub mod Plans
+pub mod Touched
+pub mod Current
+pub mod Run
+pub mod Places

@@ -1,0 +1,30 @@
+-- A statement that is run on lists of rows, against what it comes to on days.
+use Rattle.std.specs.Prelude.{◌≡◌, ◌⊎◌, ℕ, Ok, Err}
+use Rattle.fault.specs.declared.refusal.Refusal.{Refusal}
+use Rattle.fault.specs.declared.refusal.Refusal.TheVariants.{NoMemory}
+use Rattle.model.specs.Transactions.{State, Statement, run_statement}
+use Rattle.rowlaws.specs.Statements.{Rows, AllListed}
+use Rattle.rowlaws.specs.Touching.{IsTouched}
+
+-- the rows gone and come, of each table, are what was touched between the states
+abbrev pub AllTouched : State → State → Rows → Rows → Type 0
+AllTouched state next gone come = (n : ℕ) → IsTouched (state n) (next n) (gone n) (come n)
+
+-- whatever state the rows were of, it takes the statement, the new rows are those of the state after it, and this was touched
+abbrev pub IsRun : ℕ → Statement → Rows → Rows → Rows → Rows → Type 0
+IsRun t s rows more gone come =
+    (state : State) → AllListed rows state → (next : State) × (run_statement t s state ≡ Ok next) × AllListed more next × AllTouched state next gone come
+
+-- whatever state the rows are of, it refuses the statement so; or there was no memory
+abbrev pub IsRefused : ℕ → Statement → Rows → Refusal → Type 0
+IsRefused t s rows refusal = (refusal ≡ NoMemory) ⊎ ((state : State) → AllListed rows state → run_statement t s state ≡ Err refusal)
+
+-- ---- undone
+
+-- from some state the tables came to these rows, and this was touched
+abbrev pub AllUndoable : Rows → Rows → Rows → Type 0
+AllUndoable rows gone come = (state : State) × (next : State) × (before : Rows) × AllListed before state × AllListed rows next × AllTouched state next gone come
+
+-- whatever state that was, the new rows are its rows
+abbrev pub IsUndone : Rows → Rows → Rows → Rows → Type 0
+IsUndone rows more gone come = (state next : State) (before : Rows) → AllListed before state → AllListed rows next → AllTouched state next gone come → AllListed more state

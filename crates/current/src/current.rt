@@ -1,0 +1,252 @@
+//! The current rows of all tables.
+ghost use Rattle.std.specs.Prelude.{◌≡◌, ◌<◌, ◌≤◌, ◌++◌, ℕ, [], true, Err, alloc_error, length, unwrap_or, OnOk, OnErr, IfOk, IfErr};
+ghost use Rattle.std.specs.Option.{option_map};
+ghost use Rattle.fault.specs.declared.refusal.Refusal.TheVariants.{NoMemory};
+ghost use Rattle.sqlread.specs.Shapes.{insert_of, update_of, delete_of, statement_of};
+ghost use Rattle.sqlread.specs.Shapes as shapes;
+ghost use Rattle.sqlread.specs.Meaning.{meaning, table_of, all_days};
+ghost use Rattle.current.specs.Current.{rows_of, table_count, is_failed};
+ghost use Rattle.current.specs.Table.{HaveSame};
+ghost use Rattle.rowlaws.specs.Touching.{rows_without};
+ghost use Rattle.current.specs.Touched.{gone_in, come_in};
+ghost use Rattle.model.specs.Periods.{period_of};
+ghost use Rattle.rowlaws.specs.Rows.{SameRows, RowCount};
+ghost use Rattle.rowlaws.specs.Touching.{Untouched, TouchedBy};
+ghost use Rattle.rowlaws.specs.Changes.{new_row, ChangeOnRows};
+ghost use Rattle.current.specs.Rows.{row_of};
+ghost use Rattle.current.specs.Cuts.{change_of_cut};
+ghost use Rattle.current.specs.Run.{IsRun, IsRefused, AllUndoable, IsUndone};
+
+use crate::cut::Cut;
+use crate::line::Changes;
+use crate::row::Row;
+use crate::table::TableRows;
+use crate::touched::Touched;
+use fault::Refusal;
+use model::stamp::Stamp;
+use overlaps::Key;
+use period::{Day, Period};
+use sqlread::statement::{Assignment, Delete, Insert, Statement, Update};
+use std::alloc::{AllocError, Global};
+
+/// The current rows of all tables. A contract sees what `rows_of` gives: of each table, by its
+/// number from 0, its rows in the order of key and start.
+#[derive(Debug, Drop)]
+pub struct Current {
+    pub(crate) tables: Vec<TableRows>,
+    pub(crate) alloc: Global,
+    pub(crate) failed: bool,
+}
+
+// What a change of one table's rows comes to on days.
+fn change_laws()
+    ensures on_rows { ChangeOnRows }
+    ensures count { RowCount }
+    ensures untouched { Untouched }
+    ensures touched { TouchedBy }
+    ensures same { SameRows }
+{
+    rowlaws::change_on_rows();
+    rowlaws::row_count();
+    rowlaws::untouched();
+    rowlaws::touched_by();
+    rowlaws::same_rows();
+}
+
+impl Current {
+    /// So many tables, without rows.
+    pub fn new(alloc: Global, tables: usize) -> Result<Current, AllocError>
+        ensures rows { IfOk result (λ current. (n : ℕ) → rows_of current n ≡ []) }
+        ensures count { IfOk result (λ current. table_count current ≡ tables) }
+    {
+        let mut all = Vec::new(alloc);
+        for _ in 0..tables {
+            all.push(TableRows::new(alloc))?;
+        }
+        Ok(Current {
+            tables: all,
+            alloc,
+            failed: false,
+        })
+    }
+
+    // Runs an INSERT.
+    fn insert(&mut self, insert: &Insert, t: Stamp) -> Result<Touched, Refusal>
+        requires { insert.now.table < table_count self.old }
+        ensures ok { IfOk result (λ touched. IsRun t (meaning (shapes.Insert (insert_of insert.now))) (rows_of self.old) (rows_of self.new) (gone_in touched) (come_in touched)) }
+        ensures err { IfErr result (λ refusal. IsRefused t (meaning (shapes.Insert (insert_of insert.now))) (rows_of self.old) refusal) }
+        ensures unchanged { OnErr result (rows_of self.new ≡ rows_of self.old) }
+        ensures count { table_count self.new ≡ table_count self.old }
+        ensures tables { IfOk result (λ touched. length touched.tables.items ≤ table_count self.old) }
+        ensures failed { is_failed self.new ≡ is_failed self.old }
+    {
+        change_laws();
+        let row = inserted_row(insert, t)?;
+        let mut changes = Changes::none(self.alloc);
+        changes.come.push(row.clone()?)?;
+        let touched = Touched::none(self.alloc, insert.table)?;
+        match self.tables[insert.table].insert(row) {
+            Ok(()) => Ok(touched.with(insert.table, changes)),
+            Err(refusal) => Err(refusal),
+        }
+    }
+
+    // Runs an UPDATE or a DELETE.
+    fn cut(&mut self, table: usize, cut: &Cut) -> Result<Touched, Refusal>
+        requires { table < table_count self.old }
+        ensures ok { IfOk result (λ touched. IsRun cut.now.birth (record { table = table; change = change_of_cut cut.now }) (rows_of self.old) (rows_of self.new) (gone_in touched) (come_in touched)) }
+        ensures err { IfErr result (λ refusal. IsRefused cut.now.birth (record { table = table; change = change_of_cut cut.now }) (rows_of self.old) refusal) }
+        ensures unchanged { OnErr result (rows_of self.new ≡ rows_of self.old) }
+        ensures count { table_count self.new ≡ table_count self.old }
+        ensures tables { IfOk result (λ touched. length touched.tables.items ≤ table_count self.old) }
+        ensures failed { is_failed self.new ≡ is_failed self.old }
+    {
+        change_laws();
+        let touched = Touched::none(self.alloc, table)?;
+        match self.tables[table].cut(cut) {
+            Ok(changes) => Ok(touched.with(table, changes)),
+            Err(refusal) => Err(refusal),
+        }
+    }
+
+    // Runs an UPDATE.
+    fn update(&mut self, update: &Update, t: Stamp) -> Result<Touched, Refusal>
+        requires { update.now.table < table_count self.old }
+        ensures ok { IfOk result (λ touched. IsRun t (meaning (shapes.Update (update_of update.now))) (rows_of self.old) (rows_of self.new) (gone_in touched) (come_in touched)) }
+        ensures err { IfErr result (λ refusal. IsRefused t (meaning (shapes.Update (update_of update.now))) (rows_of self.old) refusal) }
+        ensures unchanged { OnErr result (rows_of self.new ≡ rows_of self.old) }
+        ensures count { table_count self.new ≡ table_count self.old }
+        ensures tables { IfOk result (λ touched. length touched.tables.items ≤ table_count self.old) }
+        ensures failed { is_failed self.new ≡ is_failed self.old }
+    {
+        let assignments: &[Assignment] = update.assignments.as_slice();
+        let cut = Cut {
+            conditions: update.conditions.as_slice(),
+            portion: portion_or_all(update.portion),
+            assignments: Some(assignments),
+            birth: t,
+        };
+        self.cut(update.table, &cut)
+    }
+
+    // Runs a DELETE.
+    fn delete(&mut self, delete: &Delete, t: Stamp) -> Result<Touched, Refusal>
+        requires { delete.now.table < table_count self.old }
+        ensures ok { IfOk result (λ touched. IsRun t (meaning (shapes.Delete (delete_of delete.now))) (rows_of self.old) (rows_of self.new) (gone_in touched) (come_in touched)) }
+        ensures err { IfErr result (λ refusal. IsRefused t (meaning (shapes.Delete (delete_of delete.now))) (rows_of self.old) refusal) }
+        ensures unchanged { OnErr result (rows_of self.new ≡ rows_of self.old) }
+        ensures count { table_count self.new ≡ table_count self.old }
+        ensures tables { IfOk result (λ touched. length touched.tables.items ≤ table_count self.old) }
+        ensures failed { is_failed self.new ≡ is_failed self.old }
+    {
+        let assignments: Option<&[Assignment]> = None;
+        let cut = Cut {
+            conditions: delete.conditions.as_slice(),
+            portion: portion_or_all(delete.portion),
+            assignments,
+            birth: t,
+        };
+        self.cut(delete.table, &cut)
+    }
+
+    /// Runs a statement at an instant, on a table that there is, and tells what it touched. Each
+    /// refusal changes nothing.
+    ///
+    /// `KeyOverlap` of an INSERT where a row of its key has a day of its period; `NumberRange` of an
+    /// UPDATE where SET of a row that is met is out of range; then `RowLimit` where the table would
+    /// have more than 20,000 rows; `NoMemory`, always once it has failed.
+    pub fn run(&mut self, statement: &Statement, t: Stamp) -> Result<Touched, Refusal>
+        requires { table_of (statement_of statement.now) < table_count self.old }
+        ensures ok { IfOk result (λ touched. IsRun t (meaning (statement_of statement.now)) (rows_of self.old) (rows_of self.new) (gone_in touched) (come_in touched)) }
+        ensures err { IfErr result (λ refusal. IsRefused t (meaning (statement_of statement.now)) (rows_of self.old) refusal) }
+        ensures unchanged { OnErr result (rows_of self.new ≡ rows_of self.old) }
+        ensures count { table_count self.new ≡ table_count self.old }
+        ensures tables { IfOk result (λ touched. length touched.tables.items ≤ table_count self.old) }
+        ensures failed { is_failed self.new ≡ is_failed self.old }
+        ensures once_failed { is_failed self.old ≡ true → result ≡ Err NoMemory }
+    {
+        if self.failed {
+            return Err(Refusal::NoMemory);
+        }
+        match statement {
+            Statement::Insert(insert) => self.insert(insert, t),
+            Statement::Update(update) => self.update(update, t),
+            Statement::Delete(delete) => self.delete(delete, t),
+        }
+    }
+
+    // Gives the rows of each table before a statement. Want of memory leaves some of them away.
+    fn undo_tables(&mut self, touched: &Touched) -> Result<(), AllocError>
+        requires { AllUndoable (rows_of self.old) (gone_in touched.now) (come_in touched.now) }
+        ensures ok { OnOk result ((n : ℕ) → n < table_count self.old → HaveSame (rows_without (rows_of self.old n) (come_in touched.now n) ++ gone_in touched.now n) (rows_of self.new n)) }
+        ensures count { table_count self.new ≡ table_count self.old }
+    {
+        for n in 0..self.tables.len() {
+            self.tables[n].undo(touched.gone(n), touched.come(n))?;
+        }
+        Ok(())
+    }
+
+    /// Gives the rows before the statement that touched this, which must be what the last statement
+    /// touched that is not yet undone. Want of memory loses rows: the value has then failed, and
+    /// answers only that.
+    pub fn undo(&mut self, touched: &Touched) -> Result<(), AllocError>
+        requires tables { length touched.now.tables.items ≤ table_count self.old }
+        requires touched { AllUndoable (rows_of self.old) (gone_in touched.now) (come_in touched.now) }
+        ensures ok { OnOk result (IsUndone (rows_of self.old) (rows_of self.new) (gone_in touched.now) (come_in touched.now)) }
+        ensures err { OnErr result (is_failed self.new ≡ true) }
+        ensures count { table_count self.new ≡ table_count self.old }
+        ensures once_failed { is_failed self.old ≡ true → result ≡ Err alloc_error }
+    {
+        if self.failed {
+            return Err(AllocError);
+        }
+        rowlaws::undo();
+        rowlaws::same_rows();
+        let undone = self.undo_tables(touched);
+        self.failed = undone.is_err();
+        undone
+    }
+
+    /// Whether an undo has found no memory.
+    pub fn has_failed(&self) -> bool
+        ensures { result ≡ is_failed self.now }
+    {
+        self.failed
+    }
+
+    /// How many tables there are.
+    pub fn table_count(&self) -> usize
+        ensures { result ≡ table_count self.now }
+    {
+        self.tables.len()
+    }
+}
+
+// The row that an INSERT makes.
+fn inserted_row(insert: &Insert, t: Stamp) -> Result<Row, AllocError>
+    ensures { IfOk result (λ row. row_of row ≡ new_row insert.now.key.items insert.now.values.items (period_of insert.now.period) t) }
+{
+    let key = Key::new(insert.key.clone()?);
+    let values = insert.values.clone()?;
+    Ok(Row {
+        key,
+        period: insert.period,
+        values,
+        birth: t,
+    })
+}
+
+// The portion, or else all days.
+#[tactic(auto, unfolding(model::specs::Tables::days))]
+fn portion_or_all(portion: Option<Period>) -> Period
+    ensures { period_of result ≡ unwrap_or (option_map shapes.period_of portion) all_days }
+{
+    match portion {
+        Some(portion) => portion,
+        None => Period {
+            start: Day { number: 0 },
+            end: Day { number: 3_652_058 },
+        },
+    }
+}

@@ -1,0 +1,19 @@
+//! The current rows of all tables, run by statements.
+#![tactic(auto)]
+
+mod compare;
+pub mod current;
+mod cut;
+mod line;
+mod lines;
+mod plan;
+pub mod row;
+mod table;
+#[cfg(test)]
+mod tests;
+pub mod touched;
+
+pub use current::Current;
+pub use line::Changes;
+pub use row::Row;
+pub use touched::Touched;

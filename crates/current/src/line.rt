@@ -1,0 +1,104 @@
+//! UPDATE and DELETE of the rows of one key.
+ghost use Rattle.std.specs.Prelude.{◌≡◌, ◌⊎◌, ◌++◌, [], map, true, false, flat_map, IfOk, IfErr};
+ghost use Rattle.std.specs.List.{list_any};
+ghost use Rattle.fault.specs.declared.refusal.Refusal.TheVariants.{NoMemory, NumberRange};
+ghost use Rattle.current.specs.Rows.{row_of};
+ghost use Rattle.current.specs.Touched.{gone_of, come_of};
+ghost use Rattle.current.specs.Cuts.{change_of_cut, is_met, is_stuck, kept, gone_at, come_at};
+
+use crate::compare::{append, rows_without};
+use crate::cut::Cut;
+use crate::row::Row;
+use fault::Refusal;
+use std::alloc::{AllocError, Global};
+
+/// What a statement touches of one table.
+#[derive(Debug, Drop)]
+pub struct Changes {
+    /// The rows that go.
+    pub gone: Vec<Row>,
+    /// The rows that come.
+    pub come: Vec<Row>,
+}
+
+impl Changes {
+    /// None. Takes no memory.
+    pub(crate) fn none(alloc: Global) -> Changes
+        ensures gone { gone_of result ≡ [] }
+        ensures come { come_of result ≡ [] }
+    {
+        Changes {
+            gone: Vec::new(alloc),
+            come: Vec::new(alloc),
+        }
+    }
+}
+
+// Adds what becomes of a row that is met to the rows of its key, and what it touches to the changes.
+fn cut_met(
+    alloc: Global,
+    cut: &Cut,
+    row: &Row,
+    rows: &mut Vec<Row>,
+    changes: &mut Changes,
+) -> Result<(), Refusal>
+    requires { is_met (change_of_cut cut.now) (row_of row.now) ≡ true }
+    ensures rows { IfOk result (λ u. map row_of rows.new.items ≡ map row_of rows.old.items ++ kept (change_of_cut cut.now) cut.now.birth (row_of row.now)) }
+    ensures gone { IfOk result (λ u. map row_of changes.new.gone.items ≡ map row_of changes.old.gone.items ++ gone_at (change_of_cut cut.now) cut.now.birth (row_of row.now)) }
+    ensures come { IfOk result (λ u. map row_of changes.new.come.items ≡ map row_of changes.old.come.items ++ come_at (change_of_cut cut.now) cut.now.birth (row_of row.now)) }
+    ensures in_range { IfOk result (λ u. is_stuck (change_of_cut cut.now) (row_of row.now) ≡ false) }
+    ensures err { IfErr result (λ refusal. (refusal ≡ NoMemory) ⊎ ((refusal ≡ NumberRange) × (is_stuck (change_of_cut cut.now) (row_of row.now) ≡ true))) }
+{
+    let parts = cut.parts(alloc, row)?;
+    let before = vec![in alloc; row.clone()?]?;
+    let gone = rows_without(alloc, before.as_slice(), parts.as_slice())?;
+    let come = rows_without(alloc, parts.as_slice(), before.as_slice())?;
+    append(&mut changes.gone, gone)?;
+    append(&mut changes.come, come)?;
+    append(rows, parts)?;
+    Ok(())
+}
+
+// Adds what becomes of a row to the rows of its key, and what it touches to the changes.
+#[tactic(auto, using(crate::proofs::Walks::unmet_in_range))]
+fn cut_row(
+    alloc: Global,
+    cut: &Cut,
+    row: &Row,
+    rows: &mut Vec<Row>,
+    changes: &mut Changes,
+) -> Result<(), Refusal>
+    ensures rows { IfOk result (λ u. map row_of rows.new.items ≡ map row_of rows.old.items ++ kept (change_of_cut cut.now) cut.now.birth (row_of row.now)) }
+    ensures gone { IfOk result (λ u. map row_of changes.new.gone.items ≡ map row_of changes.old.gone.items ++ gone_at (change_of_cut cut.now) cut.now.birth (row_of row.now)) }
+    ensures come { IfOk result (λ u. map row_of changes.new.come.items ≡ map row_of changes.old.come.items ++ come_at (change_of_cut cut.now) cut.now.birth (row_of row.now)) }
+    ensures in_range { IfOk result (λ u. is_stuck (change_of_cut cut.now) (row_of row.now) ≡ false) }
+    ensures err { IfErr result (λ refusal. (refusal ≡ NoMemory) ⊎ ((refusal ≡ NumberRange) × (is_stuck (change_of_cut cut.now) (row_of row.now) ≡ true))) }
+{
+    if cut.meets(row) {
+        return cut_met(alloc, cut, row, rows, changes);
+    }
+    rows.push(row.clone()?)?;
+    Ok(())
+}
+
+/// What becomes of the rows of a key; what is touched is added to the changes.
+///
+/// `NumberRange` where a new value of a row that is met is out of range; `NoMemory`.
+pub(crate) fn cut_line(
+    alloc: Global,
+    cut: &Cut,
+    line: &[Row],
+    changes: &mut Changes,
+) -> Result<Vec<Row>, Refusal>
+    ensures rows { IfOk result (λ rows. map row_of rows.items ≡ flat_map (kept (change_of_cut cut.now) cut.now.birth) (map row_of line.now)) }
+    ensures gone { IfOk result (λ rows. map row_of changes.new.gone.items ≡ map row_of changes.old.gone.items ++ flat_map (gone_at (change_of_cut cut.now) cut.now.birth) (map row_of line.now)) }
+    ensures come { IfOk result (λ rows. map row_of changes.new.come.items ≡ map row_of changes.old.come.items ++ flat_map (come_at (change_of_cut cut.now) cut.now.birth) (map row_of line.now)) }
+    ensures in_range { IfOk result (λ rows. list_any (is_stuck (change_of_cut cut.now)) (map row_of line.now) ≡ false) }
+    ensures err { IfErr result (λ refusal. (refusal ≡ NoMemory) ⊎ ((refusal ≡ NumberRange) × (list_any (is_stuck (change_of_cut cut.now)) (map row_of line.now) ≡ true))) }
+{
+    let mut rows = Vec::new(alloc);
+    for row in line {
+        cut_row(alloc, cut, row, &mut rows, changes)?;
+    }
+    Ok(rows)
+}

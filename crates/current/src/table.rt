@@ -1,0 +1,163 @@
+//! The current rows of one table.
+ghost use Rattle.std.specs.Prelude.{◌≡◌, ℕ, List, IsTrue, length};
+ghost use Rattle.std.specs.BTreeMap.{IsOrdered};
+ghost use Rattle.std.specs.List.Sorted.{IsStrictlySortedBy-prop};
+ghost use Rattle.model.specs.declared.value.Value.{Value};
+ghost use Rattle.model.specs.Values.{key_cmp};
+ghost use Rattle.current.specs.Stored.{lines_of, rows_in, in_line};
+
+use crate::compare::has_row;
+use crate::cut::Cut;
+use crate::line::Changes;
+use crate::lines::{Lines, clashes, keys_in_order, line, put_row, take_row};
+use crate::plan::{Plan, plan_cut, replace_lines};
+use crate::row::Row;
+use fault::Refusal;
+use std::alloc::{AllocError, Global};
+use std::collections::BTreeMap;
+
+/// How many current rows a table may have.
+const ROWS_MOST: usize = 20_000;
+
+/// The rows of a table. A contract sees what `rows_of_table` gives.
+#[derive(Debug, Drop)]
+pub(crate) struct TableRows {
+    pub lines: Lines,
+    pub count: usize,
+    pub alloc: Global,
+    pub ghost ordered: { IsOrdered key_cmp lines } by { IsStrictlySortedBy-prop _ _ },
+    pub ghost in_lines: { (key : List Value) → IsTrue (in_line key 0 (lines_of lines key)) },
+    pub ghost counted: { count ≡ length (rows_in lines.entries) },
+}
+
+impl TableRows {
+    ghost use Rattle.std.specs.Prelude.{◌≡◌, ◌⊎◌, ◌+◌, ◌<◌, ◌≤◌, ◌++◌, ◌∷◌, [], true, false, map, OnOk, OnErr, IfOk, IfErr, length};
+    ghost use Rattle.std.specs.List.{list_any};
+    ghost use Rattle.fault.specs.declared.refusal.Refusal.TheVariants.{NoMemory, KeyOverlap, RowLimit};
+    ghost use Rattle.rowlaws.specs.Changes.{clashes};
+    ghost use Rattle.current.specs.Rows.{row_of};
+    ghost use Rattle.current.specs.Table.{rows_of_table, IsWith, IsInserted, IsInsertRefused, IsCut, IsCutRefused, IsWithout, IsJoined, CanPut, CanUndo, HaveSame};
+    ghost use Rattle.rowlaws.specs.Touching.{rows_without};
+    ghost use Rattle.current.specs.Cuts.{change_of_cut};
+    ghost use Rattle.current.specs.Stored.{lines_of, line_in};
+    ghost use Rattle.model.specs.Periods.{period_of};
+
+    /// No rows. Takes no memory.
+    pub(crate) fn new(alloc: Global) -> TableRows
+        ensures { rows_of_table result ≡ [] }
+    {
+        TableRows {
+            lines: BTreeMap::new(alloc),
+            count: 0,
+            alloc,
+        }
+    }
+
+    /// Whether a row of the key has a day of the period. Takes no memory.
+    pub(crate) fn has_clash(&self, row: &Row) -> bool
+        ensures line { result ≡ list_any (clashes row.now.key (period_of row.now.period)) (lines_of self.now.lines row.now.key) }
+        ensures rows { result ≡ list_any (clashes row.now.key (period_of row.now.period)) (rows_of_table self.now) }
+    {
+        clashes(line(&self.lines, &row.key), row)
+    }
+
+    /// Adds a row. Want of memory changes nothing.
+    pub(crate) fn put(&mut self, row: Row) -> Result<(), AllocError>
+        requires { list_any (clashes row.key (period_of row.period)) (lines_of self.old.lines row.key) ≡ false }
+        ensures ok { OnOk result (IsWith (row_of row) (rows_of_table self.old) (rows_of_table self.new)) }
+        ensures err { OnErr result (rows_of_table self.new ≡ rows_of_table self.old) }
+    {
+        let Some(count) = self.count.checked_add(1) else {
+            return Err(AllocError);
+        };
+        let added = put_row(self.alloc, &mut self.lines, row);
+        keys_in_order(&self.lines);
+        added?;
+        self.count = count;
+        Ok(())
+    }
+
+    /// Adds a row as INSERT does. Each refusal changes nothing.
+    ///
+    /// `KeyOverlap` where a row of its key has a day of its period; then `RowLimit` where there are
+    /// 20,000 rows; `NoMemory`.
+    pub(crate) fn insert(&mut self, row: Row) -> Result<(), Refusal>
+        ensures ok { IfOk result (λ u. IsInserted (row_of row) (rows_of_table self.old) (rows_of_table self.new)) }
+        ensures err { IfErr result (λ refusal. (rows_of_table self.new ≡ rows_of_table self.old) × IsInsertRefused (row_of row) (rows_of_table self.old) refusal) }
+    {
+        if self.has_clash(&row) {
+            return Err(Refusal::KeyOverlap);
+        }
+        if self.count >= ROWS_MOST {
+            return Err(Refusal::RowLimit);
+        }
+        self.put(row)?;
+        Ok(())
+    }
+
+    /// Cuts the rows that are met as UPDATE and DELETE do, and tells what it touched. Each refusal
+    /// changes nothing.
+    ///
+    /// `NumberRange` where a new value of a row that is met is out of range; then `RowLimit` where
+    /// more than 20,000 rows would be left; `NoMemory`.
+    pub(crate) fn cut(&mut self, cut: &Cut) -> Result<Changes, Refusal>
+        ensures ok { IfOk result (λ changes. IsCut (change_of_cut cut.now) cut.now.birth (rows_of_table self.old) (rows_of_table self.new) (map row_of changes.gone.items) (map row_of changes.come.items)) }
+        ensures err { IfErr result (λ refusal. (rows_of_table self.new ≡ rows_of_table self.old) × IsCutRefused (change_of_cut cut.now) cut.now.birth (rows_of_table self.old) refusal) }
+    {
+        let plan = plan_cut(self.alloc, cut, &self.lines)?;
+        if plan.count > ROWS_MOST {
+            return Err(Refusal::RowLimit);
+        }
+        let Plan {
+            lines,
+            count,
+            changes,
+        } = plan;
+        replace_lines(&mut self.lines, lines);
+        keys_in_order(&self.lines);
+        self.count = count;
+        Ok(changes)
+    }
+
+    // Takes a row out, if it is there.
+    fn take(&mut self, row: &Row)
+        ensures { IsWithout (row_of row.now ∷ []) (rows_of_table self.old) (rows_of_table self.new) }
+    {
+        if !has_row(line(&self.lines, &row.key), row) {
+            return;
+        }
+        take_row(&mut self.lines, row);
+        keys_in_order(&self.lines);
+        self.count -= 1;
+    }
+
+    // Takes rows out.
+    fn take_all(&mut self, rows: &[Row])
+        ensures { IsWithout (map row_of rows.now) (rows_of_table self.old) (rows_of_table self.new) }
+    {
+        for row in rows {
+            self.take(row);
+        }
+    }
+
+    // Puts rows back. Want of memory leaves some of them away.
+    fn put_all(&mut self, rows: &[Row]) -> Result<(), AllocError>
+        requires { CanPut (rows_of_table self.old) (map row_of rows.now) }
+        ensures { OnOk result (IsJoined (map row_of rows.now) (rows_of_table self.old) (rows_of_table self.new)) }
+    {
+        for row in rows {
+            self.put(row.clone()?)?;
+        }
+        Ok(())
+    }
+
+    /// Gives the rows before a statement, by what it touched. Want of memory leaves some of them
+    /// away.
+    pub(crate) fn undo(&mut self, gone: &[Row], come: &[Row]) -> Result<(), AllocError>
+        requires { CanUndo (rows_of_table self.old) (map row_of gone.now) (map row_of come.now) }
+        ensures { OnOk result (HaveSame (rows_without (rows_of_table self.old) (map row_of come.now) ++ map row_of gone.now) (rows_of_table self.new)) }
+    {
+        self.take_all(come);
+        self.put_all(gone)
+    }
+}
