@@ -9,7 +9,6 @@ use Rattle.model.specs.Tables.{inside}
 use Rattle.model.specs.Periods.{period_of, has_day}
 use Rattle.model.specs.Statements.{meets}
 use Rattle.rowlaws.specs.Parts.{PartsOfUpdate, PartsOfDelete, AreParts, row_of_part}
-use Rattle.rowlaws.specs.Parts as laws
 use Rattle.sqlchecks.specs.declared.comparison.Comparison.{Comparison}
 use Rattle.sqlchecks.specs.Comparisons.{passes_all}
 use Rattle.sqlread.specs.declared.statement.Assignment.{Assignment}
@@ -18,10 +17,6 @@ use Rattle.current.specs.declared.row.Row.{Row as DeclaredRow}
 use Rattle.current.specs.Rows.{row_of}
 use Rattle.current.specs.Cuts.{cut_change, AreSet, new_part, is_met, is_stuck, made}
 
-same_days : (o : Option Declared) (d : ℕ) → laws.has_day o d ≡ has_day o d
-same_days None d = refl
-same_days (Some p) d = refl
-
 pub record AreDays (x p : Declared) (before within after : Option Declared) : Type 0 where
   pub before_days : (d : ℕ) → has_day before d ≡ (inside (period_of x) d && nat_lt d p.start.number)
   pub within_days : (d : ℕ) → has_day within d ≡ (inside (period_of x) d && inside (period_of p) d)
@@ -29,9 +24,9 @@ pub record AreDays (x p : Declared) (before within after : Option Declared) : Ty
 
 are_parts : (x p : Declared) (before within after : Option Declared) → AreDays x p before within after → AreParts (period_of x) (period_of p) before within after
 are_parts x p before within after h = record {
-  before_days = λ d. same_days before d ∙ h.before_days d;
-  within_days = λ d. same_days within d ∙ h.within_days d;
-  after_days = λ d. same_days after d ∙ h.after_days d;
+  before_days = λ d. h.before_days d;
+  within_days = λ d. h.within_days d;
+  after_days = λ d. h.after_days d;
 }
 
 not_none : {A : Type 0} (o : Option A) (a : A) → o ≡ Some a → is_none o ≡ false

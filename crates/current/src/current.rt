@@ -240,7 +240,7 @@ fn inserted_row(insert: &Insert, t: Stamp) -> Result<Row, AllocError>
 // The portion, or else all days.
 #[tactic(auto, unfolding(model::specs::Tables::days))]
 fn portion_or_all(portion: Option<Period>) -> Period
-    ensures { period_of result ≡ unwrap_or (option_map shapes.period_of portion) all_days }
+    ensures { period_of result ≡ unwrap_or (option_map period_of portion) all_days }
 {
     match portion {
         Some(portion) => portion,

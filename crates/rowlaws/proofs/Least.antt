@@ -5,7 +5,8 @@ use Rattle.std.specs.List.{range_with_len}
 use Rattle.std.proofs.lemmas.Bool.{cases_lt, cases_Bool, cases_order, or_right, and_left, and_right, and_from, le-leb, lt-leb, lt-ltb, le-ltb}
 use Rattle.model.specs.Tables.{Period, inside}
 use Rattle.model.specs.Statements.{days_of}
-use Rattle.rowlaws.specs.Covering.{StartInOrder, is_free, uncovered, if_before, lesser, UncoveredDay}
+use Rattle.model.specs.Periods.{StartInOrder, is_free}
+use Rattle.rowlaws.specs.Covering.{uncovered, if_before, lesser, UncoveredDay}
 use Rattle.rowlaws.proofs.RowFacts.{both}
 
 -- the least number from s up to e that passes, or none

@@ -18,7 +18,8 @@ use Rattle.rowlaws.specs.Rows.{Has, Lists}
 use Rattle.model.specs.Statements.{days_of}
 use Rattle.model.specs.Transactions.{State, Schema, Reference, Place, lacks, is_orphan, first_orphan}
 use Rattle.rowlaws.specs.Statements.{Rows, AllListed}
-use Rattle.rowlaws.specs.Covering.{StartInOrder, is_free, PeriodsInOrder, place_cmp, AllInOrder, periods_of, missing_by, missing, place_at, missing_in_rows, missing_in_tables, rows_orphan}
+use Rattle.model.specs.Periods.{StartInOrder, is_free}
+use Rattle.rowlaws.specs.Covering.{PeriodsInOrder, place_cmp, AllInOrder, periods_of, missing_by, missing, place_at, missing_in_rows, missing_in_tables, rows_orphan}
 use Rattle.rowlaws.proofs.Keys.{key_total, key_same, key_itself, same_key-true, same_key-itself}
 use Rattle.rowlaws.proofs.Members.{has_map, map_has, has_filter, filter_has}
 use Rattle.rowlaws.proofs.RowFacts.{both, one_row}

@@ -6,7 +6,8 @@ use Rattle.model.specs.declared.value.Value.{Value}
 use Rattle.model.specs.Tables.{Period, Row, inside}
 use Rattle.model.specs.Statements.{meets}
 use Rattle.rowlaws.specs.Cutting.{part, if_days, pieces, rest}
-use Rattle.rowlaws.specs.Parts.{period_of, has_day, AreParts, row_of_part}
+use Rattle.model.specs.Periods.{period_of, has_day}
+use Rattle.rowlaws.specs.Parts.{AreParts, row_of_part}
 use Rattle.rowlaws.proofs.RowFacts.{both}
 
 abbrev Within : ℕ → ℕ → Option Declared → Type 0

@@ -1,27 +1,20 @@
 -- References over the periods of rows: the first day of a child that no parent has.
-use Rattle.std.specs.Prelude.{◌≡◌, ◌↔◌, ℕ, ◌<◌, ◌≤◌, ◌==◌, Bool, not, nat_le, nat_lt, is_some, IsTrue, find, Option, Some, None, List, [], ◌∷◌, AllPairs, if◌then◌else◌, map, filter, min, max}
-use Rattle.std.specs.List.{list_any, range_with_len}
+use Rattle.std.specs.Prelude.{◌≡◌, ◌↔◌, ℕ, ◌<◌, ◌≤◌, ◌==◌, nat_le, nat_lt, is_some, IsTrue, find, Option, Some, None, List, [], ◌∷◌, if◌then◌else◌, map, filter, min, max}
+use Rattle.std.specs.List.{range_with_len}
 use Rattle.std.specs.List.Sorted.{IsStrictlySortedBy}
 use Rattle.std.specs.Option.{option_or}
 use Rattle.std.specs.Ordering.{ordering_then, nat_cmp}
 use Rattle.std.specs.declared.cmp.Ordering.{Ordering}
 use Rattle.model.specs.declared.value.Value.{Value}
 use Rattle.model.specs.Values.{key_cmp, same_key}
-use Rattle.model.specs.Tables.{Period, Cell, Row, inside}
+use Rattle.model.specs.Tables.{Period, Cell, Row}
+use Rattle.model.specs.Periods.{StartInOrder, is_free}
 use Rattle.model.specs.Statements.{days_of}
 use Rattle.model.specs.Transactions.{State, Schema, Reference, Place, first_orphan}
 use Rattle.rowlaws.specs.Rows.{Has}
 use Rattle.rowlaws.specs.Statements.{Rows, AllListed}
 
 -- ---- one child and its parents
-
--- each period starts no later than those after it
-abbrev pub StartInOrder : List Period → Type 0
-StartInOrder periods = AllPairs (λ p q. p.start ≤ q.start) periods
-
--- none of the periods has the day
-abbrev pub is_free : List Period → ℕ → Bool
-is_free periods d = not (list_any (λ p. inside p d) periods)
 
 -- the day, if it is before the end
 abbrev pub if_before : (day end : ℕ) → Option ℕ

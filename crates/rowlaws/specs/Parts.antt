@@ -1,19 +1,11 @@
 -- The parts that a portion makes of a period, known by their days alone.
-use Rattle.std.specs.Prelude.{◌≡◌, ℕ, ◌<◌, Bool, false, ◌&&◌, nat_lt, nat_le, unwrap_or, IsTrue, Option, Some, None, List, [], ◌∷◌, ◌++◌}
+use Rattle.std.specs.Prelude.{◌≡◌, ℕ, ◌<◌, Bool, ◌&&◌, nat_lt, nat_le, unwrap_or, IsTrue, Option, Some, None, List, [], ◌∷◌, ◌++◌}
 use Rattle.period.specs.declared.period.Period.{Period as Declared}
 use Rattle.model.specs.declared.value.Value.{Value}
 use Rattle.model.specs.Tables.{Period, Row, inside}
+use Rattle.model.specs.Periods.{has_day}
 use Rattle.model.specs.Statements.{meets}
 use Rattle.rowlaws.specs.Cutting.{part, pieces, rest}
-
--- the days that a period of the code stands for
-abbrev pub period_of : Declared → Period
-period_of p = record { start = p.start.number; end = p.end.number }
-
--- there is a period, and it has the day
-abbrev pub has_day : Option Declared → ℕ → Bool
-has_day None d = false
-has_day (Some p) d = inside (period_of p) d
 
 -- the days of the parts are those of x before the portion, within it and after it
 pub record AreParts (x portion : Period) (before within after : Option Declared) : Type 0 where

@@ -1,7 +1,6 @@
 -- What a function that checks a text returns.
-use Rattle.std.specs.Prelude.{◌≡◌, ◌⊎◌, List, [], ◌∷◌, Bool, if◌then◌else◌, Option, Some, None, Result, Ok, Err}
+use Rattle.std.specs.Prelude.{◌≡◌, List, [], ◌∷◌, Bool, if◌then◌else◌, Option, Some, None, Result, Ok, Err}
 use Rattle.fault.specs.declared.refusal.Refusal.{Refusal}
-use Rattle.fault.specs.declared.refusal.Refusal.TheVariants.{NoMemory}
 
 -- one check after the other: the first refusal is the answer
 infixl 10 ◌>>=◌
@@ -25,11 +24,6 @@ or_refuse r (Some a) = Ok a
 abbrev pub Gives : {X Y : Type 0} → (X → Y) → Result X Refusal → Result Y Refusal → Type 0
 Gives view (Ok x) answer = answer ≡ Ok (view x)
 Gives view (Err r) answer = answer ≡ Err r
-
--- the same, unless memory ran out
-abbrev pub GivesInMemory : {X Y : Type 0} → (X → Y) → Result X Refusal → Result Y Refusal → Type 0
-GivesInMemory view (Ok x) answer = answer ≡ Ok (view x)
-GivesInMemory view (Err r) answer = (r ≡ NoMemory) ⊎ (answer ≡ Err r)
 
 -- each of a list in turn: the first refusal is the answer
 abbrev pub each_of : {A B : Type 0} → (A → Result B Refusal) → List A → Result (List B) Refusal

@@ -10,7 +10,6 @@ use Rattle.period.specs.Instant.{instant_text}
 use Rattle.model.specs.declared.value.Value.{Value as RowValue}
 use Rattle.model.specs.declared.value.Value.TheVariants as value
 use Rattle.model.specs.Tables.{Period}
-use Rattle.period.specs.declared.period.Period.{Period as Declared}
 use Rattle.schema.specs.declared.table.Kind.{Kind}
 use Rattle.schema.specs.declared.table.Kind.TheVariants.{Integer, Varchar, Date}
 use Rattle.sqlsyntax.specs.Shared.{Bytes, LiteralForm}
@@ -32,10 +31,6 @@ day_named text = or_refuse OutOfRange (named day_text 3_652_059 text)
 -- an instant from 1970-01-01 00:00:00, which is 0, to 9999-12-30 23:59:59.999999, in microseconds
 unfoldable pub instant_named : Bytes → Result ℕ Refusal
 instant_named text = or_refuse OutOfRange (named instant_text 253_402_214_400_000_000 text)
-
--- the days of a period
-abbrev pub period_of : Declared → Period
-period_of p = record { start = p.start.number; end = p.end.number }
 
 -- the days from one to another: 16 for each of the two, then 15 where there is none between
 unfoldable pub period_named : Bytes → Bytes → Result Period Refusal

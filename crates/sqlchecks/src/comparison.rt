@@ -3,14 +3,13 @@ ghost use Rattle.std.specs.Prelude.{◌≡◌, map};
 ghost use Rattle.std.specs.List.{list_all};
 ghost use Rattle.std.specs.Option.{option_copied};
 ghost use Rattle.sqlsyntax.specs.Shared.{comparison_form};
-ghost use Rattle.sqlchecks.specs.Answering.{GivesInMemory};
+ghost use Rattle.sqlsyntax.specs.Parsing.{GivesInMemory};
 ghost use Rattle.sqlchecks.specs.Columns.{kept_at};
 ghost use Rattle.sqlchecks.specs.Comparisons.{compared_kind, comparison_in, comparisons_in, holds, compares};
 
 use crate::column::{field_of, find_column};
 use crate::field::Field;
 use crate::literal::literal_value;
-use crate::order::compare;
 use fault::Refusal;
 use model::value::Value;
 use schema::{Kind, Table};
@@ -104,7 +103,7 @@ impl Comparison {
         ensures { result ≡ compares self.now key.now values.now }
     {
         match kept_at(key, values, self.field) {
-            Some(value) => holds(self.operator, compare(value, &self.value)),
+            Some(value) => holds(self.operator, value.cmp(&self.value)),
             None => false,
         }
     }

@@ -5,6 +5,5 @@ pub mod column;
 pub mod comparison;
 pub mod field;
 pub mod literal;
-mod order;
 #[cfg(test)]
 mod tests;

@@ -4,6 +4,7 @@ use Rattle.std.specs.Option.{option_map}
 use Rattle.period.specs.declared.period.Period.{Period as Declared}
 use Rattle.model.specs.declared.value.Value.{Value as RowValue}
 use Rattle.model.specs.Tables.{Period, Row}
+use Rattle.model.specs.Periods.{period_of}
 use Rattle.model.specs.Answers.{SystemTime, AsOf, From, Between}
 use Rattle.sqlsyntax.specs.declared.forms.Relation.{Relation}
 use Rattle.sqlchecks.specs.declared.comparison.Comparison.{Comparison}
@@ -18,9 +19,6 @@ use Rattle.sqlread.specs.declared.query.Time as times'
 use Rattle.sqlread.specs.declared.query.Time.TheVariants as times
 use Rattle.sqlread.specs.declared.term.Term as terms'
 use Rattle.sqlread.specs.declared.term.Term.TheVariants as terms
-
-abbrev pub period_of : Declared → Period
-period_of p = record { start = p.start.number; end = p.end.number }
 
 -- a row with this key, these values, this period and this birth
 abbrev pub row : List RowValue → List RowValue → Declared → ℕ → Row

@@ -3,9 +3,11 @@ ghost use Rattle.std.specs.Prelude.{map};
 ghost use Rattle.std.specs.Option.{option_map};
 ghost use Rattle.sqlsyntax.specs.Shared.{comparison_form};
 ghost use Rattle.sqlsyntax.specs.Transactions.{portion_form, update_form, delete_form, statement_form};
-ghost use Rattle.sqlchecks.specs.Answering.{Gives, GivesInMemory};
+ghost use Rattle.sqlchecks.specs.Answering.{Gives};
+ghost use Rattle.sqlsyntax.specs.Parsing.{GivesInMemory};
 ghost use Rattle.sqlchecks.specs.Comparisons.{comparisons_in};
-ghost use Rattle.sqlread.specs.Shapes.{period_of, update_of, delete_of, statement_of};
+ghost use Rattle.model.specs.Periods.{period_of};
+ghost use Rattle.sqlread.specs.Shapes.{update_of, delete_of, statement_of};
 ghost use Rattle.sqlread.specs.Changes.{portion_in, if_given, all_given, update_in, delete_in, statement_in, statements_in};
 
 use crate::assignment::assignments_in;

@@ -2,8 +2,10 @@
 ghost use Rattle.std.specs.Prelude.{◌≡◌, ℕ, map};
 ghost use Rattle.std.specs.List.{list_all};
 ghost use Rattle.sqlsyntax.specs.Queries.{term_form};
-ghost use Rattle.sqlchecks.specs.Answering.{Gives, GivesInMemory, each_of};
-ghost use Rattle.sqlread.specs.Shapes.{period_of, row, term_of};
+ghost use Rattle.sqlchecks.specs.Answering.{Gives, each_of};
+ghost use Rattle.sqlsyntax.specs.Parsing.{GivesInMemory};
+ghost use Rattle.model.specs.Periods.{period_of};
+ghost use Rattle.sqlread.specs.Shapes.{row, term_of};
 ghost use Rattle.sqlread.specs.Questions.{of_period, term_in};
 ghost use Rattle.sqlread.specs.Meaning.{relates, term_passes};
 

@@ -1,6 +1,6 @@
 //! Reading transactions.
 ghost use Rattle.std.specs.Prelude.{◌≡◌, map};
-ghost use Rattle.sqlchecks.specs.Answering.{GivesInMemory};
+ghost use Rattle.sqlsyntax.specs.Parsing.{GivesInMemory};
 ghost use Rattle.sqlread.specs.Shapes.{statement_of};
 ghost use Rattle.sqlread.specs.Texts.{transaction_in};
 
