@@ -13,7 +13,7 @@ use crate::syntax::CreateTable;
 use crate::{Name, Table};
 use fault::Refusal;
 use indexmap::IndexMap;
-use std::alloc::Global;
+use std::alloc::{AllocError, Global};
 use std::marker::Model;
 
 /// Tables in declared order, which are named by their places: 0 is the first.
@@ -32,6 +32,16 @@ impl Model for Schema {
     ghost view = { λ s. s.tables.entries };
 
     ghost invariant = { λ s. AreSound s.tables.entries };
+}
+
+/// The copy has the same tables. Fails only for want of memory.
+impl Clone for Schema {
+    ghost is_clone = { λ s copy. copy ≡ s };
+
+    fn clone(&self) -> Result<Schema, AllocError> {
+        let tables = self.tables.clone()?;
+        Ok(Schema { tables })
+    }
 }
 
 impl Schema {

@@ -5,6 +5,7 @@ ghost use Rattle.schema.specs.Name.{same_name};
 
 use crate::Name;
 use indexmap::IndexMap;
+use std::alloc::AllocError;
 use std::marker::Model;
 
 /// What the values of a column are.
@@ -31,6 +32,17 @@ impl Model for Reference {
     ghost Value = { ReferenceShape };
 
     ghost view = { λ r. record { columns = r.columns.items; parent = r.parent } };
+}
+
+impl Clone for Reference {
+    ghost is_clone = { λ r copy. copy ≡ r };
+
+    fn clone(&self) -> Result<Reference, AllocError> {
+        Ok(Reference {
+            columns: self.columns.clone()?,
+            parent: self.parent,
+        })
+    }
 }
 
 impl Reference {
@@ -76,6 +88,24 @@ impl Model for Table {
     ghost Value = { TableShape };
 
     ghost view = { λ t. record { columns = t.columns.entries; period = t.period; start = t.start; end = t.end; system_start = t.system_start; system_end = t.system_end; key = t.key.items; values = t.values.items; references = t.references.items } };
+}
+
+impl Clone for Table {
+    ghost is_clone = { λ t copy. copy ≡ t };
+
+    fn clone(&self) -> Result<Table, AllocError> {
+        Ok(Table {
+            columns: self.columns.clone()?,
+            period: self.period.clone()?,
+            start: self.start,
+            end: self.end,
+            system_start: self.system_start,
+            system_end: self.system_end,
+            key: self.key.clone()?,
+            values: self.values.clone()?,
+            references: self.references.clone()?,
+        })
+    }
 }
 
 impl Table {

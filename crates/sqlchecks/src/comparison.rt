@@ -14,7 +14,7 @@ use fault::Refusal;
 use model::value::Value;
 use schema::{Kind, Table};
 use sqlsyntax::{Comparison as ComparisonText, Operator};
-use std::alloc::Global;
+use std::alloc::{AllocError, Global};
 use std::cmp::Ordering;
 
 /// A test on a row: its value of a column lies so to this one.
@@ -23,6 +23,18 @@ pub struct Comparison {
     pub field: Field,
     pub operator: Operator,
     pub value: Value,
+}
+
+impl Clone for Comparison {
+    ghost is_clone = { λ comparison copy. copy ≡ comparison };
+
+    fn clone(&self) -> Result<Comparison, AllocError> {
+        Ok(Comparison {
+            field: self.field,
+            operator: self.operator,
+            value: self.value.clone()?,
+        })
+    }
 }
 
 /// The kind of a literal that a column of this kind is compared with.

@@ -1,4 +1,5 @@
 pub mod Each
+pub mod Copies
 pub mod Lists
 pub mod Numbers
 pub mod Days

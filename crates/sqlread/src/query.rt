@@ -17,7 +17,7 @@ use schema::{Schema, Table};
 use sqlchecks::column::find_table;
 use sqlchecks::literal::read_instant;
 use sqlsyntax::{Query as QueryText, SystemTime, Term as TermText, read_query_form};
-use std::alloc::Global;
+use std::alloc::{AllocError, Global};
 
 /// Which instants a query asks about.
 #[derive(Clone, Copy, Debug, PartialEq, Eq)]
@@ -39,6 +39,18 @@ pub struct Query {
     pub time: Option<Time>,
     /// A row passes where each of these holds: one or more, none where the text has no WHERE.
     pub terms: Vec<Term>,
+}
+
+impl Clone for Query {
+    ghost is_clone = { λ query copy. query_of copy ≡ query_of query };
+
+    fn clone(&self) -> Result<Query, AllocError> {
+        Ok(Query {
+            table: self.table,
+            time: self.time,
+            terms: self.terms.clone()?,
+        })
+    }
 }
 
 /// The instants of FOR SYSTEM_TIME: `OutOfRange` for each that is none, then `EmptyPeriod` where none lies between.

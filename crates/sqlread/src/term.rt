@@ -16,7 +16,7 @@ use schema::Table;
 use sqlchecks::comparison::{Comparison, read_comparison};
 use sqlchecks::literal::{read_day, read_period};
 use sqlsyntax::{Comparison as ComparisonText, Name, Predicate, Relation, Term as TermText};
-use std::alloc::Global;
+use std::alloc::{AllocError, Global};
 
 /// What is asked of a row.
 #[derive(Debug, Drop)]
@@ -29,6 +29,19 @@ pub enum Term {
     Contains(Period),
     /// The row's period lies so to this one.
     Relates(Relation, Period),
+}
+
+impl Clone for Term {
+    ghost is_clone = { λ term copy. term_of copy ≡ term_of term };
+
+    fn clone(&self) -> Result<Term, AllocError> {
+        match self {
+            Term::Compares(comparison) => Ok(Term::Compares(comparison.clone()?)),
+            Term::ContainsDay(day) => Ok(Term::ContainsDay(*day)),
+            Term::Contains(period) => Ok(Term::Contains(*period)),
+            Term::Relates(relation, period) => Ok(Term::Relates(*relation, *period)),
+        }
+    }
 }
 
 /// Refuses a name that is not that of the table's application period.

@@ -1,6 +1,8 @@
 //! Reading transactions.
-ghost use Rattle.std.specs.Prelude.{◌≡◌, map};
+ghost use Rattle.std.specs.Prelude.{◌≡◌, map, IfOk};
 ghost use Rattle.sqlsyntax.specs.Parsing.{GivesInMemory};
+ghost use Rattle.model.specs.Transactions.{misreading};
+ghost use Rattle.sqlread.specs.Meaning.{schema_of};
 ghost use Rattle.sqlread.specs.Shapes.{statement_of};
 ghost use Rattle.sqlread.specs.Texts.{transaction_in};
 
@@ -9,7 +11,7 @@ use crate::statement::Transaction;
 use fault::Refusal;
 use schema::Schema;
 use sqlsyntax::read_transaction_form;
-use std::alloc::Global;
+use std::alloc::{AllocError, Global};
 
 /// How many bytes the text of a transaction or of a query may have.
 pub const MAX_TEXT: usize = 4096;
@@ -56,4 +58,17 @@ pub fn read_transaction(alloc: Global, schema: &Schema, text: &str) -> Result<Tr
     let forms = read_transaction_form(alloc, text)?;
     let statements = statements(alloc, schema, &forms)?;
     Ok(Transaction { statements })
+}
+
+/// Why the text is no transaction, as `read_transaction` refuses it, or none where it is one. An error is want of
+/// memory, and says nothing of the text.
+#[tactic(auto, unfolding(crate::specs::Meaning::schema_of))]
+pub fn misreading(alloc: Global, schema: &Schema, text: &str) -> Result<Option<Refusal>, AllocError>
+    ensures { IfOk result (λ r. r ≡ misreading ((schema_of schema.now).reads text.now)) }
+{
+    match read_transaction(alloc, schema, text) {
+        Ok(_) => Ok(None),
+        Err(Refusal::NoMemory) => Err(AllocError),
+        Err(refusal) => Ok(Some(refusal)),
+    }
 }

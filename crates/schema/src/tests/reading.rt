@@ -132,6 +132,17 @@ fn in_other_orders(rt: HostRuntime) -> Result<(), Fail> {
     Ok(())
 }
 
+// The first schema is gone when the copy is read.
+#[test]
+fn a_copy_tells_the_same(rt: HostRuntime) -> Result<(), Fail> {
+    let alloc = rt.alloc();
+    let copy = schema_of(alloc, two(alloc, dept(alloc), emp(alloc)))?.clone()?;
+    let text = shown(alloc, &copy)?;
+    assert_eq!(rt; text.as_str(), DEPT_AND_EMP);
+    assert_eq!(rt; find_table(alloc, &copy, "emp"), Ok(Some(1)));
+    Ok(())
+}
+
 /// What is told of Dept and Emp.
 fn told(alloc: Global) -> Result<String, Refusal> {
     let schema = schema_of(alloc, two(alloc, dept(alloc), emp(alloc)))?;

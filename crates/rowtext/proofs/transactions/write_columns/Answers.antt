@@ -1,0 +1,34 @@
+use Rattle.std.proofs.Common.{rules, refl, arith, sym, ◌≡◌, ◌∙◌, length}
+use Rattle.std.proofs.Output.{has_written_append, has_written_of_eq}
+use Rattle.rowtext.specs.Transactions.{column_name}
+use Rattle.rowtext.proofs.Statements.{system_left, next_separator, next_written, columns_written, column_named}
+use Rattle.rowtext.proofs.transactions.write_columns.Goals.{then-not-is_system+in_ok-write, else-not-is_system}
+use Rattle.rowtext.proofs.transactions.write_columns.Goals as goal
+
+pub loop-column-preserved : goal.loop-column-preserved
+loop-column-preserved g c = elim c.if-not-is_system.branch [
+  | then-not-is_system+in_ok-write w ↦
+      let table = c.args.table.now in
+      let n = c.loop-column.column in
+      let given = sym c.is_system.ensures ∙ w.if-not-is_system.true in
+      rw (w.separator-is, w.f-is) (
+        search rules,
+        next_separator table (column_name table) n given,
+        λ plain.
+            let so_far = c.loop-column.invariant.2 plain in
+            let item = w.in_ok-write.ensures.writes so_far.plain refl in
+            has_written_of_eq _ _ _ _ _ (next_written table (column_name table) n _ _ given c.loop-column.invariant.1 (column_named table n _ _ w.column.ensures)) (has_written_append _ _ _ _ _ _ so_far item),
+      )
+  | else-not-is_system w ↦
+      let table = c.args.table.now in
+      let n = c.loop-column.column in
+      let same = system_left table (column_name table) n (sym c.is_system.ensures ∙ w.if-not-is_system.false) in
+      rw (w.separator-is, w.f-is, same) c.loop-column.invariant
+]
+
+pub returns : goal.returns
+returns g c = λ plain ok.
+    let table = c.args.table.now in
+    let n = c.loop-column.column in
+    let all : n ≡ length table.columns = omega (arith, c.column_count-column-end.ensures, c.loop-column-test.false, c.loop-column.auto.column-end) in
+    has_written_of_eq _ _ _ _ _ (columns_written table n _ all c.loop-column.invariant.1 (c.some_written.ensures ok)) (c.loop-column.invariant.2 plain)

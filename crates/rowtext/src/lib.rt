@@ -1,0 +1,13 @@
+//! The texts of answers and of transactions.
+#![tactic(auto)]
+
+mod answers;
+mod cell;
+pub mod laws;
+mod sink;
+#[cfg(test)]
+mod tests;
+pub mod transactions;
+
+pub use answers::{Lines, write_answer};
+pub use transactions::{SqlLiteral, Written, write_transaction};

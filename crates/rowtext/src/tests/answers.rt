@@ -1,0 +1,170 @@
+use crate::{Lines, write_answer};
+use answer::{Answer, Column, Shown, Shows};
+use fault::Text;
+use model::stamp::Stamp;
+use model::value::Value;
+use period::{Day, Period};
+use std::alloc::{AllocError, Global};
+use std::io;
+use std::test::Fail;
+
+const WANTED: &str = "last 1970-01-01 00:00:00.000202
+columns DName,DStart,DNo,DEnd,SysStart,SysEnd
+row 'it''s',0001-01-01,-9223372036854775808,9999-12-31,1970-01-01 00:00:00.000101,9999-12-31 23:59:59.999999
+row '',2000-01-01,9223372036854775807,2000-01-02,1970-01-01 00:00:00.000101,1970-01-01 00:00:00.000202
+rows 2
+";
+
+fn text(alloc: Global, words: &str) -> Result<Text, AllocError> {
+    Ok(Text::new(String::from_str(alloc, words)?))
+}
+
+fn column(alloc: Global, name: &str, shows: Shows) -> Result<Column, AllocError> {
+    let name = text(alloc, name)?;
+    Ok(Column { name, shows })
+}
+
+// Columns whose key stands third.
+fn columns(alloc: Global) -> Result<Vec<Column>, AllocError> {
+    let mut columns = Vec::new(alloc);
+    columns.push(column(alloc, "DName", Shows::Value(0))?)?;
+    columns.push(column(alloc, "DStart", Shows::Start)?)?;
+    columns.push(column(alloc, "DNo", Shows::Key(0))?)?;
+    columns.push(column(alloc, "DEnd", Shows::End)?)?;
+    columns.push(column(alloc, "SysStart", Shows::SystemStart)?)?;
+    columns.push(column(alloc, "SysEnd", Shows::SystemEnd)?)?;
+    Ok(columns)
+}
+
+fn row(
+    alloc: Global,
+    number: i64,
+    name: &str,
+    period: (&str, &str),
+    end: Option<Stamp>,
+) -> Result<Shown, Fail> {
+    let mut key = Vec::new(alloc);
+    key.push(Value::Number(number))?;
+    let mut values = Vec::new(alloc);
+    values.push(Value::Text(text(alloc, name)?))?;
+    let period = Period::new(Day::read(period.0, 0)?, Day::read(period.1, 0)?)?;
+    let birth = Stamp::new(101);
+    Ok(Shown {
+        key,
+        values,
+        period,
+        birth,
+        end,
+    })
+}
+
+fn two_rows(alloc: Global) -> Result<Answer, Fail> {
+    let mut rows = Vec::new(alloc);
+    let all_days = ("0001-01-01", "9999-12-31");
+    rows.push(row(alloc, i64::MIN, "it's", all_days, None)?)?;
+    let one_day = ("2000-01-01", "2000-01-02");
+    rows.push(row(alloc, i64::MAX, "", one_day, Some(Stamp::new(202)))?)?;
+    Ok(Answer {
+        last: Stamp::new(202),
+        columns: columns(alloc)?,
+        rows,
+    })
+}
+
+#[test]
+fn prints_and_writes(rt: HostRuntime) -> Result<(), Fail> {
+    let answer = two_rows(rt.alloc())?;
+    let lines = Lines(&answer);
+    let printed = format!(in rt.alloc(); "{lines}")?;
+    assert_eq!(rt; printed.as_str(), WANTED);
+    let mut written = Vec::new(rt.alloc());
+    write_answer(&answer, &mut written)?;
+    assert_eq!(rt; written.as_slice(), WANTED.as_bytes());
+    Ok(())
+}
+
+#[test]
+fn no_rows(rt: HostRuntime) -> Result<(), Fail> {
+    let answer = Answer {
+        last: Stamp::new(0),
+        columns: columns(rt.alloc())?,
+        rows: Vec::new(rt.alloc()),
+    };
+    let lines = Lines(&answer);
+    let printed = format!(in rt.alloc(); "{lines}")?;
+    let wanted = "last 1970-01-01 00:00:00.000000
+columns DName,DStart,DNo,DEnd,SysStart,SysEnd
+rows 0
+";
+    assert_eq!(rt; printed.as_str(), wanted);
+    Ok(())
+}
+
+#[test]
+fn places_that_a_row_does_not_have(rt: HostRuntime) -> Result<(), Fail> {
+    let alloc = rt.alloc();
+    let mut columns = Vec::new(alloc);
+    columns.push(column(alloc, "A", Shows::Key(1))?)?;
+    columns.push(column(alloc, "B", Shows::Key(0))?)?;
+    columns.push(column(alloc, "C", Shows::Value(9))?)?;
+    let mut rows = Vec::new(alloc);
+    rows.push(row(alloc, 7, "x", ("2000-01-01", "2000-01-02"), None)?)?;
+    let last = Stamp::new(0);
+    let answer = Answer {
+        last,
+        columns,
+        rows,
+    };
+    let lines = Lines(&answer);
+    let printed = format!(in alloc; "{lines}")?;
+    let wanted = "last 1970-01-01 00:00:00.000000\ncolumns A,B,C\nrow ,7,\nrows 1\n";
+    assert_eq!(rt; printed.as_str(), wanted);
+    Ok(())
+}
+
+// Takes at most five bytes a call, is interrupted at each third, and fails when no calls are left.
+#[derive(Drop)]
+struct Weak {
+    taken: Vec<u8>,
+    calls: usize,
+    calls_left: usize,
+}
+
+impl io::Write for Weak {
+    fn write(&mut self, bytes: &[u8]) -> io::Result<usize> {
+        if self.calls_left == 0 {
+            return Err(io::Error::from(io::ErrorKind::StorageFull));
+        }
+        self.calls_left -= 1;
+        self.calls = self.calls.saturating_add(1);
+        if self.calls % 3 == 0 {
+            return Err(io::Error::from(io::ErrorKind::Interrupted));
+        }
+        let count = bytes.len().min(5);
+        self.taken.extend_from_slice(&bytes[..count])?;
+        Ok(count)
+    }
+
+    fn flush(&mut self) -> io::Result<()> {
+        Ok(())
+    }
+}
+
+#[test]
+fn a_writer_that_fails_holds_a_beginning(rt: HostRuntime) -> Result<(), Fail> {
+    let answer = two_rows(rt.alloc())?;
+    let mut is_whole = false;
+    for calls_left in 0..400 {
+        let mut writer = Weak {
+            taken: Vec::new(rt.alloc()),
+            calls: 0,
+            calls_left,
+        };
+        let written = write_answer(&answer, &mut writer);
+        assert!(rt; WANTED.as_bytes().starts_with(writer.taken.as_slice()));
+        is_whole = written.is_ok();
+        assert_eq!(rt; is_whole, writer.taken.len() == WANTED.len());
+    }
+    assert!(rt; is_whole);
+    Ok(())
+}
