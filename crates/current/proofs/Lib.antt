@@ -17,3 +17,7 @@ pub mod Statements
 pub mod Undoing
 pub mod Joined
 pub mod UndoTables
+pub mod OfKey
+pub mod Naming
+pub mod Orphans
+pub mod Checked

@@ -7,3 +7,4 @@ pub mod Touched
 pub mod Current
 pub mod Run
 pub mod Places
+pub mod Orphans

@@ -1,10 +1,13 @@
 //! The current rows of all tables.
-ghost use Rattle.std.specs.Prelude.{◌≡◌, ◌<◌, ◌≤◌, ◌++◌, ℕ, [], true, Err, alloc_error, length, unwrap_or, OnOk, OnErr, IfOk, IfErr};
+ghost use Rattle.std.specs.Prelude.{◌≡◌, ◌<◌, ◌≤◌, ◌++◌, ◌⊎◌, ℕ, [], true, Ok, Err, alloc_error, length, unwrap_or, OnOk, OnErr, IfOk, IfErr};
 ghost use Rattle.std.specs.Option.{option_map};
-ghost use Rattle.fault.specs.declared.refusal.Refusal.TheVariants.{NoMemory};
+ghost use Rattle.fault.specs.declared.refusal.Refusal.TheVariants.{NoMemory, NoParent};
 ghost use Rattle.sqlread.specs.Shapes.{insert_of, update_of, delete_of, statement_of};
 ghost use Rattle.sqlread.specs.Shapes as shapes;
-ghost use Rattle.sqlread.specs.Meaning.{meaning, table_of, all_days};
+ghost use Rattle.sqlread.specs.Meaning.{meaning, table_of, all_days, name_of, schema_of};
+ghost use Rattle.model.specs.Texts.{key_text, day_text};
+ghost use Rattle.model.specs.Transactions.{State, first_orphan, unless_orphan};
+ghost use Rattle.rowlaws.specs.Statements.{AllListed};
 ghost use Rattle.current.specs.Current.{rows_of, table_count, is_failed};
 ghost use Rattle.current.specs.Table.{HaveSame};
 ghost use Rattle.rowlaws.specs.Touching.{rows_without};
@@ -19,13 +22,16 @@ ghost use Rattle.current.specs.Run.{IsRun, IsRefused, AllUndoable, IsUndone};
 
 use crate::cut::Cut;
 use crate::line::Changes;
+use crate::references::{Place, first_orphan};
 use crate::row::Row;
 use crate::table::TableRows;
 use crate::touched::Touched;
-use fault::Refusal;
+use fault::{Refusal, Text};
+use literals::{day_text, key_text};
 use model::stamp::Stamp;
 use overlaps::Key;
 use period::{Day, Period};
+use schema::Schema;
 use sqlread::statement::{Assignment, Delete, Insert, Statement, Update};
 use std::alloc::{AllocError, Global};
 
@@ -208,6 +214,26 @@ impl Current {
         undone
     }
 
+    /// Checks the foreign keys of a schema: each day of a row that refers to a parent is to be a day of a row of the
+    /// parent's key.
+    ///
+    /// `NoParent` with the first table in declared order, then its least key, then its least day without a parent;
+    /// `NoMemory`, always once it has failed.
+    pub fn check(&self, schema: &Schema) -> Result<(), Refusal>
+        ensures ok { OnOk result ((state : State) → AllListed (rows_of self.now) state → unless_orphan (schema_of schema.now) state (first_orphan (schema_of schema.now) state) ≡ Ok state) }
+        ensures err { IfErr result (λ refusal. (refusal ≡ NoMemory) ⊎ ((state : State) → AllListed (rows_of self.now) state → unless_orphan (schema_of schema.now) state (first_orphan (schema_of schema.now) state) ≡ Err refusal)) }
+        ensures once_failed { is_failed self.now ≡ true → result ≡ Err NoMemory }
+    {
+        if self.failed {
+            return Err(Refusal::NoMemory);
+        }
+        rowlaws::orphan_on_rows();
+        match first_orphan(self.alloc, self.tables.as_slice(), schema)? {
+            Some(place) => Err(no_parent(self.alloc, schema, &place)?),
+            None => Ok(()),
+        }
+    }
+
     /// Whether an undo has found no memory.
     pub fn has_failed(&self) -> bool
         ensures { result ≡ is_failed self.now }
@@ -221,6 +247,18 @@ impl Current {
     {
         self.tables.len()
     }
+}
+
+// The refusal that names a day without a parent.
+fn no_parent(alloc: Global, schema: &Schema, place: &Place) -> Result<Refusal, AllocError>
+    requires { place.now.table < length schema.now }
+    ensures { IfOk result (λ refusal. refusal ≡ NoParent (name_of schema.now place.now.table) (key_text place.now.key.now) (day_text place.now.day.number)) }
+{
+    let (name, _) = schema.table(place.table);
+    let table = Text::new(String::from_str(alloc, name.as_str())?);
+    let key = key_text(alloc, place.key.as_slice())?;
+    let day = day_text(alloc, place.day)?;
+    Ok(Refusal::NoParent { table, key, day })
 }
 
 // The row that an INSERT makes.

@@ -6,7 +6,9 @@ pub mod current;
 mod cut;
 mod line;
 mod lines;
+mod named;
 mod plan;
+mod references;
 pub mod row;
 mod table;
 #[cfg(test)]

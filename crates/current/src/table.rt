@@ -1,5 +1,7 @@
 //! The current rows of one table.
-ghost use Rattle.std.specs.Prelude.{◌≡◌, ℕ, List, IsTrue, length};
+ghost use Rattle.std.specs.Prelude.{◌≡◌, ◌≤◌, ℕ, List, IsTrue, length};
+ghost use Rattle.model.specs.Tables.{Row as TableRow};
+ghost use Rattle.rowlaws.specs.Rows.{Has};
 ghost use Rattle.std.specs.BTreeMap.{IsOrdered};
 ghost use Rattle.std.specs.List.Sorted.{IsStrictlySortedBy-prop};
 ghost use Rattle.model.specs.declared.value.Value.{Value};
@@ -10,9 +12,11 @@ use crate::compare::has_row;
 use crate::cut::Cut;
 use crate::line::Changes;
 use crate::lines::{Lines, clashes, keys_in_order, line, put_row, take_row};
-use crate::plan::{Plan, plan_cut, replace_lines};
+use crate::named::named_key;
+use crate::plan::{Plan, plan_cut, plan_key, replace_lines};
 use crate::row::Row;
 use fault::Refusal;
+use overlaps::Key;
 use std::alloc::{AllocError, Global};
 use std::collections::BTreeMap;
 
@@ -24,23 +28,28 @@ const ROWS_MOST: usize = 20_000;
 pub(crate) struct TableRows {
     pub lines: Lines,
     pub count: usize,
+    /// No row's key has more columns.
+    pub columns: usize,
     pub alloc: Global,
     pub ghost ordered: { IsOrdered key_cmp lines } by { IsStrictlySortedBy-prop _ _ },
     pub ghost in_lines: { (key : List Value) → IsTrue (in_line key 0 (lines_of lines key)) },
+    pub ghost short: { (row : TableRow) → Has (rows_in lines.entries) row → length row.key ≤ columns },
     pub ghost counted: { count ≡ length (rows_in lines.entries) },
 }
 
 impl TableRows {
-    ghost use Rattle.std.specs.Prelude.{◌≡◌, ◌⊎◌, ◌+◌, ◌<◌, ◌≤◌, ◌++◌, ◌∷◌, [], true, false, map, OnOk, OnErr, IfOk, IfErr, length};
+    ghost use Rattle.std.specs.Prelude.{◌≡◌, ◌⊎◌, ◌+◌, ◌<◌, ◌≤◌, ◌++◌, ◌∷◌, [], true, false, map, flat_map, min, OnOk, OnErr, IfOk, IfErr, length};
     ghost use Rattle.std.specs.List.{list_any};
-    ghost use Rattle.fault.specs.declared.refusal.Refusal.TheVariants.{NoMemory, KeyOverlap, RowLimit};
+    ghost use Rattle.fault.specs.declared.refusal.Refusal.TheVariants.{NoMemory, KeyOverlap, RowLimit, NumberRange};
     ghost use Rattle.rowlaws.specs.Changes.{clashes};
     ghost use Rattle.current.specs.Rows.{row_of};
     ghost use Rattle.current.specs.Table.{rows_of_table, IsWith, IsInserted, IsInsertRefused, IsCut, IsCutRefused, IsWithout, IsJoined, CanPut, CanUndo, HaveSame};
     ghost use Rattle.rowlaws.specs.Touching.{rows_without};
-    ghost use Rattle.current.specs.Cuts.{change_of_cut};
+    ghost use Rattle.current.specs.Cuts.{change_of_cut, is_stuck, kept, gone_at, come_at};
+    ghost use Rattle.current.specs.Plans.{ArePlanned};
     ghost use Rattle.current.specs.Stored.{lines_of, line_in};
-    ghost use Rattle.model.specs.Periods.{period_of};
+    ghost use Rattle.model.specs.Periods.{period_of, StartInOrder};
+    ghost use Rattle.rowlaws.specs.Covering.{periods_of};
 
     /// No rows. Takes no memory.
     pub(crate) fn new(alloc: Global) -> TableRows
@@ -49,6 +58,7 @@ impl TableRows {
         TableRows {
             lines: BTreeMap::new(alloc),
             count: 0,
+            columns: 0,
             alloc,
         }
     }
@@ -61,6 +71,15 @@ impl TableRows {
         clashes(line(&self.lines, &row.key), row)
     }
 
+    /// The rows of a key, in the order of their starts. Takes no memory.
+    pub(crate) fn rows_of_key(&self, key: &Key) -> &[Row]
+        ensures periods { map (λ r. r.period) (map row_of result.now) ≡ periods_of (rows_of_table self.now) key.now }
+        ensures in_order { StartInOrder (map (λ r. r.period) (map row_of result.now)) }
+    {
+        rowlaws::periods_in_order();
+        line(&self.lines, key)
+    }
+
     /// Adds a row. Want of memory changes nothing.
     pub(crate) fn put(&mut self, row: Row) -> Result<(), AllocError>
         requires { list_any (clashes row.key (period_of row.period)) (lines_of self.old.lines row.key) ≡ false }
@@ -70,10 +89,12 @@ impl TableRows {
         let Some(count) = self.count.checked_add(1) else {
             return Err(AllocError);
         };
+        let columns = self.columns.max(row.key.as_slice().len());
         let added = put_row(self.alloc, &mut self.lines, row);
         keys_in_order(&self.lines);
         added?;
         self.count = count;
+        self.columns = columns;
         Ok(())
     }
 
@@ -95,6 +116,21 @@ impl TableRows {
         Ok(())
     }
 
+    // What will become of the rows. Where WHERE names a key only its rows are looked at.
+    fn plan(&self, cut: &Cut) -> Result<Plan, Refusal>
+        ensures lines { IfOk result (λ plan. ArePlanned (change_of_cut cut.now) cut.now.birth (lines_of self.now.lines) plan.lines.items) }
+        ensures count { IfOk result (λ plan. plan.count ≡ min (length (flat_map (kept (change_of_cut cut.now) cut.now.birth) (rows_of_table self.now))) usize.MAX) }
+        ensures gone { IfOk result (λ plan. map row_of plan.changes.gone.items ≡ flat_map (gone_at (change_of_cut cut.now) cut.now.birth) (rows_of_table self.now)) }
+        ensures come { IfOk result (λ plan. map row_of plan.changes.come.items ≡ flat_map (come_at (change_of_cut cut.now) cut.now.birth) (rows_of_table self.now)) }
+        ensures in_range { IfOk result (λ plan. list_any (is_stuck (change_of_cut cut.now)) (rows_of_table self.now) ≡ false) }
+        ensures err { IfErr result (λ refusal. (refusal ≡ NoMemory) ⊎ ((refusal ≡ NumberRange) × (list_any (is_stuck (change_of_cut cut.now)) (rows_of_table self.now) ≡ true))) }
+    {
+        match named_key(self.alloc, cut.conditions, self.columns)? {
+            Some(key) => plan_key(self.alloc, cut, &self.lines, &key, self.count),
+            None => plan_cut(self.alloc, cut, &self.lines),
+        }
+    }
+
     /// Cuts the rows that are met as UPDATE and DELETE do, and tells what it touched. Each refusal
     /// changes nothing.
     ///
@@ -104,7 +140,7 @@ impl TableRows {
         ensures ok { IfOk result (λ changes. IsCut (change_of_cut cut.now) cut.now.birth (rows_of_table self.old) (rows_of_table self.new) (map row_of changes.gone.items) (map row_of changes.come.items)) }
         ensures err { IfErr result (λ refusal. (rows_of_table self.new ≡ rows_of_table self.old) × IsCutRefused (change_of_cut cut.now) cut.now.birth (rows_of_table self.old) refusal) }
     {
-        let plan = plan_cut(self.alloc, cut, &self.lines)?;
+        let plan = self.plan(cut)?;
         if plan.count > ROWS_MOST {
             return Err(Refusal::RowLimit);
         }

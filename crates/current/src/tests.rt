@@ -1,3 +1,6 @@
+mod references;
+mod undoing;
+
 ghost use Rattle.std.specs.Prelude.{◌≡◌, ◌<◌, ◌≤◌};
 ghost use Rattle.sqlread.specs.Shapes.{statement_of};
 ghost use Rattle.sqlread.specs.Meaning.{table_of};

@@ -4,6 +4,7 @@ use Rattle.current.specs.Cuts.{change_of_cut, kept}
 use Rattle.current.specs.Stored.{lines_of, rows_in}
 use Rattle.current.proofs.Cutting.{all_planned}
 use Rattle.current.proofs.TableCut.{cut_lines, cut_same, cut_length, cut_portion}
+use Rattle.current.proofs.Naming.{cut_short}
 use Rattle.current.proofs.table.TableRows.cut.Goals as goal
 
 pub invariant_of-self : goal.invariant_of-self
@@ -19,9 +20,11 @@ invariant_of-self c =
     let long : length (rows_in n.entries) ≡ length (flat_map (kept change t) (rows_in m.entries)) = cut_length change t (cut_portion cut) m n s.ordered s.in_lines each c.keys_in_order.ensures in
     let count : plan.count ≡ min (length (flat_map (kept change t) (rows_in m.entries))) 18446744073709551615 = c.in_ok-plan.ensures.count in
     let small : plan.count ≤ 20000 = c.if-plan-gt-ROWS_MOST.false in
+    let in' = cut_lines change t (cut_portion cut) m n s.ordered s.in_lines each in
     record {
       ordered = c.keys_in_order.ensures;
-      in_lines = cut_lines change t (cut_portion cut) m n s.ordered s.in_lines each;
+      in_lines = in';
+      short = cut_short change t s.columns m n s.ordered s.in_lines c.keys_in_order.ensures in' each s.short;
       counted = omega (arith, long, count, small);
     }
 

@@ -1,6 +1,8 @@
-use Rattle.std.proofs.Common.{◌∙◌, ap, sym, subst, length}
+use Rattle.std.proofs.Common.{◌≡◌, ◌∙◌, ap, sym, subst, length, inl, inr}
 use Rattle.std.proofs.Common.{arith}
 use Rattle.std.proofs.lemmas.Grind.{common_steps}
+use Rattle.model.specs.Tables.{Row}
+use Rattle.rowlaws.specs.Rows.{Has}
 use Rattle.current.specs.Rows.{row_of}
 use Rattle.current.specs.Stored.{lines_of}
 use Rattle.current.proofs.Moves.{InLines, put_in_lines, length_put, row_put, in_calendar}
@@ -12,6 +14,7 @@ invariant_of-self c =
     record {
       ordered = c.keys_in_order.ensures;
       in_lines = subst (λ l. InLines l) (sym (c.in_err-added.ensures.err)) t.in_lines;
+      short = λ r h. t.short r (subst (λ rs. Has rs r) c.in_err-added.ensures.kept h);
       counted = t.counted ∙ sym (ap length c.in_err-added.ensures.kept);
     }
 
@@ -27,6 +30,10 @@ invariant_of-self-2 c =
     record {
       ordered = c.keys_in_order.ensures;
       in_lines = in_lines;
+      short = λ r h. elim ((row_put m n t.ordered c.keys_in_order.ensures t.in_lines in_lines (row_of row) e r).0 h) [
+        | inl there ↦ let old = t.short r there in omega (arith, old, c.max-columns.ensures)
+        | inr new ↦ let same : length r.key ≡ length row.key = ap (λ (x : Row). length x.key) new in let long : length c.as_slice.result.now ≡ length row.key = ap length c.as_slice.ensures in omega (arith, same, long, c.max-columns.ensures)
+      ];
       counted = grind (arith, common_steps, long, t.counted);
     }
 

@@ -37,6 +37,7 @@ invariant_of-self c =
     record {
       ordered = c.keys_in_order.ensures;
       in_lines = in';
+      short = λ r h. s.short r ((row_taken s.lines n s.ordered c.keys_in_order.ensures s.in_lines in' row c.take_row.ensures r).0 h).0;
       counted = omega (arith, long, count);
     }
 

@@ -1,0 +1,279 @@
+-- What one more entry makes of tables that are those of a list.
+use Rattle.std.proofs.Common.{◌≡◌, ℕ, zero, suc, ◌+◌, ◌<◌, ◌≤◌, inl, inr, Bool, true, false, cond, List, [], ◌∷◌, ◌++◌, length, reverse, Option, Some, None, option_map, Err, refl, sym, ap, ◌∙◌, subst, arith}
+use Rattle.std.specs.Prelude.{◌==◌, nat_lt, slice_get, unwrap_or}
+use Rattle.std.proofs.lemmas.Bool.{cases_Bool, eq-eqb, eqb-true}
+use Rattle.std.proofs.lemmas.List.{reverse-append}
+use Rattle.fault.specs.declared.refusal.Refusal.TheVariants as refusals
+use Rattle.model.specs.Lists.{nth}
+use Rattle.model.specs.declared.entry.Request.{Request}
+use Rattle.model.specs.declared.entry.Entry.{Entry}
+use Rattle.model.specs.Stamps.{above}
+use Rattle.model.specs.Tables.{Row, IsRow, empty_table}
+use Rattle.model.specs.Transactions.{State, Schema, executed_text}
+use Rattle.model.specs.Logs.{IsStamped, last_entry, closed, least_stamp, Outcome, is_request, executed, next_state, after_request, state_after, state_at, first_outcome, kept_request, kept, outcome}
+use Rattle.rowlaws.specs.Rows.{Lists}
+use Rattle.rowlaws.specs.Touching.{IsTouched}
+use Rattle.rowlaws.specs.Statements.{AllListed}
+use Rattle.rowlaws.specs.Logs.{FineLogs, ReadsFine, LogsOnRows, rows_after}
+use Rattle.rowlaws.proofs.RowFacts.{both}
+use Rattle.versionlaws.specs.Versions.{Version, Holds, HeldBefore, NoVersions}
+use Rattle.versionlaws.specs.Committing.{CommitEntry, EntryStays}
+use Rattle.current.specs.declared.current.Current.{Current}
+use Rattle.current.specs.Current as current
+use Rattle.sysversion.specs.declared.Versions.{Versions}
+use Rattle.sysversion.specs.Versions as versions
+use Rattle.retry.specs.declared.Latest.{Latest}
+use Rattle.retry.specs.Judging.{Verdict, New, Kept, Old, Gap, latest_of, number_of, again, judged, with_latest}
+use Rattle.apply.specs.declared.tables.Tables.{Tables}
+use Rattle.apply.specs.Executing.{IsCommitted, unless_new}
+use Rattle.apply.specs.View.{AreTables, outcome_of}
+use Rattle.apply.proofs.Turned.{whole}
+
+-- ---- judging
+
+again_known : (latest : Option Latest) (number : ℕ) → unless_new (again latest number) ≡ None → ⊥
+again_known None number h = cc
+again_known (Some latest) number h = by (number == latest.number) h
+  where
+    by : (b : Bool) → unless_new (cond b (Kept latest.outcome) Old) ≡ None → ⊥
+    by true g = cc
+    by false g = cc
+
+-- a request with no outcome yet has the number after the latest's
+pub new_number : (latest : Option Latest) (number : ℕ) → unless_new (judged latest number) ≡ None → (number == number_of latest + 1) ≡ true
+new_number latest number h = by (number == number_of latest + 1) (nat_lt (number_of latest) number) h
+  where
+    by : (a b : Bool) → unless_new (cond a New (cond b Gap (again latest number))) ≡ None → a ≡ true
+    by true b g = refl
+    by false true g = cc
+    by false false g = absurd (again_known latest number g)
+
+-- and one with an outcome has not
+pub known_number : (latest : Option Latest) (number : ℕ) (o : Outcome) → unless_new (judged latest number) ≡ Some o → (number == number_of latest + 1) ≡ false
+known_number latest number o h = by (number == number_of latest + 1) (cond (nat_lt (number_of latest) number) Gap (again latest number)) h
+  where
+    by : (a : Bool) (rest : Verdict) → unless_new (cond a New rest) ≡ Some o → a ≡ false
+    by true rest g = absurd cc
+    by false rest g = refl
+
+abbrev outcome_by : Outcome → ℕ → ℕ → Option Outcome → Outcome
+outcome_by first n number k = cond (number == n + 1) first (cond (nat_lt n number) (Err refusals.Gap) (cond (number == n) (unwrap_or k (Err refusals.Old)) (Err refusals.Old)))
+
+known_outcome : (latest : Option Latest) (number : ℕ) (first o : Outcome) → unless_new (judged latest number) ≡ Some o → o ≡ outcome_by first (number_of latest) number (option_map outcome_of latest)
+known_outcome None number first o h = by (number == 1) (nat_lt 0 number) (number == 0) h
+  where
+    by : (a b c : Bool) → unless_new (cond a New (cond b Gap Old)) ≡ Some o → o ≡ cond a first (cond b (Err refusals.Gap) (cond c (Err refusals.Old) (Err refusals.Old)))
+    by true b c g = absurd cc
+    by false true c g = cc
+    by false false true g = cc
+    by false false false g = cc
+known_outcome (Some latest) number first o h = by (number == latest.number + 1) (nat_lt latest.number number) (number == latest.number) h
+  where
+    by : (a b c : Bool) → unless_new (cond a New (cond b Gap (cond c (Kept latest.outcome) Old))) ≡ Some o → o ≡ cond a first (cond b (Err refusals.Gap) (cond c latest.outcome (Err refusals.Old)))
+    by true b c g = absurd cc
+    by false true c g = cc
+    by false false true g = cc
+    by false false false g = cc
+
+-- ---- stamps
+
+got_before : {A : Type 0} (xs ys : List A) (k : ℕ) (x : A) → slice_get xs k ≡ Some x → slice_get (xs ++ ys) k ≡ Some x
+got_before [] ys k x h = absurd cc
+got_before (y ∷ xs) ys zero x h = h
+got_before (y ∷ xs) ys (suc k) x h = got_before xs ys k x h
+
+got_last : {A : Type 0} (xs : List A) (e : A) → slice_get (xs ++ e ∷ []) (length xs) ≡ Some e
+got_last [] e = refl
+got_last (x ∷ xs) e = got_last xs e
+
+nth_before : (xs ys : List Entry) (k : ℕ) (x : Entry) → nth xs k ≡ Some x → nth (xs ++ ys) k ≡ Some x
+nth_before xs ys zero x h = absurd cc
+nth_before xs ys (suc k) x h = got_before xs ys k x h
+
+stamped_before : (list more : List Entry) → IsStamped (list ++ more) → IsStamped list
+stamped_before list more s = record {
+  instants = λ i e h. s.instants i e (nth_before list more i e h);
+  rising = λ i j d e l h g. s.rising i j d e l (nth_before list more i d h) (nth_before list more j e g);
+}
+
+length_more : (list : List Entry) (e : Entry) → length (list ++ e ∷ []) ≡ suc (length list)
+length_more [] e = refl
+length_more (x ∷ xs) e = ap suc (length_more xs e)
+
+last_is : (list : List Entry) (e : Entry) → nth (list ++ e ∷ []) (length (list ++ e ∷ [])) ≡ Some e
+last_is list e = ap (nth (list ++ e ∷ [])) (length_more list e) ∙ got_last list e
+
+pub closed_more : (list : List Entry) (e : Entry) → closed (list ++ e ∷ []) ≡ Some e.stamp
+closed_more list e = ap (λ o. option_map (λ (d : Entry). d.stamp) o) (last_is list e)
+
+bound_less : (list : List Entry) (e : Entry) → IsStamped (list ++ e ∷ []) → least_stamp list ≤ e.stamp
+bound_less list e s = by (last_entry list) refl
+  where
+    by : (o : Option Entry) → last_entry list ≡ o → above (option_map (λ (d : Entry). d.stamp) o) ≤ e.stamp
+    by None h = omega arith
+    by (Some d) h =
+        let l = s.rising (length list) (suc (length list)) d e (omega arith) (nth_before list (e ∷ []) (length list) d h) (got_last list e) in
+        omega arith
+
+-- ---- one more entry
+
+module _ (schema : Schema) (list : List Entry) (e : Entry) where
+  abbrev before : List Entry
+  before = reverse list
+
+  abbrev all : List Entry
+  all = list ++ e ∷ []
+
+  more : reverse all ≡ e ∷ before
+  more = reverse-append list (e ∷ [])
+
+  -- what becomes of the state, and of a client's requests
+  state_is : (o : Option Request) → e.request ≡ o → state_after schema (reverse all) ≡ after_request schema e.stamp o before (state_after schema before)
+  unfolding state_after
+  state_is o h = ap (state_after schema) more ∙ ap (λ r. after_request schema e.stamp r before (state_after schema before)) h
+
+  executed_is : (o : Option Request) (client : ℕ) → e.request ≡ o → executed client (reverse all) ≡ cond (is_request client (executed client before + 1) o) (executed client before + 1) (executed client before)
+  unfolding executed
+  executed_is o client h = ap (executed client) more ∙ ap (λ r. cond (is_request client (executed client before + 1) r) (executed client before + 1) (executed client before)) h
+
+  kept_is : (o : Option Request) (client : ℕ) → e.request ≡ o → kept schema client (reverse all) ≡ kept_request schema client e.stamp o before (kept schema client before)
+  unfolding kept
+  kept_is o client h = ap (kept schema client) more ∙ ap (λ r. kept_request schema client e.stamp r before (kept schema client before)) h
+
+  module _ (stays_held : EntryStays) (old : Tables) (are : AreTables schema list old) where
+    -- nothing is executed
+    same : (new : Tables) → new.current ≡ old.current → new.versions ≡ old.versions → new.requests ≡ old.requests → new.last ≡ Some e.stamp
+        → state_after schema (reverse all) ≡ state_after schema before → ((c : ℕ) → executed c (reverse all) ≡ executed c before) → ((c : ℕ) → kept schema c (reverse all) ≡ kept schema c before)
+        → AreTables schema all new
+    same new c v r l state numbers outcomes = record {
+      rows = subst (λ (s : State). AllListed (current.rows_of new.current) s) (sym state) (subst (λ (x : Current). AllListed (current.rows_of x) (state_after schema before)) (sym c) are.rows);
+      numbers = λ k. ap (λ x. number_of (latest_of x k)) r ∙ are.numbers k ∙ sym (numbers k);
+      outcomes = λ k. ap (λ x. option_map outcome_of (latest_of x k)) r ∙ are.outcomes k ∙ sym (outcomes k);
+      last = l ∙ sym (closed_more list e);
+      held = λ s n. subst (λ (x : Versions). Holds (versions.versions_of x n) (λ u. state_at schema all u n) (least_stamp all) (state_after schema (reverse all) n)) (sym v)
+          (stays_held schema n list e (versions.versions_of old.versions n) s (are.held (stamped_before list (e ∷ []) s) n) (ap (λ (x : State). x n) state));
+      current_tables = ap current.table_count c ∙ are.current_tables;
+      versions_tables = ap versions.table_count v ∙ are.versions_tables;
+    }
+
+    pub a_close : (new : Tables) → new.current ≡ old.current → new.versions ≡ old.versions → new.requests ≡ old.requests → new.last ≡ Some e.stamp → e.request ≡ None → AreTables schema all new
+    a_close new c v r l h = same new c v r l (state_is None h) (λ k. executed_is None k h) (λ k. kept_is None k h)
+
+    -- a request that was judged before
+    module _ (r : Request) (asks : e.request ≡ Some r) (o : Outcome) (known : unless_new (judged (latest_of old.requests r.client) r.number) ≡ Some o) where
+      is_later : (r.number == executed r.client before + 1) ≡ false
+      is_later = subst (λ n. (r.number == n + 1) ≡ false) (are.numbers r.client) (known_number (latest_of old.requests r.client) r.number o known)
+
+      none_more : (c : ℕ) → cond (is_request c (executed c before + 1) (Some r)) (executed c before + 1) (executed c before) ≡ executed c before
+      none_more c = elim (cases_Bool (r.client == c)) [
+        | inl y ↦
+            let i : r.client ≡ c = eqb-true r.client c y in
+            let f : (r.number == executed c before + 1) ≡ false = subst (λ k. (r.number == executed k before + 1) ≡ false) i is_later in
+            rw (y, f) refl
+        | inr n ↦ rw n refl
+      ]
+
+      kept_same : (c : ℕ) → kept_request schema c e.stamp (Some r) before (kept schema c before) ≡ kept schema c before
+      kept_same c = elim (cases_Bool (r.client == c)) [
+        | inl y ↦ rw (y, is_later) refl
+        | inr n ↦ rw n refl
+      ]
+
+      state_same : after_request schema e.stamp (Some r) before (state_after schema before) ≡ state_after schema before
+      state_same = rw is_later refl
+
+      pub asked_again : (new : Tables) → new.current ≡ old.current → new.versions ≡ old.versions → new.requests ≡ old.requests → new.last ≡ Some e.stamp → AreTables schema all new
+      asked_again new c v q l = same new c v q l (state_is (Some r) asks ∙ state_same) (λ k. executed_is (Some r) k asks ∙ none_more k) (λ k. kept_is (Some r) k asks ∙ kept_same k)
+
+      pub outcome_again : o ≡ outcome schema e.stamp r before
+      unfolding outcome
+      outcome_again =
+          known_outcome (latest_of old.requests r.client) r.number (first_outcome schema e.stamp r before) o known
+          ∙ ap (λ n. outcome_by (first_outcome schema e.stamp r before) n r.number (option_map outcome_of (latest_of old.requests r.client))) (are.numbers r.client)
+          ∙ ap (outcome_by (first_outcome schema e.stamp r before) (executed r.client before) r.number) (are.outcomes r.client)
+
+    -- a request that is executed
+    module _ (r : Request) (asks : e.request ≡ Some r) (unknown : unless_new (judged (latest_of old.requests r.client) r.number) ≡ None) where
+      is_next : (r.number == executed r.client before + 1) ≡ true
+      is_next = subst (λ n. (r.number == n + 1) ≡ true) (are.numbers r.client) (new_number (latest_of old.requests r.client) r.number unknown)
+
+      abbrev next : State
+      next = next_state (state_after schema before) (executed_text schema e.stamp r.text (state_after schema before))
+
+      state_next : after_request schema e.stamp (Some r) before (state_after schema before) ≡ next
+      state_next = rw is_next refl
+
+      module _ (o : Outcome) (is : o ≡ first_outcome schema e.stamp r before) where
+        pub outcome_first : o ≡ outcome schema e.stamp r before
+        unfolding outcome
+        outcome_first = rw is_next is
+
+        number_more : (c : ℕ) → number_of (with_latest r.client r.number o (latest_of old.requests) c) ≡ cond (is_request c (executed c before + 1) (Some r)) (executed c before + 1) (executed c before)
+        number_more c = elim (cases_Bool (r.client == c)) [
+          | inl y ↦
+              let i : r.client ≡ c = eqb-true r.client c y in
+              let z : (c == r.client) ≡ true = eq-eqb c r.client (sym i) in
+              let f : (r.number == executed c before + 1) ≡ true = subst (λ k. (r.number == executed k before + 1) ≡ true) i is_next in
+              rw (y, z, f) (eqb-true r.number (executed c before + 1) f)
+          | inr n ↦
+              let z : (c == r.client) ≡ false = elim (cases_Bool (c == r.client)) [ inl y ↦ absurd (both (eq-eqb r.client c (sym (eqb-true c r.client y))) n) | inr m ↦ m ] in
+              rw (n, z) (are.numbers c)
+        ]
+
+        kept_more : (c : ℕ) → option_map outcome_of (with_latest r.client r.number o (latest_of old.requests) c) ≡ kept_request schema c e.stamp (Some r) before (kept schema c before)
+        kept_more c = elim (cases_Bool (r.client == c)) [
+          | inl y ↦
+              let z : (c == r.client) ≡ true = eq-eqb c r.client (sym (eqb-true r.client c y)) in
+              rw (y, z, is_next) (ap (λ x. Some x) is)
+          | inr n ↦
+              let z : (c == r.client) ≡ false = elim (cases_Bool (c == r.client)) [ inl y ↦ absurd (both (eq-eqb r.client c (sym (eqb-true c r.client y))) n) | inr m ↦ m ] in
+              rw (n, z) (are.outcomes c)
+        ]
+
+        pub executed_first : CommitEntry → HeldBefore → FineLogs → ReadsFine schema → (new : Tables)
+            → AllListed (current.rows_of new.current) next
+            → ((n : ℕ) → IsCommitted e.stamp (state_after schema before n) (next n) (versions.versions_of old.versions n) (versions.versions_of new.versions n))
+            → ((c : ℕ) → latest_of new.requests c ≡ with_latest r.client r.number o (latest_of old.requests) c)
+            → new.last ≡ Some e.stamp → current.table_count new.current ≡ current.table_count old.current → versions.table_count new.versions ≡ versions.table_count old.versions
+            → AreTables schema all new
+        executed_first commit held_before fine reads new rows versioned latest last count count' = record {
+          rows = subst (λ (s : State). AllListed (current.rows_of new.current) s) (sym state) rows;
+          numbers = λ c. ap number_of (latest c) ∙ number_more c ∙ sym (executed_is (Some r) c asks);
+          outcomes = λ c. ap (λ x. option_map outcome_of x) (latest c) ∙ kept_more c ∙ sym (kept_is (Some r) c asks);
+          last = last ∙ sym (closed_more list e);
+          held = λ s n. by s n (versioned n);
+          current_tables = count ∙ are.current_tables;
+          versions_tables = count' ∙ are.versions_tables;
+        }
+          where
+            state : state_after schema (reverse all) ≡ next
+            state = state_is (Some r) asks ∙ state_next
+
+            by : IsStamped all → (n : ℕ) → IsCommitted e.stamp (state_after schema before n) (next n) (versions.versions_of old.versions n) (versions.versions_of new.versions n)
+                → Holds (versions.versions_of new.versions n) (λ u. state_at schema all u n) (least_stamp all) (state_after schema (reverse all) n)
+            by s n (inl stays) =
+                subst (λ (x : List Version). Holds x (λ u. state_at schema all u n) (least_stamp all) (state_after schema (reverse all) n)) (sym stays.1)
+                (stays_held schema n list e (versions.versions_of old.versions n) s (are.held (stamped_before list (e ∷ []) s) n) (ap (λ (x : State). x n) state ∙ stays.0))
+            by s n (inr turned) =
+                let held = are.held (stamped_before list (e ∷ []) s) n in
+                let bound = bound_less list e s in
+                let born : (row : Row) → IsRow (state_after schema before n) row → row.birth < e.stamp = λ row h. let b = held_before (versions.versions_of old.versions n) (λ u. state_at schema list u n) (least_stamp list) (state_after schema before n) row held h in omega arith in
+                let touched = whole e.stamp (state_after schema before n) (next n) turned.0 turned.1 turned.2 born in
+                let now : IsTouched (state_after schema before n) (state_after schema (reverse all) n) turned.0 turned.1 = subst (λ (x : State). IsTouched (state_after schema before n) (x n) turned.0 turned.1) (sym state) touched in
+                subst (λ (x : List Version). Holds x (λ u. state_at schema all u n) (least_stamp all) (state_after schema (reverse all) n)) (sym turned.3)
+                (commit schema n list e (versions.versions_of old.versions n) turned.0 turned.1 s (fine schema all reads) held now)
+
+-- ---- before any entry
+
+pub of_no_entry : NoVersions → LogsOnRows → (schema : Schema) (new : Tables) → ((n : ℕ) → current.rows_of new.current n ≡ []) → ((n : ℕ) → versions.versions_of new.versions n ≡ []) → ((c : ℕ) → latest_of new.requests c ≡ None) → new.last ≡ None
+    → current.table_count new.current ≡ schema.tables → versions.table_count new.versions ≡ schema.tables → AreTables schema [] new
+unfolding state_after executed kept rows_after
+of_no_entry none logs schema new rows kept' latest last count count' = record {
+  rows = λ n. subst (λ (x : List Row). Lists x (state_after schema [] n)) (sym (rows n)) (logs schema [] tt n);
+  numbers = λ c. ap number_of (latest c);
+  outcomes = λ c. ap (λ x. option_map outcome_of x) (latest c);
+  last = last;
+  held = λ s n. subst (λ (x : List Version). Holds x (λ u. state_at schema [] u n) 0 empty_table) (sym (kept' n)) (none (λ u. state_at schema [] u n));
+  current_tables = count;
+  versions_tables = count';
+}

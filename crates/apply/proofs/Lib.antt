@@ -1,0 +1,6 @@
+mod Turned
+mod Fine
+mod States
+mod Transacted
+mod Entries
+mod Answered

@@ -1,0 +1,174 @@
+-- A transaction, statement by statement.
+use Rattle.std.proofs.Common.{◌≡◌, ℕ, zero, suc, ◌<◌, ◌≤◌, ◌⊎◌, inl, inr, List, [], ◌∷◌, map, length, None, Result, Ok, Err, refl, sym, ap, ◌∙◌, subst, arith}
+use Rattle.std.specs.Prelude.{slice_get}
+use Rattle.std.specs.Option.{option_map_or}
+use Rattle.std.proofs.lemmas.Bool.{cases_lt}
+use Rattle.fault.specs.declared.refusal.Refusal.{Refusal}
+use Rattle.fault.specs.declared.refusal.Refusal.TheVariants as refusals
+use Rattle.model.specs.Transactions.{State, Statement, Schema, and_then, run_statement, run_statements, first_orphan, unless_orphan, transacted, read_statements, executed_text}
+use Rattle.model.specs.Logs.{outcome_at, next_state}
+use Rattle.rowlaws.specs.Changes.{IsFine}
+use Rattle.rowlaws.specs.Touching.{gone_both, come_both}
+use Rattle.rowlaws.specs.Statements.{Rows, AllListed, AllFollow}
+use Rattle.rowlaws.specs.Transactions.{TransactionsFollow}
+use Rattle.versionlaws.specs.Committing.{committed}
+use Rattle.current.specs.Touched.{gone_of, come_of, gone_in, come_in}
+use Rattle.current.specs.declared.touched.Touched.{Touched}
+use Rattle.current.specs.Run.{IsRun, IsRefused, AllUndoable, IsUndone}
+use Rattle.current.proofs.Joined.{rows_at-beyond}
+use Rattle.sysversion.specs.declared.Versions.{Versions}
+use Rattle.sysversion.specs.Versions.{versions_of, version_of, table_count}
+use Rattle.sqlchecks.specs.Columns.{Tables}
+use Rattle.sqlread.specs.declared.statement.Statement.{Statement as Read}
+use Rattle.sqlread.specs.Shapes.{statement_of}
+use Rattle.sqlread.specs.Meaning.{meaning, meanings, schema_of}
+use Rattle.sqlread.specs.Texts.{transaction_in}
+use Rattle.apply.specs.Executing.{IsTurned, IsTransacted, IsRefusedWhole, IsExecuted}
+use Rattle.apply.proofs.Turned.{stays, turned_both}
+use Rattle.apply.proofs.States.{plain}
+
+-- ---- the definitions, statement by statement
+
+and_ok : {A B E : Type 0} (r : Result A E) (a : A) (f : A → Result B E) → r ≡ Ok a → and_then r f ≡ f a
+and_ok r a f h = rw h refl
+
+and_err : {A B E : Type 0} (r : Result A E) (e : E) (f : A → Result B E) → r ≡ Err e → and_then r f ≡ Err e
+and_err r e f h = rw h refl
+
+none_is : (schema : Schema) (t : ℕ) (state : State) → transacted schema t [] state ≡ unless_orphan schema state (first_orphan schema state)
+unfolding transacted
+none_is schema t state = refl
+
+more_is : (schema : Schema) (t : ℕ) (s : Statement) (ss : List Statement) (state next : State) → run_statement t s state ≡ Ok next → transacted schema t (s ∷ ss) state ≡ transacted schema t ss next
+unfolding transacted
+more_is schema t s ss state next e = ap (λ (r : Result State Refusal). and_then r (λ x. unless_orphan schema x (first_orphan schema x))) (and_ok (run_statement t s state) next (run_statements t ss) e)
+
+stopped_is : (schema : Schema) (t : ℕ) (s : Statement) (ss : List Statement) (state : State) (r : Refusal) → run_statement t s state ≡ Err r → transacted schema t (s ∷ ss) state ≡ Err r
+unfolding transacted
+stopped_is schema t s ss state r e = ap (λ (x : Result State Refusal). and_then x (λ y. unless_orphan schema y (first_orphan schema y))) (and_err (run_statement t s state) r (run_statements t ss) e)
+
+no_orphan : (state : State) → unless_orphan plain state (first_orphan plain state) ≡ Ok state
+unfolding first_orphan plain
+no_orphan state = refl
+
+-- each row after a statement was there before, or is born with it
+follows_one : TransactionsFollow → (t : ℕ) (s : Statement) (rows : Rows) (state next : State) → IsFine s.change → AllListed rows state → run_statement t s state ≡ Ok next → AllFollow t state next
+follows_one follows t s rows state next fine listed e = follows plain t (s ∷ []) rows state next (fine, tt) listed (more_is plain t s [] state next e ∙ none_is plain t next ∙ no_orphan next)
+
+-- ---- transact
+
+pub no_items : {A : Type 0} (xs : List A) → length xs ≡ 0 → xs ≡ []
+no_items [] h = refl
+no_items (x ∷ xs) h = absurd (omega arith)
+
+pub checked : (schema : Schema) (t : ℕ) (rows : Rows) (gone come : Rows) → ((n : ℕ) → gone n ≡ []) → ((n : ℕ) → come n ≡ []) → ((state : State) → AllListed rows state → unless_orphan schema state (first_orphan schema state) ≡ Ok state) → IsTransacted schema t [] rows rows gone come
+checked schema t rows gone come g c ok state listed =
+    (state, none_is schema t state ∙ ok state listed, listed, (λ n. subst (λ x. IsTurned t (state n) (state n) x (come n)) (sym (g n)) (subst (λ x. IsTurned t (state n) (state n) [] x) (sym (c n)) (stays t (state n)))))
+
+pub unchecked : (schema : Schema) (t : ℕ) (rows : Rows) (r : Refusal) → (r ≡ refusals.NoMemory) ⊎ ((state : State) → AllListed rows state → unless_orphan schema state (first_orphan schema state) ≡ Err r) → IsRefusedWhole schema t [] rows rows r
+unchecked schema t rows r (inl e) = inl e
+unchecked schema t rows r (inr h) = inr (λ state listed. (none_is schema t state ∙ h state listed, listed))
+
+pub then_rest : TransactionsFollow → (schema : Schema) (t : ℕ) (s : Statement) (ss : List Statement) (rows mid more gone come later_gone later_come both_gone both_come : Rows) → IsFine s.change
+    → IsRun t s rows mid gone come → IsTransacted schema t ss mid more later_gone later_come
+    → ((n : ℕ) → both_gone n ≡ gone_both (gone n) (come n) (later_gone n)) → ((n : ℕ) → both_come n ≡ come_both (come n) (later_gone n) (later_come n))
+    → IsTransacted schema t (s ∷ ss) rows more both_gone both_come
+then_rest follows schema t s ss rows mid more gone come later_gone later_come both_gone both_come fine run later g c state listed =
+    let r = run state listed in
+    let b : State = r.0 in
+    let l = later b r.2 in
+    let next : State = l.0 in
+    let f = follows_one follows t s rows state b fine listed r.1 in (
+      next,
+      more_is schema t s ss state b r.1 ∙ l.1,
+      l.2,
+      (λ n.
+          let turned = turned_both t (state n) (b n) (next n) (gone n) (come n) (later_gone n) (later_come n) (r.3 n) (f n) (l.3 n) in
+          subst (λ x. IsTurned t (state n) (next n) x (both_come n)) (sym (g n)) (subst (λ x. IsTurned t (state n) (next n) (gone_both (gone n) (come n) (later_gone n)) x) (sym (c n)) turned)),
+    )
+
+pub stopped : (schema : Schema) (t : ℕ) (s : Statement) (ss : List Statement) (rows more : Rows) (r : Refusal) → more ≡ rows → IsRefused t s rows r → IsRefusedWhole schema t (s ∷ ss) rows more r
+stopped schema t s ss rows more r e (inl h) = inl h
+stopped schema t s ss rows more r e (inr h) = inr (λ state listed. (stopped_is schema t s ss state r (h state listed), subst (λ x. AllListed x state) (sym e) listed))
+
+pub undoable : (schema : Schema) (t : ℕ) (s : Statement) (ss : List Statement) (rows mid more gone come : Rows) (r : Refusal) → (r ≡ refusals.NoMemory → ⊥) → (state : State) × AllListed rows state → IsRun t s rows mid gone come → IsRefusedWhole schema t ss mid more r → AllUndoable more gone come
+undoable schema t s ss rows mid more gone come r n start run (inl e) = absurd (n e)
+undoable schema t s ss rows mid more gone come r n start run (inr h) = let x = run start.0 start.1 in (start.0, x.0, rows, start.1, (h x.0 x.2).1, x.3)
+
+pub undone : (schema : Schema) (t : ℕ) (s : Statement) (ss : List Statement) (rows mid more back gone come : Rows) (r : Refusal) → IsRun t s rows mid gone come → IsRefusedWhole schema t ss mid more r → IsUndone more back gone come → IsRefusedWhole schema t (s ∷ ss) rows back r
+undone schema t s ss rows mid more back gone come r run (inl e) undo = inl e
+undone schema t s ss rows mid more back gone come r run (inr h) undo = inr (λ state listed.
+    let x = run state listed in
+    let y = h x.0 x.2 in
+    (more_is schema t s ss state x.0 x.1 ∙ y.0, undo state x.0 rows listed y.1 x.3))
+
+-- ---- execute
+
+none_beyond : {A : Type 0} (xs : List A) (n : ℕ) → length xs ≤ n → slice_get xs n ≡ None
+none_beyond [] n h = refl
+none_beyond (x ∷ xs) zero h = absurd (omega arith)
+none_beyond (x ∷ xs) (suc n) h = none_beyond xs n (omega arith)
+
+beyond : (v : Versions) (n : ℕ) → table_count v ≤ n → versions_of v n ≡ []
+beyond v n h = ap (λ o. option_map_or (λ table. map version_of table.items) o []) (none_beyond v.tables.items n h)
+
+nothing_committed : (t : ℕ) → committed t [] [] [] ≡ []
+unfolding committed
+nothing_committed t = refl
+
+all_committed : (t : ℕ) (touched : Touched) (old new : Versions) → table_count new ≡ table_count old → length touched.tables.items ≤ table_count old
+    → ((n : ℕ) → n < table_count old → versions_of new n ≡ committed t (gone_in touched n) (come_in touched n) (versions_of old n))
+    → (n : ℕ) → versions_of new n ≡ committed t (gone_in touched n) (come_in touched n) (versions_of old n)
+all_committed t touched old new count few each n = elim (cases_lt n (table_count old)) [
+  | inl l ↦ each n l
+  | inr g ↦
+      let a : versions_of old n ≡ [] = beyond old n g in
+      let b : versions_of new n ≡ [] = beyond new n (omega arith) in
+      let c : gone_in touched n ≡ [] = rows_at-beyond gone_of touched.tables.items n (omega arith) in
+      let d : come_in touched n ≡ [] = rows_at-beyond come_of touched.tables.items n (omega arith) in
+      let e : committed t (gone_in touched n) (come_in touched n) (versions_of old n) ≡ [] =
+      ap (λ x. committed t x (come_in touched n) (versions_of old n)) c ∙ ap (λ x. committed t [] x (versions_of old n)) d ∙ ap (λ x. committed t [] [] x) a ∙ nothing_committed t in
+      b ∙ sym e
+]
+
+text_is : (schema : Schema) (t : ℕ) (text : List ℕ) (ss : List Statement) (state : State) → ss ≡ read_statements (schema.reads text) → transacted schema t ss state ≡ executed_text schema t text state
+unfolding executed_text
+text_is schema t text ss state e = ap (λ x. transacted schema t x state) e
+
+pub accepted : (schema : Schema) (t : ℕ) (text : List ℕ) (ss : List Statement) (rows more : Rows) (touched : Touched) (old new : Versions) (tables : ℕ) → ss ≡ read_statements (schema.reads text)
+    → IsTransacted schema t ss rows more (gone_in touched) (come_in touched) → length touched.tables.items ≤ tables → table_count new ≡ table_count old
+    → ((n : ℕ) → n < table_count old → versions_of new n ≡ committed t (gone_in touched n) (come_in touched n) (versions_of old n))
+    → (state : State) → AllListed rows state → table_count old ≡ tables → IsExecuted schema t text state more (versions_of old) (versions_of new) (Ok t)
+accepted schema t text ss rows more touched old new tables e done few count each state listed same =
+    let d = done state listed in
+    let ok : executed_text schema t text state ≡ Ok d.0 = sym (text_is schema t text ss state e) ∙ d.1 in
+    let next : next_state state (executed_text schema t text state) ≡ d.0 = ap (next_state state) ok in
+    record {
+      is = ap (outcome_at t) (sym ok);
+      rows = subst (λ (s : State). AllListed more s) (sym next) d.2;
+      committed = λ n. inr (gone_in touched n, come_in touched n, subst (λ (s : State). IsTurned t (state n) (s n) (gone_in touched n) (come_in touched n)) (sym next) (d.3 n), all_committed t touched old new count (omega arith) each n);
+    }
+
+pub refused : (schema : Schema) (t : ℕ) (text : List ℕ) (ss : List Statement) (rows more : Rows) (old : Versions) (r : Refusal) → ss ≡ read_statements (schema.reads text)
+    → IsRefusedWhole schema t ss rows more r → (r ≡ refusals.NoMemory → ⊥) → (state : State) → AllListed rows state → IsExecuted schema t text state more (versions_of old) (versions_of old) (Err r)
+refused schema t text ss rows more old r e (inl h) n state listed = absurd (n h)
+refused schema t text ss rows more old r e (inr h) n state listed =
+    let d = h state listed in
+    let err : executed_text schema t text state ≡ Err r = sym (text_is schema t text ss state e) ∙ d.0 in
+    let next : next_state state (executed_text schema t text state) ≡ state = ap (next_state state) err in
+    record {
+      is = ap (outcome_at t) (sym err);
+      rows = subst (λ (s : State). AllListed more s) (sym next) d.1;
+      committed = λ n. inl (ap (λ (s : State). s n) next, refl);
+    }
+
+-- ---- texts
+
+pub read_is : (tables : Tables) (text : List ℕ) (items : List Read) → transaction_in tables text ≡ Ok (map statement_of items) → map meaning (map statement_of items) ≡ read_statements ((schema_of tables).reads text)
+unfolding schema_of
+read_is tables text items e = sym (ap (λ r. read_statements (meanings r)) e)
+
+pub unread_is : (tables : Tables) (text : List ℕ) (items : List Read) (r : Refusal) → items ≡ [] → (r ≡ refusals.NoMemory → ⊥) → (r ≡ refusals.NoMemory) ⊎ (transaction_in tables text ≡ Err r) → map meaning (map statement_of items) ≡ read_statements ((schema_of tables).reads text)
+unfolding schema_of
+unread_is tables text items r none n (inl h) = absurd (n h)
+unread_is tables text items r none n (inr e) = ap (λ xs. map meaning (map statement_of xs)) none ∙ sym (ap (λ x. read_statements (meanings x)) e)

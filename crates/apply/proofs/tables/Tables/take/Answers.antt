@@ -1,0 +1,58 @@
+use Rattle.std.proofs.Common.{reverse, Some, option_map, refl, sym, ap, ◌∙◌, subst}
+use Rattle.model.specs.declared.entry.Request.{Request}
+use Rattle.model.specs.Logs.{state_after, outcome}
+use Rattle.sqlread.specs.Meaning.{schema_of}
+use Rattle.current.specs.Current.{rows_of}
+use Rattle.sysversion.specs.Versions.{versions_of}
+use Rattle.retry.specs.Judging.{latest_of, with_latest}
+use Rattle.apply.specs.declared.tables.Tables.{Tables}
+use Rattle.apply.specs.Executing.{IsExecuted}
+use Rattle.apply.proofs.Fine.{reads_fine}
+use Rattle.apply.proofs.Entries.{a_close, asked_again, outcome_again, executed_first, outcome_first}
+use Rattle.apply.proofs.tables.Tables.take.Goals as goal
+
+pub returns-in_default-clause-kept : goal.returns-in_default-clause-kept
+returns-in_default-clause-kept c = λ list are.
+    let old = c.args.self.now in
+    a_close (schema_of c.args.schema.now) list c.args.entry.now c.log_laws.ensures.stays old are (record old { last = Some c.args.entry.now.stamp }) refl refl refl refl c.in_default.is
+
+pub returns-in-Some-2-clause-kept : goal.returns-in-Some-2-clause-kept
+returns-in-Some-2-clause-kept c = λ list are.
+    let old = c.args.self.now in
+    let known = sym c.in_ok-outcome.ensures ∙ c.in-Some-2.is in
+    asked_again (schema_of c.args.schema.now) list c.args.entry.now c.log_laws.ensures.stays old are c.in-Some.request c.in-Some.is c.in-Some-2.outcome known (record old { last = Some c.args.entry.now.stamp }) refl refl refl refl
+
+pub returns-in-Some-2-clause-outcome : goal.returns-in-Some-2-clause-outcome
+returns-in-Some-2-clause-outcome c = λ list are.
+    let e = c.args.entry.now in
+    let known = sym c.in_ok-outcome.ensures ∙ c.in-Some-2.is in
+    ap (λ x. Some x) (outcome_again (schema_of c.args.schema.now) list e c.log_laws.ensures.stays c.args.self.now are c.in-Some.request c.in-Some.is c.in-Some-2.outcome known)
+    ∙ sym (ap (λ o. option_map (λ (r : Request). outcome (schema_of c.args.schema.now) e.stamp r (reverse list)) o) c.in-Some.is)
+
+pub returns-clause-kept : goal.returns-clause-kept
+returns-clause-kept c = λ list are.
+    let schema = schema_of c.args.schema.now in
+    let e = c.args.entry.now in
+    let old = c.args.self.now in
+    let r = c.in-Some.request in
+    let o = c.in_ok-outcome-2.outcome in
+    let laws = c.log_laws.ensures in
+    let new : Tables = record { alloc = old.alloc; current = c.execute.new.current; versions = c.execute.new.versions; requests = c.keep.new.self; last = Some e.stamp; failed = old.failed } in
+    let unknown = sym c.in_ok-outcome.ensures ∙ c.in_default-2.is in
+    let done = subst (λ text. IsExecuted schema e.stamp text (state_after schema (reverse list)) (rows_of new.current) (versions_of old.versions) (versions_of new.versions) o) c.as_str.ensures
+    (c.in_ok-outcome-2.ensures.executed (state_after schema (reverse list)) are.rows (are.versions_tables ∙ sym are.current_tables)) in
+    executed_first schema list e laws.stays old are r c.in-Some.is unknown o done.is laws.commit laws.before laws.fine (reads_fine c.args.schema.now) new done.rows done.committed
+    (λ k. c.in_ok-keep.ensures.ok k ∙ ap (λ x. with_latest r.client r.number x (latest_of old.requests) k) c.in_ok-kept.ensures) refl c.execute.ensures.current_tables c.execute.ensures.versions_tables
+
+pub returns-clause-outcome : goal.returns-clause-outcome
+returns-clause-outcome c = λ list are.
+    let schema = schema_of c.args.schema.now in
+    let e = c.args.entry.now in
+    let old = c.args.self.now in
+    let r = c.in-Some.request in
+    let o = c.in_ok-outcome-2.outcome in
+    let unknown = sym c.in_ok-outcome.ensures ∙ c.in_default-2.is in
+    let done = subst (λ text. IsExecuted schema e.stamp text (state_after schema (reverse list)) (rows_of c.execute.new.current) (versions_of old.versions) (versions_of c.execute.new.versions) o) c.as_str.ensures
+    (c.in_ok-outcome-2.ensures.executed (state_after schema (reverse list)) are.rows (are.versions_tables ∙ sym are.current_tables)) in
+    ap (λ x. Some x) (outcome_first schema list e c.log_laws.ensures.stays old are r c.in-Some.is unknown o done.is)
+    ∙ sym (ap (λ x. option_map (λ (q : Request). outcome schema e.stamp q (reverse list)) x) c.in-Some.is)

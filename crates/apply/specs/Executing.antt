@@ -1,0 +1,52 @@
+-- Transactions on the rows and versions of tables, against what they come to on days.
+use Rattle.std.specs.Prelude.{◌≡◌, ◌⊎◌, ℕ, Option, Some, None, List, Ok, Err}
+use Rattle.fault.specs.declared.refusal.Refusal.{Refusal}
+use Rattle.fault.specs.declared.refusal.Refusal.TheVariants as refusals
+use Rattle.model.specs.Tables.{Table, Row, IsRow}
+use Rattle.model.specs.Transactions.{State, Statement, Schema, transacted, executed_text}
+use Rattle.model.specs.Logs.{Outcome, outcome_at, next_state}
+use Rattle.rowlaws.specs.Rows.{Has, Apart}
+use Rattle.rowlaws.specs.Statements.{Rows, AllListed}
+use Rattle.versionlaws.specs.Versions.{Version}
+use Rattle.versionlaws.specs.Committing.{committed}
+use Rattle.retry.specs.Judging.{Verdict, New, Kept, Old, Gap}
+
+-- Several statements at t turned the older table into the newer: these rows went and these came. A row that was born at t
+-- may have gone and come again.
+pub record IsTurned (t : ℕ) (old new : Table) (gone come : List Row) : Type 0 where
+  pub went : (row : Row) → Has gone row → IsRow old row
+  pub back : (row : Row) → Has gone row → IsRow new row → Has come row
+  pub stay : (row : Row) → IsRow old row → IsRow new row ⊎ Has gone row
+  pub came : (row : Row) → Has come row → IsRow new row × (row.birth ≡ t)
+  pub anew : (row : Row) → Has come row → IsRow old row → Has gone row
+  pub comes : (row : Row) → IsRow new row → IsRow old row ⊎ Has come row
+  pub gone_once : Apart gone
+  pub come_once : Apart come
+
+-- whatever state the rows were of, it takes the transaction, the new rows are those of the state after it, and these went and came
+abbrev pub IsTransacted : Schema → ℕ → List Statement → Rows → Rows → Rows → Rows → Type 0
+IsTransacted schema t ss rows more gone come =
+    (state : State) → AllListed rows state → (next : State) × (transacted schema t ss state ≡ Ok next) × AllListed more next × ((n : ℕ) → IsTurned t (state n) (next n) (gone n) (come n))
+
+-- whatever state the rows are of, it refuses the transaction so, and they are its rows again; or there was no memory
+abbrev pub IsRefusedWhole : Schema → ℕ → List Statement → Rows → Rows → Refusal → Type 0
+IsRefusedWhole schema t ss rows more refusal =
+    (refusal ≡ refusals.NoMemory) ⊎ ((state : State) → AllListed rows state → (transacted schema t ss state ≡ Err refusal) × AllListed more state)
+
+-- the table stays with its versions, or what the transaction at t turned is committed
+abbrev pub IsCommitted : ℕ → Table → Table → List Version → List Version → Type 0
+IsCommitted t old new versions more =
+    ((new ≡ old) × (more ≡ versions)) ⊎ ((gone : List Row) × (come : List Row) × IsTurned t old new gone come × (more ≡ committed t gone come versions))
+
+-- the outcome of a text that is executed at t in a state, and the rows and versions after it
+pub record IsExecuted (schema : Schema) (t : ℕ) (text : List ℕ) (state : State) (more : Rows) (versions later : ℕ → List Version) (outcome : Outcome) : Type 0 where
+  pub is : outcome ≡ outcome_at t (executed_text schema t text state)
+  pub rows : AllListed more (next_state state (executed_text schema t text state))
+  pub committed : (n : ℕ) → IsCommitted t (state n) (next_state state (executed_text schema t text state) n) (versions n) (later n)
+
+-- the outcome of a request that is not executed
+abbrev pub unless_new : Verdict → Option Outcome
+unless_new New = None
+unless_new (Kept outcome) = Some outcome
+unless_new Old = Some (Err refusals.Old)
+unless_new Gap = Some (Err refusals.Gap)

@@ -1,0 +1,3 @@
+pub mod Executing
+pub mod View
+pub mod Asking

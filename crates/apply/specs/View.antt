@@ -1,0 +1,41 @@
+-- What contracts say of tables and the list of entries that they are of.
+use Rattle.std.specs.Prelude.{◌≡◌, ℕ, ◌⊎◌, Bool, None, Some, Result, Ok, Err, List, reverse, option_map}
+use Rattle.fault.specs.declared.refusal.Refusal.{Refusal}
+use Rattle.fault.specs.declared.refusal.Refusal.TheVariants.{NoMemory, NotClosed}
+use Rattle.model.specs.declared.entry.Entry.{Entry}
+use Rattle.model.specs.Texts.{instant_text}
+use Rattle.model.specs.Transactions.{Schema}
+use Rattle.model.specs.Logs.{IsStamped, closed, state_after, state_at, least_stamp, executed, kept}
+use Rattle.model.specs.Answers.{IsAnswer, closed_query, read_at}
+use Rattle.rowlaws.specs.Statements.{AllListed}
+use Rattle.versionlaws.specs.Versions.{Holds}
+use Rattle.sqlread.specs.Shapes.{QueryShape}
+use Rattle.sqlread.specs.Meaning.{select_of}
+use Rattle.answer.specs.declared.Answer.{Answer}
+use Rattle.answer.specs.Answers.{answer_of}
+use Rattle.retry.specs.declared.Latest.{Latest}
+use Rattle.retry.specs.Judging.{latest_of, number_of}
+use Rattle.current.specs.Current as current
+use Rattle.sysversion.specs.Versions as versions
+use Rattle.apply.specs.declared.tables.Tables.{Tables}
+
+abbrev pub is_failed : Tables → Bool
+is_failed tables = tables.failed
+
+abbrev pub outcome_of : Latest → Result ℕ Refusal
+outcome_of latest = latest.outcome
+
+-- the tables are what the list of entries leaves
+pub record AreTables (schema : Schema) (list : List Entry) (tables : Tables) : Type 0 where
+  pub rows : AllListed (current.rows_of tables.current) (state_after schema (reverse list))
+  pub numbers : (client : ℕ) → number_of (latest_of tables.requests client) ≡ executed client (reverse list)
+  pub outcomes : (client : ℕ) → option_map outcome_of (latest_of tables.requests client) ≡ kept schema client (reverse list)
+  pub last : tables.last ≡ closed list
+  pub held : IsStamped list → (n : ℕ) → Holds (versions.versions_of tables.versions n) (λ u. state_at schema list u n) (least_stamp list) (state_after schema (reverse list) n)
+  pub current_tables : current.table_count tables.current ≡ schema.tables
+  pub versions_tables : versions.table_count tables.versions ≡ schema.tables
+
+-- the answer to a question that is closed in the list, or 33 where it is not; or there was no memory
+abbrev pub IsAskedOf : Schema → QueryShape → List Entry → Result Answer Refusal → Type 0
+IsAskedOf schema q list (Ok a) = (t : ℕ) × (closed list ≡ Some t) × (closed_query (select_of q) (closed list) ≡ Some (read_at t (select_of q))) × IsAnswer schema (read_at t (select_of q)) list (answer_of a)
+IsAskedOf schema q list (Err refusal) = (refusal ≡ NoMemory) ⊎ ((closed_query (select_of q) (closed list) ≡ None) × (refusal ≡ NotClosed (option_map instant_text (closed list))))

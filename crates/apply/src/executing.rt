@@ -1,0 +1,150 @@
+//! Transactions on the current rows and on the versions.
+ghost use Rattle.std.specs.Prelude.{◌≡◌, ◌≤◌, ◌↔◌, ℕ, IsTrue, map, length, OnOk, OnErr, IfOk, IfErr};
+ghost use Rattle.fault.specs.declared.refusal.Refusal.TheVariants.{NoMemory};
+ghost use Rattle.model.specs.Transactions.{State, read_statements};
+ghost use Rattle.rowlaws.specs.Statements.{AllListed};
+ghost use Rattle.rowlaws.specs.Changes.{InsertOnRows, OverlapsOnRows};
+ghost use Rattle.rowlaws.specs.Transactions.{TransactionsFollow};
+ghost use Rattle.rowlaws.specs.Rows.{SameRows};
+ghost use Rattle.rowlaws.specs.Logs.{LogsOnRows};
+ghost use Rattle.sqlread.specs.Meaning.{schema_of, meaning, table_of};
+ghost use Rattle.sqlread.specs.Shapes.{statement_of};
+ghost use Rattle.current.specs.Current.{rows_of, table_count};
+ghost use Rattle.current.specs.Touched.{gone_in, come_in};
+ghost use Rattle.current.specs.Run.{IsRun, IsRefused};
+ghost use Rattle.sysversion.specs.Versions.{versions_of};
+ghost use Rattle.sysversion.specs.Versions as stored;
+ghost use Rattle.apply.specs.Executing.{IsTransacted, IsRefusedWhole, IsExecuted};
+
+use current::{Current, Touched};
+use fault::Refusal;
+use model::stamp::Stamp;
+use retry::Outcome;
+use schema::Schema;
+use sqlread::statement::Statement;
+use sqlread::transaction::read_transaction;
+use std::alloc::{AllocError, Global};
+use sysversion::Versions;
+
+// Rows of a table that is made of rows, and those that come with a statement.
+fn row_laws()
+    ensures follows { TransactionsFollow }
+    ensures insert { InsertOnRows }
+    ensures overlaps { OverlapsOnRows }
+    ensures same { SameRows }
+    ensures logs { LogsOnRows }
+{
+    rowlaws::transactions_follow();
+    rowlaws::insert_on_rows();
+    rowlaws::overlaps_on_rows();
+    rowlaws::same_rows();
+    rowlaws::logs_on_rows();
+}
+
+// Whether it tells of no more than that there was no memory.
+fn is_no_memory(refusal: &Refusal) -> bool
+    ensures { IsTrue result ↔ (refusal.now ≡ NoMemory) }
+{
+    matches!(refusal, Refusal::NoMemory)
+}
+
+// The table that a statement changes.
+fn table_of(statement: &Statement) -> usize
+    ensures { result ≡ table_of (statement_of statement.now) }
+{
+    match statement {
+        Statement::Insert(insert) => insert.table,
+        Statement::Update(update) => update.table,
+        Statement::Delete(delete) => delete.table,
+    }
+}
+
+// Runs a statement. One on a table that is not there, which only another schema has, fails as for want of memory.
+fn run(current: &mut Current, statement: &Statement, t: Stamp) -> Result<Touched, Refusal>
+    ensures ok { IfOk result (λ touched. IsRun t (meaning (statement_of statement.now)) (rows_of current.old) (rows_of current.new) (gone_in touched) (come_in touched)) }
+    ensures err { IfErr result (λ refusal. IsRefused t (meaning (statement_of statement.now)) (rows_of current.old) refusal) }
+    ensures unchanged { OnErr result (rows_of current.new ≡ rows_of current.old) }
+    ensures count { table_count current.new ≡ table_count current.old }
+    ensures tables { IfOk result (λ touched. length touched.tables.items ≤ table_count current.old) }
+{
+    if table_of(statement) >= current.table_count() {
+        return Err(Refusal::NoMemory);
+    }
+    current.run(statement, t)
+}
+
+// Runs statements in order, and after the last one checks the references; tells what all of them touched. At a refusal
+// the statements that ran are undone, from the last back to the first. After `NoMemory` the rows may be any.
+fn transact(
+    alloc: Global,
+    current: &mut Current,
+    schema: &Schema,
+    statements: &[Statement],
+    t: Stamp,
+) -> Result<Touched, Refusal>
+    ensures ok { IfOk result (λ touched. IsTransacted (schema_of schema.now) t (map meaning (map statement_of statements.now)) (rows_of current.old) (rows_of current.new) (gone_in touched) (come_in touched)) }
+    ensures err { IfErr result (λ refusal. IsRefusedWhole (schema_of schema.now) t (map meaning (map statement_of statements.now)) (rows_of current.old) (rows_of current.new) refusal) }
+    ensures count { table_count current.new ≡ table_count current.old }
+    ensures tables { IfOk result (λ touched. length touched.tables.items ≤ table_count current.old) }
+{
+    row_laws();
+    let Some((statement, rest)) = statements.split_first() else {
+        current.check(schema)?;
+        let tables = Vec::new(alloc);
+        return Ok(Touched { tables });
+    };
+    let touched = run(current, statement, t)?;
+    match transact(alloc, current, schema, rest, t) {
+        Ok(later) => Ok(touched.then(alloc, later)?),
+        Err(refusal) => {
+            if !is_no_memory(&refusal) {
+                current.undo(&touched)?;
+            }
+            Err(refusal)
+        }
+    }
+}
+
+// The statements of a text, none of one that does not read.
+fn statements(alloc: Global, schema: &Schema, text: &str) -> Result<Vec<Statement>, AllocError>
+    ensures { IfOk result (λ all. map meaning (map statement_of all.items) ≡ read_statements ((schema_of schema.now).reads text.now)) }
+{
+    match read_transaction(alloc, schema, text) {
+        Ok(transaction) => Ok(transaction.statements),
+        Err(refusal) => {
+            if is_no_memory(&refusal) {
+                return Err(AllocError);
+            }
+            Ok(Vec::new(alloc))
+        }
+    }
+}
+
+/// Executes a transaction's text at an instant, and gives its outcome. A refused transaction changes no row and no
+/// version. After an error for want of memory both may be any.
+pub(crate) fn execute(
+    alloc: Global,
+    current: &mut Current,
+    versions: &mut Versions,
+    schema: &Schema,
+    text: &str,
+    t: Stamp,
+) -> Result<Outcome, AllocError>
+    ensures executed { IfOk result (λ outcome. (state : State) → AllListed (rows_of current.old) state → stored.table_count versions.old ≡ table_count current.old → IsExecuted (schema_of schema.now) t text.now state (rows_of current.new) (versions_of versions.old) (versions_of versions.new) outcome) }
+    ensures current_tables { table_count current.new ≡ table_count current.old }
+    ensures versions_tables { stored.table_count versions.new ≡ stored.table_count versions.old }
+{
+    let statements = statements(alloc, schema, text)?;
+    match transact(alloc, current, schema, statements.as_slice(), t) {
+        Ok(touched) => {
+            versions.commit(touched, t)?;
+            Ok(Ok(t))
+        }
+        Err(refusal) => {
+            if is_no_memory(&refusal) {
+                return Err(AllocError);
+            }
+            Ok(Err(refusal))
+        }
+    }
+}

@@ -1,0 +1,10 @@
+//! The tables that a list of entries leaves: what its requests come to, and what is answered of it.
+#![tactic(auto)]
+
+mod asking;
+mod executing;
+pub mod tables;
+#[cfg(test)]
+mod tests;
+
+pub use tables::Tables;

@@ -1,0 +1,172 @@
+//! Tables by the entries that were applied to them.
+ghost use Rattle.std.specs.Prelude.{◌≡◌, true, [], ◌∷◌, ◌++◌, List, reverse, Err, alloc_error, OnOk, OnErr, IfOk, IfErr};
+ghost use Rattle.std.specs.Option.{option_map};
+ghost use Rattle.model.specs.declared.entry.Entry as entries;
+ghost use Rattle.model.specs.Logs.{IsStamped, outcome};
+ghost use Rattle.sqlread.specs.Meaning.{schema_of};
+ghost use Rattle.sqlread.specs.Shapes.{query_of};
+ghost use Rattle.answer.specs.Answers.{columns_in};
+ghost use Rattle.retry.specs.Judging.{latest_of, judged};
+ghost use Rattle.apply.specs.Executing.{unless_new};
+ghost use Rattle.apply.specs.View.{AreTables, IsAskedOf, is_failed};
+ghost use Rattle.rowlaws.specs.Logs.{LogsOnRows, FineLogs};
+ghost use Rattle.versionlaws.specs.Versions.{NoVersions, HeldBefore, HeldKept};
+ghost use Rattle.versionlaws.specs.Committing.{CommitEntry, EntryStays};
+
+use crate::asking;
+use crate::executing::execute;
+use answer::Answer;
+use asof::Ask;
+use current::Current;
+use fault::Refusal;
+use model::entry::{Entry, Request};
+use model::stamp::Stamp;
+use retry::{Judged, Outcome, Requests};
+use schema::Schema;
+use sqlread::query::Query;
+use std::alloc::{AllocError, Global};
+use sysversion::Versions;
+
+/// The tables of a schema after a list of entries: the current rows, all versions, each client's latest outcome, and
+/// the last stamp. Each call has to be given the schema that the tables were made of. Contracts say by `AreTables` of
+/// which list they are.
+#[derive(Drop)]
+pub struct Tables {
+    pub(crate) alloc: Global,
+    pub(crate) current: Current,
+    pub(crate) versions: Versions,
+    pub(crate) requests: Requests,
+    pub(crate) last: Option<Stamp>,
+    pub(crate) failed: bool,
+}
+
+// What a log leaves before any entry, and what one more entry does to versions.
+fn log_laws()
+    ensures rows { LogsOnRows }
+    ensures fine { FineLogs }
+    ensures none { NoVersions }
+    ensures before { HeldBefore }
+    ensures commit { CommitEntry }
+    ensures stays { EntryStays }
+    ensures kept { HeldKept }
+{
+    rowlaws::logs_on_rows();
+    rowlaws::fine_logs();
+    versionlaws::no_versions();
+    versionlaws::held_before();
+    versionlaws::commit_entry();
+    versionlaws::entry_stays();
+    versionlaws::held_kept();
+}
+
+fn copy_of(outcome: &Outcome) -> Result<Outcome, AllocError>
+    ensures { IfOk result (λ copy. copy ≡ outcome.now) }
+{
+    match outcome {
+        Ok(t) => Ok(Ok(*t)),
+        Err(refusal) => Ok(Err(refusal.clone()?)),
+    }
+}
+
+// The outcome of a request that is not executed: what is kept, or 30 or 31. None of a new one.
+fn unless_new(requests: &Requests, request: &Request) -> Result<Option<Outcome>, AllocError>
+    ensures { IfOk result (λ outcome. outcome ≡ unless_new (judged (latest_of requests.now request.now.client) request.now.number)) }
+{
+    match requests.judge(request.client, request.number) {
+        Judged::New => Ok(None),
+        Judged::Kept(outcome) => Ok(Some(copy_of(outcome)?)),
+        Judged::Old => Ok(Some(Err(Refusal::Old))),
+        Judged::Gap => Ok(Some(Err(Refusal::Gap))),
+    }
+}
+
+impl Tables {
+    /// The tables of a schema before any entry.
+    pub fn new(alloc: Global, schema: &Schema) -> Result<Tables, AllocError>
+        ensures { IfOk result (λ tables. AreTables (schema_of schema.now) [] tables) }
+    {
+        log_laws();
+        let count = schema.len();
+        let current = Current::new(alloc, count)?;
+        let versions = Versions::new(alloc, count)?;
+        let requests = Requests::new(alloc);
+        Ok(Tables {
+            alloc,
+            current,
+            versions,
+            requests,
+            last: None,
+            failed: false,
+        })
+    }
+
+    // Takes in one more entry. After want of memory it is of no list.
+    fn take(&mut self, schema: &Schema, entry: &Entry) -> Result<Option<Outcome>, AllocError>
+        ensures kept { OnOk result ((list : List entries.Entry) → AreTables (schema_of schema.now) list self.old → AreTables (schema_of schema.now) (list ++ entry.now ∷ []) self.new) }
+        ensures outcome { IfOk result (λ o. (list : List entries.Entry) → AreTables (schema_of schema.now) list self.old → o ≡ option_map (λ r. outcome (schema_of schema.now) entry.now.stamp r (reverse list)) entry.now.request) }
+    {
+        log_laws();
+        self.last = Some(entry.stamp);
+        let Some(request) = &entry.request else {
+            return Ok(None);
+        };
+        if let Some(outcome) = unless_new(&self.requests, request)? {
+            return Ok(Some(outcome));
+        }
+        let outcome = execute(
+            self.alloc,
+            &mut self.current,
+            &mut self.versions,
+            schema,
+            request.text.as_str(),
+            entry.stamp,
+        )?;
+        let kept = copy_of(&outcome)?;
+        self.requests.keep(request.client, request.number, kept)?;
+        Ok(Some(outcome))
+    }
+
+    /// Takes in one more entry, and gives the outcome of its request, none for a Close: the transaction is executed
+    /// once, a request that comes again has the outcome that is kept, and others are refused 30 or 31. A refused
+    /// transaction changes no row.
+    ///
+    /// Want of memory is never an outcome: the value has then failed, and answers only that.
+    pub fn apply(&mut self, schema: &Schema, entry: &Entry) -> Result<Option<Outcome>, AllocError>
+        ensures kept { OnOk result ((list : List entries.Entry) → AreTables (schema_of schema.now) list self.old → AreTables (schema_of schema.now) (list ++ entry.now ∷ []) self.new) }
+        ensures outcome { IfOk result (λ o. (list : List entries.Entry) → AreTables (schema_of schema.now) list self.old → o ≡ option_map (λ r. outcome (schema_of schema.now) entry.now.stamp r (reverse list)) entry.now.request) }
+        ensures err { OnErr result (is_failed self.new ≡ true) }
+        ensures once_failed { is_failed self.old ≡ true → result ≡ Err alloc_error }
+    {
+        if self.failed {
+            return Err(AllocError);
+        }
+        match self.take(schema, entry) {
+            Ok(outcome) => Ok(outcome),
+            Err(error) => {
+                self.failed = true;
+                Err(error)
+            }
+        }
+    }
+
+    /// Answers a question; one without system time is AS OF the last stamp. `NotClosed` with the last stamp where the
+    /// question's last instant is later than that, or where there is none; `NoMemory`, always once it has failed. It
+    /// changes nothing.
+    pub fn ask(&self, schema: &Schema, query: &Query) -> Result<Answer, Refusal>
+        ensures asked { (list : List entries.Entry) → AreTables (schema_of schema.now) list self.now → IsStamped list → IsAskedOf (schema_of schema.now) (query_of query.now) list result }
+        ensures columns { IfOk result (λ a. a.columns.items ≡ columns_in schema.now query.now.table) }
+    {
+        if self.failed {
+            return Err(Refusal::NoMemory);
+        }
+        log_laws();
+        asking::ask(self.alloc, &self.versions, schema, query, self.last)
+    }
+
+    /// Whether a call has found no memory.
+    pub fn has_failed(&self) -> bool
+        ensures { result ≡ is_failed self.now }
+    {
+        self.failed
+    }
+}

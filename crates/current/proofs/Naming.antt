@@ -1,0 +1,207 @@
+-- Which key conditions name, and that nothing becomes of the rows of others.
+use Rattle.std.proofs.Common.{◌≡◌, ℕ, zero, suc, ◌+◌, ◌<◌, ◌≤◌, Bool, true, false, ◌||◌, List, [], ◌∷◌, ◌++◌, filter, map, flat_map, length, take, get_or, Option, Some, None, refl, sym, ap, ◌∙◌, subst, inl, inr, arith, Bor}
+use Rattle.std.proofs.lemmas.Bool.{cases_Bool, and_parts}
+use Rattle.std.proofs.lemmas.List.{length-append}
+use Rattle.std.specs.Prelude.{slice_get}
+use Rattle.std.specs.List.{list_any, list_all}
+use Rattle.std.specs.Option.{option_map_or}
+use Rattle.std.specs.Ordering.{is_eq}
+use Rattle.std.specs.declared.cmp.Ordering.{Ordering}
+use Rattle.std.specs.declared.cmp.Ordering.TheVariants.{Less, Equal, Greater}
+use Rattle.std.specs.BTreeMap.{IsOrdered}
+use Rattle.model.specs.declared.value.Value.{Value}
+use Rattle.model.specs.Values.{key_cmp, value_cmp, same_key}
+use Rattle.model.specs.Tables.{Row}
+use Rattle.model.specs.Transactions.{Change}
+use Rattle.period.specs.declared.period.Period.{Period as DeclaredPeriod}
+use Rattle.model.specs.Periods.{period_of}
+use Rattle.rowlaws.specs.Rows.{Has}
+use Rattle.rowlaws.proofs.Keys.{key_same, same_key-true, same_key-itself}
+use Rattle.rowlaws.proofs.Members.{flat_has}
+use Rattle.rowlaws.proofs.RowFacts.{both}
+use Rattle.sqlsyntax.specs.declared.forms.Operator.TheVariants as operator
+use Rattle.sqlchecks.specs.declared.comparison.Comparison.{Comparison}
+use Rattle.sqlchecks.specs.declared.field.Field.TheVariants.{Key}
+use Rattle.sqlchecks.specs.Columns.{kept_at}
+use Rattle.sqlchecks.specs.Comparisons.{holds, compares, passes_all}
+use Rattle.sqlread.specs.declared.statement.Assignment.{Assignment}
+use Rattle.current.specs.declared.cut.Cut.{Cut}
+use Rattle.current.specs.Cuts.{is_met, is_stuck, kept, gone_at, come_at, cut_change, change_of_cut}
+use Rattle.current.specs.Stored.{Map, lines_of, rows_in, in_line}
+use Rattle.current.specs.declared.plan.Line.{Line}
+use Rattle.current.specs.Rows.{row_of}
+use Rattle.current.specs.Plans.{IsPlanned, ArePlanned}
+use Rattle.current.proofs.InLine.{each_in_line}
+use Rattle.current.proofs.Sorted.{in_its_line, in_all}
+use Rattle.current.proofs.OfKey.{line_of_key}
+use Rattle.current.proofs.Walks.{unmet_in_range}
+
+-- ---- the key that conditions name
+
+is_equal : (o : Ordering) → is_eq o ≡ true → o ≡ Equal
+is_equal Less h = absurd (both h refl)
+is_equal Equal h = refl
+is_equal Greater h = absurd (both h refl)
+
+-- equal values are one: keys of one column are the same where these are
+one_value : (v w : Value) → is_eq (value_cmp v w) ≡ true → v ≡ w
+unfolding key_cmp
+one_value v w h =
+    let equal : value_cmp v w ≡ Equal = is_equal (value_cmp v w) h in
+    let same : key_cmp (v ∷ []) (w ∷ []) ≡ Equal = rw equal refl in
+    let one : v ∷ [] ≡ w ∷ [] = key_same (v ∷ []) (w ∷ []) same in
+    ap (λ (l : List Value). get_or l 0 v) one
+
+value_there : (o : Option Value) (w : Value) → option_map_or (λ x. holds operator.Equal (value_cmp x w)) o false ≡ true → o ≡ Some w
+value_there None w h = absurd (both h refl)
+value_there (Some x) w h = ap Some (one_value x w h)
+
+pub said : (c : Comparison) (place : ℕ) → c.operator ≡ operator.Equal → c.field ≡ Key place → (row : Row) → compares c row.key row.values ≡ true → slice_get row.key place ≡ Some c.value
+unfolding compares kept_at
+said c place o f row h =
+    let h2 : option_map_or (λ v. holds operator.Equal (value_cmp v c.value)) (kept_at row.key row.values (Key place)) false ≡ true = subst (λ x. option_map_or (λ v. holds operator.Equal (value_cmp v c.value)) (kept_at row.key row.values x) false ≡ true) f (subst (λ x. option_map_or (λ v. holds x (value_cmp v c.value)) (kept_at row.key row.values c.field) false ≡ true) o h) in
+    value_there (slice_get row.key place) c.value h2
+
+pub all_at : {A : Type 0} (p : A → Bool) (xs : List A) (i : ℕ) (x : A) → i < length xs → x ≡ get_or xs i x → list_all p xs ≡ true → p x ≡ true
+all_at p [] i x l e h = absurd (omega arith)
+all_at p (y ∷ xs) zero x l e h = subst (λ z. p z ≡ true) (sym e) (and_parts _ _ h).0
+all_at p (y ∷ xs) (suc i) x l e h = all_at p xs i x (omega arith) e (and_parts _ _ h).1
+
+pub passes_each : (conditions : List Comparison) (i : ℕ) (c : Comparison) (row : Row) → i < length conditions → c ≡ get_or conditions i c → passes_all conditions row ≡ true → compares c row.key row.values ≡ true
+unfolding passes_all
+passes_each conditions i c row l e h = all_at (λ x. compares x row.key row.values) conditions i c l e h
+
+-- one more place of a list
+pub one_more : (xs front : List Value) (i : ℕ) (v : Value) → take i xs ≡ front → slice_get xs i ≡ Some v → take (i + 1) xs ≡ front ++ v ∷ []
+one_more xs front i v h e = let more : i + 1 ≡ suc i = omega arith in ap (λ (n : ℕ). take n xs) more ∙ next xs i e ∙ ap (λ ys. ys ++ v ∷ []) h
+  where
+    next : (ys : List Value) (n : ℕ) → slice_get ys n ≡ Some v → take (suc n) ys ≡ take n ys ++ v ∷ []
+    next [] n g = cc
+    next (y ∷ ys) zero g = let same : y ≡ v = ap (λ o. option_map_or (λ (x : Value). x) o y) g in ap (λ z. z ∷ []) same
+    next (y ∷ ys) (suc n) g = ap (λ zs. y ∷ zs) (next ys n g)
+
+pub take_whole : (xs : List Value) (i : ℕ) → length xs ≤ i → take i xs ≡ xs
+take_whole [] zero l = refl
+take_whole [] (suc i) l = refl
+take_whole (x ∷ xs) zero l = absurd (omega arith)
+take_whole (x ∷ xs) (suc i) l = ap (λ ys. x ∷ ys) (take_whole xs i (omega arith))
+
+-- ---- rows that are not of the key
+
+-- a row that is met passes WHERE
+passing : (conditions : List Comparison) (p : DeclaredPeriod) (assignments : Option (Bor (List Assignment))) (r : Row) → is_met (cut_change conditions (period_of p) assignments) r ≡ true → passes_all conditions r ≡ true
+passing conditions p None r h = (and_parts _ _ (and_parts _ _ h).0).0
+passing conditions p (Some a) r h = (and_parts _ _ (and_parts _ _ h).0).0
+
+pub met_passes : (cut : Cut) (r : Row) → is_met (change_of_cut cut) r ≡ true → passes_all cut.conditions.now r ≡ true
+met_passes cut r h = passing cut.conditions.now cut.portion cut.assignments r h
+
+module _ (c : Change) (t : ℕ) (k : List Value) where
+  OnlyMet : List Row → Type 0
+  OnlyMet rows = (r : Row) → Has rows r → is_met c r ≡ true → r.key ≡ k
+
+  unmet_other : (r : Row) → (is_met c r ≡ true → r.key ≡ k) → same_key r.key k ≡ false → is_met c r ≡ false
+  unmet_other r h other = elim (cases_Bool (is_met c r)) [
+    | inl y ↦ absurd (both (subst (λ l. same_key r.key l ≡ true) (h y) (same_key-itself r.key)) other)
+    | inr n ↦ n
+  ]
+
+  -- what is none of each row that is not met is that of the key's rows
+  only_of_key : {B : Type 0} (g : Row → List B) → ((r : Row) → is_met c r ≡ false → g r ≡ []) → (rows : List Row) → ((r : Row) → Has rows r → is_met c r ≡ true → r.key ≡ k) → flat_map g rows ≡ flat_map g (filter (λ r. same_key r.key k) rows)
+  only_of_key g none [] h = refl
+  only_of_key g none (r ∷ rows) h = elim (cases_Bool (same_key r.key k)) [
+    | inl same ↦ rw same (ap (λ more. g r ++ more) (only_of_key g none rows (λ s i. h s (inr i))))
+    | inr other ↦ rw (other, none r (unmet_other r (h r (inl refl)) other)) (only_of_key g none rows (λ s i. h s (inr i)))
+  ]
+
+  any_of_key : (rows : List Row) → ((r : Row) → Has rows r → is_met c r ≡ true → r.key ≡ k) → list_any (is_stuck c) rows ≡ list_any (is_stuck c) (filter (λ r. same_key r.key k) rows)
+  any_of_key [] h = refl
+  any_of_key (r ∷ rows) h = elim (cases_Bool (same_key r.key k)) [
+    | inl same ↦ rw same (ap (λ more. is_stuck c r || more) (any_of_key rows (λ s i. h s (inr i))))
+    | inr other ↦ rw (other, unmet_in_range c r (unmet_other r (h r (inl refl)) other)) (any_of_key rows (λ s i. h s (inr i)))
+  ]
+
+  unmet_kept : (r : Row) → is_met c r ≡ false → kept c t r ≡ r ∷ []
+  unmet_kept r h = rw h refl
+
+  -- the other rows stay
+  long_of_key : (rows : List Row) → ((r : Row) → Has rows r → is_met c r ≡ true → r.key ≡ k) → length (flat_map (kept c t) rows) + length (filter (λ r. same_key r.key k) rows) ≡ length rows + length (flat_map (kept c t) (filter (λ r. same_key r.key k) rows))
+  long_of_key [] h = refl
+  long_of_key (r ∷ rows) h = elim (cases_Bool (same_key r.key k)) [
+    | inl same ↦
+        let more = long_of_key rows (λ s i. h s (inr i)) in
+        let one = length-append (kept c t r) (flat_map (kept c t) rows) in
+        let two = length-append (kept c t r) (flat_map (kept c t) (filter (λ (s : Row). same_key s.key k) rows)) in
+        rw same (omega (arith, more, one, two))
+    | inr other ↦
+        let more = long_of_key rows (λ s i. h s (inr i)) in
+        rw (other, unmet_kept r (unmet_other r (h r (inl refl)) other)) (omega (arith, more))
+  ]
+
+  short_of_key : (rows : List Row) → length (filter (λ r. same_key r.key k) rows) ≤ length rows
+  short_of_key [] = omega arith
+  short_of_key (r ∷ rows) = elim (cases_Bool (same_key r.key k)) [
+    | inl same ↦ let more = short_of_key rows in rw same (omega (arith, more))
+    | inr other ↦ let more = short_of_key rows in rw other (omega (arith, more))
+  ]
+
+-- ---- the plan for the rows of one key
+
+module _ (c : Change) (t : ℕ) (m : Map) (ordered : IsOrdered key_cmp m) (in_lines : (l : List Value) → in_line l 0 (lines_of m l) ≡ true) (k : List Value) (only : (r : Row) → Has (rows_in m.entries) r → is_met c r ≡ true → r.key ≡ k) where
+  pub gone_line : flat_map (gone_at c t) (lines_of m k) ≡ flat_map (gone_at c t) (rows_in m.entries)
+  gone_line = ap (flat_map (gone_at c t)) (sym (line_of_key m ordered in_lines k)) ∙ sym (only_of_key c t k (gone_at c t) (λ r h. rw h refl) (rows_in m.entries) only)
+
+  pub come_line : flat_map (come_at c t) (lines_of m k) ≡ flat_map (come_at c t) (rows_in m.entries)
+  come_line = ap (flat_map (come_at c t)) (sym (line_of_key m ordered in_lines k)) ∙ sym (only_of_key c t k (come_at c t) (λ r h. rw h refl) (rows_in m.entries) only)
+
+  pub stuck_line : list_any (is_stuck c) (lines_of m k) ≡ list_any (is_stuck c) (rows_in m.entries)
+  stuck_line = ap (list_any (is_stuck c)) (sym (line_of_key m ordered in_lines k)) ∙ sym (any_of_key c t k (rows_in m.entries) only)
+
+  pub short_line : length (lines_of m k) ≤ length (rows_in m.entries)
+  short_line = subst (λ rs. length rs ≤ length (rows_in m.entries)) (line_of_key m ordered in_lines k) (short_of_key c t k (rows_in m.entries))
+
+  pub long_line : length (flat_map (kept c t) (rows_in m.entries)) + length (lines_of m k) ≡ length (rows_in m.entries) + length (flat_map (kept c t) (lines_of m k))
+  long_line = subst (λ rs. length (flat_map (kept c t) (rows_in m.entries)) + length rs ≡ length (rows_in m.entries) + length (flat_map (kept c t) rs)) (line_of_key m ordered in_lines k) (long_of_key c t k (rows_in m.entries) only)
+
+  -- the rows of another key stay
+  stays : (l : List Value) (rows : List Row) → same_key l k ≡ false → ((r : Row) → Has rows r → (r.key ≡ l) × Has (rows_in m.entries) r) → flat_map (kept c t) rows ≡ rows
+  stays l [] other h = refl
+  stays l (r ∷ rows) other h =
+      let here = h r (inl refl) in
+      let unmet = unmet_other c t k r (only r here.1) (subst (λ x. same_key x k ≡ false) (sym here.0) other) in
+      rw (unmet_kept c t k r unmet) (ap (λ more. r ∷ more) (stays l rows other (λ s i. h s (inr i))))
+
+  pub line_stays : (l : List Value) → same_key l k ≡ false → flat_map (kept c t) (lines_of m l) ≡ lines_of m l
+  line_stays l other = stays l (lines_of m l) other (λ r h. ((each_in_line l 0 (lines_of m l) r (in_lines l) h).key, in_all m ordered in_lines l r h))
+
+  pub one_planned : (old new : List Line) → old ≡ [] → IsPlanned c t k (lines_of m k) old new → ArePlanned c t (lines_of m) new
+  one_planned old new none step = elim step [
+    | inl same ↦ (
+      (λ p h. absurd (subst (λ ps. Has ps p) (same.0 ∙ none) h)),
+      (λ l. elim (cases_Bool (same_key l k)) [
+        | inl y ↦ inr (subst (λ x. flat_map (kept c t) (lines_of m x) ≡ lines_of m x) (sym (same_key-true l k y)) same.1)
+        | inr n ↦ inr (line_stays l n)
+      ]),
+    )
+    | inr one ↦
+        let is : new ≡ one.0 ∷ [] = one.1 ∙ ap (λ ps. ps ++ one.0 ∷ []) none in
+        let rows : map row_of one.0.rows.items ≡ flat_map (kept c t) (lines_of m one.0.key) = one.3 ∙ ap (λ x. flat_map (kept c t) (lines_of m x)) (sym one.2) in (
+          (λ p h. elim (subst (λ ps. Has ps p) is h) [
+            | inl i ↦ subst (λ q. map row_of q.rows.items ≡ flat_map (kept c t) (lines_of m q.key)) (sym i) rows
+            | inr n ↦ absurd n
+          ]),
+          (λ l. elim (cases_Bool (same_key l k)) [
+            | inl y ↦ inl (one.0, subst (λ ps. Has ps one.0) (sym is) (inl refl), one.2 ∙ sym (same_key-true l k y))
+            | inr n ↦ inr (line_stays l n)
+          ]),
+        )
+  ]
+
+-- ---- rows after a change have the keys of rows before
+
+pub cut_short : (c : Change) (t columns : ℕ) (m n : Map) (om : IsOrdered key_cmp m) (im : (l : List Value) → in_line l 0 (lines_of m l) ≡ true) (on : IsOrdered key_cmp n) (in' : (l : List Value) → in_line l 0 (lines_of n l) ≡ true)
+    → ((k : List Value) → lines_of n k ≡ flat_map (kept c t) (lines_of m k)) → ((r : Row) → Has (rows_in m.entries) r → length r.key ≤ columns) → (r : Row) → Has (rows_in n.entries) r → length r.key ≤ columns
+cut_short c t columns m n om im on in' each short r h =
+    let f = flat_has (kept c t) (lines_of m r.key) r (subst (λ rs. Has rs r) (each r.key) (in_its_line n on in' r h)) in
+    let same = (each_in_line r.key 0 (lines_of m r.key) f.0 (im r.key) f.1).key in
+    subst (λ (k : List Value). length k ≤ columns) same (short f.0 (in_all m om im r.key f.0 f.1))

@@ -1,0 +1,91 @@
+-- The rows of a key are those of its line.
+use Rattle.std.proofs.Common.{◌≡◌, ℕ, Bool, true, false, List, [], ◌∷◌, ◌++◌, filter, map, refl, sym, ap, ◌∙◌, subst, inl, inr}
+use Rattle.std.proofs.lemmas.Bool.{cases_Bool}
+use Rattle.std.proofs.lemmas.List.{append-nil}
+use Rattle.std.proofs.lemmas.List.Elements.{filter-append}
+use Rattle.std.specs.declared.cmp.Ordering.TheVariants.{Less, Equal}
+use Rattle.std.specs.BTreeMap.{IsOrdered}
+use Rattle.std.specs.List.{AllByRecursion}
+use Rattle.std.specs.List.Sorted.{IsStrictlySortedBy}
+use Rattle.std.specs.Map.{lookup}
+use Rattle.std.specs.Ordering.{is_eq}
+use Rattle.model.specs.declared.value.Value.{Value}
+use Rattle.model.specs.Values.{key_cmp, same_key}
+use Rattle.model.specs.Tables.{Row}
+use Rattle.model.specs.Periods.{StartInOrder}
+use Rattle.rowlaws.specs.Covering.{PeriodsInOrder, periods_of}
+use Rattle.rowlaws.specs.Rows.{Has}
+use Rattle.rowlaws.proofs.Keys.{key_itself, same_key-true, same_key-itself}
+use Rattle.rowlaws.proofs.RowFacts.{both}
+use Rattle.current.specs.Rows.{row_of}
+use Rattle.current.specs.Stored.{Map, line_in, lines_of, rows_in, in_line}
+use Rattle.current.proofs.InLine.{begins_line}
+use Rattle.current.proofs.Planning.{Entry}
+use Rattle.current.proofs.Sorted.{entry_in_line, map_sorted}
+
+abbrev of_key : List Value → Row → Bool
+of_key k r = same_key r.key k
+
+none_of_line : (k m : List Value) (d : ℕ) (rs : List Row) → same_key m k ≡ false → in_line m d rs ≡ true → filter (of_key k) rs ≡ []
+none_of_line k m d [] other h = refl
+none_of_line k m d (r ∷ rs) other h =
+    let b = begins_line m d r rs h in
+    rw (subst (λ l. same_key l k ≡ false) (sym b.key) other) (none_of_line k m r.period.end rs other b.later)
+
+all_of_line : (k m : List Value) (d : ℕ) (rs : List Row) → same_key m k ≡ true → in_line m d rs ≡ true → filter (of_key k) rs ≡ rs
+all_of_line k m d [] same h = refl
+all_of_line k m d (r ∷ rs) same h =
+    let b = begins_line m d r rs h in
+    rw (subst (λ l. same_key l k ≡ true) (sym b.key) same) (ap (λ more. r ∷ more) (all_of_line k m r.period.end rs same b.later))
+
+-- keys are the same in either order
+turned : (k l : List Value) (b : Bool) → same_key k l ≡ b → same_key l k ≡ b
+turned k l true h = subst (λ m. same_key m k ≡ true) (same_key-true k l h) (same_key-itself k)
+turned k l false h = elim (cases_Bool (same_key l k)) [
+  | inl y ↦ absurd (both (subst (λ m. same_key k m ≡ true) (sym (same_key-true l k y)) (same_key-itself k)) h)
+  | inr n ↦ n
+]
+
+later_differs : (k l : List Value) → key_cmp k l ≡ Less → same_key l k ≡ false
+later_differs k l less = elim (cases_Bool (same_key l k)) [
+  | inl y ↦
+      let equal : key_cmp k l ≡ Equal = subst (λ m. key_cmp k m ≡ Equal) (sym (same_key-true l k y)) (key_itself k) in
+      let absurdly : Less ≡ Equal = sym less ∙ equal in
+      cc
+  | inr n ↦ n
+]
+
+none_later : (k : List Value) (es : List Entry) → AllByRecursion (λ l. key_cmp k l ≡ Less) (map (λ e. e.0) es) → ((e : Entry) → Has es e → in_line e.0 0 (map row_of e.1.items) ≡ true) → filter (of_key k) (rows_in es) ≡ []
+none_later k [] less h = refl
+none_later k (e ∷ es) less h =
+    filter-append (of_key k) (map row_of e.1.items) (rows_in es)
+    ∙ ap (λ rs. rs ++ filter (of_key k) (rows_in es)) (none_of_line k e.0 0 (map row_of e.1.items) (later_differs k e.0 less.0) (h e (inl refl)))
+    ∙ none_later k es less.1 (λ x i. h x (inr i))
+
+found : (k : List Value) (es : List Entry) → IsStrictlySortedBy key_cmp (map (λ e. e.0) es) → ((e : Entry) → Has es e → in_line e.0 0 (map row_of e.1.items) ≡ true) → filter (of_key k) (rows_in es) ≡ line_in (lookup (λ q. is_eq (key_cmp k q)) es)
+unfolding IsStrictlySortedBy same_key
+found k [] s h = refl
+found k (e ∷ es) s h = elim (cases_Bool (same_key k e.0)) [
+  | inl same ↦
+      let equal = same_key-true k e.0 same in
+      rw same
+      (filter-append (of_key k) (map row_of e.1.items) (rows_in es)
+      ∙ ap (λ rs. rs ++ filter (of_key k) (rows_in es)) (all_of_line k e.0 0 (map row_of e.1.items) (turned k e.0 true same) (h e (inl refl)))
+      ∙ ap (λ rs. map row_of e.1.items ++ rs) (none_later k es (subst (λ l. AllByRecursion (λ m. key_cmp l m ≡ Less) (map (λ x. x.0) es)) (sym equal) s.0) (λ x i. h x (inr i)))
+      ∙ append-nil (map row_of e.1.items))
+  | inr other ↦
+      rw other
+      (filter-append (of_key k) (map row_of e.1.items) (rows_in es)
+      ∙ ap (λ rs. rs ++ filter (of_key k) (rows_in es)) (none_of_line k e.0 0 (map row_of e.1.items) (turned k e.0 false other) (h e (inl refl)))
+      ∙ found k es s.1 (λ x i. h x (inr i)))
+]
+
+module _ (m : Map) (ordered : IsOrdered key_cmp m) (in_lines : (k : List Value) → in_line k 0 (lines_of m k) ≡ true) where
+  pub line_of_key : (k : List Value) → filter (λ r. same_key r.key k) (rows_in m.entries) ≡ lines_of m k
+  line_of_key k = found k m.entries ordered (entry_in_line m ordered in_lines)
+
+  pub line_periods : (k : List Value) → map (λ r. r.period) (lines_of m k) ≡ periods_of (rows_in m.entries) k
+  line_periods k = ap (map (λ r. r.period)) (sym (line_of_key k))
+
+  pub line_in_order : PeriodsInOrder → (k : List Value) → StartInOrder (map (λ r. r.period) (lines_of m k))
+  line_in_order law k = subst (λ ps. StartInOrder ps) (sym (line_periods k)) (law (rows_in m.entries) k (map_sorted m ordered in_lines))

@@ -1,0 +1,71 @@
+use Rattle.std.proofs.Common.{rules, ◌≡◌, ◌⊎◌, true, ◌≤◌, ◌+◌, ◌-◌, ◌++◌, ◌∙◌, ap, map, flat_map, sym, subst, min, arith, length}
+use Rattle.std.proofs.lemmas.List.{length-map}
+use Rattle.current.specs.Rows.{row_of}
+use Rattle.current.specs.Cuts.{change_of_cut, kept, gone_at, come_at, is_stuck}
+use Rattle.current.specs.Plans.{IsPlanned}
+use Rattle.current.specs.Stored.{lines_of, rows_in}
+use Rattle.std.specs.Prelude.{IfErr}
+use Rattle.fault.specs.declared.refusal.Refusal.TheVariants.{NoMemory, NumberRange}
+use Rattle.std.specs.List.{list_any}
+use Rattle.current.proofs.Naming.{gone_line, come_line, stuck_line, short_line, long_line, one_planned}
+use Rattle.current.proofs.plan.plan_key.Goals as goal
+
+pub overflow_sub-plan : goal.overflow_sub-plan
+overflow_sub-plan c =
+    let change = change_of_cut c.args.cut.now in
+    let m = c.args.lines.now in
+    let short : length (lines_of m c.args.key.now) ≤ length (rows_in m.entries) = short_line change c.args.cut.now.birth m c.requires.ordered c.requires.in_lines c.args.key.now c.requires.met in
+    let long : length (lines_of m c.args.key.now) ≡ length c.line-rows.result.now = ap length (sym c.line-rows.ensures) ∙ length-map c.line-rows.result.now row_of in
+    omega (arith, short, long, c.requires.counted)
+
+pub returns-in_err-add-clause-err : goal.returns-in_err-add-clause-err
+returns-in_err-add-clause-err c =
+    let cut = c.args.cut.now in
+    let change = change_of_cut cut in
+    let m = c.args.lines.now in
+    let stuck = ap (list_any (is_stuck change)) c.line-rows.ensures ∙ stuck_line change cut.birth m c.requires.ordered c.requires.in_lines c.args.key.now c.requires.met in
+    subst (λ b. IfErr c.from_residual.result (λ refusal. (refusal ≡ NoMemory) ⊎ ((refusal ≡ NumberRange) × (b ≡ true)))) stuck (search rules)
+
+pub returns-clause-lines : goal.returns-clause-lines
+returns-clause-lines c =
+    let cut = c.args.cut.now in
+    let change = change_of_cut cut in
+    let m = c.args.lines.now in
+    one_planned change cut.birth m c.requires.ordered c.requires.in_lines c.args.key.now c.requires.met _ c.add.new.self.lines.items c.new.ensures.items
+    (subst (λ rows. IsPlanned change cut.birth c.args.key.now rows c.new.result.items c.add.new.self.lines.items) c.line-rows.ensures c.in_ok-add.ensures.lines)
+
+pub returns-clause-count : goal.returns-clause-count
+returns-clause-count c =
+    let cut = c.args.cut.now in
+    let change = change_of_cut cut in
+    let m = c.args.lines.now in
+    let k = c.args.key.now in
+    let before : length (lines_of m k) ≡ length c.line-rows.result.now = ap length (sym c.line-rows.ensures) ∙ length-map c.line-rows.result.now row_of in
+    let short : length (lines_of m k) ≤ length (rows_in m.entries) = short_line change cut.birth m c.requires.ordered c.requires.in_lines k c.requires.met in
+    let long : length (flat_map (kept change cut.birth) (rows_in m.entries)) + length (lines_of m k) ≡ length (rows_in m.entries) + length (flat_map (kept change cut.birth) (lines_of m k)) = long_line change cut.birth m c.requires.ordered c.requires.in_lines k c.requires.met in
+    let added : c.add.new.self.count ≡ min ((c.args.count - length c.line-rows.result.now) + length (flat_map (kept change cut.birth) (lines_of m k))) 18446744073709551615 = c.in_ok-add.ensures.count ∙ ap (λ rows. min ((c.args.count - length c.line-rows.result.now) + length (flat_map (kept change cut.birth) rows)) 18446744073709551615) c.line-rows.ensures in
+    let counted = c.requires.counted in
+    omega (arith, before, short, long, added, counted)
+
+pub returns-clause-gone : goal.returns-clause-gone
+returns-clause-gone c =
+    let cut = c.args.cut.now in
+    let change = change_of_cut cut in
+    let m = c.args.lines.now in
+    c.in_ok-add.ensures.gone ∙ ap (λ rows. rows ++ flat_map (gone_at change cut.birth) (map row_of c.line-rows.result.now)) c.none-changes.ensures.gone ∙ ap (flat_map (gone_at change cut.birth)) c.line-rows.ensures
+    ∙ gone_line change cut.birth m c.requires.ordered c.requires.in_lines c.args.key.now c.requires.met
+
+pub returns-clause-come : goal.returns-clause-come
+returns-clause-come c =
+    let cut = c.args.cut.now in
+    let change = change_of_cut cut in
+    let m = c.args.lines.now in
+    c.in_ok-add.ensures.come ∙ ap (λ rows. rows ++ flat_map (come_at change cut.birth) (map row_of c.line-rows.result.now)) c.none-changes.ensures.come ∙ ap (flat_map (come_at change cut.birth)) c.line-rows.ensures
+    ∙ come_line change cut.birth m c.requires.ordered c.requires.in_lines c.args.key.now c.requires.met
+
+pub returns-clause-in_range : goal.returns-clause-in_range
+returns-clause-in_range c =
+    let cut = c.args.cut.now in
+    let change = change_of_cut cut in
+    let m = c.args.lines.now in
+    sym (stuck_line change cut.birth m c.requires.ordered c.requires.in_lines c.args.key.now c.requires.met) ∙ ap (list_any (is_stuck change)) (sym c.line-rows.ensures) ∙ c.in_ok-add.ensures.in_range

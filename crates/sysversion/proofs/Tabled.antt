@@ -1,0 +1,24 @@
+-- What is touched of each table, one table after another.
+use Rattle.std.proofs.Common.{◌≡◌, ℕ, zero, suc, ◌+◌, ◌≤◌, List, [], ◌∷◌, length, drop, ap, arith}
+use Rattle.model.specs.Tables.{Row}
+use Rattle.current.specs.Places.{rows_at}
+
+pub rows_at_head : {A : Type 0} (f : A → List Row) (xs : List A) (n : ℕ) (y : A) (ys : List A) → drop n xs ≡ y ∷ ys → rows_at f xs n ≡ f y
+rows_at_head f [] zero y ys e = cc
+rows_at_head f [] (suc n) y ys e = cc
+rows_at_head f (x ∷ xs) zero y ys e = let same : x ≡ y = cc in ap f same
+rows_at_head f (x ∷ xs) (suc n) y ys e = rows_at_head f xs n y ys e
+
+drop_tail : {A : Type 0} (xs : List A) (n : ℕ) (y : A) (ys : List A) → drop n xs ≡ y ∷ ys → drop (suc n) xs ≡ ys
+drop_tail [] zero y ys e = cc
+drop_tail [] (suc n) y ys e = cc
+drop_tail (x ∷ xs) zero y ys e = cc
+drop_tail (x ∷ xs) (suc n) y ys e = drop_tail xs n y ys e
+
+pub drop_next : {A : Type 0} (xs : List A) (n m : ℕ) (y : A) (ys : List A) → m ≡ n + 1 → drop n xs ≡ y ∷ ys → ys ≡ drop m xs
+drop_next xs n m y ys e h = let next : m ≡ suc n = omega arith in let tail : drop (suc n) xs ≡ ys = drop_tail xs n y ys h in rw next (cc)
+
+pub drop_all : {A : Type 0} (xs : List A) (n : ℕ) → length (drop n xs) ≡ 0 → length xs ≤ n
+drop_all [] n e = omega arith
+drop_all (x ∷ xs) zero e = absurd (omega (arith, e))
+drop_all (x ∷ xs) (suc n) e = let less : length xs ≤ n = drop_all xs n e in omega arith

@@ -1,0 +1,42 @@
+//! Versions of rows.
+ghost use Rattle.std.specs.Prelude.{◌≡◌, map};
+ghost use Rattle.std.specs.List.{list_any};
+ghost use Rattle.current.specs.Rows.{row_of};
+ghost use Rattle.versionlaws.specs.Committing.{is_at, ended};
+ghost use Rattle.sysversion.specs.Versions.{version_of};
+
+use current::Row;
+use model::stamp::Stamp;
+
+/// A row from its birth on, up to its system end, or open. A contract sees what `version_of` gives.
+#[derive(Debug, Drop)]
+pub struct Version {
+    pub row: Row,
+    /// The instant of the transaction with which the row went, none while it is current.
+    pub end: Option<Stamp>,
+}
+
+// Whether the two rows have the same key and start.
+fn is_at(row: &Row, other: &Row) -> bool
+    ensures { result ≡ is_at (row_of row.now) (row_of other.now) }
+{
+    row.key == other.key && row.period.start.number == other.period.start.number
+}
+
+impl Version {
+    // Whether one of the rows has its row's key and start.
+    fn is_among(&self, rows: &[Row]) -> bool
+        ensures { result ≡ list_any (λ row. is_at (row_of self.now.row) (row_of row)) rows.now }
+    {
+        rows.iter().any(|row| is_at(&self.row, row))
+    }
+
+    /// Ends the version at an instant if it is open and one of the rows that go has its row's key and start.
+    pub(crate) fn end_with(&mut self, gone: &[Row], t: Stamp)
+        ensures { version_of self.new ≡ ended t (map row_of gone.now) (version_of self.old) }
+    {
+        if self.end.is_none() && self.is_among(gone) {
+            self.end = Some(t);
+        }
+    }
+}

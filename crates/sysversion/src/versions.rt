@@ -1,0 +1,98 @@
+//! The versions of all tables.
+ghost use Rattle.std.specs.Prelude.{◌≡◌, ◌≢◌, ℕ, ◌<◌, [], true, false, map, length, Err, alloc_error, OnOk, OnErr, IfOk};
+ghost use Rattle.current.specs.Touched.{gone_of, come_of, gone_in, come_in};
+ghost use Rattle.versionlaws.specs.Committing.{committed};
+ghost use Rattle.sysversion.specs.Versions.{versions_of, version_of, table_count, is_failed};
+
+use crate::table::commit_changes;
+use crate::version::Version;
+use current::{Changes, Touched};
+use model::stamp::Stamp;
+use std::alloc::{AllocError, Global};
+
+/// The versions of all tables. A contract sees what `versions_of` gives: of each table, by its number
+/// from 0, its versions in the order in which they came.
+#[derive(Debug, Drop)]
+pub struct Versions {
+    pub(crate) tables: Vec<Vec<Version>>,
+    pub(crate) alloc: Global,
+    pub(crate) failed: bool,
+}
+
+impl Versions {
+    /// So many tables, without versions.
+    pub fn new(alloc: Global, tables: usize) -> Result<Versions, AllocError>
+        ensures versions { IfOk result (λ versions. (n : ℕ) → versions_of versions n ≡ []) }
+        ensures count { IfOk result (λ versions. table_count versions ≡ tables) }
+        ensures up { IfOk result (λ versions. is_failed versions ≡ false) }
+    {
+        let mut all = Vec::new(alloc);
+        for _ in 0..tables {
+            all.push(Vec::new(alloc))?;
+        }
+        Ok(Versions {
+            tables: all,
+            alloc,
+            failed: false,
+        })
+    }
+
+    // Takes in what was touched of a table, if it is there.
+    fn commit_table(&mut self, table: usize, changes: Changes, t: Stamp) -> Result<(), AllocError>
+        ensures here { OnOk result (table < table_count self.old → versions_of self.new table ≡ committed t (gone_of changes) (come_of changes) (versions_of self.old table)) }
+        ensures others { OnOk result ((n : ℕ) → n ≢ table → versions_of self.new n ≡ versions_of self.old n) }
+        ensures count { table_count self.new ≡ table_count self.old }
+    {
+        if table >= self.tables.len() {
+            return Ok(());
+        }
+        commit_changes(&mut self.tables[table], changes, t)
+    }
+
+    // Takes in what was touched of each table.
+    fn commit_tables(&mut self, touched: Touched, t: Stamp) -> Result<(), AllocError>
+        ensures ok { OnOk result ((n : ℕ) → n < table_count self.old → versions_of self.new n ≡ committed t (gone_in touched n) (come_in touched n) (versions_of self.old n)) }
+        ensures count { table_count self.new ≡ table_count self.old }
+    {
+        for (table, changes) in touched.tables.into_iter().enumerate() {
+            self.commit_table(table, changes, t)?;
+        }
+        Ok(())
+    }
+
+    /// Takes in what a transaction at an instant touched: the versions of the rows that went end then, and the rows
+    /// that came begin as open versions. What is touched of a table that is not there is passed over.
+    ///
+    /// Want of memory may leave some of it out: the value has then failed, and answers only that.
+    pub fn commit(&mut self, touched: Touched, t: Stamp) -> Result<(), AllocError>
+        ensures ok { OnOk result ((n : ℕ) → n < table_count self.old → versions_of self.new n ≡ committed t (gone_in touched n) (come_in touched n) (versions_of self.old n)) }
+        ensures err { OnErr result (is_failed self.new ≡ true) }
+        ensures up { OnOk result ((is_failed self.old ≡ false) × (is_failed self.new ≡ false)) }
+        ensures count { table_count self.new ≡ table_count self.old }
+        ensures once_failed { is_failed self.old ≡ true → result ≡ Err alloc_error }
+    {
+        if self.failed {
+            return Err(AllocError);
+        }
+        let committed = self.commit_tables(touched, t);
+        self.failed = committed.is_err();
+        committed
+    }
+
+    /// The versions of a table in the order in which they came; none of a table that is not there. Takes no memory.
+    pub fn versions(&self, table: usize) -> &[Version]
+        ensures { map version_of result.now ≡ versions_of self.now table }
+    {
+        match self.tables.get(table) {
+            Some(versions) => versions.as_slice(),
+            None => &[],
+        }
+    }
+
+    /// Whether a commit has found no memory.
+    pub fn has_failed(&self) -> bool
+        ensures { result ≡ is_failed self.now }
+    {
+        self.failed
+    }
+}
