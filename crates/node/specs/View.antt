@@ -1,17 +1,10 @@
 -- What a node stores, tells and answers, in the words of the definitions and of its keeper.
-use Rattle.std.specs.Prelude.{◌≡◌, ℕ, ◌+◌, ◌-◌, ◌≤◌, ◌<◌, Bool, false, Option, Some, None, Result, Ok, Err, List, length, option_map, ◌⊎◌}
+use Rattle.std.specs.Prelude.{◌≡◌, ℕ, ◌+◌, ◌-◌, ◌≤◌, ◌<◌, Bool, false, Option, Some, None, Result, Ok, Err, List, length, ◌⊎◌}
 use Rattle.std.specs.List.{filter_map, range_with_len}
 use Rattle.model.specs.declared.entry.Entry.{Entry}
 use Rattle.model.specs.declared.entry.Told.{Told}
 use Rattle.model.specs.Transactions.{Schema}
-use Rattle.fault.specs.declared.refusal.Refusal.{Refusal}
-use Rattle.fault.specs.declared.refusal.Refusal.TheVariants.{NoMemory as NoMemoryRefusal, NotClosed}
-use Rattle.model.specs.Texts.{instant_text}
-use Rattle.model.specs.Answers.{IsAnswer, closed_query}
-use Rattle.model.specs.Logs.{told_at, closed}
-use Rattle.cutread.specs.declared.answer.Answer.{Answer}
-use Rattle.cutread.specs.declared.query.AsOf.{AsOf}
-use Rattle.cutread.specs.Meaning.{query_of, select_of, answer_of}
+use Rattle.model.specs.Logs.{told_at}
 use Rattle.model.specs.Members.{Node}
 use Rattle.model.specs.Steps.{Effect, Moves, Refuses, Nothing}
 use Rattle.model.specs.Worlds.{fresh, started}
@@ -45,11 +38,6 @@ told_between schema log before commit = filter_map (told_at schema log) (range_w
 -- a member that is started with this stored
 abbrev pub started_from : Durable → Node
 started_from d = started (record (fresh d.term d.vote) { log = d.log })
-
--- the answer to a question that is closed in the list, or 33 where it is not
-abbrev pub IsAskedOf : Schema → AsOf → List Entry → Result Answer Refusal → Type 0
-IsAskedOf schema q list (Ok a) = (closed_query (select_of q) (closed list) ≡ Some (query_of q)) × IsAnswer schema (query_of q) list (answer_of a)
-IsAskedOf schema q list (Err refusal) = (refusal ≡ NoMemoryRefusal) ⊎ ((closed_query (select_of q) (closed list) ≡ None) × (refusal ≡ NotClosed (option_map instant_text (closed list))))
 
 -- the result of a step and the core after it are what the definition of a step says; a node that goes
 -- down says nothing

@@ -1,7 +1,6 @@
 //! One member with what it keeps over a restart, what it tells of requests, and what it answers.
 #![tactic(auto)]
 
-mod asking;
 pub mod durable;
 pub mod node;
 mod telling;

@@ -1,18 +1,21 @@
 //! A member over a keeper.
-ghost use Rattle.std.specs.Prelude.{◌≡◌, ◌+◌, ◌≤◌, true, false, length, if◌then◌else◌, Some, None, IfOk, IfErr, OnOk, OnErr, MatchOption};
-ghost use Rattle.cutread.specs.Meaning.{schema_of};
+ghost use Rattle.std.specs.Prelude.{◌≡◌, ◌+◌, ◌≤◌, true, false, length, take, if◌then◌else◌, Some, None, IfOk, IfErr, OnOk, OnErr, MatchOption};
+ghost use Rattle.std.specs.Coded.{→_prop};
+ghost use Rattle.sqlread.specs.Meaning.{schema_of};
+ghost use Rattle.sqlread.specs.Shapes.{query_of};
+ghost use Rattle.answer.specs.Answers.{columns_in};
+ghost use Rattle.apply.specs.View.{AreTables, IsAskedOf};
+ghost use Rattle.node.specs.Once.{tables_prop};
 ghost use Rattle.model.specs.Kept.{node_after};
 ghost use Rattle.model.specs.Logs.{IsStamped};
 ghost use Rattle.model.specs.Members.{applied};
 ghost use Rattle.keep.specs.Durable.{Durable, IsBeforeOrAfter};
 ghost use Rattle.raft.specs.View.{node_of, works};
-ghost use Rattle.node.specs.View.{durable_of, after_change, Fits, Gave, IsSame, IsTorn, IsCause, HasCause, LeavesUp, IsAskedOf, started_from, told_between};
+ghost use Rattle.node.specs.View.{durable_of, after_change, Fits, Gave, IsSame, IsTorn, IsCause, HasCause, LeavesUp, started_from, told_between};
 
-use crate::asking;
 use crate::telling::tell;
-use cutread::answer::Answer;
-use cutread::query::AsOf;
-use cutread::schema::Schema;
+use answer::Answer;
+use apply::Tables;
 use fault::Refusal;
 use keep::change::Change;
 use keep::error::StoreError;
@@ -22,6 +25,8 @@ use model::entry::Told;
 use model::member::Member;
 use model::message::{LAST_TERM, LOG_ROOM, Message};
 use raft::state::{Core, Effect, Taken, Work};
+use schema::Schema;
+use sqlread::query::Query;
 use std::alloc::Global;
 
 /// What a step gives, once what it changed is stored.
@@ -42,7 +47,8 @@ pub enum Fault {
     Down(StoreError),
 }
 
-/// A member over a keeper: what it knows, and where its term, vote and log are stored.
+/// A member over a keeper: what it knows, where its term, vote and log are stored, and the tables that the applied
+/// entries leave.
 #[derive(Drop)]
 pub struct Node<K: Keeper> {
     pub(crate) alloc: Global,
@@ -50,11 +56,14 @@ pub struct Node<K: Keeper> {
     pub core: Core,
     /// Where its term, vote and log are stored.
     pub keeper: K,
+    /// The tables of the schema after the applied entries.
+    pub(crate) tables: Tables,
     /// No step has failed.
     pub is_up: bool,
     ghost fresh: { is_up ≡ true → core.is_spent ≡ false },
     ghost kept_up: { is_up ≡ true → K.is_up keeper ≡ true },
     ghost synced: { is_up ≡ true → K.is_honest keeper → K.stored keeper ≡ durable_of (node_of core) },
+    ghost current: { is_up ≡ true → AreTables (schema_of core.schema) (applied (node_of core)) tables } by { →_prop (tables_prop _ _ _) },
 }
 
 /// Stores a change, if there is one.
@@ -78,18 +87,23 @@ fn store<K: Keeper>(
     }
 }
 
-/// Stores what a step of the core changed, and only then gives its messages and what is told.
+/// Stores what a step of the core changed, and only then applies the entries that became committed, and gives its
+/// messages and what is told.
 fn finish<K: Keeper>(
     alloc: Global,
     core: &Core,
     keeper: &mut K,
+    tables: &mut Tables,
     taken: Taken,
 ) -> Result<Out, StoreError>
+    requires current { AreTables (schema_of core.now.schema) (take taken.committed_before core.now.log.items) tables.old }
+    requires rises { taken.committed_before ≤ core.now.commit }
     requires kept { K.is_honest keeper.old → K.is_up keeper.old ≡ true → Fits taken.change (K.stored keeper.old) }
     requires short { MatchOption taken.change (Unit {0}) (λ c. c.kept + length c.entries.items ≤ 100000) }
     requires up { K.is_up keeper.old ≡ true }
     ensures messages { IfOk result (λ out. out.messages.items ≡ taken.messages.items) }
     ensures told { IfOk result (λ out. out.told.items ≡ told_between (schema_of core.now.schema) core.now.log.items taken.committed_before core.now.commit) }
+    ensures current { OnOk result (AreTables (schema_of core.now.schema) (applied (node_of core.now)) tables.new) }
     ensures ok { OnOk result (K.is_honest keeper.new → K.stored keeper.new ≡ after_change taken.change (K.stored keeper.old)) }
     ensures up { OnOk result (K.is_up keeper.new ≡ true) }
     ensures honest { K.is_honest keeper.new → K.is_honest keeper.old }
@@ -105,6 +119,7 @@ fn finish<K: Keeper>(
     let told = tell(
         alloc,
         &core.schema,
+        tables,
         &core.log,
         committed_before,
         core.commit,
@@ -133,6 +148,9 @@ impl<K: Keeper> Node<K> {
         ensures back { IfErr result (λ e. (d : Durable) → K.holds e.1 d → K.holds image d) }
         ensures not_down { IfErr result (λ e. e.0 ≡ StoreError.NodeDown → ⊥) }
     {
+        let Ok(tables) = Tables::new(alloc, &schema) else {
+            return Err((StoreError::NoMemory, image));
+        };
         let mut keeper = K::open(alloc, image)?;
         let state = match keeper.state(alloc) {
             Ok(state) => state,
@@ -151,12 +169,13 @@ impl<K: Keeper> Node<K> {
             alloc,
             core,
             keeper,
+            tables,
             is_up: true,
         })
     }
 
-    /// Takes one step: the core's, then one save if what is stored changes, then what became applied
-    /// is told. None where the message is one that no honest member can send, or the input is one
+    /// Takes one step: the core's, then one save if what is stored changes, then what became committed
+    /// is applied to the tables and told. None where the message is one that no honest member can send, or the input is one
     /// that its role has no use for: nothing changed then.
     ///
     /// `Fault::Kept` is a refusal that leaves the node as it was: `NodeDown` where it is down, and
@@ -180,7 +199,13 @@ impl<K: Keeper> Node<K> {
             return Err(Fault::Kept(Refusal::NodeDown));
         }
         let finished = match self.core.step(work) {
-            Ok(Effect::Done(taken)) => finish(self.alloc, &self.core, &mut self.keeper, taken),
+            Ok(Effect::Done(taken)) => finish(
+                self.alloc,
+                &self.core,
+                &mut self.keeper,
+                &mut self.tables,
+                taken,
+            ),
             Ok(Effect::Ignored) => return Ok(None),
             Ok(Effect::Refused(refusal)) => return Err(Fault::Kept(refusal)),
             Err(error) => Err(StoreError::from(error)),
@@ -194,17 +219,18 @@ impl<K: Keeper> Node<K> {
         }
     }
 
-    /// Answers a question from the applied entries, and changes nothing. `NodeDown` where the node is
-    /// down, `NotClosed` with the closed time where the question's instant is later than it, or where
-    /// nothing is applied, `NoMemory` where memory is refused.
-    pub fn ask(&self, query: &AsOf) -> Result<Answer, Refusal>
-        ensures asked { self.now.is_up ≡ true → IsStamped (applied (node_of self.now.core)) → IsAskedOf (schema_of self.now.core.schema) query.now (applied (node_of self.now.core)) result }
+    /// Answers a question from the applied entries, and changes nothing; one without system time is AS OF the closed
+    /// time, the stamp of the last of them. `NodeDown` where the node is down, `NotClosed` with the closed time where the
+    /// question's last instant is later than it, or where nothing is applied, `NoMemory` where memory is refused.
+    pub fn ask(&self, query: &Query) -> Result<Answer, Refusal>
+        ensures asked { self.now.is_up ≡ true → IsStamped (applied (node_of self.now.core)) → IsAskedOf (schema_of self.now.core.schema) (query_of query.now) (applied (node_of self.now.core)) result }
+        ensures columns { IfOk result (λ a. a.columns.items ≡ columns_in self.now.core.schema query.now.table) }
         ensures down { self.now.is_up ≡ false → result ≡ Err Refusal.NodeDown }
     {
         if !self.is_up {
             return Err(Refusal::NodeDown);
         }
-        asking::ask(self.alloc, &self.core.schema, self.core.applied(), query)
+        self.tables.ask(&self.core.schema, query)
     }
 
     /// Whether it takes steps and answers: no step has failed.

@@ -3,7 +3,7 @@ use Rattle.std.proofs.Common.{◌≡◌, ◌∙◌, ℕ, List, [], ◌∷◌, �
 use Rattle.std.proofs.lemmas.List.Sums.{fold-append}
 use Rattle.std.proofs.lemmas.Grind.{merely}
 use Rattle.fault.specs.declared.refusal.Refusal.{Refusal}
-use Rattle.cutread.specs.declared.schema.Schema.{Schema}
+use Rattle.sqlchecks.specs.Columns.{Tables}
 use Rattle.model.specs.Members.{Node}
 use Rattle.model.specs.Kept.{node_after}
 use Rattle.keep.specs.Durable.{IsBeforeOrAfter, Durable}
@@ -30,13 +30,13 @@ replay_more : (c : Core) (o : Opening) (steps : List Step) (s : Step) → taken_
 replay_more c o steps s = fold-append (stepped c.schema c.members c.me) (started_from (opened_with o)) steps (s ∷ [])
 
 -- a step that was made whole
-stepped_given : (schema : Schema) (n me : ℕ) (x : Node) (s : Step) (w : Work) (c : Core) (given : Option Out) → w ≡ work_of s.packet → Gave c (works schema n me w x) (Ok given) → IsSame x (node_of c) (Ok given) → stepped schema n me x s ≡ node_of c
+stepped_given : (schema : Tables) (n me : ℕ) (x : Node) (s : Step) (w : Work) (c : Core) (given : Option Out) → w ≡ work_of s.packet → Gave c (works schema n me w x) (Ok given) → IsSame x (node_of c) (Ok given) → stepped schema n me x s ≡ node_of c
 unfolding stepped
 stepped_given schema n me x s w c (Some out) is gave same = rw (← is) (ap (node_after x) (sym gave))
 stepped_given schema n me x s w c None is gave same = rw (← is) (ap (node_after x) (sym gave) ∙ sym same)
 
 -- a step that was refused
-stepped_refused : (schema : Schema) (n me : ℕ) (x : Node) (s : Step) (w : Work) (c : Core) (refusal : Refusal) → w ≡ work_of s.packet → Gave c (works schema n me w x) (Err (Kept refusal)) → node_of c ≡ x → stepped schema n me x s ≡ node_of c
+stepped_refused : (schema : Tables) (n me : ℕ) (x : Node) (s : Step) (w : Work) (c : Core) (refusal : Refusal) → w ≡ work_of s.packet → Gave c (works schema n me w x) (Err (Kept refusal)) → node_of c ≡ x → stepped schema n me x s ≡ node_of c
 unfolding stepped
 stepped_refused schema n me x s w c refusal is gave same = rw (← is) (ap (node_after x) (sym gave) ∙ sym same)
 

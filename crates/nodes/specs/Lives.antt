@@ -1,6 +1,6 @@
 -- What a life replays to, and what a packet adds to it.
 use Rattle.std.specs.Prelude.{ℕ, Bool, true, max, nat_le, nat_lt, ◌&&◌, Option, None, List, [], ◌∷◌, ◌++◌, length, fold, if◌then◌else◌}
-use Rattle.cutread.specs.declared.schema.Schema.{Schema}
+use Rattle.sqlchecks.specs.Columns.{Tables}
 use Rattle.model.specs.Members.{Node}
 use Rattle.model.specs.Kept.{node_after}
 use Rattle.keep.specs.Durable.{Durable, IsBeforeOrAfter}
@@ -25,7 +25,7 @@ work_of (Local input) = work.Local input
 work_of (Delivered mark reading message) = work.Delivered reading message
 
 -- the member after one step: what the table says of the packet. What is refused or ignored changes nothing
-unfoldable pub stepped : Schema → ℕ → ℕ → Node → Step → Node
+unfoldable pub stepped : Tables → ℕ → ℕ → Node → Step → Node
 stepped schema n me x s = node_after x (works schema n me (work_of s.packet) x)
 
 -- what was stored as the life began
@@ -33,17 +33,17 @@ abbrev pub opened_with : Opening → Durable
 opened_with o = record { term = o.term; vote = o.vote; log = o.entries.items }
 
 -- member `me` of n, started from what was stored and taken through each step in turn
-abbrev pub replay : Schema → ℕ → ℕ → Life → Node
+abbrev pub replay : Tables → ℕ → ℕ → Life → Node
 replay schema n me life = fold (stepped schema n me) (started_from (opened_with life.opening)) life.steps.items
 
 -- the member after the ending, had its step been made whole
-abbrev pub ended : Schema → ℕ → ℕ → Node → Ending → Node
+abbrev pub ended : Tables → ℕ → ℕ → Node → Ending → Node
 ended schema n me x Up = x
 ended schema n me x Stopped = x
 ended schema n me x (Torn s) = stepped schema n me x s
 
 -- what a life leaves in the store: what it replays to or, where its last step is torn, that or what the step comes to
-abbrev pub IsLeft : Schema → ℕ → ℕ → Life → Durable → Type 0
+abbrev pub IsLeft : Tables → ℕ → ℕ → Life → Durable → Type 0
 IsLeft schema n me life = IsBeforeOrAfter (durable_of (replay schema n me life)) (durable_of (ended schema n me (replay schema n me life) life.ending))
 
 -- the torn step, if there is one

@@ -1,6 +1,6 @@
 //! A node with its life.
 ghost use Rattle.std.specs.Prelude.{◌≡◌, ◌≢◌, ◌≤◌, ◌⊎◌, [], ◌++◌, ◌∷◌, true, false, Some, None, IfOk, IfErr, OnOk, MatchOption, unwrap_or};
-ghost use Rattle.cutread.specs.Meaning.{schema_of};
+ghost use Rattle.sqlread.specs.Meaning.{schema_of};
 ghost use Rattle.keep.specs.Durable.{Durable};
 ghost use Rattle.raft.specs.View.{node_of, works};
 ghost use Rattle.node.specs.View.{durable_of, Gave, LeavesUp, HasCause, told_between};
@@ -12,11 +12,11 @@ ghost use Rattle.nodes.specs.declared.life.Ending.TheVariants.{Up};
 use crate::copies::{copy_of_entries, work_of};
 use crate::life::{Ending, Life, Opening, Packet, Step};
 use crate::mark::Mark;
-use cutread::schema::Schema;
 use fault::Refusal;
 use keep::keeper::Keeper;
 use model::member::Member;
 use node::{Fault, Node, Out as NodeOut};
+use schema::Schema;
 use std::alloc::Global;
 
 /// What a step gives: its mark, and what the node gave, none where the packet had no effect.

@@ -1,7 +1,6 @@
 use crate::cell::Cell;
 use crate::life::{Ending, LIFE_STEPS, Packet};
 use crate::mark::{LAST_MARK, Mark};
-use cutread::schema::Schema;
 use fault::{Refusal, Text};
 use keep::error::StoreError;
 use keep::keeper::Keeper;
@@ -11,10 +10,16 @@ use model::entry::Request;
 use model::member::Member;
 use model::message::{Body, Input, Message};
 use node::node::Fault;
+use sqlread::schemas::read_schema;
 use std::alloc::{AllocError, Global};
 use std::collections::VecDeque;
 use std::process::Abort;
 use std::test::Fail;
+
+const SCHEMA: &str = "CREATE TABLE Dept (DNo INTEGER, DStart DATE, DEnd DATE, DName VARCHAR(20), \
+    SysStart TIMESTAMP(6) GENERATED ALWAYS AS ROW START, SysEnd TIMESTAMP(6) GENERATED ALWAYS AS ROW END, \
+    PERIOD FOR DPeriod (DStart, DEnd), PERIOD FOR SYSTEM_TIME (SysStart, SysEnd), \
+    PRIMARY KEY (DNo, DPeriod WITHOUT OVERLAPS)) WITH SYSTEM VERSIONING;";
 
 // Nothing stored yet. This call of its next keeper fails, 0 is none.
 fn image_failing_at(alloc: Global, call: u64) -> MemImage {
@@ -40,7 +45,8 @@ fn start(
     me: Member,
     last: Option<Mark>,
 ) -> Result<Cell<MemKeeper>, Refusal> {
-    Cell::start(alloc, image, Schema, 3, me, last).map_err(|(refusal, _)| refusal)
+    let schema = read_schema(alloc, SCHEMA)?;
+    Cell::start(alloc, image, schema, 3, me, last).map_err(|(refusal, _)| refusal)
 }
 
 fn timeout() -> Packet {
@@ -297,10 +303,11 @@ fn runs_out_of_marks(rt: HostRuntime) -> Result<(), Fail> {
     assert!(rt; cell.life.steps.is_empty());
     let (image, life) = cell.stop();
     let last = life.last_mark();
+    let schema = read_schema(rt.alloc(), SCHEMA)?;
     let Err((refusal, image)) = Cell::<MemKeeper>::start(
         rt.alloc(),
         image,
-        Schema,
+        schema,
         3,
         2,
         Some(last),

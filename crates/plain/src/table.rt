@@ -1,107 +1,134 @@
-//! The rows of `Dept`, and what a transaction makes of them.
-ghost use Rattle.std.specs.Prelude.{◌≡◌, [], IfOk, OnErr};
-ghost use Rattle.std.specs.List.{list_any};
-ghost use Rattle.model.specs.Transactions.{Schema, State, read_statements};
-ghost use Rattle.cutread.specs.Texts.{insert_in};
-ghost use Rattle.cutread.specs.Meaning.{statements_of};
-ghost use Rattle.plain.specs.Stored.{AreRows, Executes, clashes, outcome_of, statements_given};
-
-use cutread::insert::{Insert, read_insert};
-use fault::{Refusal, Text};
-use model::stamp::Stamp;
+//! One table: the days of its keys, and what a statement makes of them.
+use crate::change::{deleted, inserted, overlaps, updated};
+use crate::line::Line;
+use crate::row::Row;
+use fault::Refusal;
+use model::value::Value;
 use period::Period;
+use sqlread::statement::{Delete, Insert, Update};
 use std::alloc::{AllocError, Global};
 
-/// How many rows the table may have.
-pub const ROW_LIMIT: usize = 20000;
+/// How many rows a table may have.
+const ROWS_MOST: usize = 20_000;
 
-/// A row of `Dept`.
-#[derive(Debug, Drop)]
-pub struct Row {
-    /// `DNo`.
-    pub number: i64,
-    pub period: Period,
-    /// `DName`.
-    pub name: Text,
-    /// The stamp of the transaction that inserted it.
-    pub birth: Stamp,
+/// A table: the days of the keys inserted so far, in the order of the keys.
+#[derive(Clone, Debug, Drop)]
+pub(crate) struct Table {
+    pub lines: Vec<Line>,
+    /// The days that there are.
+    pub days: Period,
 }
 
-/// What a transaction came to.
-#[derive(Clone, Copy, Debug, PartialEq, Eq)]
-pub enum Verdict {
-    Accepted(Stamp),
-    /// A day of the period was filled.
-    KeyOverlap,
-    /// There were `ROW_LIMIT` rows.
-    RowLimit,
+/// Whether both are the same key.
+fn is_same(key: &[Value], other: &[Value]) -> bool {
+    key.cmp(&other).is_eq()
 }
 
-impl Verdict {
-    /// The stamp, or the refusal 20 or 22.
-    pub fn outcome(self) -> Result<Stamp, Refusal>
-        ensures { result ≡ outcome_of self }
+/// The lines with one for the key, in order.
+fn with_key(
+    alloc: Global,
+    lines: &[Line],
+    key: &[Value],
+    new: Line,
+) -> Result<Vec<Line>, AllocError> {
+    let mut with = Vec::new(alloc);
+    for line in lines
+        .iter()
+        .filter(|line| line.key.as_slice().cmp(&key).is_lt())
     {
-        match self {
-            Verdict::Accepted(stamp) => Ok(stamp),
-            Verdict::KeyOverlap => Err(Refusal::KeyOverlap),
-            Verdict::RowLimit => Err(Refusal::RowLimit),
+        with.push(line.clone()?)?;
+    }
+    with.push(new)?;
+    for line in lines
+        .iter()
+        .filter(|line| line.key.as_slice().cmp(&key).is_gt())
+    {
+        with.push(line.clone()?)?;
+    }
+    Ok(with)
+}
+
+impl Table {
+    /// No day is filled.
+    pub(crate) fn empty(alloc: Global, days: Period) -> Table {
+        Table {
+            lines: Vec::new(alloc),
+            days,
         }
     }
-}
 
-/// Reads the text of a transaction. One that spells no INSERT has no statement.
-pub fn read(alloc: Global, text: &Text) -> Result<Option<Insert>, AllocError>
-    ensures { IfOk result (λ i. read_statements (statements_of (insert_in text.now)) ≡ statements_given i) }
-{
-    match read_insert(alloc, text.as_str()) {
-        Ok(insert) => Ok(Some(insert)),
-        Err(Refusal::NoMemory) => Err(AllocError),
-        Err(_) => Ok(None),
+    /// The days of a key, if it was inserted.
+    pub(crate) fn line(&self, key: &[Value]) -> Option<&Line> {
+        self.lines.iter().find(|line| is_same(&line.key, key))
     }
-}
 
-/// Whether a row of the same key has a day of the insert's period.
-fn overlaps(rows: &[Row], insert: &Insert) -> bool
-    ensures { result ≡ list_any (clashes insert.now) rows.now }
-{
-    rows.iter().any(|row| {
-        row.number == insert.number
-            && row.period.start.number < insert.period.end.number
-            && insert.period.start.number < row.period.end.number
-    })
-}
+    /// The rows of all keys, in the order of key and start.
+    pub(crate) fn rows(&self, alloc: Global) -> Result<Vec<Row>, AllocError> {
+        let mut rows = Vec::new(alloc);
+        for line in self.lines.iter() {
+            rows.append(&mut line.rows(alloc)?)?;
+        }
+        Ok(rows)
+    }
 
-/// Executes a transaction of at most one INSERT at an instant: 20 where a day of the period is filled,
-/// 22 where there are `ROW_LIMIT` rows. A refused one leaves the rows as they were, and so does want of
-/// memory.
-pub fn execute(
-    rows: &mut Vec<Row>,
-    insert: Option<Insert>,
-    stamp: Stamp,
-) -> Result<Verdict, AllocError>
-    ensures executes { IfOk result (λ v. (schema : Schema) (state : State) → schema.references ≡ [] → AreRows rows.old.items (state 0) → Executes schema stamp (statements_given insert) state v rows.new.items) }
-    ensures err { OnErr result (rows.new.items ≡ rows.old.items) }
-{
-    let Some(insert) = insert else {
-        return Ok(Verdict::Accepted(stamp));
-    };
-    if overlaps(rows, &insert) {
-        return Ok(Verdict::KeyOverlap);
+    /// The table, refused where it has more than 20,000 rows.
+    pub(crate) fn within_limit(self, alloc: Global) -> Result<Table, Refusal> {
+        if self.rows(alloc)?.len() > ROWS_MOST {
+            return Err(Refusal::RowLimit);
+        }
+        Ok(self)
     }
-    if rows.len() >= ROW_LIMIT {
-        return Ok(Verdict::RowLimit);
+
+    /// The table after an INSERT: `KeyOverlap` where a day of the period is filled for the key, and `OutOfRange` for a
+    /// period that has a day beside those that there are.
+    pub(crate) fn inserted(
+        &self,
+        alloc: Global,
+        insert: &Insert,
+        t: u64,
+    ) -> Result<Table, Refusal> {
+        if !self.days.contains(insert.period) {
+            return Err(Refusal::OutOfRange);
+        }
+        let old = match self.line(&insert.key) {
+            Some(line) => line.clone()?,
+            None => Line::empty(alloc, insert.key.clone()?, self.days)?,
+        };
+        if overlaps(&old, insert.period) {
+            return Err(Refusal::KeyOverlap);
+        }
+        let new = inserted(alloc, &old, insert, t)?;
+        let lines = with_key(alloc, &self.lines, &insert.key, new)?;
+        Ok(self.with_lines(lines))
     }
-    let Insert {
-        number,
-        period,
-        name,
-    } = insert;
-    rows.push(Row {
-        number,
-        period,
-        name,
-        birth: stamp,
-    })?;
-    Ok(Verdict::Accepted(stamp))
+
+    /// The table after an UPDATE: `NumberRange` where SET is out of range.
+    pub(crate) fn updated(&self, alloc: Global, update: &Update, t: u64) -> Result<Table, Refusal> {
+        let mut lines = Vec::new(alloc);
+        for line in self.lines.iter() {
+            lines.push(updated(alloc, line, update, t)?)?;
+        }
+        Ok(self.with_lines(lines))
+    }
+
+    /// The table after a DELETE.
+    pub(crate) fn deleted(
+        &self,
+        alloc: Global,
+        delete: &Delete,
+        t: u64,
+    ) -> Result<Table, AllocError> {
+        let mut lines = Vec::new(alloc);
+        for line in self.lines.iter() {
+            lines.push(deleted(alloc, line, delete, t)?)?;
+        }
+        Ok(self.with_lines(lines))
+    }
+
+    fn with_lines(&self, lines: Vec<Line>) -> Table {
+        Table {
+            lines,
+            days: self.days,
+        }
+    }
 }

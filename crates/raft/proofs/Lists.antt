@@ -82,19 +82,19 @@ noted_within xs (suc k) v zero h w = omega arith
 noted_within xs (suc k) v (suc j) h w = set_within xs k v j h w
 
 -- the length of a log that took entries
-ltb_tells : (m n : ℕ) → ((nat_lt m n ≡ true) × (m < n)) ⊎ ((nat_lt m n ≡ false) × (n ≤ m))
+pub ltb_tells : (m n : ℕ) → ((nat_lt m n ≡ true) × (m < n)) ⊎ ((nat_lt m n ≡ false) × (n ≤ m))
 ltb_tells m n = elim (leb_tells (suc m) n) [ inl h ↦ inl (h.0, omega (arith, h.1)) | inr h ↦ inr (h.0, omega (arith, h.1)) ]
 
 cond_both : {A : Type 0} (P : A → Type 0) (b : Bool) (u v : A) → P u → P v → P (cond b u v)
 cond_both P true u v p q = p
 cond_both P false u v p q = q
 
-record Between (a b c v : ℕ) : Type 0 where
+pub record Between (a b c v : ℕ) : Type 0 where
   pub low : a ≤ v
   pub high : v ≤ b
   pub most : v ≤ c
 
-agreed_between : (log es : List Entry) (i : ℕ) → i ≤ length log → Between i (i + length es) (length log) (agreed log i es)
+pub agreed_between : (log es : List Entry) (i : ℕ) → i ≤ length log → Between i (i + length es) (length log) (agreed log i es)
 agreed_between log [] i h = record { low = omega arith; high = omega arith; most = h }
 agreed_between log (e ∷ es) i h = elim (ltb_tells i (length log)) [
   | inl lt ↦

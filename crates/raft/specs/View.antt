@@ -12,8 +12,8 @@ use Rattle.raft.specs.declared.state.Outcome.TheVariants.{Refused, Ignored, Sent
 use Rattle.model.specs.declared.message.Message.{Message}
 use Rattle.model.specs.declared.message.Role.TheVariants.{Follower}
 use Rattle.model.specs.declared.entry.Entry.{Entry}
-use Rattle.cutread.specs.declared.schema.Schema.{Schema}
-use Rattle.cutread.specs.Meaning.{schema_of}
+use Rattle.sqlchecks.specs.Columns.{Tables}
+use Rattle.sqlread.specs.Meaning.{schema_of}
 use Rattle.model.specs.Members.{Node}
 use Rattle.model.specs.Steps.{After, Effect, Moves, Refuses, Nothing, on_message}
 use Rattle.model.specs.Worlds.{hand}
@@ -43,7 +43,7 @@ abbrev pub opening : ℕ → Option ℕ → List Entry → Node
 opening term vote log = record { term = term; vote = vote; log = log; up = true; role = Follower; commit = 0; known = None; votes = []; next = []; matched = [] }
 
 -- what the definitions say of this work
-abbrev pub works : Schema → ℕ → ℕ → Work → Node → Effect
+abbrev pub works : Tables → ℕ → ℕ → Work → Node → Effect
 works schema n me (Local input) x = hand (schema_of schema) n me input x
 works schema n me (Delivered reading message) x = on_message (schema_of schema) n me reading message x
 
@@ -101,3 +101,8 @@ abbrev pub EffectFits : Core → Core → Given → Type 0
 EffectFits old new (RefusedGiven refusal) = node_of new ≡ node_of old
 EffectFits old new IgnoredGiven = node_of new ≡ node_of old
 EffectFits old new (Done t) = ChangeFits (node_of old) (node_of new) t.change × (t.committed_before ≡ old.commit)
+
+-- no index that is committed is taken back, and the log stays up to there
+pub record Grows (x y : Node) : Type 0 where
+  pub commit : x.commit ≤ y.commit
+  pub log : take x.commit y.log ≡ take x.commit x.log

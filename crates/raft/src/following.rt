@@ -63,6 +63,8 @@ impl Core {
         commit: usize,
     ) -> Result<(), AllocError>
         requires fits { prev + vec_len entries < 2 ^ 63 }
+        requires stands { prev ≤ vec_len self.old.log }
+        requires keeps { cuts_below self.old.commit self.old.log.items prev entries.items ≡ false }
         requires room { agreed self.old.log.items prev entries.items < prev + vec_len entries
             → prev + vec_len entries ≤ 100000 }
         ensures done { IfOk result

@@ -2,12 +2,12 @@
 ghost use Rattle.std.specs.Prelude.{◌≡◌, ℕ, ◌≤◌, vec_len};
 ghost use Rattle.model.specs.Lists.{nth_or};
 
-use cutread::schema::Schema;
 use fault::Refusal;
 use keep::change::Change;
 use model::entry::Entry;
 use model::member::Member;
 use model::message::{Input, LAST_TERM, LOG_ROOM, Message, Role};
+use schema::Schema;
 use std::alloc::Global;
 
 /// What is brought to a member.
@@ -97,6 +97,7 @@ pub struct Core {
     ghost one_of_few: { members ≤ 7 },
     ghost term_within: { term ≤ 9223372036854775807 },
     ghost log_within: { vec_len log ≤ 100000 },
+    ghost commit_within: { commit ≤ vec_len log },
     ghost matches_within: { (m : ℕ) → nth_or matched.items m 0 ≤ 100000 },
 }
 

@@ -1,19 +1,22 @@
 //! One step of a member.
 ghost use Rattle.std.specs.Prelude.{◌≡◌, ◌<◌, ◌≤◌, length, drop, vec_len, IfOk, OnOk, OnErr, IsErr, nat_le, ◌&&◌, None, true, false};
 ghost use Rattle.std.specs.List.{list_all};
-ghost use Rattle.cutread.specs.Meaning.{schema_of};
+ghost use Rattle.sqlread.specs.Meaning.{schema_of};
 ghost use Rattle.model.specs.Steps.{is_honest, entries_of, spells, on_message, on_body, go_on};
 ghost use Rattle.model.specs.Worlds.{hand};
 ghost use Rattle.model.specs.Kept.{kept_at};
-ghost use Rattle.raft.specs.View.{node_of, after_of, works, kept_of, IsSameSeat, outcome_of, SameIfNotSent, effect_of, EffectFits};
+ghost use Rattle.model.specs.Lists.{IsBeginning};
+ghost use Rattle.model.specs.Members.{applied};
+ghost use Rattle.raft.specs.View.{node_of, after_of, works, kept_of, IsSameSeat, outcome_of, SameIfNotSent, effect_of, EffectFits, Grows};
 
 use crate::logs::{copies_of, go_on, kept_under};
 use crate::state::{Core, Effect, Outcome, Taken, Work};
-use cutread::schema::Schema;
 use keep::change::Change;
 use model::entry::{Entry, Request};
 use model::member::Member;
 use model::message::{Body, CARRIED_MOST, Input, LAST_TERM, Message};
+use schema::Schema;
+use sqlread::transaction::misreading;
 use std::alloc::{AllocError, Global};
 
 /// The entry's text spells a transaction.
@@ -23,8 +26,8 @@ fn spells(alloc: Global, schema: &Schema, request: &Option<Request>) -> Result<b
     match request {
         None => Ok(true),
         Some(request) => {
-            let misreading = schema.misreading(alloc, &request.text)?;
-            Ok(misreading.is_none())
+            let refusal = misreading(alloc, schema, request.text.as_str())?;
+            Ok(refusal.is_none())
         }
     }
 }
@@ -169,7 +172,8 @@ impl Core {
             Input::Beat => self.on_input(Input::Beat),
             Input::Close { reading } => self.on_input(Input::Close { reading }),
             Input::Submit { reading, request } => {
-                if let Some(refusal) = self.schema.misreading(self.alloc, &request.text)? {
+                let refusal = misreading(self.alloc, &self.schema, request.text.as_str())?;
+                if let Some(refusal) = refusal {
                     return Ok(Outcome::Refused(refusal));
                 }
                 self.on_input(Input::Submit { reading, request })
@@ -263,7 +267,7 @@ impl Core {
     /// with the known leader where a close or a submit comes to no leader, then `TimeFull` where no
     /// stamp is left, then `LogFull` where the log has 100,000 entries; `TermFull` at a timeout in the
     /// last term. A message that no honest member can send, a timeout of a leader and a beat of
-    /// another are ignored.
+    /// another are ignored. The commit index never falls, and the log stays as it is up to there.
     ///
     /// An `Err` is want of memory: the state may be half changed, and each later step gives an `Err`
     /// too.
@@ -271,6 +275,8 @@ impl Core {
         ensures done { IfOk result
             (λ e. effect_of self.new e ≡ works self.old.schema self.old.members self.old.me work (node_of self.old)) }
         ensures fits { IfOk result (EffectFits self.old self.new) }
+        ensures grows { IfOk result (λ e. Grows (node_of self.old) (node_of self.new)) }
+        ensures begins { IfOk result (λ e. IsBeginning (applied (node_of self.old)) (applied (node_of self.new))) }
         ensures group { (self.new.members ≡ self.old.members) × (self.new.me ≡ self.old.me) × (self.new.schema ≡ self.old.schema) }
         ensures ok { OnOk result ((self.old.is_spent ≡ false) × (self.new.is_spent ≡ false)) }
         ensures err { OnErr result (self.new.is_spent ≡ true) }

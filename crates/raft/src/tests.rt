@@ -1,17 +1,24 @@
 ghost use Rattle.std.specs.Prelude.{◌≡◌};
 
 use crate::{Core, Effect, Taken, Work};
-use cutread::schema::Schema;
+use fault::Refusal;
 use model::member::Member;
 use model::message::{Input, Message};
+use sqlread::schemas::read_schema;
 use std::alloc::{AllocError, Global};
 use std::process::Abort;
 use std::test::Fail;
 
-fn group(alloc: Global) -> Result<Vec<Core>, AllocError> {
+const SCHEMA: &str = "CREATE TABLE Dept (DNo INTEGER, DStart DATE, DEnd DATE, \
+    SysStart TIMESTAMP(6) GENERATED ALWAYS AS ROW START, SysEnd TIMESTAMP(6) GENERATED ALWAYS AS ROW END, \
+    PERIOD FOR DPeriod (DStart, DEnd), PERIOD FOR SYSTEM_TIME (SysStart, SysEnd), \
+    PRIMARY KEY (DNo, DPeriod WITHOUT OVERLAPS)) WITH SYSTEM VERSIONING;";
+
+fn group(alloc: Global) -> Result<Vec<Core>, Refusal> {
     let mut cores = Vec::new(alloc);
     for me in 1..4 {
-        let core = Core::start(alloc, Schema, 3, me, 0, None, Vec::new(alloc));
+        let schema = read_schema(alloc, SCHEMA)?;
+        let core = Core::start(alloc, schema, 3, me, 0, None, Vec::new(alloc));
         cores.push(core)?;
     }
     Ok(cores)

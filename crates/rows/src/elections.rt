@@ -1,5 +1,5 @@
 //! Scripts in which members are elected, go down and come up again. Each output is worked out by hand.
-use crate::playing::{AS_OF, DEPT_3, DEPT_4, ELECTED, played, prints, settled};
+use crate::playing::{AS_OF, DEPT_3, DEPT_4, ELECTED, played, prints, settled, without_messages};
 use std::test::Fail;
 
 // A member votes once a term.
@@ -285,13 +285,7 @@ last 1970-01-01 00:00:00.000102
 columns DNo,DStart,DEnd,DName,SysStart,SysEnd
 rows 0
 ";
-    let mut told = String::new(alloc);
-    for line in printed.as_str().lines() {
-        if !line.starts_with("sent ") {
-            told.push_str(line)?;
-            told.push('\n')?;
-        }
-    }
+    let told = without_messages(alloc, printed.as_str())?;
     assert_eq!(rt; told.as_str(), wanted);
     Ok(())
 }

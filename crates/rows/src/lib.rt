@@ -6,4 +6,6 @@ mod elections;
 #[cfg(test)]
 mod playing;
 #[cfg(test)]
+mod tables;
+#[cfg(test)]
 mod tests;

@@ -4,6 +4,23 @@ use std::alloc::{AllocError, Global};
 use std::process::Abort;
 use std::test::Fail;
 
+/// Departments, and employees that refer to one.
+pub const SCHEMA: &str = "CREATE TABLE Dept (DNo INTEGER, DStart DATE, DEnd DATE, DName VARCHAR(30),
+ SysStart TIMESTAMP(6) GENERATED ALWAYS AS ROW START,
+ SysEnd TIMESTAMP(6) GENERATED ALWAYS AS ROW END,
+ PERIOD FOR DPeriod (DStart, DEnd),
+ PERIOD FOR SYSTEM_TIME (SysStart, SysEnd),
+ PRIMARY KEY (DNo, DPeriod WITHOUT OVERLAPS)) WITH SYSTEM VERSIONING;
+CREATE TABLE Emp (ENo INTEGER, EStart DATE, EEnd DATE, EDept INTEGER,
+ SysStart TIMESTAMP(6) GENERATED ALWAYS AS ROW START,
+ SysEnd TIMESTAMP(6) GENERATED ALWAYS AS ROW END,
+ PERIOD FOR EPeriod (EStart, EEnd),
+ PERIOD FOR SYSTEM_TIME (SysStart, SysEnd),
+ PRIMARY KEY (ENo, EPeriod WITHOUT OVERLAPS),
+ FOREIGN KEY (EDept, PERIOD EPeriod) REFERENCES Dept (DNo, PERIOD DPeriod))
+ WITH SYSTEM VERSIONING;
+";
+
 pub const DEPT_3: &str =
     "INSERT INTO Dept (DNo, DStart, DEnd, DName) VALUES (3, DATE '2000-01-01', DATE '2020-01-01', 'Test');";
 
@@ -32,7 +49,17 @@ sent 11 2->1 reply term 1 yes 1
 sent 12 3->1 reply term 1 yes 1
 ";
 
+/// A script with the schema put in after its first line.
+pub fn with_schema(alloc: Global, script: &str) -> Result<String, Fail> {
+    let Some((opening, lines)) = script.split_once('\n') else {
+        return Err(Fail::from("the script has no line"));
+    };
+    Ok(format!(in alloc; "{opening}\nschema\n{SCHEMA}end\n{lines}")?)
+}
+
+/// What a script prints, once the schema is put in.
 pub fn played(alloc: Global, script: &str) -> Result<String, Fail> {
+    let script = with_schema(alloc, script)?;
     let mut reader = script.as_bytes();
     let mut writer = Vec::new(alloc);
     run_sim(alloc, &mut reader, &mut writer)?;
@@ -42,6 +69,28 @@ pub fn played(alloc: Global, script: &str) -> Result<String, Fail> {
 pub fn prints(rt: &impl Abort, alloc: Global, script: &str, printed: &str) -> Result<(), Fail> {
     let text = played(alloc, script)?;
     assert_eq!(rt; text.as_str(), printed);
+    Ok(())
+}
+
+/// What was printed, without the messages that were sent.
+pub fn without_messages(alloc: Global, printed: &str) -> Result<String, AllocError> {
+    let mut told = String::new(alloc);
+    for line in printed.lines() {
+        if !line.starts_with("sent ") {
+            told.push_str(line)?;
+            told.push('\n')?;
+        }
+    }
+    Ok(told)
+}
+
+/// Plays the lines in a group of three that member 1 leads and in which one entry, stamped 100, is
+/// closed everywhere. Compares what they print, without the messages.
+pub fn tells(rt: &impl Abort, alloc: Global, lines: &str, told: &str) -> Result<(), Fail> {
+    let script = format!(in alloc; "members 3\nclock all 100\ntimeout 1\nsettle\n{lines}")?;
+    let printed = played(alloc, script.as_str())?;
+    let text = without_messages(alloc, printed.as_str())?;
+    assert_eq!(rt; text.as_str(), told);
     Ok(())
 }
 

@@ -1,8 +1,9 @@
 //! Each output is worked out by hand from the rules of replication, requests and tables.
-use crate::playing::{AS_OF, ASKED, DEPT_3, DEPT_4, ELECTED, prints, settled};
+use crate::playing::{AS_OF, ASKED, DEPT_3, DEPT_4, ELECTED, SCHEMA, prints, settled, with_schema};
 use shell::line::Line;
 use shell::player::Player;
 use shell::sim::run_sim;
+use sqlread::schemas::read_schema;
 use std::io;
 use std::test::Fail;
 
@@ -132,15 +133,21 @@ fn refuses_texts_before_they_are_sent(rt: HostRuntime) -> Result<(), Fail> {
     let script = "members 3
 submit 1 7 1 
 submit 1 7 1 INSERT INTO Emp
+submit 1 7 1 DELETE FROM Staff;
 submit 1 7 1 INSERT INTO Dept (DNo, DStart, DEnd, DName) VALUES (3, DATE '2000-01-01', DATE '2000-01-01', 'Test');
 ask 1 SELECT * FROM Emp
 ask 2 SELECT * FROM Dept
+ask 2 SELECT * FROM Staff;
+ask 3 SELECT * FROM Emp WHERE DNo = 3;
 ";
     let printed = "node 1 refused 10 syntax error at byte 0
-node 1 refused 10 syntax error at byte 12
+node 1 refused 10 syntax error at byte 15
+node 1 refused 11 unknown table
 node 1 refused 15 empty period
-node 1 refused 10 syntax error at byte 14
+node 1 refused 10 syntax error at byte 17
 node 2 refused 10 syntax error at byte 18
+node 2 refused 11 unknown table
+node 3 refused 12 unknown column
 ";
     prints(&rt, rt.alloc(), script, printed)
 }
@@ -384,11 +391,15 @@ close 1
 // The whole script is read before it is played, so nothing is printed.
 #[test]
 fn a_bad_line_stops_the_script(rt: HostRuntime) -> Result<(), Fail> {
-    let mut reader = b"members 3\nbeat 1\nclock 1 9223372036854775808\n".as_slice();
+    let script = with_schema(
+        rt.alloc(),
+        "members 3\nbeat 1\nclock 1 9223372036854775808\n",
+    )?;
+    let mut reader = script.as_bytes();
     let mut writer = Vec::new(rt.alloc());
     let ended = run_sim(rt.alloc(), &mut reader, &mut writer);
     let shown = format!(in rt.alloc(); "{ended:?}")?;
-    assert_eq!(rt; shown.as_str(), "Err(Refused(BadScript(3)))");
+    assert_eq!(rt; shown.as_str(), "Err(Refused(BadScript(19)))");
     assert!(rt; writer.is_empty());
     Ok(())
 }
@@ -410,11 +421,12 @@ impl io::Write for Full {
 #[test]
 fn a_fault_of_the_writer_ends_the_run(rt: HostRuntime) -> Result<(), Fail> {
     let alloc = rt.alloc();
-    let mut reader = b"members 3\ntimeout 1\n".as_slice();
+    let script = with_schema(alloc, "members 3\ntimeout 1\n")?;
+    let mut reader = script.as_bytes();
     let ended = run_sim(alloc, &mut reader, &mut Full);
     let ended = format!(in alloc; "{ended:?}")?;
     assert!(rt; ended.as_str().starts_with("Err(Output("), "{ended}");
-    let mut player = Player::new(alloc, 3)?;
+    let mut player = Player::new(alloc, 3, read_schema(alloc, SCHEMA)?)?;
     assert!(rt; player.play(&Line::Timeout { node: 1 }, &mut Full).is_err());
     let mut writer = Vec::new(alloc);
     let after = player.play(&Line::Timeout { node: 1 }, &mut writer);

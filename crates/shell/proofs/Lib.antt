@@ -1,4 +1,3 @@
-pub mod Doubled
 pub mod Numbers
 pub mod Scripts
 pub mod Words

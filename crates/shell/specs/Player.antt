@@ -1,6 +1,7 @@
 -- What is seen of a player, and how playing may end.
-use Rattle.std.specs.Prelude.{◌≡◌, ℕ, Bool, ◌⊎◌, ⊤}
+use Rattle.std.specs.Prelude.{◌≡◌, ℕ, Bool, List, Err, ◌⊎◌, ⊤}
 use Rattle.fault.specs.declared.refusal.Refusal.TheVariants.{NoMemory, BadScript}
+use Rattle.sqlread.specs.Schemas.{SchemaSays}
 use Rattle.shell.specs.declared.player.Player.{Player}
 use Rattle.shell.specs.declared.run_fault.RunFault.{RunFault}
 use Rattle.shell.specs.declared.run_fault.RunFault.TheVariants.{Refused, Output}
@@ -14,7 +15,7 @@ abbrev pub IsPlayFault : RunFault → Type 0
 IsPlayFault (Refused refusal) = refusal ≡ NoMemory
 IsPlayFault (Output error) = ⊤
 
--- these, or a bad script
+-- these, or a bad script, or the refusal of a schema
 abbrev pub IsSimFault : RunFault → Type 0
-IsSimFault (Refused refusal) = (refusal ≡ NoMemory) ⊎ ((line : ℕ) × (refusal ≡ BadScript line))
+IsSimFault (Refused refusal) = (refusal ≡ NoMemory) ⊎ ((line : ℕ) × (refusal ≡ BadScript line)) ⊎ ((text : List ℕ) × SchemaSays text (Err refusal))
 IsSimFault (Output error) = ⊤

@@ -5,11 +5,12 @@ ghost use Rattle.fault.specs.declared.refusal.Refusal.TheVariants.{NoMemory};
 use crate::line::{Job, Line};
 use crate::printing::Printed;
 use crate::run_fault::RunFault;
-use cutread::query::read_as_of;
 use fault::{Refusal, Text};
 use model::entry::Request;
 use model::member::Member;
 use model::message::Input;
+use schema::Schema;
+use sqlread::query::read_query;
 use std::alloc::{AllocError, Global};
 use std::io;
 use world::event::{self, Event, Left};
@@ -42,15 +43,15 @@ struct Sent {
 impl Player {
     ghost use Rattle.shell.specs.Player.{has_failed, IsPlayFault};
 
-    /// A group of 3 to 7 members at its opening, where all clocks show 0.
-    pub fn new(alloc: Global, members: usize) -> Result<Player, AllocError>
+    /// A group of 3 to 7 members with tables of this schema, at its opening, where all clocks show 0.
+    pub fn new(alloc: Global, members: usize, schema: Schema) -> Result<Player, AllocError>
         requires least { 3 ≤ members }
         requires most { members ≤ 7 }
         ensures { IfOk result (λ player. has_failed player ≡ false) }
     {
         Ok(Player {
             alloc,
-            world: World::new(alloc, members)?,
+            world: World::new(alloc, members, schema)?,
             clocks: vec![in alloc; 0; members]?,
             sent: Vec::new(alloc),
             has_failed: false,
@@ -237,7 +238,7 @@ impl Player {
     ) -> Result<(), RunFault>
         ensures { IfErr result IsPlayFault }
     {
-        match read_as_of(self.alloc, text.as_str()) {
+        match read_query(self.alloc, self.world.schema(), text.as_str()) {
             Ok(question) => self.happen(Event::Ask(node, question), writer),
             Err(Refusal::NoMemory) => Err(RunFault::Refused(Refusal::NoMemory)),
             Err(refusal) => {

@@ -1,20 +1,22 @@
 //! The command `sim`.
-ghost use Rattle.std.specs.Prelude.{◌≡◌, ◌⊎◌, ℕ, List, string_bytes, IfSome, IfOk, IfErr, OnOk, Err};
+ghost use Rattle.std.specs.Prelude.{◌≡◌, ◌≢◌, ◌⊎◌, ℕ, List, string_bytes, IfSome, IfOk, IfErr, OnOk, Err};
 ghost use Rattle.fault.specs.declared.refusal.Refusal.TheVariants.{NoMemory, BadScript};
+ghost use Rattle.fault.specs.declared.refusal.Refusal.{Refusal as AnyRefusal};
+ghost use Rattle.sqlchecks.specs.Columns.{Tables};
 ghost use Rattle.shell.specs.declared.line.Line.{Line};
 ghost use Rattle.shell.specs.Player.{IsSimFault};
 ghost use Rattle.shell.specs.Script.{HasLines};
 
 use crate::player::Player;
 use crate::run_fault::RunFault;
-use crate::script::read_script;
+use crate::script::{Script, read_script};
 use fault::Refusal;
 use std::alloc::Global;
 use std::io;
 
 /// Reads a script to its end, plays it, and prints what it gives. It gives the exit status 0, or
-/// what ended the command: want of memory, the writer's fault, or a bad script, which prints
-/// nothing. A script that cannot be read, or is not UTF-8, is bad at line 0.
+/// what ended the command: want of memory, the writer's fault, or a bad script or the refusal of its
+/// schema, which print nothing. A script that cannot be read, or is not UTF-8, is bad at line 0.
 pub fn run_sim<R: io::Read, W: io::Write>(
     alloc: Global,
     reader: &mut R,
@@ -22,14 +24,20 @@ pub fn run_sim<R: io::Read, W: io::Write>(
 ) -> Result<u8, RunFault>
     ensures status { IfOk result (λ status. status ≡ 0) }
     ensures script { OnOk result (IfSome (R.remaining reader.old)
-        (λ bytes. (members : ℕ) × (lines : List Line) × HasLines bytes members lines)) }
+        (λ bytes. (members : ℕ) × (schema : Tables) × (lines : List Line) × HasLines bytes members schema lines)) }
     ensures err { IfErr result IsSimFault }
     ensures bad { (line : ℕ) → result ≡ Err (RunFault.Refused (BadScript line)) → writer.new ≡ writer.old }
+    ensures refused { (refusal : AnyRefusal) → result ≡ Err (RunFault.Refused refusal) → refusal ≢ NoMemory → writer.new ≡ writer.old }
 {
     let text = read_text(alloc, reader)?;
     let script = read_script(alloc, text.as_str())?;
-    let mut player = Player::new(alloc, script.members)?;
-    for line in &script.lines {
+    let Script {
+        members,
+        schema,
+        lines,
+    } = script;
+    let mut player = Player::new(alloc, members, schema)?;
+    for line in &lines {
         player.play(line, writer)?;
     }
     writer.flush()?;

@@ -4,13 +4,10 @@ use crate::printing::Printed;
 use crate::run_fault::RunFault;
 use crate::script::read_script;
 use crate::sim::run_sim;
-use cutread::answer::{Answer, Shown};
 use fault::{Refusal, Text};
 use model::entry::{Entries, Entry, Told};
 use model::message::{Body, Message};
 use model::stamp::Stamp;
-use model::value::Value;
-use period::{Day, Period};
 use std::alloc::{AllocError, Global};
 use std::io;
 use std::process::Abort;
@@ -22,18 +19,37 @@ fn text_of(alloc: Global, words: &str) -> Result<Text, AllocError> {
     Ok(Text::new(String::from_str(alloc, words)?))
 }
 
-// What reading a script comes to, as `Debug` shows it.
+// A schema as it stands in a script, of seven lines with its two ends.
+const SCHEMA: &str = "schema
+CREATE TABLE Dept (DNo INTEGER, DStart DATE, DEnd DATE,
+ SysStart TIMESTAMP(6) GENERATED ALWAYS AS ROW START, SysEnd TIMESTAMP(6) GENERATED ALWAYS AS ROW END,
+ PERIOD FOR DPeriod (DStart, DEnd),
+ PERIOD FOR SYSTEM_TIME (SysStart, SysEnd),
+ PRIMARY KEY (DNo, DPeriod WITHOUT OVERLAPS)) WITH SYSTEM VERSIONING;
+end
+";
+
+// How many members and lines a script has, or its refusal.
 fn read(alloc: Global, script: &str) -> Result<String, AllocError> {
-    let read = read_script(alloc, script);
-    format!(in alloc; "{read:?}")
+    match read_script(alloc, script) {
+        Ok(script) => {
+            let (members, count) = (script.members, script.lines.len());
+            format!(in alloc; "{members} members, {count} lines")
+        }
+        Err(refusal) => format!(in alloc; "{refusal}"),
+    }
 }
 
 #[test]
 fn reads_good_lines(rt: HostRuntime) -> Result<(), Fail> {
-    let script = "# a comment
+    let alloc = rt.alloc();
+    let script = format!(in alloc;
+        "# a comment
 
 members 3
-clock 1 0
+# and another
+
+{SCHEMA}clock 1 0
 clock 3 -9223372036854775808
 clock all 9223372036854775807
 #
@@ -48,8 +64,8 @@ settle 1
 settle 100
 ask 2 # no comment
 ask 3 
-";
-    let alloc = rt.alloc();
+"
+    )?;
     let wanted = vec![in alloc;
         Line::Clock {
             node: 1,
@@ -88,17 +104,20 @@ ask 3
             text: text_of(alloc, "")?
         },
     ]?;
-    let script = read_script(alloc, script)?;
-    assert_eq!(rt; script.members, 3);
-    assert!(rt; script.lines == wanted, "{script:?}");
-    assert!(rt; read_script(alloc, "members 3\n")?.lines.is_empty());
+    let script = read_script(alloc, script.as_str())?;
+    assert_eq!(rt; (script.members, script.schema.len()), (3, 1));
+    assert!(rt; script.lines == wanted);
+    let script = format!(in alloc; "members 3\n{SCHEMA}")?;
+    assert!(rt; read_script(alloc, script.as_str())?.lines.is_empty());
     Ok(())
 }
 
 #[test]
 fn reads_lines_of_failures(rt: HostRuntime) -> Result<(), Fail> {
-    let script = "members 7
-timeout 7
+    let alloc = rt.alloc();
+    let script = format!(in alloc;
+        "members 7
+{SCHEMA}timeout 7
 lose 0
 lose 18446744073709551615
 lose all
@@ -109,8 +128,8 @@ torn 2 new beat
 torn 3 old close
 torn 4 new deliver 5
 torn 5 new submit 65535 1  A
-";
-    let alloc = rt.alloc();
+"
+    )?;
     let wanted = vec![in alloc;
         Line::Timeout { node: 7 },
         Line::Lose { message: 0 },
@@ -132,9 +151,9 @@ torn 5 new submit 65535 1  A
             }
         ),
     ]?;
-    let script = read_script(alloc, script)?;
+    let script = read_script(alloc, script.as_str())?;
     assert_eq!(rt; script.members, 7);
-    assert!(rt; script.lines == wanted, "{script:?}");
+    assert!(rt; script.lines == wanted);
     Ok(())
 }
 
@@ -142,7 +161,7 @@ fn torn(node: usize, left: Left, job: Job) -> Line {
     Line::Torn { node, left, job }
 }
 
-// Each of these is the third line of a script.
+// Each of these is the tenth line of a script.
 #[test]
 fn refuses_bad_lines(rt: HostRuntime) -> Result<(), Fail> {
     for line in [
@@ -208,9 +227,9 @@ fn refuses_bad_lines(rt: HostRuntime) -> Result<(), Fail> {
         "torn 1 new deliver",
         "\u{e9}",
     ] {
-        let script = format!(in rt.alloc(); "members 3\n\n{line}\nno line\n")?;
+        let script = format!(in rt.alloc(); "members 3\n\n{SCHEMA}{line}\nno line\n")?;
         let shown = read(rt.alloc(), script.as_str())?;
-        assert_eq!(rt; shown.as_str(), "Err(BadScript(3))", "{line}");
+        assert_eq!(rt; shown.as_str(), "60 bad script at line 10", "{line}");
     }
     Ok(())
 }
@@ -227,13 +246,57 @@ fn refuses_scripts_with_bad_ends(rt: HostRuntime) -> Result<(), Fail> {
         ("members 3 \n", 1),
         ("members 03\n", 1),
         ("beat 1\nmembers 3\n", 1),
-        ("members 3\nbeat 1", 2),
-        ("members 3\nbeat 1\n#", 3),
-        ("members 3\n ", 2),
+        ("members 3\n", 2),
+        ("members 3\n#\nbeat 1\n", 3),
+        ("members 3\nschema", 2),
+        ("members 3\n schema\nend\n", 2),
+        ("members 3\nSCHEMA\nend\n", 2),
+        ("members 3\nschema\nschema\n", 4),
+        ("members 3\nschema\n\nEND\n end\nend", 6),
     ] {
         let shown = read(rt.alloc(), script)?;
-        let wanted = format!(in rt.alloc(); "Err(BadScript({line}))")?;
+        let wanted = format!(in rt.alloc(); "60 bad script at line {line}")?;
         assert_eq!(rt; shown.as_str(), wanted.as_str(), "{script:?}");
+    }
+    for (lines, line) in [
+        ("beat 1", 9),
+        ("beat 1\n#", 10),
+        (" ", 9),
+        ("\n\n \n", 11),
+        ("end\n", 9),
+    ] {
+        let script = format!(in rt.alloc(); "members 3\n{SCHEMA}{lines}")?;
+        let shown = read(rt.alloc(), script.as_str())?;
+        let wanted = format!(in rt.alloc(); "60 bad script at line {line}")?;
+        assert_eq!(rt; shown.as_str(), wanted.as_str(), "{lines:?}");
+    }
+    Ok(())
+}
+
+// The lines of a schema are read as they are, a comment and an empty line too, and its refusal comes before that of a
+// line after it.
+#[test]
+fn refuses_schemas(rt: HostRuntime) -> Result<(), Fail> {
+    let dept = SCHEMA.strip_prefix("schema\n").unwrap_or("");
+    let twice = format!(in rt.alloc(); "{}{dept}", dept.strip_suffix("end\n").unwrap_or(""))?;
+    for (schema, refusal) in [
+        ("end\n", "10 syntax error at byte 0"),
+        ("\n\nend\n", "10 syntax error at byte 2"),
+        ("CREATE TABLE\nend\n", "10 syntax error at byte 13"),
+        ("\n# CREATE\nend\n", "10 syntax error at byte 1"),
+        (twice.as_str(), "18 bad schema"),
+    ] {
+        let script = format!(in rt.alloc(); "members 3\nschema\n{schema}no line\n")?;
+        let shown = read(rt.alloc(), script.as_str())?;
+        assert_eq!(rt; shown.as_str(), refusal, "{schema:?}");
+        let mut writer = Vec::new(rt.alloc());
+        let mut reader = script.as_bytes();
+        let Err(fault) = run_sim(rt.alloc(), &mut reader, &mut writer) else {
+            return Err(Fail::from("the schema is taken"));
+        };
+        let fault = format!(in rt.alloc(); "{fault}")?;
+        assert_eq!(rt; fault.as_str(), refusal);
+        assert!(rt; writer.is_empty());
     }
     Ok(())
 }
@@ -318,39 +381,6 @@ fn prints_outcomes(rt: HostRuntime) -> Result<(), Fail> {
         &refused,
         "node 2 refused 32 not leader, try 1\n",
     )
-}
-
-#[test]
-fn prints_answers(rt: HostRuntime) -> Result<(), Fail> {
-    let alloc = rt.alloc();
-    let period = Period::new(Day::read("2010-01-01", 0)?, Day::read("9999-12-31", 0)?)?;
-    let row = Shown {
-        key: vec![in alloc; Value::Number(-5)]?,
-        values: vec![in alloc; Value::Text(text_of(alloc, "'O''Brien'")?)]?,
-        period,
-        birth: Stamp::new(100),
-        end: Some(Stamp::new(101)),
-    };
-    let days = Shown {
-        key: vec![in alloc; Value::Day(0), Value::Day(3_652_059)]?,
-        values: Vec::new(alloc),
-        period,
-        birth: Stamp::new(0),
-        end: None,
-    };
-    let rows = vec![in alloc; row, days]?;
-    let answer = Answer {
-        last: Stamp::new(102),
-        rows,
-    };
-    let wanted = "node 1 answer
-last 1970-01-01 00:00:00.000102
-columns DNo,DStart,DEnd,DName,SysStart,SysEnd
-row -5,2010-01-01,9999-12-31,'''O''''Brien''',1970-01-01 00:00:00.000100,1970-01-01 00:00:00.000101
-row 0001-01-01,3652059,2010-01-01,9999-12-31,1970-01-01 00:00:00.000000,9999-12-31 23:59:59.999999
-rows 2
-";
-    prints(&rt, alloc, &Output::Answered(1, answer), wanted)
 }
 
 #[test]

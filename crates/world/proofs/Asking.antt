@@ -10,36 +10,37 @@ use Rattle.model.specs.Worlds.{Output, IsGivenIn, IsGivenAt, IsGivenBy}
 use Rattle.model.specs.Worlds.Output.{Answered, Refused}
 use Rattle.fault.specs.declared.refusal.Refusal.{Refusal}
 use Rattle.fault.specs.declared.refusal.Refusal.TheVariants.{NoMemory, NotClosed}
-use Rattle.cutread.specs.declared.query.AsOf.{AsOf}
-use Rattle.cutread.specs.declared.answer.Answer.{Answer}
-use Rattle.cutread.specs.Meaning.{select_of, answer_of}
-use Rattle.node.specs.View.{IsAskedOf}
+use Rattle.answer.specs.declared.Answer.{Answer}
+use Rattle.answer.specs.Answers.{answer_of}
+use Rattle.sqlread.specs.Shapes.{QueryShape}
+use Rattle.sqlread.specs.Meaning.{select_of}
+use Rattle.apply.specs.View.{IsAskedOf}
 use Rattle.world.specs.View.{IsAskedAt}
 
-answered_in : (schema : TheSchema) (m : ℕ) (q : AsOf) (list : List Entry) (a : Answer) (out : List Output) → IsAskedOf schema q list (Ok a) → out ≡ Answered m (answer_of a) ∷ [] → IsGivenIn schema m list (closed_query (select_of q) (closed list)) out
+answered_in : (schema : TheSchema) (m : ℕ) (q : QueryShape) (list : List Entry) (a : Answer) (out : List Output) → IsAskedOf schema q list (Ok a) → out ≡ Answered m (answer_of a) ∷ [] → IsGivenIn schema m list (closed_query (select_of q) (closed list)) out
 answered_in schema m q list a out h is =
     let P : Option Query → Type 0 = λ o. IsGivenIn schema m list o out in
-    subst P (sym h.0) (answer_of a, h.1, is)
+    subst P (sym h.2) (answer_of a, h.3, is)
 
-refused_in : (schema : TheSchema) (m : ℕ) (q : AsOf) (list : List Entry) (refusal : Refusal) (out : List Output) → IsAskedOf schema q list (Err refusal) → (refusal ≡ NoMemory → ⊥) → out ≡ Refused m refusal ∷ [] → IsGivenIn schema m list (closed_query (select_of q) (closed list)) out
+refused_in : (schema : TheSchema) (m : ℕ) (q : QueryShape) (list : List Entry) (refusal : Refusal) (out : List Output) → IsAskedOf schema q list (Err refusal) → (refusal ≡ NoMemory → ⊥) → out ≡ Refused m refusal ∷ [] → IsGivenIn schema m list (closed_query (select_of q) (closed list)) out
 refused_in schema m q list refusal out h other is =
     let P : Option Query → Type 0 = λ o. IsGivenIn schema m list o out in
     ⊎_elim (λ (e : refusal ≡ NoMemory). absurd (other e)) (λ (p : (closed_query (select_of q) (closed list) ≡ None) × (refusal ≡ NotClosed (option_map instant_text (closed list)))). subst P (sym p.0) (is ∙ ap (λ r. Refused m r ∷ []) p.1)) h
 
-answered_by : (schema : TheSchema) (m : ℕ) (q : AsOf) (x : Node) (up : Bool) (a : Answer) (out : List Output) → IsAskedAt schema q x up (Ok a) → IsStamped (applied x) → out ≡ Answered m (answer_of a) ∷ [] → IsGivenBy schema m (select_of q) x up out
+answered_by : (schema : TheSchema) (m : ℕ) (q : QueryShape) (x : Node) (up : Bool) (a : Answer) (out : List Output) → IsAskedAt schema q x up (Ok a) → IsStamped (applied x) → out ≡ Answered m (answer_of a) ∷ [] → IsGivenBy schema m (select_of q) x up out
 answered_by schema m q x true a out h stamped is = answered_in schema m q (applied x) a out (h stamped) is
 answered_by schema m q x false a out h stamped is = absurd (cc h)
 
-refused_by : (schema : TheSchema) (m : ℕ) (q : AsOf) (x : Node) (up : Bool) (refusal : Refusal) (out : List Output) → IsAskedAt schema q x up (Err refusal) → IsStamped (applied x) → (refusal ≡ NoMemory → ⊥) → out ≡ Refused m refusal ∷ [] → IsGivenBy schema m (select_of q) x up out
+refused_by : (schema : TheSchema) (m : ℕ) (q : QueryShape) (x : Node) (up : Bool) (refusal : Refusal) (out : List Output) → IsAskedAt schema q x up (Err refusal) → IsStamped (applied x) → (refusal ≡ NoMemory → ⊥) → out ≡ Refused m refusal ∷ [] → IsGivenBy schema m (select_of q) x up out
 refused_by schema m q x true refusal out h stamped other is = refused_in schema m q (applied x) refusal out (h stamped) other is
 refused_by schema m q x false refusal out h stamped other is = cc
 
-given : (schema : TheSchema) (m : ℕ) (q : AsOf) (x : Node) (o : Option Node) (out : List Output) → o ≡ Some x → IsGivenBy schema m (select_of q) x x.up out → IsGivenAt schema m (select_of q) o out
+given : (schema : TheSchema) (m : ℕ) (q : QueryShape) (x : Node) (o : Option Node) (out : List Output) → o ≡ Some x → IsGivenBy schema m (select_of q) x x.up out → IsGivenAt schema m (select_of q) o out
 given schema m q x o out is h = rw is h
 
 -- the member there answers, or refuses
-pub answered : (schema : TheSchema) (m : ℕ) (q : AsOf) (x : Node) (o : Option Node) (a : Answer) (out : List Output) → o ≡ Some x → IsAskedAt schema q x x.up (Ok a) → IsStamped (applied x) → out ≡ Answered m (answer_of a) ∷ [] → IsGivenAt schema m (select_of q) o out
+pub answered : (schema : TheSchema) (m : ℕ) (q : QueryShape) (x : Node) (o : Option Node) (a : Answer) (out : List Output) → o ≡ Some x → IsAskedAt schema q x x.up (Ok a) → IsStamped (applied x) → out ≡ Answered m (answer_of a) ∷ [] → IsGivenAt schema m (select_of q) o out
 answered schema m q x o a out at h stamped is = given schema m q x o out at (answered_by schema m q x x.up a out h stamped is)
 
-pub refused : (schema : TheSchema) (m : ℕ) (q : AsOf) (x : Node) (o : Option Node) (refusal : Refusal) (out : List Output) → o ≡ Some x → IsAskedAt schema q x x.up (Err refusal) → IsStamped (applied x) → (refusal ≡ NoMemory → ⊥) → out ≡ Refused m refusal ∷ [] → IsGivenAt schema m (select_of q) o out
+pub refused : (schema : TheSchema) (m : ℕ) (q : QueryShape) (x : Node) (o : Option Node) (refusal : Refusal) (out : List Output) → o ≡ Some x → IsAskedAt schema q x x.up (Err refusal) → IsStamped (applied x) → (refusal ≡ NoMemory → ⊥) → out ≡ Refused m refusal ∷ [] → IsGivenAt schema m (select_of q) o out
 refused schema m q x o refusal out at h stamped other is = given schema m q x o out at (refused_by schema m q x x.up refusal out h stamped other is)

@@ -9,8 +9,8 @@ use Rattle.model.specs.Worlds.Output.{Refused}
 use Rattle.model.specs.declared.message.Message.{Message}
 use Rattle.model.specs.declared.message.Input.{Input}
 use Rattle.fault.specs.declared.refusal.Refusal.TheVariants.{NodeDown}
-use Rattle.cutread.specs.declared.schema.Schema.{Schema}
-use Rattle.cutread.specs.Meaning.{schema_of}
+use Rattle.sqlchecks.specs.Columns.{Tables}
+use Rattle.sqlread.specs.Meaning.{schema_of}
 use Rattle.raft.specs.declared.state.Work.TheVariants.{Local, Delivered}
 use Rattle.world.specs.View.{brings, brought}
 
@@ -25,29 +25,29 @@ gives_so schema w m x true e = refl
 gives_so schema w m x false e = refl
 
 -- a local input
-pub hands : (t : Schema) (n m : ℕ) (w : World) (input : Input) (o : Option Node) → brings t n w m (Local input) o ≡ does (schema_of t) n w m (TheLocal input) o
+pub hands : (t : Tables) (n m : ℕ) (w : World) (input : Input) (o : Option Node) → brings t n w m (Local input) o ≡ does (schema_of t) n w m (TheLocal input) o
 hands t n m w input None = refl
 hands t n m w input (Some x) = does_so w m x.up _
 
-pub hand_gives : (t : Schema) (n m : ℕ) (w : World) (input : Input) (o : Option Node) → brought t n w m (Local input) o ≡ step_gives (schema_of t) n w m (TheLocal input) o
+pub hand_gives : (t : Tables) (n m : ℕ) (w : World) (input : Input) (o : Option Node) → brought t n w m (Local input) o ≡ step_gives (schema_of t) n w m (TheLocal input) o
 hand_gives t n m w input None = refl
 hand_gives t n m w input (Some x) = gives_so (schema_of t) w m x x.up _
 
 -- a message that was sent
-bring_does : (t : Schema) (n m k : ℕ) (reading : ℤ) (w : World) (message : Message) (o : Option Node) → nth w.sent k ≡ Some message → brings t n w m (Delivered reading message) o ≡ does (schema_of t) n w m (Delivery k reading) o
+bring_does : (t : Tables) (n m k : ℕ) (reading : ℤ) (w : World) (message : Message) (o : Option Node) → nth w.sent k ≡ Some message → brings t n w m (Delivered reading message) o ≡ does (schema_of t) n w m (Delivery k reading) o
 bring_does t n m k reading w message None is = refl
 bring_does t n m k reading w message (Some x) is = rw is (does_so w m x.up _)
 
-bring_gives : (t : Schema) (n m k : ℕ) (reading : ℤ) (w : World) (message : Message) (o : Option Node) → nth w.sent k ≡ Some message → brought t n w m (Delivered reading message) o ≡ step_gives (schema_of t) n w m (Delivery k reading) o
+bring_gives : (t : Tables) (n m k : ℕ) (reading : ℤ) (w : World) (message : Message) (o : Option Node) → nth w.sent k ≡ Some message → brought t n w m (Delivered reading message) o ≡ step_gives (schema_of t) n w m (Delivery k reading) o
 bring_gives t n m k reading w message None is = refl
 bring_gives t n m k reading w message (Some x) is = rw is (gives_so (schema_of t) w m x x.up _)
 
-pub delivered : (t : Schema) (n k : ℕ) (reading : ℤ) (w : World) (message : Message) → nth w.sent k ≡ Some message →
+pub delivered : (t : Tables) (n k : ℕ) (reading : ℤ) (w : World) (message : Message) → nth w.sent k ≡ Some message →
     brings t n w message.addressee (Delivered reading message) (nth w.nodes message.addressee) ≡ delivers (schema_of t) n w (Delivery k reading) (nth w.sent k)
 delivered t n k reading w message is =
     bring_does t n message.addressee k reading w message (nth w.nodes message.addressee) is ∙ ap (delivers (schema_of t) n w (Delivery k reading)) (sym is)
 
-pub delivered_gives : (t : Schema) (n k : ℕ) (reading : ℤ) (w : World) (message : Message) → nth w.sent k ≡ Some message →
+pub delivered_gives : (t : Tables) (n k : ℕ) (reading : ℤ) (w : World) (message : Message) → nth w.sent k ≡ Some message →
     brought t n w message.addressee (Delivered reading message) (nth w.nodes message.addressee) ≡ delivery_gives (schema_of t) n w (Delivery k reading) (nth w.sent k)
 delivered_gives t n k reading w message is =
     bring_gives t n message.addressee k reading w message (nth w.nodes message.addressee) is ∙ ap (delivery_gives (schema_of t) n w (Delivery k reading)) (sym is)

@@ -12,8 +12,8 @@ use Rattle.model.specs.declared.message.Message.{Message}
 use Rattle.fault.specs.declared.refusal.Refusal.{Refusal}
 use Rattle.node.specs.declared.node.Out.{Out}
 use Rattle.raft.specs.declared.state.Work.{Work}
-use Rattle.cutread.specs.declared.schema.Schema.{Schema}
-use Rattle.cutread.specs.Meaning.{schema_of}
+use Rattle.sqlchecks.specs.Columns.{Tables}
+use Rattle.sqlread.specs.Meaning.{schema_of}
 use Rattle.world.specs.declared.seat.Seat.{Seat}
 use Rattle.world.specs.declared.seat.Step.TheVariants.{Moved, Refused as RefusedStep, Ignored}
 use Rattle.world.specs.View.{brings, brought, node_in, nodes_of, works_at, IsGroup, IsSeat, IsStep}
@@ -41,13 +41,13 @@ abbrev pub world_with : List Node → List Message → World
 world_with nodes sent = record { nodes = nodes; sent = sent }
 
 -- seat s is that of member m
-pub record IsPlaced (t : Schema) (n : ℕ) (seats : List Seat) (m i : ℕ) (s : Seat) : Type 0 where
+pub record IsPlaced (t : Tables) (n : ℕ) (seats : List Seat) (m i : ℕ) (s : Seat) : Type 0 where
   pub next : m ≡ i + 1
   pub within : i < length seats
   pub at : s ≡ slice_index_or seats i s
   pub group : IsGroup t n seats
 
-module _ {t : Schema} {n : ℕ} {seats : List Seat} {m i : ℕ} {s : Seat} (p : IsPlaced t n seats m i s) where
+module _ {t : Tables} {n : ℕ} {seats : List Seat} {m i : ℕ} {s : Seat} (p : IsPlaced t n seats m i s) where
   there : slice_get seats i ≡ Some s
   there = slice_get_read seats (length seats) i s refl p.within p.at
 

@@ -5,7 +5,7 @@ use Rattle.model.specs.Transactions.{Schema}
 use Rattle.model.specs.Agreement.{Agree}
 use Rattle.model.specs.Worlds.{World, Event, Output, happens, run, Gives, GivesAll, new_world}
 use Rattle.world.specs.declared.event.Event.{Event as Given}
-use Rattle.cutread.specs.Meaning.{schema_of}
+use Rattle.sqlread.specs.Meaning.{schema_of}
 use Rattle.world.specs.declared.group.Group.{Group}
 use Rattle.world.specs.View.{event_of, world_of, AllStamped, IsGroup, IsRun}
 
@@ -23,26 +23,30 @@ map_append f [] ys = refl
 map_append f (x ∷ xs) ys = ap (λ zs. f x ∷ zs) (map_append f xs ys)
 
 -- after the events kept, and those taken since
-pub step_more : (s : Schema) (n : ℕ) (w : World) (kept taken : List Given) (e : Given) (outs : List (List Output)) (out : List Output) →
-    GivesAll s n (run s n w (map event_of kept)) (map event_of taken) outs →
-    Gives s n (run s n w (map event_of (kept ++ taken))) (event_of e) out →
-    GivesAll s n (run s n w (map event_of kept)) (map event_of (taken ++ e ∷ [])) (outs ++ out ∷ [])
+pub step_more : (s : Schema) (n : ℕ) (w : World) (kept : List Event) (taken : List Given) (e : Given) (outs : List (List Output)) (out : List Output) →
+    GivesAll s n (run s n w kept) (map event_of taken) outs →
+    Gives s n (run s n w (kept ++ map event_of taken)) (event_of e) out →
+    GivesAll s n (run s n w kept) (map event_of (taken ++ e ∷ [])) (outs ++ out ∷ [])
 step_more s n w kept taken e outs out all one =
     let there : World → Type 0 = λ v. Gives s n v (event_of e) out in
-    let P : List Event → Type 0 = λ es. GivesAll s n (run s n w (map event_of kept)) es (outs ++ out ∷ []) in
-    subst P (sym (map_append event_of taken (e ∷ []))) (gives_more s n (run s n w (map event_of kept)) (map event_of taken) outs (event_of e) out all (subst there (ap (run s n w) (map_append event_of kept taken) ∙ run_more s n w (map event_of kept) (map event_of taken)) one))
+    let P : List Event → Type 0 = λ es. GivesAll s n (run s n w kept) es (outs ++ out ∷ []) in
+    subst P (sym (map_append event_of taken (e ∷ []))) (gives_more s n (run s n w kept) (map event_of taken) outs (event_of e) out all (subst there (run_more s n w kept (map event_of taken)) one))
+
+-- a copy of one more event is kept
+pub kept_more : (kept after : List Given) (e copy : Given) → after ≡ kept ++ copy ∷ [] → event_of copy ≡ event_of e → map event_of after ≡ map event_of kept ++ event_of e ∷ []
+kept_more kept after e copy is same = ap (map event_of) is ∙ map_append event_of kept (copy ∷ []) ∙ ap (λ x. map event_of kept ++ x ∷ []) same
 
 -- the world after one more event
-pub run_next : (s : Schema) (n : ℕ) (w : World) (kept : List Given) (e : Given) → run s n w (map event_of (kept ++ e ∷ [])) ≡ happens s n (run s n w (map event_of kept)) (event_of e)
-run_next s n w kept e = ap (run s n w) (map_append event_of kept (e ∷ [])) ∙ run_more s n w (map event_of kept) (event_of e ∷ [])
+pub run_next : (s : Schema) (n : ℕ) (w : World) (kept : List Event) (e : Event) → run s n w (kept ++ e ∷ []) ≡ happens s n (run s n w kept) e
+run_next s n w kept e = run_more s n w kept (e ∷ [])
 
 pub all_stamped : (s : Schema) (n : ℕ) (w v : World) (es : List Event) → Agree s n w es → v ≡ run s n w es → AllStamped v
 all_stamped s n w v es agree is m x at =
     (agree.applied_is_decided es [] m x (append-nil es) (ap (λ (u : World). nth u.nodes m) (sym is) ∙ at)).1
 
 pub run_is : (old new : Group) (kept after : List Given) (e : Given) → IsRun old kept → IsGroup old.schema old.members new.seats.items →
-    world_of new ≡ happens (schema_of old.schema) old.members (world_of old) (event_of e) → new.schema ≡ old.schema → new.members ≡ old.members → after ≡ kept ++ e ∷ [] → IsRun new after
+    world_of new ≡ happens (schema_of old.schema) old.members (world_of old) (event_of e) → new.schema ≡ old.schema → new.members ≡ old.members → map event_of after ≡ map event_of kept ++ event_of e ∷ [] → IsRun new after
 run_is old new kept after e r g w schema members is = record {
   group = rw (schema, members) g;
-  world = rw (schema, members, is) (w ∙ ap (λ (v : World). happens (schema_of old.schema) old.members v (event_of e)) r.world ∙ sym (run_next (schema_of old.schema) old.members (new_world old.members) kept e));
+  world = rw (schema, members, is) (w ∙ ap (λ (v : World). happens (schema_of old.schema) old.members v (event_of e)) r.world ∙ sym (run_next (schema_of old.schema) old.members (new_world old.members) (map event_of kept) (event_of e)));
 }

@@ -11,26 +11,27 @@ use Rattle.model.specs.Worlds.{New, node_left, stopped}
 use Rattle.model.specs.Worlds.Output.{Applied}
 use Rattle.keep.specs.Durable.{Durable, stored_in}
 use Rattle.keep.specs.declared.memory.MemImage.{MemImage}
-use Rattle.cutread.specs.declared.schema.Schema.{Schema}
-use Rattle.cutread.specs.Meaning.{schema_of}
+use Rattle.sqlchecks.specs.Columns.{Tables}
+use Rattle.sqlread.specs.Meaning.{schema_of}
 use Rattle.raft.specs.declared.state.Core.{Core}
 use Rattle.raft.specs.declared.state.Work.{Work}
 use Rattle.raft.specs.View.{node_of, works, after_of}
-use Rattle.cutread.specs.declared.answer.Answer.{Answer}
-use Rattle.cutread.specs.declared.query.AsOf.{AsOf}
+use Rattle.answer.specs.declared.Answer.{Answer}
+use Rattle.apply.specs.View.{IsAskedOf}
+use Rattle.sqlread.specs.Shapes.{QueryShape}
 use Rattle.node.specs.Answered.{stored_of}
 use Rattle.node.specs.declared.durable.Stored.{Stored}
 use Rattle.node.specs.declared.node.Fault.{Fault}
 use Rattle.node.specs.declared.node.Fault.TheVariants.{Kept}
 use Rattle.node.specs.declared.node.Out.{Out}
-use Rattle.node.specs.View.{durable_of, told_between, IsAskedOf}
+use Rattle.node.specs.View.{durable_of, told_between}
 use Rattle.world.specs.View.{at_rest, commit_in, durable_in, IsAskedAt, node_in, occupant, works_at, IsMember, IsSeat, IsStep}
 use Rattle.world.specs.declared.seat.Seat.{Seat}
 use Rattle.world.specs.declared.seat.Step.{Step}
 use Rattle.world.specs.declared.seat.Step.TheVariants.{Moved, Refused as RefusedStep, Ignored}
 
 -- a member that is up sits there
-module _ (t : Schema) (n m : ℕ) (s : Seat) (core : Core) (is_up : Bool) (there : occupant s ≡ Some (record { core = core; is_up = is_up })) (node : node_in s ≡ node_of core) (seat : IsSeat t n m s) where
+module _ (t : Tables) (n m : ℕ) (s : Seat) (core : Core) (is_up : Bool) (there : occupant s ≡ Some (record { core = core; is_up = is_up })) (node : node_in s ≡ node_of core) (seat : IsSeat t n m s) where
   pub member : IsMember t n m (record { core = core; is_up = is_up })
   member = seat (record { core = core; is_up = is_up }) there
 
@@ -41,7 +42,7 @@ module _ (t : Schema) (n m : ℕ) (s : Seat) (core : Core) (is_up : Bool) (there
   durable_there (Ok d) good bad = rw node (ap Some good.1)
   durable_there (Err f) good bad = let up = member.is_up in absurd (cc (up, bad.0))
 
-  pub asked_there : (q : AsOf) (r : Result Answer Refusal) → (is_up ≡ true → IsStamped (applied (node_of core)) → IsAskedOf (schema_of core.schema) q (applied (node_of core)) r) → IsAskedAt (schema_of t) q (node_in s) (node_in s).up r
+  pub asked_there : (q : QueryShape) (r : Result Answer Refusal) → (is_up ≡ true → IsStamped (applied (node_of core)) → IsAskedOf (schema_of core.schema) q (applied (node_of core)) r) → IsAskedAt (schema_of t) q (node_in s) (node_in s).up r
   asked_there q r h = rw (node, ← member.schema) (h member.is_up)
 
   pub stopped_there : (image : MemImage) → (is_up ≡ true → (d : Durable) → d ≡ stored_in image → d ≡ durable_of (node_of core)) → at_rest (stored_in image) ≡ stopped (node_in s)

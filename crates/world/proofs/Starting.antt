@@ -2,7 +2,7 @@
 use Rattle.std.proofs.Common.{◌≡◌, ◌∙◌, ℕ, zero, suc, ◌+◌, ◌⊎◌, inl, inr, ⊎_elim, Some, List, [], ◌∷◌, ◌++◌, length, replicate, slice_get, refl, sym, ap, subst}
 use Rattle.std.proofs.lemmas.Option.{same_Some}
 use Rattle.std.proofs.lemmas.List.{replicate-append-replicate}
-use Rattle.cutread.specs.declared.schema.Schema.{Schema}
+use Rattle.sqlchecks.specs.Columns.{Tables}
 use Rattle.model.specs.Members.{Node}
 use Rattle.world.specs.declared.seat.Seat.{Seat}
 use Rattle.world.specs.View.{node_in, nodes_of, IsSeat}
@@ -15,7 +15,7 @@ push_get (x ∷ xs) v s zero e = inl e
 push_get (x ∷ xs) v s (suc k) e = ⊎_elim (λ h. inl h) (λ h. inr (ap suc h.0, h.1)) (push_get xs v s k e)
 
 -- one more member
-pub each_push : (t : Schema) (n i : ℕ) (xs ys : List Seat) (x : Seat) → length xs ≡ i → ys ≡ xs ++ x ∷ [] →
+pub each_push : (t : Tables) (n i : ℕ) (xs ys : List Seat) (x : Seat) → length xs ≡ i → ys ≡ xs ++ x ∷ [] →
     ((k : ℕ) (s : Seat) → slice_get xs k ≡ Some s → IsSeat t n (k + 1) s) → IsSeat t n (i + 1) x →
     (k : ℕ) (s : Seat) → slice_get ys k ≡ Some s → IsSeat t n (k + 1) s
 each_push t n i xs ys x count is each new k s e =

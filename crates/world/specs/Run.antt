@@ -4,7 +4,7 @@ use Rattle.model.specs.Lists.{nth}
 use Rattle.model.specs.Members.{Node}
 use Rattle.model.specs.Transactions.{Schema}
 use Rattle.model.specs.Worlds.{World, Event, new_world, run}
-use Rattle.cutread.specs.Meaning.{schema_of}
+use Rattle.sqlread.specs.Meaning.{schema_of}
 use Rattle.world.specs.declared.history.World.{World as Whole}
 use Rattle.world.specs.View.{event_of}
 

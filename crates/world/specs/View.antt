@@ -14,15 +14,17 @@ use Rattle.model.specs.Worlds.{World, Event, Output, done, effect_gives, fresh, 
 use Rattle.model.specs.Worlds.Output.{Sent, Applied, Refused, Answered}
 use Rattle.keep.specs.Durable.{Durable, stored_in}
 use Rattle.node.specs.Answered.{stored_of}
-use Rattle.node.specs.View.{durable_of, IsAskedOf}
+use Rattle.node.specs.View.{durable_of}
+use Rattle.apply.specs.View.{IsAskedOf}
 use Rattle.node.specs.declared.durable.Stored.{Stored}
 use Rattle.raft.specs.declared.state.Core.{Core}
 use Rattle.raft.specs.declared.state.Work.{Work}
 use Rattle.raft.specs.View.{node_of, works}
-use Rattle.cutread.specs.declared.answer.Answer.{Answer}
-use Rattle.cutread.specs.declared.query.AsOf.{AsOf}
-use Rattle.cutread.specs.declared.schema.Schema.{Schema}
-use Rattle.cutread.specs.Meaning.{schema_of, select_of, answer_of}
+use Rattle.answer.specs.declared.Answer.{Answer}
+use Rattle.answer.specs.Answers.{answer_of}
+use Rattle.sqlchecks.specs.Columns.{Tables}
+use Rattle.sqlread.specs.Shapes.{QueryShape, query_of}
+use Rattle.sqlread.specs.Meaning.{schema_of, select_of}
 use Rattle.world.specs.declared.event.Event.{Event as Given}
 use Rattle.world.specs.declared.event.Event.TheVariants.{Hand, Deliver, Stop, Start, Torn, Ask}
 use Rattle.world.specs.declared.event.Job.{Job}
@@ -53,7 +55,7 @@ event_of (Deliver k reading) = model.Deliver k reading
 event_of (Stop m) = model.Stop m
 event_of (Start m) = model.Start m
 event_of (Torn m job left) = model.Torn m (job_of job) (left_of left)
-event_of (Ask m query) = model.Ask m (select_of query)
+event_of (Ask m query) = model.Ask m (select_of (query_of query))
 
 abbrev pub output_of : Out → Output
 output_of (SentOut number message) = Sent number message
@@ -84,18 +86,18 @@ occupant (Up x) = Some (record { core = x.core; is_up = x.is_up })
 occupant (Down image) = None
 
 -- member m of n, which no step took down
-pub record IsMember (tables : Schema) (n m : ℕ) (o : Occupant) : Type 0 where
+pub record IsMember (tables : Tables) (n m : ℕ) (o : Occupant) : Type 0 where
   pub is_up : o.is_up ≡ true
   pub schema : o.core.schema ≡ tables
   pub members : o.core.members ≡ n
   pub me : o.core.me ≡ m
 
 -- the seat of member m of n
-abbrev pub IsSeat : Schema → ℕ → ℕ → Seat → Type 0
+abbrev pub IsSeat : Tables → ℕ → ℕ → Seat → Type 0
 IsSeat tables n m s = ForSome (occupant s) (IsMember tables n m)
 
 -- what the definitions say of this work at member m, which refuses all while it is down
-abbrev pub works_at : Schema → ℕ → ℕ → Work → Node → Effect
+abbrev pub works_at : Tables → ℕ → ℕ → Work → Node → Effect
 works_at schema n m work x = if x.up then works schema n m work x else Refuses NodeDown
 
 -- a step that takes member m from x to y
@@ -121,7 +123,7 @@ abbrev pub commit_in : Option Node → Option ℕ
 commit_in member = option_map (λ x. x.commit) (if_up member)
 
 -- what it answers, by whether it is up
-abbrev pub IsAskedAt : TheSchema → AsOf → Node → Bool → Result Answer Refusal → Type 0
+abbrev pub IsAskedAt : TheSchema → QueryShape → Node → Bool → Result Answer Refusal → Type 0
 IsAskedAt schema q x true r = IsStamped (applied x) → IsAskedOf schema q (applied x) r
 IsAskedAt schema q x false r = r ≡ Err NodeDown
 
@@ -134,18 +136,18 @@ abbrev pub world_of : Group → World
 world_of g = record { nodes = nodes_of g.seats.items; sent = g.sent.items }
 
 -- the seats of the members from 1 to n
-pub record IsGroup (tables : Schema) (n : ℕ) (seats : List Seat) : Type 0 where
+pub record IsGroup (tables : Tables) (n : ℕ) (seats : List Seat) : Type 0 where
   pub few : n ≤ 7
   pub all : length seats ≡ n
   pub each : (k : ℕ) (s : Seat) → slice_get seats k ≡ Some s → IsSeat tables n (k + 1) s
 
 -- the world after work was brought to a member, if there is one
-abbrev pub brings : Schema → ℕ → World → ℕ → Work → Option Node → World
+abbrev pub brings : Tables → ℕ → World → ℕ → Work → Option Node → World
 brings schema n w m work None = w
 brings schema n w m work (Some x) = done w m (works_at schema n m work x)
 
 -- and what that gives
-abbrev pub brought : Schema → ℕ → World → ℕ → Work → Option Node → List Output
+abbrev pub brought : Tables → ℕ → World → ℕ → Work → Option Node → List Output
 brought schema n w m work None = []
 brought schema n w m work (Some x) = effect_gives (schema_of schema) w m x (works_at schema n m work x)
 

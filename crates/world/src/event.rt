@@ -1,10 +1,10 @@
 //! What happens to a group.
 ghost use Rattle.std.specs.Prelude.{◌≡◌, IfOk};
 
-use cutread::query::AsOf;
 use model::entry::Request;
 use model::member::Member;
 use model::message::Input;
+use sqlread::query::Query;
 use std::alloc::AllocError;
 
 /// What is brought to a member in a step that is cut short.
@@ -50,7 +50,7 @@ pub enum Event {
     /// A step of a member that is up is cut short: nothing is sent or told, and the member is down.
     Torn(Member, Job, Left),
     /// A question is asked of a member.
-    Ask(Member, AsOf),
+    Ask(Member, Query),
 }
 
 impl Clone for Job {
@@ -68,7 +68,9 @@ impl Clone for Job {
 }
 
 impl Clone for Event {
-    ghost is_clone = { λ e copy. copy ≡ e };
+    ghost use Rattle.world.specs.View.{event_of};
+
+    ghost is_clone = { λ e copy. event_of copy ≡ event_of e };
 
     fn clone(&self) -> Result<Event, AllocError> {
         match self {
@@ -80,7 +82,7 @@ impl Clone for Event {
             Event::Stop(member) => Ok(Event::Stop(*member)),
             Event::Start(member) => Ok(Event::Start(*member)),
             Event::Torn(member, job, left) => Ok(Event::Torn(*member, copy_of_job(job)?, *left)),
-            Event::Ask(member, query) => Ok(Event::Ask(*member, *query)),
+            Event::Ask(member, query) => Ok(Event::Ask(*member, query.clone()?)),
         }
     }
 }

@@ -6,21 +6,22 @@ ghost use Rattle.model.specs.Worlds.{effect, happens, is_for, numbered, Gives, I
 ghost use Rattle.model.specs.Worlds.Event.{Deliver, Hand, Stop, Start, Torn};
 ghost use Rattle.model.specs.Worlds.Output.{Applied as ModelApplied};
 ghost use Rattle.raft.specs.View.{works};
-ghost use Rattle.cutread.specs.declared.schema.Schema.{Schema as Tables};
-ghost use Rattle.cutread.specs.Meaning.{schema_of, select_of};
+ghost use Rattle.sqlchecks.specs.Columns.{Tables};
+ghost use Rattle.sqlread.specs.Meaning.{schema_of, select_of};
+ghost use Rattle.sqlread.specs.Shapes.{query_of};
 ghost use Rattle.world.specs.View.{brings, brought, commit_in, durable_in, entry_in, event_of, job_of, left_of, outputs_of, world_of, AllStamped, IsGroup};
 
 use crate::event::{Event, Job, Left, copy_of_input};
 use crate::output::{Output, announce, apply_all, copy_of, refused, single};
 use crate::seat::{Seat, Step};
-use cutread::query::AsOf;
-use cutread::schema::Schema;
 use model::entry::Entry;
 use model::member::Member;
 use model::message::{Input, Message};
 use node::durable::Stored;
 use node::node::Out;
 use raft::state::Work;
+use schema::Schema;
+use sqlread::query::Query;
 use std::alloc::{AllocError, Global};
 
 /// All members, in order, and every message ever sent, in order.
@@ -140,7 +141,8 @@ impl Group {
         let Some(place) = self.place(member) else {
             return Ok(());
         };
-        self.seats[place].start(self.alloc, self.schema, self.members, member)
+        let schema = self.schema.clone()?;
+        self.seats[place].start(self.alloc, schema, self.members, member)
     }
 
     /// The work that this is to a member, none where it is a message that was not sent to it.
@@ -184,10 +186,10 @@ impl Group {
     }
 
     /// What a member answers. Where there is no such member nothing comes of it.
-    fn ask(&self, member: Member, query: &AsOf) -> Result<Vec<Output>, AllocError>
+    fn ask(&self, member: Member, query: &Query) -> Result<Vec<Output>, AllocError>
         requires group { IsGroup self.now.schema self.now.members self.now.seats.items }
         requires stamped { AllStamped (world_of self.now) }
-        ensures { IfOk result (λ outs. IsGivenAt (schema_of self.now.schema) member (select_of query.now) (nth (world_of self.now).nodes member) (outputs_of outs.items)) }
+        ensures { IfOk result (λ outs. IsGivenAt (schema_of self.now.schema) member (select_of (query_of query.now)) (nth (world_of self.now).nodes member) (outputs_of outs.items)) }
     {
         let Some(place) = self.place(member) else {
             return Ok(Vec::new(self.alloc));

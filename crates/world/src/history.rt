@@ -2,6 +2,7 @@
 ghost use Rattle.std.specs.Prelude.{◌≡◌, ◌++◌, ◌∷◌, ◌≤◌, ◌↔◌, [], true, false, map, None, IfOk, IsErr, OnErr, OnOk, if◌then◌else◌};
 ghost use Rattle.model.specs.Agreement.{Agree};
 ghost use Rattle.model.specs.Worlds.{Gives, GivesAll, new_world};
+ghost use Rattle.sqlread.specs.Meaning.{schema_of};
 ghost use Rattle.world.specs.View.{commit_in, durable_in, entry_in, event_of, outputs_of, world_of, IsRun};
 
 use crate::event::Event;
@@ -11,6 +12,7 @@ use crate::output::Output;
 use model::entry::Entry;
 use model::member::Member;
 use node::durable::Stored;
+use schema::Schema;
 use std::alloc::{AllocError, Global};
 
 /// All members of a group, and the events that happened to it so far.
@@ -25,19 +27,20 @@ pub struct World {
 impl World {
     ghost use Rattle.world.specs.Run.{schema_in, members_in, opening_of, events_of, now_of, member_of};
 
-    /// A group of 3 to 7 members in one program: all up, as followers in term 0 with no vote and empty
+    /// A group of 3 to 7 members in one program, with tables of this schema: all up, as followers in term 0 with no vote and empty
     /// logs. Nothing has happened yet.
     ///
     /// The one error is want of memory.
-    pub fn new(alloc: Global, members: usize) -> Result<World, AllocError>
+    pub fn new(alloc: Global, members: usize, schema: Schema) -> Result<World, AllocError>
         requires least { 3 ≤ members }
         requires most { members ≤ 7 }
         ensures opening { IfOk result (λ w. world_of w.group ≡ new_world members) }
         ensures members { IfOk result (λ w. members_in w ≡ members) }
+        ensures schema { IfOk result (λ w. schema_in w ≡ schema_of schema) }
         ensures nothing { IfOk result (λ w. w.kept.items ≡ []) }
         ensures live { IfOk result (λ w. w.is_spent ≡ false) }
     {
-        let group = open_group(alloc, members)?;
+        let group = open_group(alloc, members, schema)?;
         Ok(World {
             group,
             kept: Vec::new(alloc),
@@ -50,6 +53,13 @@ impl World {
         ensures { result ≡ members_in self.now }
     {
         self.group.members
+    }
+
+    /// The tables of its members.
+    pub fn schema(&self) -> &Schema
+        ensures { schema_of result.now ≡ schema_in self.now }
+    {
+        &self.group.schema
     }
 
     /// What happened so far, from the first event on.
@@ -73,7 +83,7 @@ impl World {
     fn happen(&mut self, event: &Event) -> Result<Vec<Output>, AllocError>
         requires live { self.old.is_spent ≡ false }
         ensures gives { IfOk result (λ outs. Gives (schema_in self.old) (members_in self.old) (now_of self.old) (event_of event.now) (outputs_of outs.items)) }
-        ensures kept { OnOk result (self.new.kept.items ≡ self.old.kept.items ++ event.now ∷ []) }
+        ensures kept { OnOk result (events_of self.new ≡ events_of self.old ++ event_of event.now ∷ []) }
         ensures same { (self.new.group.schema ≡ self.old.group.schema) × (self.new.group.members ≡ self.old.group.members) }
         ensures ok { OnOk result (self.new.is_spent ≡ false) }
     {
@@ -90,7 +100,7 @@ impl World {
     fn run_all(&mut self, events: &[Event]) -> Result<Vec<Vec<Output>>, AllocError>
         requires live { self.old.is_spent ≡ false }
         ensures gives { IfOk result (λ outs. GivesAll (schema_in self.old) (members_in self.old) (now_of self.old) (map event_of events.now) (map (λ o. outputs_of o.items) outs.items)) }
-        ensures kept { OnOk result (self.new.kept.items ≡ self.old.kept.items ++ events.now) }
+        ensures kept { OnOk result (events_of self.new ≡ events_of self.old ++ map event_of events.now) }
         ensures same { (self.new.group.schema ≡ self.old.group.schema) × (self.new.group.members ≡ self.old.group.members) }
         ensures ok { OnOk result (self.new.is_spent ≡ false) }
     {
@@ -116,7 +126,7 @@ impl World {
     /// The one error is want of memory. The world is spent then: each later call gives it too.
     pub fn run(&mut self, events: &[Event]) -> Result<Vec<Vec<Output>>, AllocError>
         ensures gives { IfOk result (λ outs. GivesAll (schema_in self.old) (members_in self.old) (now_of self.old) (map event_of events.now) (map (λ o. outputs_of o.items) outs.items)) }
-        ensures kept { OnOk result (self.new.kept.items ≡ self.old.kept.items ++ events.now) }
+        ensures kept { OnOk result (events_of self.new ≡ events_of self.old ++ map event_of events.now) }
         ensures agree { Agree (schema_in self.new) (members_in self.new) (opening_of self.new) (events_of self.new) }
         ensures same { (schema_in self.new ≡ schema_in self.old) × (members_in self.new ≡ members_in self.old) }
         ensures ok { OnOk result ((self.old.is_spent ≡ false) × (self.new.is_spent ≡ false)) }

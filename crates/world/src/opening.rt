@@ -5,10 +5,10 @@ ghost use Rattle.world.specs.View.{node_in, world_of, IsGroup, IsSeat};
 
 use crate::group::Group;
 use crate::seat::Seat;
-use cutread::schema::Schema;
 use keep::memory::MemImage;
 use model::member::Member;
 use node::node::Node;
+use schema::Schema;
 use std::alloc::{AllocError, Global};
 
 /// A member that has seen nothing: a follower in term 0 with no vote and an empty log.
@@ -29,16 +29,17 @@ fn start_member(
 }
 
 /// All members up, in term 0, with no vote and empty logs.
-pub(crate) fn open_group(alloc: Global, members: usize) -> Result<Group, AllocError>
+pub(crate) fn open_group(alloc: Global, members: usize, schema: Schema) -> Result<Group, AllocError>
     requires { members ≤ 7 }
     ensures group { IfOk result (λ g. IsGroup g.schema g.members g.seats.items) }
     ensures world { IfOk result (λ g. world_of g ≡ new_world members) }
     ensures members { IfOk result (λ g. g.members ≡ members) }
+    ensures schema { IfOk result (λ g. g.schema ≡ schema) }
 {
-    let schema = Schema;
     let mut seats = Vec::new(alloc);
     for index in 0..members {
-        seats.push(start_member(alloc, schema, members, index + 1)?)?;
+        let own = schema.clone()?;
+        seats.push(start_member(alloc, own, members, index + 1)?)?;
     }
     Ok(Group {
         alloc,

@@ -4,7 +4,7 @@ ghost use Rattle.model.specs.Worlds.{numbered};
 ghost use Rattle.model.specs.Worlds.Output.{Applied as ModelApplied};
 ghost use Rattle.world.specs.View.{output_of, outputs_of};
 
-use cutread::answer::Answer;
+use answer::Answer;
 use fault::Refusal;
 use model::entry::{Entries, Told};
 use model::member::Member;

@@ -1,14 +1,13 @@
 //! A member's place in a group.
 ghost use Rattle.std.specs.Prelude.{◌≡◌, ◌≤◌, ℕ, Some, IfOk, OnOk, if◌then◌else◌};
 ghost use Rattle.model.specs.Worlds.{node_left, started, stopped};
-ghost use Rattle.cutread.specs.declared.schema.Schema.{Schema as Tables};
-ghost use Rattle.cutread.specs.Meaning.{schema_of};
+ghost use Rattle.sqlchecks.specs.Columns.{Tables};
+ghost use Rattle.sqlread.specs.Meaning.{schema_of};
+ghost use Rattle.sqlread.specs.Shapes.{query_of};
 ghost use Rattle.world.specs.View.{commit_in, durable_in, entry_in, left_of, node_in, works_at, IsAskedAt, IsSeat, IsStep};
 
 use crate::event::Left;
-use cutread::answer::Answer;
-use cutread::query::AsOf;
-use cutread::schema::Schema;
+use answer::Answer;
 use fault::Refusal;
 use keep::memory::{MemImage, MemKeeper};
 use model::entry::Entry;
@@ -16,6 +15,8 @@ use model::member::Member;
 use node::durable::Stored;
 use node::node::{Fault, Node, Out};
 use raft::state::Work;
+use schema::Schema;
+use sqlread::query::Query;
 use std::alloc::{AllocError, Global};
 use std::mem;
 
@@ -147,8 +148,8 @@ impl Seat {
     }
 
     /// What the member answers.
-    pub(crate) fn ask(&self, query: &AsOf) -> Result<Answer, Refusal>
-        ensures { (t : Tables) (n m : ℕ) → IsSeat t n m self.now → IsAskedAt (schema_of t) query.now (node_in self.now) (node_in self.now).up result }
+    pub(crate) fn ask(&self, query: &Query) -> Result<Answer, Refusal>
+        ensures { (t : Tables) (n m : ℕ) → IsSeat t n m self.now → IsAskedAt (schema_of t) (query_of query.now) (node_in self.now) (node_in self.now).up result }
     {
         match self {
             Seat::Up(node) => node.ask(query),

@@ -1,7 +1,7 @@
 // Events one by one.
 use crate::event::{Event, Job, Left};
 use crate::history::World;
-use crate::tests::play::{Play, as_of, is};
+use crate::tests::play::{Play, as_of, group, is};
 use model::message::Input;
 use std::alloc::AllocError;
 use std::test::Fail;
@@ -40,7 +40,7 @@ fn what_cannot_be_gives_nothing(rt: HostRuntime) -> Result<(), Fail> {
     let events = vec![in rt.alloc();
         Event::Hand(0, Input::Timeout),
         Event::Hand(8, Input::Timeout),
-        Event::Ask(8, as_of(0)),
+        Event::Ask(8, as_of(rt.alloc(), 0)),
         Event::Deliver {
             message: 0,
             reading: 0
@@ -155,7 +155,7 @@ fn play_all(world: &mut World) -> Result<(), AllocError> {
 // With an allocation refused: a world that found no memory answers nothing else from then on.
 #[test]
 fn lacks_memory(rt: HostRuntime) {
-    let Ok(mut world) = World::new(rt.alloc(), 3) else {
+    let Ok(mut world) = group(rt.alloc(), 3) else {
         return;
     };
     if play_all(&mut world).is_ok() {

@@ -4,16 +4,22 @@ ghost use Rattle.std.specs.Prelude.{◌≤◌};
 use crate::event::Event;
 use crate::history::World;
 use crate::output::Output;
-use cutread::answer::Answer;
-use cutread::query::AsOf;
+use answer::Answer;
 use fault::{Refusal, Text};
 use model::entry::{Request, Told};
 use model::member::Member;
 use model::message::{Body, Input, Message};
 use model::stamp::Stamp;
+use sqlread::query::{Query, Time};
+use sqlread::schemas::read_schema;
 use std::alloc::{AllocError, Global};
 use std::process::Abort;
 use std::test::Fail;
+
+const SCHEMA: &str = "CREATE TABLE Dept (DNo INTEGER, DStart DATE, DEnd DATE, DName VARCHAR(30), \
+    SysStart TIMESTAMP(6) GENERATED ALWAYS AS ROW START, SysEnd TIMESTAMP(6) GENERATED ALWAYS AS ROW END, \
+    PERIOD FOR DPeriod (DStart, DEnd), PERIOD FOR SYSTEM_TIME (SysStart, SysEnd), \
+    PRIMARY KEY (DNo, DPeriod WITHOUT OVERLAPS)) WITH SYSTEM VERSIONING;";
 
 const INSERT: &str =
     "INSERT INTO Dept (DNo, DStart, DEnd, DName) VALUES (3, DATE '2000-01-01', DATE '2020-01-01', 'Test');";
@@ -35,12 +41,25 @@ pub struct Play {
     pub rounds: usize,
 }
 
-// The question AS OF so many microseconds after 1970-01-01.
-pub fn as_of(micros: u64) -> AsOf
+// All rows AS OF so many microseconds after 1970-01-01.
+pub fn as_of(alloc: Global, micros: u64) -> Query
     requires { micros ≤ 253402214399999999 }
 {
-    AsOf {
-        instant: Stamp::new(micros),
+    Query {
+        table: 0,
+        time: Some(Time::AsOf(Stamp::new(micros).instant())),
+        terms: Vec::new(alloc),
+    }
+}
+
+// A group with one table.
+pub fn group(alloc: Global, members: usize) -> Result<World, AllocError>
+    requires least { 3 ≤ members }
+    requires most { members ≤ 7 }
+{
+    match read_schema(alloc, SCHEMA) {
+        Ok(schema) => World::new(alloc, members, schema),
+        Err(_) => Err(AllocError),
     }
 }
 
@@ -142,7 +161,7 @@ impl Play {
     {
         Ok(Play {
             alloc,
-            world: World::new(alloc, members)?,
+            world: group(alloc, members)?,
             clocks: vec![in alloc; 100; members]?,
             sent: Vec::new(alloc),
             rounds: 0,
@@ -212,7 +231,7 @@ impl Play {
     pub fn ask(&mut self, member: Member, micros: u64) -> Result<String, AllocError>
         requires { micros ≤ 253402214399999999 }
     {
-        self.happen(Event::Ask(member, as_of(micros)))
+        self.happen(Event::Ask(member, as_of(self.alloc, micros)))
     }
 
     // The delivery of this message. It counts as delivered.

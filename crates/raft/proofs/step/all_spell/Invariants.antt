@@ -1,7 +1,7 @@
 use Rattle.std.proofs.Common.{◌≡◌, drop}
 use Rattle.std.specs.List.{list_all}
 use Rattle.model.specs.Steps.{spells}
-use Rattle.cutread.specs.Meaning.{schema_of}
+use Rattle.sqlread.specs.Meaning.{schema_of}
 use Rattle.raft.proofs.step.all_spell.Given as goal
 
 abbrev pub invariant-loop-entry : goal.invariant-loop-entry

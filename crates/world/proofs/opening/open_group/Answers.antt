@@ -1,9 +1,10 @@
-use Rattle.std.proofs.Common.{rules, ◌≡◌, ◌∙◌, ◌+◌, ◌++◌, ◌∷◌, [], None, List, length, replicate, ap, arith}
+use Rattle.std.proofs.Common.{rules, ◌≡◌, ◌∙◌, ◌+◌, ◌++◌, ◌∷◌, [], None, List, length, replicate, ap, subst, arith}
 use Rattle.std.proofs.Common.{length-append}
 use Rattle.model.specs.declared.message.Message.{Message}
 use Rattle.model.specs.Members.{Node}
 use Rattle.model.specs.Worlds.{World, fresh}
-use Rattle.world.specs.View.{nodes_of}
+use Rattle.sqlchecks.specs.Columns.{Tables}
+use Rattle.world.specs.View.{nodes_of, IsSeat}
 use Rattle.world.proofs.Starting.{each_push, nodes_push}
 use Rattle.world.proofs.opening.open_group.Goals as goal
 
@@ -14,9 +15,10 @@ loop-index-preserved c =
     let i = c.loop-index.index in
     let ys : c.push.new.self.items ≡ xs ++ x ∷ [] = search rules in
     let inv = c.loop-index.invariant in
+    let P : Tables → Type 0 = λ t. IsSeat t c.args.members (i + 1) x in
     record {
       count = ap length ys ∙ length-append xs (x ∷ []) ∙ ap (λ k. k + 1) inv.count;
-      each = each_push (record {}) c.args.members i xs c.push.new.self.items x inv.count ys inv.each c.in_ok-start_member.ensures.seat;
+      each = each_push c.args.schema c.args.members i xs c.push.new.self.items x inv.count ys inv.each (subst P c.in_ok-own.ensures.cases c.in_ok-start_member.ensures.seat);
       nodes = nodes_push i xs c.push.new.self.items x (fresh 0 None) ys inv.nodes c.in_ok-start_member.ensures.node;
     }
 

@@ -7,6 +7,6 @@ use Rattle.world.proofs.opening.open_group.Given as goal
 abbrev pub invariant-loop-index : goal.invariant-loop-index
 invariant-loop-index l = record {
   count : length l.seats.items ≡ l.index;
-  each : (k : ℕ) (s : Seat) → slice_get l.seats.items k ≡ Some s → IsSeat (record {}) l.members (k + 1) s;
+  each : (k : ℕ) (s : Seat) → slice_get l.seats.items k ≡ Some s → IsSeat l.fn.schema l.members (k + 1) s;
   nodes : nodes_of l.seats.items ≡ replicate l.index (fresh 0 None);
 }

@@ -1,6 +1,7 @@
 use Rattle.std.proofs.Common.{ap, arith}
 use Rattle.std.proofs.lemmas.Result.{IfOk-weaker}
-use Rattle.cutread.specs.Meaning.{schema_of}
+use Rattle.sqlread.specs.Meaning.{schema_of}
+use Rattle.sqlread.specs.Shapes.{query_of}
 use Rattle.world.specs.View.{node_in, outputs_of}
 use Rattle.world.proofs.Asking.{answered, refused}
 use Rattle.world.proofs.Placing.{IsPlaced, here, seat}
@@ -15,7 +16,7 @@ returns-in-Ok c =
     let there = here placed in
     let stamped = c.requires.stamped c.args.member (node_in s) there in
     let asked = c.in-Ok.ensures self.schema self.members c.args.member sits in
-    IfOk-weaker c.single.result _ _ (λ outs e. answered (schema_of self.schema) c.args.member c.args.query.now (node_in s) _ c.in-Ok.answer (outputs_of outs.items) there asked stamped (ap outputs_of e)) c.single.ensures
+    IfOk-weaker c.single.result _ _ (λ outs e. answered (schema_of self.schema) c.args.member (query_of c.args.query.now) (node_in s) _ c.in-Ok.answer (outputs_of outs.items) there asked stamped (ap outputs_of e)) c.single.ensures
 
 pub returns-in-Err : goal.returns-in-Err
 returns-in-Err c =
@@ -26,4 +27,4 @@ returns-in-Err c =
     let there = here placed in
     let stamped = c.requires.stamped c.args.member (node_in s) there in
     let asked = c.in-Err.ensures self.schema self.members c.args.member sits in
-    IfOk-weaker c.refused.result _ _ (λ outs e. refused (schema_of self.schema) c.args.member c.args.query.now (node_in s) _ c.in-Err.refusal (outputs_of outs.items) there asked stamped e.1 (ap outputs_of e.0)) c.refused.ensures
+    IfOk-weaker c.refused.result _ _ (λ outs e. refused (schema_of self.schema) c.args.member (query_of c.args.query.now) (node_in s) _ c.in-Err.refusal (outputs_of outs.items) there asked stamped e.1 (ap outputs_of e.0)) c.refused.ensures

@@ -1,6 +1,6 @@
 use Rattle.std.proofs.Common.{◌∙◌, List, slice_set, ap, subst, sym, arith}
 use Rattle.std.proofs.lemmas.Result.{IfOk-weaker}
-use Rattle.cutread.specs.Meaning.{schema_of}
+use Rattle.sqlread.specs.Meaning.{schema_of}
 use Rattle.world.specs.declared.seat.Seat.{Seat}
 use Rattle.world.specs.declared.seat.Step.{Step}
 use Rattle.world.specs.View.{node_in, nodes_of, outputs_of, works_at, IsGroup, IsStep}

@@ -1,7 +1,7 @@
 use Rattle.std.proofs.Common.{◌∙◌, ap, sym, arith}
 use Rattle.std.proofs.lemmas.Result.{IfOk-weaker}
 use Rattle.model.specs.Worlds.{tears}
-use Rattle.cutread.specs.Meaning.{schema_of}
+use Rattle.sqlread.specs.Meaning.{schema_of}
 use Rattle.world.specs.View.{job_of, left_of, world_of}
 use Rattle.world.proofs.Placing.{IsPlaced, group_after, here, same_world, seat, world_after}
 use Rattle.world.proofs.Restarts.{after_tear}

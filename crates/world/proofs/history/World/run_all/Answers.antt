@@ -1,10 +1,10 @@
 use Rattle.std.proofs.Common.{rules, ◌≡◌, ◌∙◌, ◌+◌, ◌<◌, ◌++◌, ◌∷◌, [], ℕ, map, length, take, subst, sym, ap, List, append_assoc}
 use Rattle.std.proofs.lemmas.List.{take_more}
-use Rattle.model.specs.Worlds.{new_world, run, Gives, Output, GivesAll}
-use Rattle.cutread.specs.declared.schema.Schema.{Schema}
-use Rattle.cutread.specs.Meaning.{schema_of}
+use Rattle.model.specs.Worlds.{new_world, run, Event, Gives, Output, GivesAll}
+use Rattle.sqlchecks.specs.Columns.{Tables}
+use Rattle.sqlread.specs.Meaning.{schema_of}
 use Rattle.world.specs.declared.event.Event.{Event as Given}
-use Rattle.world.specs.Run.{schema_in, members_in, now_of}
+use Rattle.world.specs.Run.{schema_in, members_in, events_of, now_of}
 use Rattle.world.specs.View.{event_of, outputs_of}
 use Rattle.world.proofs.Running.{step_more, map_append}
 use Rattle.world.proofs.history.World.run_all.Goals as goal
@@ -20,17 +20,17 @@ loop-event-preserved c =
     let within : i < length all = search rules in
     let next : take (i + 1) all ≡ take i all ++ e ∷ [] = take_more all i e within ∙ ap (λ x. take i all ++ x ∷ []) (sym c.event-item.is) in
     let pushed : c.push.new.self.items ≡ c.loop-event.outs.items ++ c.in_ok-happen.field-0 ∷ [] = search rules in
-    let P : Schema → Type 0 = λ s. Gives (schema_of s) (members_in c.loop-event.self) (run (schema_of s) (members_in c.loop-event.self) (new_world (members_in c.loop-event.self)) (map event_of c.loop-event.self.kept.items)) (event_of e) out in
+    let P : Tables → Type 0 = λ s. Gives (schema_of s) (members_in c.loop-event.self) (run (schema_of s) (members_in c.loop-event.self) (new_world (members_in c.loop-event.self)) (map event_of c.loop-event.self.kept.items)) (event_of e) out in
     let Q : ℕ → Type 0 = λ n. Gives (schema_in old) n (run (schema_in old) n (new_world n) (map event_of c.loop-event.self.kept.items)) (event_of e) out in
-    let R : List Given → Type 0 = λ k. Gives (schema_in old) (members_in old) (run (schema_in old) (members_in old) (new_world (members_in old)) (map event_of k)) (event_of e) out in
+    let R : List Event → Type 0 = λ k. Gives (schema_in old) (members_in old) (run (schema_in old) (members_in old) (new_world (members_in old)) k) (event_of e) out in
     let gave = subst R inv.kept (subst Q inv.members (subst P inv.schema c.in_ok-happen.ensures.gives)) in
-    let more = step_more (schema_in old) (members_in old) (new_world (members_in old)) old.kept.items (take i all) e _ out inv.gives gave in
+    let more = step_more (schema_in old) (members_in old) (new_world (members_in old)) (events_of old) (take i all) e _ out inv.gives gave in
     let S : List Given → Type 0 = λ es. GivesAll (schema_in old) (members_in old) (now_of old) (map event_of es) (map (λ o. outputs_of o.items) c.push.new.self.items) in
     let T : List (List Output) → Type 0 = λ os. GivesAll (schema_in old) (members_in old) (now_of old) (map event_of (take i all ++ e ∷ [])) os in
     record {
       live = c.in_ok-happen.ensures.ok;
       schema = c.happen.ensures.same.0 ∙ inv.schema;
       members = c.happen.ensures.same.1 ∙ inv.members;
-      kept = c.in_ok-happen.ensures.kept ∙ ap (λ k. k ++ e ∷ []) inv.kept ∙ append_assoc old.kept.items (take i all) (e ∷ []) ∙ ap (λ es. old.kept.items ++ es) (sym next);
+      kept = c.in_ok-happen.ensures.kept ∙ ap (λ k. k ++ event_of e ∷ []) inv.kept ∙ append_assoc (events_of old) (map event_of (take i all)) (event_of e ∷ []) ∙ ap (λ es. events_of old ++ es) (sym (ap (map event_of) next ∙ map_append event_of (take i all) (e ∷ [])));
       gives = subst S (sym next) (subst T (sym (ap (map (λ o. outputs_of o.items)) pushed ∙ map_append (λ o. outputs_of o.items) c.loop-event.outs.items (c.in_ok-happen.field-0 ∷ []))) more);
     }

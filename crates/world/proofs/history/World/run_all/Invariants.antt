@@ -1,6 +1,6 @@
 use Rattle.std.proofs.Common.{◌≡◌, ◌++◌, take, map, false}
 use Rattle.model.specs.Worlds.{GivesAll}
-use Rattle.world.specs.Run.{schema_in, members_in, now_of}
+use Rattle.world.specs.Run.{schema_in, members_in, events_of, now_of}
 use Rattle.world.specs.View.{event_of, outputs_of}
 use Rattle.world.proofs.history.World.run_all.Given as goal
 
@@ -9,6 +9,6 @@ invariant-loop-event l = record {
   live : l.self.is_spent ≡ false;
   schema : l.self.group.schema ≡ l.initial.self.group.schema;
   members : l.self.group.members ≡ l.initial.self.group.members;
-  kept : l.self.kept.items ≡ l.initial.self.kept.items ++ take l.event-index l.events;
+  kept : events_of l.self ≡ events_of l.initial.self ++ map event_of (take l.event-index l.events);
   gives : GivesAll (schema_in l.initial.self) (members_in l.initial.self) (now_of l.initial.self) (map event_of (take l.event-index l.events)) (map (λ o. outputs_of o.items) l.outs.items);
 }

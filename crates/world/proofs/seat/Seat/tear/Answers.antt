@@ -1,6 +1,6 @@
 use Rattle.std.proofs.Common.{◌∙◌, ap, refl}
 use Rattle.model.specs.Worlds.{stopped}
-use Rattle.cutread.specs.Meaning.{schema_of}
+use Rattle.sqlread.specs.Meaning.{schema_of}
 use Rattle.world.specs.View.{node_in, works_at}
 use Rattle.world.proofs.Seating.{made}
 use Rattle.world.proofs.seat.Seat.tear.Goals as goal

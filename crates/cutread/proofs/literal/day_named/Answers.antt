@@ -1,8 +1,0 @@
-use Rattle.cutread.proofs.Days.{day_is, no_day}
-use Rattle.cutread.proofs.literal.day_named.Goals as goal
-
-pub returns-in_default : goal.returns-in_default
-returns-in_default c = no_day c.args.date.source.now (λ n h. c.in_default.ensures.every n h)
-
-pub returns : goal.returns
-returns c = day_is c.args.date.source.now c.in-Ok.day.number c.in-Ok.day.in_range c.in-Ok.ensures.prints

@@ -1,8 +1,0 @@
-use Rattle.std.proofs.Common.{◌≡◌, ◌++◌, drop, string_bytes}
-use Rattle.cutread.specs.Checks.{undoubled}
-use Rattle.cutread.proofs.Steps.{left_over}
-use Rattle.cutread.proofs.literal.undoubled.Given as goal
-
--- what is written so far, and what is left to read, give the whole
-abbrev pub invariant-loop-b : goal.invariant-loop-b
-invariant-loop-b l = undoubled l.fn.text.source.now ≡ string_bytes l.plain ++ left_over l.after_quote (drop l.b-index l.fn.text.source.now)

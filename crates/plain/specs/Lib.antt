@@ -1,4 +1,0 @@
-pub mod Rows
-pub mod Stored
-pub mod Replay
-pub mod Showing

@@ -1,0 +1,142 @@
+//! What INSERT, UPDATE and DELETE make of the days of one key.
+use crate::line::{Cell, KeyDay, Line};
+use crate::meaning::{in_portion, is_edge, is_met, set};
+use crate::row::Row;
+use fault::Refusal;
+use period::Period;
+use sqlchecks::comparison::Comparison;
+use sqlread::statement::{Delete, Insert, Update};
+use std::alloc::{AllocError, Global};
+
+/// Whether a day of the period is filled.
+pub(crate) fn overlaps(line: &Line, period: Period) -> bool {
+    line.days.iter().any(|day| in_portion(Some(period), day.number) && day.cell.is_some())
+}
+
+/// Each day of the period gets the values. Its start and its end become cuts, and the cuts between them go.
+fn inserted_day(day: &KeyDay, insert: &Insert, t: u64) -> Result<KeyDay, AllocError> {
+    let mut new = day.clone()?;
+    let period = insert.period;
+    if in_portion(Some(period), day.number) {
+        new.cell = Some(Cell {
+            values: insert.values.clone()?,
+            birth: t,
+        });
+        new.is_cut = false;
+    }
+    if is_edge(Some(period), day.number) {
+        new.is_cut = true;
+    }
+    Ok(new)
+}
+
+pub(crate) fn inserted(
+    alloc: Global,
+    line: &Line,
+    insert: &Insert,
+    t: u64,
+) -> Result<Line, AllocError> {
+    let mut days = Vec::new(alloc);
+    for day in line.days.iter() {
+        days.push(inserted_day(day, insert, t)?)?;
+    }
+    Ok(Line {
+        key: line.key.clone()?,
+        days,
+    })
+}
+
+/// Whether the day lies in a row that is met.
+fn lies_in_met(
+    rows: &[Row],
+    conditions: &[Comparison],
+    portion: Option<Period>,
+    day: &KeyDay,
+) -> bool {
+    match rows.iter().find(|row| row.has_day(day.number)) {
+        Some(row) => is_met(conditions, portion, row),
+        None => false,
+    }
+}
+
+/// A day of a row that is met is born anew, and inside the portion has SET of its values; the portion's edges cut the row.
+fn updated_day(
+    alloc: Global,
+    line: &Line,
+    day: &KeyDay,
+    update: &Update,
+    t: u64,
+) -> Result<KeyDay, Refusal> {
+    let Some(cell) = &day.cell else {
+        return Ok(day.clone()?);
+    };
+    let values = if in_portion(update.portion, day.number) {
+        set(alloc, &update.assignments, &cell.values)?.ok_or(Refusal::NumberRange)?
+    } else {
+        cell.values.clone()?
+    };
+    let is_new_cut = is_edge(update.portion, day.number) && line.is_joined(day);
+    Ok(KeyDay {
+        number: day.number,
+        cell: Some(Cell { values, birth: t }),
+        is_cut: day.is_cut || is_new_cut,
+    })
+}
+
+/// `NumberRange` where SET is out of range on a day in the portion of a row that is met.
+pub(crate) fn updated(
+    alloc: Global,
+    line: &Line,
+    update: &Update,
+    t: u64,
+) -> Result<Line, Refusal> {
+    let rows = line.rows(alloc)?;
+    let mut days = Vec::new(alloc);
+    for day in line.days.iter() {
+        let is_met = lies_in_met(&rows, &update.conditions, update.portion, day);
+        let new = if is_met {
+            updated_day(alloc, line, day, update, t)?
+        } else {
+            day.clone()?
+        };
+        days.push(new)?;
+    }
+    Ok(Line {
+        key: line.key.clone()?,
+        days,
+    })
+}
+
+/// A day of a row that is met becomes empty inside the portion, and is born anew outside it.
+fn deleted_day(day: &KeyDay, delete: &Delete, t: u64) -> Result<KeyDay, AllocError> {
+    let mut new = day.clone()?;
+    if in_portion(delete.portion, day.number) {
+        new.cell = None;
+    } else if let Some(cell) = &mut new.cell {
+        cell.birth = t;
+    }
+    Ok(new)
+}
+
+pub(crate) fn deleted(
+    alloc: Global,
+    line: &Line,
+    delete: &Delete,
+    t: u64,
+) -> Result<Line, AllocError> {
+    let rows = line.rows(alloc)?;
+    let mut days = Vec::new(alloc);
+    for day in line.days.iter() {
+        let is_met = lies_in_met(&rows, &delete.conditions, delete.portion, day);
+        let new = if is_met {
+            deleted_day(day, delete, t)?
+        } else {
+            day.clone()?
+        };
+        days.push(new)?;
+    }
+    Ok(Line {
+        key: line.key.clone()?,
+        days,
+    })
+}

@@ -1,0 +1,173 @@
+//! Requests, each executed once, and the state at each instant.
+use crate::answers::{Answer, answer_to, last_of};
+use crate::tables::Tables;
+use fault::{Refusal, Text};
+use model::stamp::Stamp;
+use period::Period;
+use schema::Schema;
+use sqlread::query::{Query, Time};
+use sqlread::statement::Transaction;
+use std::alloc::{AllocError, Global};
+
+/// The instant at which a transaction was accepted, or its refusal.
+pub type Outcome = Result<Stamp, Refusal>;
+
+/// A transaction that was accepted.
+#[derive(Drop)]
+struct Accepted {
+    stamp: Stamp,
+    transaction: Transaction,
+}
+
+/// How many requests of a client were executed, and the outcome of the latest.
+#[derive(Drop)]
+struct Executed {
+    client: u16,
+    count: u64,
+    outcome: Outcome,
+}
+
+/// The tables from an instant on.
+#[derive(Drop)]
+pub(crate) struct Since {
+    pub stamp: u64,
+    pub tables: Tables,
+}
+
+/// What a list of entries means, on the days of a period alone. Each call has to be given the same schema.
+#[derive(Drop)]
+pub struct Judge {
+    alloc: Global,
+    days: Period,
+    accepted: Vec<Accepted>,
+    executed: Vec<Executed>,
+    last: Option<Stamp>,
+}
+
+fn stamp_text(alloc: Global, stamp: Stamp) -> Result<Text, AllocError> {
+    let instant = stamp.instant();
+    Ok(Text::new(format!(in alloc; "{instant}")?))
+}
+
+fn outcome_copy(outcome: &Outcome) -> Result<Outcome, AllocError> {
+    match outcome {
+        Ok(stamp) => Ok(Ok(*stamp)),
+        Err(refusal) => Ok(Err(refusal.clone()?)),
+    }
+}
+
+/// What is told of a transaction that comes to this at an instant.
+fn outcome_of(next: Result<Tables, Refusal>, stamp: Stamp) -> Result<Outcome, AllocError> {
+    match next {
+        Ok(_next) => Ok(Ok(stamp)),
+        Err(Refusal::NoMemory) => Err(AllocError),
+        Err(refusal) => Ok(Err(refusal)),
+    }
+}
+
+impl Judge {
+    /// No entry yet.
+    pub fn new(alloc: Global, days: Period) -> Judge {
+        Judge {
+            alloc,
+            days,
+            accepted: Vec::new(alloc),
+            executed: Vec::new(alloc),
+            last: None,
+        }
+    }
+
+    /// Takes an entry that only bears its stamp.
+    pub fn close(&mut self, stamp: Stamp) {
+        self.last = Some(stamp);
+    }
+
+    /// Takes an entry with a client's request of this number, and gives its outcome: the transaction is executed where
+    /// the number is the next one of the client; the number of the latest has the outcome that was kept; a smaller one
+    /// is refused by 30, and a greater one by 31. Stamps have to rise.
+    pub fn take(
+        &mut self,
+        schema: &Schema,
+        stamp: Stamp,
+        client: u16,
+        number: u64,
+        transaction: Transaction,
+    ) -> Result<Outcome, AllocError> {
+        self.last = Some(stamp);
+        let latest = self.executed.iter().find(|e| e.client == client);
+        let count = latest.map_or(0, |e| e.count);
+        if count.checked_add(1) == Some(number) {
+            return self.execute(schema, stamp, client, number, transaction);
+        }
+        if number > count {
+            return Ok(Err(Refusal::Gap));
+        }
+        match latest {
+            Some(latest) if number == count => outcome_copy(&latest.outcome),
+            _ => Ok(Err(Refusal::Old)),
+        }
+    }
+
+    fn execute(
+        &mut self,
+        schema: &Schema,
+        stamp: Stamp,
+        client: u16,
+        number: u64,
+        transaction: Transaction,
+    ) -> Result<Outcome, AllocError> {
+        let state = self.now(schema)?;
+        let next = state.transacted(self.alloc, schema, &transaction, stamp.micros());
+        let outcome = outcome_of(next, stamp)?;
+        match &outcome {
+            Ok(_) => self.accepted.push(Accepted { stamp, transaction })?,
+            Err(_) => drop(transaction),
+        }
+        self.executed.retain(|e| e.client != client);
+        self.executed.push(Executed {
+            client,
+            count: number,
+            outcome: outcome_copy(&outcome)?,
+        })?;
+        Ok(outcome)
+    }
+
+    /// The tables from each instant on at which a transaction was accepted: all of these run again, one after another,
+    /// from empty tables.
+    fn history(&self, schema: &Schema) -> Result<Vec<Since>, Refusal> {
+        let mut history = Vec::new(self.alloc);
+        let mut tables = Tables::empty(self.alloc, schema.len(), self.days)?;
+        for accepted in self.accepted.iter() {
+            let stamp = accepted.stamp.micros();
+            tables = tables.transacted(self.alloc, schema, &accepted.transaction, stamp)?;
+            history.push(Since {
+                stamp,
+                tables: tables.clone()?,
+            })?;
+        }
+        Ok(history)
+    }
+
+    /// The tables after all entries.
+    pub fn now(&self, schema: &Schema) -> Result<Tables, AllocError> {
+        let empty = Tables::empty(self.alloc, schema.len(), self.days)?;
+        match self.history(schema) {
+            Ok(mut history) => Ok(history.pop().map_or(empty, |since| since.tables)),
+            Err(_) => Err(AllocError),
+        }
+    }
+
+    /// The answer to a question; one without system time is AS OF the last stamp. `NotClosed` with the last stamp where
+    /// the question's last instant is later than that, or where there is none; `NoMemory`.
+    pub fn ask(&self, schema: &Schema, query: &Query) -> Result<Answer, Refusal> {
+        let Some(last) = self.last else {
+            return Err(Refusal::NotClosed(None));
+        };
+        let time = query.time.unwrap_or(Time::AsOf(last.instant()));
+        if last_of(time) > last.micros() {
+            return Err(Refusal::NotClosed(Some(stamp_text(self.alloc, last)?)));
+        }
+        let history = self.history(schema)?;
+        Ok(answer_to(self.alloc, &history, query, time)?)
+    }
+}
