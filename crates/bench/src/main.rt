@@ -1,6 +1,10 @@
-//! Measures how fast texts are read. Without words it reads each text once and tells what it found; with the word
-//! `rates` it reads each for about a megabyte, and prints how many bytes it reads in a second.
+//! Measures how fast texts are read, and how long statements and questions take. Without words it reads each text once
+//! and tells what it found; with the word `rates` it reads each for about a megabyte, and prints how many bytes it reads
+//! in a second; with the word `tables` it prints the nanoseconds of an INSERT, of an UPDATE of a portion and of a
+//! question by key, over tables of 1,000, 5,000 and 20,000 rows.
 #![tactic(auto)]
+
+mod tables;
 
 use anyhow::Result;
 use schema::Schema;
@@ -25,25 +29,53 @@ const MEASURED: usize = 1_048_576;
 fn main(rt: HostRuntime) -> Result<()> {
     let alloc = rt.alloc();
     let schema = read_schema(alloc, SCHEMA)?;
-    let measures = asks_for_rates(&rt)?;
+    match words_given(&rt)? {
+        Asked::Texts => tell_texts(&rt, alloc, &schema),
+        Asked::Rates => tell_rates(&rt, alloc, &schema),
+        Asked::Tables => tables::tell(&rt, alloc, &schema),
+    }
+}
+
+// What is to be measured.
+enum Asked {
+    /// Nothing: each text is read once.
+    Texts,
+    /// How fast texts are read.
+    Rates,
+    /// How long statements and questions take.
+    Tables,
+}
+
+fn words_given<R: AllocGlobal + Env>(rt: &R) -> Result<Asked> {
+    let mut words = env::args(rt)?;
+    let _program = words.next();
+    let Some(word) = words.next() else {
+        return Ok(Asked::Texts);
+    };
+    Ok(match word.as_str() {
+        "rates" => Asked::Rates,
+        "tables" => Asked::Tables,
+        _ => Asked::Texts,
+    })
+}
+
+fn tell_texts<R: Print>(rt: &R, alloc: Global, schema: &Schema) -> Result<()> {
     for size in [256, 1_024, 4_096] {
         let text = text_of(alloc, size)?;
-        if measures {
-            let rate = rate_of(&rt, alloc, &schema, text.as_str())?;
-            println!(rt; "{size} bytes: {rate} bytes a second")?;
-        } else {
-            let read = read_transaction(alloc, &schema, text.as_str())?;
-            let statements = read.statements.len();
-            println!(rt; "{size} bytes: statements {statements}")?;
-        }
+        let read = read_transaction(alloc, schema, text.as_str())?;
+        let statements = read.statements.len();
+        println!(rt; "{size} bytes: statements {statements}")?;
     }
     Ok(())
 }
 
-fn asks_for_rates<R: AllocGlobal + Env>(rt: &R) -> Result<bool> {
-    let mut words = env::args(rt)?;
-    let _program = words.next();
-    Ok(words.next().is_some_and(|word| word.as_str() == "rates"))
+fn tell_rates<R: Print + Clock>(rt: &R, alloc: Global, schema: &Schema) -> Result<()> {
+    for size in [256, 1_024, 4_096] {
+        let text = text_of(alloc, size)?;
+        let rate = rate_of(rt, alloc, schema, text.as_str())?;
+        println!(rt; "{size} bytes: {rate} bytes a second")?;
+    }
+    Ok(())
 }
 
 // A transaction of so many bytes: one DELETE with as many comparisons as fit.
