@@ -21,8 +21,7 @@ use Rattle.sqlchecks.specs.Answering.{◌>>=◌, ◌>>◌, refuse_if, or_refuse,
 use Rattle.sqlchecks.specs.Columns.{Tables, table_named}
 use Rattle.sqlchecks.specs.Comparisons.{comparisons_in}
 use Rattle.sqlchecks.specs.Literals.{day_named, period_named, literal_in}
-use Rattle.sqlread.specs.Calendar.{is_in_calendar}
-use Rattle.sqlread.proofs.Days.{literal_in_calendar}
+use Rattle.sqlread.specs.Calendar.{is_in_calendar, LiteralsInCalendar}
 use Rattle.sqlread.specs.declared.statement.Statement.{Statement as Read}
 use Rattle.sqlread.specs.declared.statement.Statement.TheVariants as read
 use Rattle.sqlread.specs.Shapes.{StatementShape, InsertShape, UpdateShape, DeleteShape, statement_of}
@@ -125,12 +124,12 @@ day_in values column d all e =
     by (value.Number n) h f = absurd cc
     by (value.Text s) h f = absurd cc
 
-given_in : (x : (ℕ × Kind) × LiteralForm) (g : Given) → given x ≡ Ok g → is_in_calendar g.1 ≡ true
+given_in : LiteralsInCalendar → (x : (ℕ × Kind) × LiteralForm) (g : Given) → given x ≡ Ok g → is_in_calendar g.1 ≡ true
 unfolding given
-given_in x g e =
+given_in calendar x g e =
     let a = bind_ok (literal_in x.0.1 x.1) (λ v. Ok (x.0.0, v)) g e in
     let k : (x.0.0, a.0) ≡ g = let h = a.2 in cc in
-    subst (λ (y : Given). is_in_calendar y.1 ≡ true) k (literal_in_calendar x.0.1 x.1 a.0 a.1)
+    subst (λ (y : Given). is_in_calendar y.1 ≡ true) k (calendar x.0.1 x.1 a.0 a.1)
 
 each_in : {A B : Type 0} (f : A → Result B Refusal) (P : B → Type 0) → ((a : A) (b : B) → f a ≡ Ok b → P b) → (as' : List A) (bs : List B) → each_of f as' ≡ Ok bs → (b : B) → Has bs b → P b
 each_in {A} {B} f P h [] bs e b has = let k : bs ≡ [] = cc in absurd (subst (λ (z : List B). Has z b) k has)
@@ -143,10 +142,10 @@ each_in {A} {B} f P h (a ∷ as') bs e b has =
       | inr g ↦ each_in f P h as' y.0 y.1 b g
     ]
 
-values_fine : (columns : List (ℕ × Kind)) (literals : List LiteralForm) (values : List Given) → values_in columns literals ≡ Ok values → AllInCalendar values
+values_fine : LiteralsInCalendar → (columns : List (ℕ × Kind)) (literals : List LiteralForm) (values : List Given) → values_in columns literals ≡ Ok values → AllInCalendar values
 unfolding values_in
-values_fine columns literals values e g has =
-    each_in given (λ (y : Given). is_in_calendar y.1 ≡ true) given_in (zip columns literals) values (then_ok _ (each_of given (zip columns literals)) values e).1 g has
+values_fine calendar columns literals values e g has =
+    each_in given (λ (y : Given). is_in_calendar y.1 ≡ true) (given_in calendar) (zip columns literals) values (then_ok _ (each_of given (zip columns literals)) values e).1 g has
 
 row_fine : (place : ℕ) (table : TableShape) (values : List Given) (s : InsertShape) → AllInCalendar values → row_given place table values ≡ Ok s → (s.period.start < s.period.end) × (s.period.end ≤ days)
 unfolding row_given days
@@ -159,12 +158,12 @@ row_fine place table values s all e =
     let k : record { table = place; key = d.0; values = f.0; period = record { start = a.0; end = b.0 } } ≡ s = let h = f.2 in cc in
     subst (λ (x : InsertShape). (x.period.start < x.period.end) × (x.period.end ≤ 3652058)) k (ltb-true a.0 b.0 (passed (nat_lt a.0 b.0) EmptyPeriod c.0), day_in values table.end b.0 all b.1)
 
-into_fine : (place : ℕ) (table : TableShape) (form : InsertForm) (s : InsertShape) → insert_into place table form ≡ Ok s → (s.period.start < s.period.end) × (s.period.end ≤ days)
+into_fine : LiteralsInCalendar → (place : ℕ) (table : TableShape) (form : InsertForm) (s : InsertShape) → insert_into place table form ≡ Ok s → (s.period.start < s.period.end) × (s.period.end ≤ days)
 unfolding insert_into
-into_fine place table form s e =
+into_fine calendar place table form s e =
     let a = bind_ok (list_in table form.1.0) _ s e in
     let b = bind_ok (values_in a.0 form.1.1) _ s a.2 in
-    row_fine place table b.0 s (values_fine a.0 form.1.1 b.0 b.1) b.2
+    row_fine place table b.0 s (values_fine calendar a.0 form.1.1 b.0 b.1) b.2
 
 -- ---- statements
 
@@ -175,9 +174,9 @@ in_some_table tables name f a e =
     let y = bind_ok _ (λ table. f x.0 table.1) a x.2 in
     (x.0, y.0.1, y.2)
 
-insert_fine : (tables : Tables) (form : InsertForm) (s : InsertShape) → insert_in tables form ≡ Ok s → IsFine (meaning (shapes.Insert s)).change
+insert_fine : LiteralsInCalendar → (tables : Tables) (form : InsertForm) (s : InsertShape) → insert_in tables form ≡ Ok s → IsFine (meaning (shapes.Insert s)).change
 unfolding insert_in
-insert_fine tables form s e = let t = in_some_table tables form.0 _ s e in into_fine t.0 t.1 form s t.2
+insert_fine calendar tables form s e = let t = in_some_table tables form.0 _ s e in into_fine calendar t.0 t.1 form s t.2
 
 update_fine : (tables : Tables) (form : UpdateForm) (s : UpdateShape) → update_in tables form ≡ Ok s → IsFine (meaning (shapes.Update s)).change
 unfolding update_in
@@ -202,11 +201,11 @@ delete_fine tables form s e =
     let c = made (all_given (comparisons_in table) form.1.1) (λ conditions. record { table = place; portion = portion; conditions = conditions }) s a.2 in
     subst (λ (x : DeleteShape). (unwrap_or x.portion all_days).start < (unwrap_or x.portion all_days).end) c.1 (optional_has table form.1.0 portion a.1)
 
-read_fine : (tables : Tables) (form : StatementForm) (s : StatementShape) → statement_in tables form ≡ Ok s → IsFine (meaning s).change
+read_fine : LiteralsInCalendar → (tables : Tables) (form : StatementForm) (s : StatementShape) → statement_in tables form ≡ Ok s → IsFine (meaning s).change
 unfolding statement_in
-read_fine tables (inl insert) s e = let a = bind_ok (insert_in tables insert) _ s e in let k : shapes.Insert a.0 ≡ s = let h = a.2 in cc in subst (λ (x : StatementShape). IsFine (meaning x).change) k (insert_fine tables insert a.0 a.1)
-read_fine tables (inr (inl update)) s e = let a = bind_ok (update_in tables update) _ s e in let k : shapes.Update a.0 ≡ s = let h = a.2 in cc in subst (λ (x : StatementShape). IsFine (meaning x).change) k (update_fine tables update a.0 a.1)
-read_fine tables (inr (inr delete)) s e = let a = bind_ok (delete_in tables delete) _ s e in let k : shapes.Delete a.0 ≡ s = let h = a.2 in cc in subst (λ (x : StatementShape). IsFine (meaning x).change) k (delete_fine tables delete a.0 a.1)
+read_fine calendar tables (inl insert) s e = let a = bind_ok (insert_in tables insert) _ s e in let k : shapes.Insert a.0 ≡ s = let h = a.2 in cc in subst (λ (x : StatementShape). IsFine (meaning x).change) k (insert_fine calendar tables insert a.0 a.1)
+read_fine calendar tables (inr (inl update)) s e = let a = bind_ok (update_in tables update) _ s e in let k : shapes.Update a.0 ≡ s = let h = a.2 in cc in subst (λ (x : StatementShape). IsFine (meaning x).change) k (update_fine tables update a.0 a.1)
+read_fine calendar tables (inr (inr delete)) s e = let a = bind_ok (delete_in tables delete) _ s e in let k : shapes.Delete a.0 ≡ s = let h = a.2 in cc in subst (λ (x : StatementShape). IsFine (meaning x).change) k (delete_fine tables delete a.0 a.1)
 
 all_fine : (ss : List StatementShape) → ((s : StatementShape) → Has ss s → IsFine (meaning s).change) → AreFine (map meaning ss)
 all_fine [] h = tt
@@ -216,21 +215,21 @@ unless_long : {A : Type 0} (b : Bool) (r : Refusal) (x : Result A Refusal) (a : 
 unless_long true r x a e = absurd cc
 unless_long false r x a e = e
 
-statements_fine : (tables : Tables) (forms : List StatementForm) (ss : List StatementShape) → statements_in tables forms ≡ Ok ss → AreFine (map meaning ss)
+statements_fine : LiteralsInCalendar → (tables : Tables) (forms : List StatementForm) (ss : List StatementShape) → statements_in tables forms ≡ Ok ss → AreFine (map meaning ss)
 unfolding statements_in
-statements_fine tables forms ss e = all_fine ss (each_in (statement_in tables) (λ s. IsFine (meaning s).change) (read_fine tables) forms ss (unless_long _ _ _ ss e))
+statements_fine calendar tables forms ss e = all_fine ss (each_in (statement_in tables) (λ s. IsFine (meaning s).change) (read_fine calendar tables) forms ss (unless_long _ _ _ ss e))
 
-text_fine : (tables : Tables) (text : List ℕ) (ss : List StatementShape) → transaction_in tables text ≡ Ok ss → AreFine (map meaning ss)
+text_fine : LiteralsInCalendar → (tables : Tables) (text : List ℕ) (ss : List StatementShape) → transaction_in tables text ≡ Ok ss → AreFine (map meaning ss)
 unfolding transaction_in
-text_fine tables text ss e =
+text_fine calendar tables text ss e =
     let a = bind_ok (parsed statements text) (statements_in tables) ss (unless_long _ _ _ ss e) in
-    statements_fine tables a.0 ss a.2
+    statements_fine calendar tables a.0 ss a.2
 
 -- what any text says is well formed
-pub reads_fine : (tables : Tables) → ReadsFine (schema_of tables)
+pub reads_fine : LiteralsInCalendar → (tables : Tables) → ReadsFine (schema_of tables)
 unfolding schema_of
-reads_fine tables text = by (transaction_in tables text) refl
+reads_fine calendar tables text = by (transaction_in tables text) refl
   where
     by : (r : Result (List StatementShape) Refusal) → transaction_in tables text ≡ r → AreFine (read_statements (meanings r))
-    by (Ok ss) e = text_fine tables text ss e
+    by (Ok ss) e = text_fine calendar tables text ss e
     by (Err refusal) e = tt

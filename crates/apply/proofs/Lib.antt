@@ -1,6 +1,5 @@
 mod Turned
 mod Fine
-mod States
 mod Transacted
 mod Entries
 mod Answered

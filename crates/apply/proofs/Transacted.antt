@@ -12,10 +12,10 @@ use Rattle.rowlaws.specs.Touching.{gone_both, come_both}
 use Rattle.rowlaws.specs.Statements.{Rows, AllListed, AllFollow}
 use Rattle.rowlaws.specs.Transactions.{TransactionsFollow}
 use Rattle.versionlaws.specs.Committing.{committed}
-use Rattle.current.specs.Touched.{gone_of, come_of, gone_in, come_in}
+use Rattle.current.specs.Touched.{gone_in, come_in}
 use Rattle.current.specs.declared.touched.Touched.{Touched}
 use Rattle.current.specs.Run.{IsRun, IsRefused, AllUndoable, IsUndone}
-use Rattle.current.proofs.Joined.{rows_at-beyond}
+use Rattle.current.specs.Laws.{NothingBeyond}
 use Rattle.sysversion.specs.declared.Versions.{Versions}
 use Rattle.sysversion.specs.Versions.{versions_of, version_of, table_count}
 use Rattle.sqlchecks.specs.Columns.{Tables}
@@ -25,7 +25,6 @@ use Rattle.sqlread.specs.Meaning.{meaning, meanings, schema_of}
 use Rattle.sqlread.specs.Texts.{transaction_in}
 use Rattle.apply.specs.Executing.{IsTurned, IsTransacted, IsRefusedWhole, IsExecuted}
 use Rattle.apply.proofs.Turned.{stays, turned_both}
-use Rattle.apply.proofs.States.{plain}
 
 -- ---- the definitions, statement by statement
 
@@ -46,6 +45,9 @@ more_is schema t s ss state next e = ap (λ (r : Result State Refusal). and_then
 stopped_is : (schema : Schema) (t : ℕ) (s : Statement) (ss : List Statement) (state : State) (r : Refusal) → run_statement t s state ≡ Err r → transacted schema t (s ∷ ss) state ≡ Err r
 unfolding transacted
 stopped_is schema t s ss state r e = ap (λ (x : Result State Refusal). and_then x (λ y. unless_orphan schema y (first_orphan schema y))) (and_err (run_statement t s state) r (run_statements t ss) e)
+
+plain : Schema
+plain = record { tables = 0; name = λ n. []; references = []; reads = λ text. Ok [] }
 
 no_orphan : (state : State) → unless_orphan plain state (first_orphan plain state) ≡ Ok state
 unfolding first_orphan plain
@@ -116,16 +118,15 @@ nothing_committed : (t : ℕ) → committed t [] [] [] ≡ []
 unfolding committed
 nothing_committed t = refl
 
-all_committed : (t : ℕ) (touched : Touched) (old new : Versions) → table_count new ≡ table_count old → length touched.tables.items ≤ table_count old
+all_committed : NothingBeyond → (t : ℕ) (touched : Touched) (old new : Versions) → table_count new ≡ table_count old → length touched.tables.items ≤ table_count old
     → ((n : ℕ) → n < table_count old → versions_of new n ≡ committed t (gone_in touched n) (come_in touched n) (versions_of old n))
     → (n : ℕ) → versions_of new n ≡ committed t (gone_in touched n) (come_in touched n) (versions_of old n)
-all_committed t touched old new count few each n = elim (cases_lt n (table_count old)) [
+all_committed nothing t touched old new count few each n = elim (cases_lt n (table_count old)) [
   | inl l ↦ each n l
   | inr g ↦
       let a : versions_of old n ≡ [] = beyond old n g in
       let b : versions_of new n ≡ [] = beyond new n (omega arith) in
-      let c : gone_in touched n ≡ [] = rows_at-beyond gone_of touched.tables.items n (omega arith) in
-      let d : come_in touched n ≡ [] = rows_at-beyond come_of touched.tables.items n (omega arith) in
+      let (c, d) = nothing touched n (omega arith) in
       let e : committed t (gone_in touched n) (come_in touched n) (versions_of old n) ≡ [] =
       ap (λ x. committed t x (come_in touched n) (versions_of old n)) c ∙ ap (λ x. committed t [] x (versions_of old n)) d ∙ ap (λ x. committed t [] [] x) a ∙ nothing_committed t in
       b ∙ sym e
@@ -135,18 +136,18 @@ text_is : (schema : Schema) (t : ℕ) (text : List ℕ) (ss : List Statement) (s
 unfolding executed_text
 text_is schema t text ss state e = ap (λ x. transacted schema t x state) e
 
-pub accepted : (schema : Schema) (t : ℕ) (text : List ℕ) (ss : List Statement) (rows more : Rows) (touched : Touched) (old new : Versions) (tables : ℕ) → ss ≡ read_statements (schema.reads text)
+pub accepted : NothingBeyond → (schema : Schema) (t : ℕ) (text : List ℕ) (ss : List Statement) (rows more : Rows) (touched : Touched) (old new : Versions) (tables : ℕ) → ss ≡ read_statements (schema.reads text)
     → IsTransacted schema t ss rows more (gone_in touched) (come_in touched) → length touched.tables.items ≤ tables → table_count new ≡ table_count old
     → ((n : ℕ) → n < table_count old → versions_of new n ≡ committed t (gone_in touched n) (come_in touched n) (versions_of old n))
     → (state : State) → AllListed rows state → table_count old ≡ tables → IsExecuted schema t text state more (versions_of old) (versions_of new) (Ok t)
-accepted schema t text ss rows more touched old new tables e done few count each state listed same =
+accepted nothing schema t text ss rows more touched old new tables e done few count each state listed same =
     let d = done state listed in
     let ok : executed_text schema t text state ≡ Ok d.0 = sym (text_is schema t text ss state e) ∙ d.1 in
     let next : next_state state (executed_text schema t text state) ≡ d.0 = ap (next_state state) ok in
     record {
       is = ap (outcome_at t) (sym ok);
       rows = subst (λ (s : State). AllListed more s) (sym next) d.2;
-      committed = λ n. inr (gone_in touched n, come_in touched n, subst (λ (s : State). IsTurned t (state n) (s n) (gone_in touched n) (come_in touched n)) (sym next) (d.3 n), all_committed t touched old new count (omega arith) each n);
+      committed = λ n. inr (gone_in touched n, come_in touched n, subst (λ (s : State). IsTurned t (state n) (s n) (gone_in touched n) (come_in touched n)) (sym next) (d.3 n), all_committed nothing t touched old new count (omega arith) each n);
     }
 
 pub refused : (schema : Schema) (t : ℕ) (text : List ℕ) (ss : List Statement) (rows more : Rows) (old : Versions) (r : Refusal) → ss ≡ read_statements (schema.reads text)

@@ -9,7 +9,7 @@ use Rattle.rowlaws.specs.Touching.{IsTouched, same_row, rows_without, gone_both,
 use Rattle.rowlaws.proofs.Members.{has_left, has_right, has_cases, apart_append, apart_filter}
 use Rattle.rowlaws.proofs.RowFacts.{both}
 use Rattle.rowlaws.proofs.Anys.{any_has, has_any}
-use Rattle.current.proofs.SameRow.{same_row-true, same_row-itself, without_has, has_without}
+use Rattle.rowlaws.proofs.SameRow.{same_row-true, same_row-itself, without_has, has_without}
 use Rattle.apply.specs.Executing.{IsTurned}
 
 has_or_not : (rows : List Row) (r : Row) → Has rows r ⊎ (Has rows r → ⊥)

@@ -1,3 +1,4 @@
 pub mod Executing
 pub mod View
 pub mod Asking
+pub mod Once

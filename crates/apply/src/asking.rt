@@ -1,9 +1,9 @@
 //! Questions to the versions of tables.
-ghost use Rattle.std.specs.Prelude.{◌≡◌, ◌≤◌, ◌⊎◌, ℕ, [], map, IfOk, IfErr, option_map};
+ghost use Rattle.std.specs.Prelude.{◌≡◌, ◌≤◌, ◌⊎◌, [], IfOk, IfErr, option_map};
 ghost use Rattle.fault.specs.declared.refusal.Refusal.TheVariants.{NoMemory, NotClosed};
 ghost use Rattle.model.specs.Texts.{instant_text};
 ghost use Rattle.model.specs.Answers.{SystemTime, AsOf, last_instant, time_or, closed_query};
-ghost use Rattle.sqlread.specs.Shapes.{query_of, term_of, time_of};
+ghost use Rattle.sqlread.specs.Shapes.{query_of, time_of};
 ghost use Rattle.sqlread.specs.Meaning.{select_of};
 ghost use Rattle.answer.specs.Answers.{columns_in};
 ghost use Rattle.sysversion.specs.Versions.{versions_of};
@@ -16,8 +16,7 @@ use closedtime::last_point;
 use fault::{Refusal, Text};
 use model::stamp::Stamp;
 use schema::Schema;
-use sqlchecks::comparison::Comparison;
-use sqlread::query::{Query, Term, Time};
+use sqlread::query::{Query, Time};
 use std::alloc::{AllocError, Global};
 use sysversion::Versions;
 
@@ -51,34 +50,13 @@ fn has_instant(time: Time) -> bool
     }
 }
 
-fn copy_term(term: &Term) -> Result<Term, AllocError>
-    ensures { IfOk result (λ copy. term_of copy ≡ term_of term.now) }
-{
-    match term {
-        Term::Compares(comparison) => Ok(Term::Compares(Comparison {
-            field: comparison.field,
-            operator: comparison.operator,
-            value: comparison.value.clone()?,
-        })),
-        Term::ContainsDay(day) => Ok(Term::ContainsDay(*day)),
-        Term::Contains(period) => Ok(Term::Contains(*period)),
-        Term::Relates(relation, period) => Ok(Term::Relates(*relation, *period)),
-    }
-}
-
 // The question AS OF an instant.
-fn as_of(alloc: Global, query: &Query, at: Stamp) -> Result<Query, AllocError>
+fn as_of(query: &Query, at: Stamp) -> Result<Query, AllocError>
     ensures { IfOk result (λ copy. query_of copy ≡ record (query_of query.now) { time = Some (AsOf at) }) }
 {
-    let mut terms = Vec::new(alloc);
-    for term in query.terms.iter() {
-        terms.push(copy_term(term)?)?;
-    }
-    Ok(Query {
-        table: query.table,
-        time: Some(Time::AsOf(at.instant())),
-        terms,
-    })
+    let mut copy = query.clone()?;
+    copy.time = Some(Time::AsOf(at.instant()));
+    Ok(copy)
 }
 
 // The last stamp, where the question is closed with it; else the last stamp as an error.
@@ -127,7 +105,7 @@ fn ask_closed(
     give();
     match query.time {
         None => {
-            let query = as_of(alloc, query, closed)?;
+            let query = as_of(query, closed)?;
             versions.ask(alloc, schema, &query)
         }
         Some(time) => {

@@ -3,20 +3,18 @@ ghost use Rattle.std.specs.Prelude.{◌≡◌, ◌≤◌, ◌↔◌, ℕ, IsTrue
 ghost use Rattle.fault.specs.declared.refusal.Refusal.TheVariants.{NoMemory};
 ghost use Rattle.model.specs.Transactions.{State, read_statements};
 ghost use Rattle.rowlaws.specs.Statements.{AllListed};
-ghost use Rattle.rowlaws.specs.Changes.{InsertOnRows, OverlapsOnRows};
 ghost use Rattle.rowlaws.specs.Transactions.{TransactionsFollow};
-ghost use Rattle.rowlaws.specs.Rows.{SameRows};
-ghost use Rattle.rowlaws.specs.Logs.{LogsOnRows};
-ghost use Rattle.sqlread.specs.Meaning.{schema_of, meaning, table_of};
+ghost use Rattle.sqlread.specs.Meaning.{schema_of, meaning};
 ghost use Rattle.sqlread.specs.Shapes.{statement_of};
 ghost use Rattle.current.specs.Current.{rows_of, table_count};
 ghost use Rattle.current.specs.Touched.{gone_in, come_in};
 ghost use Rattle.current.specs.Run.{IsRun, IsRefused};
+ghost use Rattle.current.specs.Laws.{OfSomeState};
 ghost use Rattle.sysversion.specs.Versions.{versions_of};
 ghost use Rattle.sysversion.specs.Versions as stored;
 ghost use Rattle.apply.specs.Executing.{IsTransacted, IsRefusedWhole, IsExecuted};
 
-use current::{Current, Touched};
+use current::{Current, Touched, laws};
 use fault::Refusal;
 use model::stamp::Stamp;
 use retry::Outcome;
@@ -26,19 +24,13 @@ use sqlread::transaction::read_transaction;
 use std::alloc::{AllocError, Global};
 use sysversion::Versions;
 
-// Rows of a table that is made of rows, and those that come with a statement.
+// What states rows are of, and which rows a transaction leaves.
 fn row_laws()
     ensures follows { TransactionsFollow }
-    ensures insert { InsertOnRows }
-    ensures overlaps { OverlapsOnRows }
-    ensures same { SameRows }
-    ensures logs { LogsOnRows }
+    ensures state { OfSomeState }
 {
     rowlaws::transactions_follow();
-    rowlaws::insert_on_rows();
-    rowlaws::overlaps_on_rows();
-    rowlaws::same_rows();
-    rowlaws::logs_on_rows();
+    laws::of_some_state();
 }
 
 // Whether it tells of no more than that there was no memory.
@@ -46,17 +38,6 @@ fn is_no_memory(refusal: &Refusal) -> bool
     ensures { IsTrue result ↔ (refusal.now ≡ NoMemory) }
 {
     matches!(refusal, Refusal::NoMemory)
-}
-
-// The table that a statement changes.
-fn table_of(statement: &Statement) -> usize
-    ensures { result ≡ table_of (statement_of statement.now) }
-{
-    match statement {
-        Statement::Insert(insert) => insert.table,
-        Statement::Update(update) => update.table,
-        Statement::Delete(delete) => delete.table,
-    }
 }
 
 // Runs a statement. One on a table that is not there, which only another schema has, fails as for want of memory.
@@ -67,7 +48,7 @@ fn run(current: &mut Current, statement: &Statement, t: Stamp) -> Result<Touched
     ensures count { table_count current.new ≡ table_count current.old }
     ensures tables { IfOk result (λ touched. length touched.tables.items ≤ table_count current.old) }
 {
-    if table_of(statement) >= current.table_count() {
+    if statement.table() >= current.table_count() {
         return Err(Refusal::NoMemory);
     }
     current.run(statement, t)
@@ -134,6 +115,7 @@ pub(crate) fn execute(
     ensures current_tables { table_count current.new ≡ table_count current.old }
     ensures versions_tables { stored.table_count versions.new ≡ stored.table_count versions.old }
 {
+    laws::nothing_beyond();
     let statements = statements(alloc, schema, text)?;
     match transact(alloc, current, schema, statements.as_slice(), t) {
         Ok(touched) => {

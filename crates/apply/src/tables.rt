@@ -3,6 +3,7 @@ ghost use Rattle.std.specs.Prelude.{◌≡◌, true, [], ◌∷◌, ◌++◌, Li
 ghost use Rattle.std.specs.Option.{option_map};
 ghost use Rattle.model.specs.declared.entry.Entry as entries;
 ghost use Rattle.model.specs.Logs.{IsStamped, outcome};
+ghost use Rattle.sqlread.specs.Calendar.{LiteralsInCalendar};
 ghost use Rattle.sqlread.specs.Meaning.{schema_of};
 ghost use Rattle.sqlread.specs.Shapes.{query_of};
 ghost use Rattle.answer.specs.Answers.{columns_in};
@@ -40,7 +41,7 @@ pub struct Tables {
     pub(crate) failed: bool,
 }
 
-// What a log leaves before any entry, and what one more entry does to versions.
+// What a log leaves before any entry, what one more entry does to versions, and that what is read is of the calendar.
 fn log_laws()
     ensures rows { LogsOnRows }
     ensures fine { FineLogs }
@@ -49,6 +50,7 @@ fn log_laws()
     ensures commit { CommitEntry }
     ensures stays { EntryStays }
     ensures kept { HeldKept }
+    ensures calendar { LiteralsInCalendar }
 {
     rowlaws::logs_on_rows();
     rowlaws::fine_logs();
@@ -57,6 +59,7 @@ fn log_laws()
     versionlaws::commit_entry();
     versionlaws::entry_stays();
     versionlaws::held_kept();
+    sqlread::laws::literals_in_calendar();
 }
 
 fn copy_of(outcome: &Outcome) -> Result<Outcome, AllocError>

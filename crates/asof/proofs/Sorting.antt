@@ -9,7 +9,6 @@ use Rattle.std.proofs.lemmas.List.MinMax.{ranks_by}
 use Rattle.std.proofs.lemmas.List.Sorted.{sorted_far}
 use Rattle.rowlaws.specs.Rows.{Has}
 use Rattle.rowlaws.specs.Sorting.{put_at, put, in_order}
-use Rattle.rowlaws.proofs.Members.{filter_has}
 
 false_of : (b : Bool) → not b ≡ true → b ≡ false
 false_of true h = cc
@@ -17,6 +16,16 @@ false_of false h = refl
 
 true_false : true ≡ false → ⊥
 true_false h = cc
+
+-- what passes a test is of the list
+of_filter : {A : Type 0} (p : A → Bool) (xs : List A) (x : A) → Has (filter p xs) x → Has xs x
+of_filter p [] x h = h
+of_filter {A} p (y ∷ xs) x h = by (p y) h (of_filter p xs x)
+  where
+    by : (b : Bool) → Has (cond b (y ∷ filter p xs) (filter p xs)) x → (Has (filter p xs) x → Has xs x) → (x ≡ y) ⊎ Has xs x
+    by true (inl e) more = inl e
+    by true (inr g) more = inr (more g)
+    by false g more = inr (more g)
 
 module _ {X : Type 0} (c : X → X → Ordering) (total : IsTotalOrder c) where
   abbrev lt : X → X → Bool
@@ -57,7 +66,7 @@ module _ {X : Type 0} (c : X → X → Ordering) (total : IsTotalOrder c) where
   no_less : (y z : X) (ys zs : List X) → Up (z ∷ zs) → y ∷ ys ≡ filter (ties lt y) (z ∷ zs) → lt y z ≡ false
   no_less y z ys zs up e =
       let there : Has (filter (ties lt y) (z ∷ zs)) y = subst (λ xs. Has xs y) e (inl refl) in
-      elim (filter_has (ties lt y) (z ∷ zs) y there).0 [
+      elim (of_filter (ties lt y) (z ∷ zs) y there) [
         | inl same ↦ subst (λ w. lt y w ≡ false) same (itself y)
         | inr later ↦ up.0 y later
       ]

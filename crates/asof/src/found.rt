@@ -82,6 +82,7 @@ fn compare(version: &Version, other: &Version) -> Ordering
 pub(crate) fn in_order(versions: Vec<&Version>) -> Result<Vec<&Version>, AllocError>
     ensures { IfOk result (λ sorted. map (λ v. version_of v.now) sorted.items ≡ in_order version_cmp (map (λ v. version_of v.now) versions.entry.items)) }
 {
+    rowlaws::keys_ordered();
     let mut versions = versions;
     versions.sort_by(|version, other| compare(version, other))?;
     Ok(versions)

@@ -1,7 +1,3 @@
-ghost use Rattle.std.specs.Prelude.{◌≡◌};
-ghost use Rattle.sqlread.specs.Shapes.{statement_of};
-ghost use Rattle.sqlread.specs.Meaning.{table_of};
-
 use crate::Ask;
 use answer::{Answer, Shown};
 use current::{Current, Touched};
@@ -45,18 +41,8 @@ const OPENED: &str =
 
 const CLOSED: &str = "DELETE FROM Dept WHERE DNo = 3;";
 
-fn table(statement: &Statement) -> usize
-    ensures { result ≡ table_of (statement_of statement.now) }
-{
-    match statement {
-        Statement::Insert(insert) => insert.table,
-        Statement::Update(update) => update.table,
-        Statement::Delete(delete) => delete.table,
-    }
-}
-
 fn run(current: &mut Current, statement: &Statement, t: Stamp) -> Result<Touched, Refusal> {
-    if table(statement) >= current.table_count() {
+    if statement.table() >= current.table_count() {
         return Err(Refusal::UnknownTable);
     }
     current.run(statement, t)

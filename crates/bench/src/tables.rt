@@ -1,8 +1,4 @@
 //! How long statements and questions take.
-ghost use Rattle.std.specs.Prelude.{◌≡◌};
-ghost use Rattle.sqlread.specs.Shapes.{statement_of};
-ghost use Rattle.sqlread.specs.Meaning.{table_of};
-
 use anyhow::Result;
 use asof::Ask;
 use current::{Current, Touched};
@@ -35,19 +31,8 @@ pub(crate) fn tell<R: Print + Clock>(rt: &R, alloc: Global, schema: &Schema) -> 
     Ok(())
 }
 
-// The table that a statement changes.
-fn table_of(statement: &Statement) -> usize
-    ensures { result ≡ table_of (statement_of statement.now) }
-{
-    match statement {
-        Statement::Insert(insert) => insert.table,
-        Statement::Update(update) => update.table,
-        Statement::Delete(delete) => delete.table,
-    }
-}
-
 fn run(current: &mut Current, statement: &Statement) -> Result<Touched, Refusal> {
-    if table_of(statement) >= current.table_count() {
+    if statement.table() >= current.table_count() {
         return Err(Refusal::UnknownTable);
     }
     current.run(statement, Stamp::new(1))

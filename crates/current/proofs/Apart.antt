@@ -16,7 +16,7 @@ use Rattle.rowlaws.proofs.RowFacts.{one_row, both}
 use Rattle.rowlaws.proofs.Anys.{any_has, has_any, same_test}
 use Rattle.current.specs.Cuts.{is_met, made, gone_at, come_at}
 use Rattle.current.proofs.InLine.{HasPortion}
-use Rattle.current.proofs.SameRow.{same_row-true, same_row-itself}
+use Rattle.rowlaws.proofs.SameRow.{same_row-true, same_row-itself}
 
 -- a part of the row
 pub record PartOf (r y : Row) : Type 0 where

@@ -12,7 +12,6 @@ pub mod TableCut
 pub mod Tabled
 pub mod Running
 pub mod Apart
-pub mod SameRow
 pub mod Statements
 pub mod Undoing
 pub mod Joined
@@ -21,3 +20,4 @@ pub mod OfKey
 pub mod Naming
 pub mod Orphans
 pub mod Checked
+pub mod States

@@ -17,7 +17,7 @@ use Rattle.current.specs.Table.{IsWithout, IsWith, CanPut, CanUndo, IsJoined, Ha
 use Rattle.current.proofs.InLine.{filter_in_line}
 use Rattle.current.proofs.Moves.{InLines, In, with_in_lines, with_here, with_other}
 use Rattle.current.proofs.Sorted.{in_its_line, in_all, map_sorted, apart_sorted, same_length}
-use Rattle.current.proofs.SameRow.{same_row-true, same_row-itself, without_has, has_without}
+use Rattle.rowlaws.proofs.SameRow.{same_row-true, same_row-itself, without_has, has_without}
 
 abbrev keep : Row → Row → Bool
 keep row r = not (same_row r row)

@@ -8,3 +8,4 @@ pub mod Current
 pub mod Run
 pub mod Places
 pub mod Orphans
+pub mod Laws

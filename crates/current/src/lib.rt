@@ -4,6 +4,7 @@
 mod compare;
 pub mod current;
 mod cut;
+pub mod laws;
 mod line;
 mod lines;
 mod named;

@@ -1,9 +1,7 @@
 mod references;
 mod undoing;
 
-ghost use Rattle.std.specs.Prelude.{◌≡◌, ◌<◌, ◌≤◌};
-ghost use Rattle.sqlread.specs.Shapes.{statement_of};
-ghost use Rattle.sqlread.specs.Meaning.{table_of};
+ghost use Rattle.std.specs.Prelude.{◌<◌, ◌≤◌};
 
 use crate::{Current, Row, Touched};
 use fault::Refusal;
@@ -71,18 +69,8 @@ fn delete(alloc: Global, key: i64, portion: Option<Period>) -> Result<Statement,
     }))
 }
 
-fn table(statement: &Statement) -> usize
-    ensures { result ≡ table_of (statement_of statement.now) }
-{
-    match statement {
-        Statement::Insert(insert) => insert.table,
-        Statement::Update(update) => update.table,
-        Statement::Delete(delete) => delete.table,
-    }
-}
-
 fn run(current: &mut Current, statement: &Statement, micros: u64) -> Result<Touched, Refusal> {
-    if table(statement) >= current.table_count() || micros > 1000 {
+    if statement.table() >= current.table_count() || micros > 1000 {
         return Err(Refusal::UnknownTable);
     }
     current.run(statement, Stamp::new(micros))

@@ -2,7 +2,7 @@
 ghost use Rattle.std.specs.Prelude.{◌≡◌, ◌⊎◌, ◌≤◌, ◌↔◌, IsTrue, length, OnOk, IfOk, IfErr, OnErr};
 ghost use Rattle.fault.specs.declared.refusal.Refusal.TheVariants.{NoMemory};
 ghost use Rattle.sqlread.specs.Shapes.{statement_of};
-ghost use Rattle.sqlread.specs.Meaning.{meaning, table_of};
+ghost use Rattle.sqlread.specs.Meaning.{meaning};
 ghost use Rattle.rowlaws.specs.Logs.{LogsOnRows};
 ghost use Rattle.current.specs.Current.{rows_of, table_count};
 ghost use Rattle.current.specs.Touched.{gone_in, come_in};
@@ -15,16 +15,6 @@ use model::stamp::Stamp;
 use schema::Schema;
 use sqlread::statement::Statement;
 use std::alloc::{AllocError, Global};
-
-fn place_of(statement: &Statement) -> usize
-    ensures { result ≡ table_of (statement_of statement.now) }
-{
-    match statement {
-        Statement::Insert(insert) => insert.table,
-        Statement::Update(update) => update.table,
-        Statement::Delete(delete) => delete.table,
-    }
-}
 
 fn logs()
     ensures { LogsOnRows }
@@ -52,7 +42,7 @@ pub(crate) fn run(
     ensures count { table_count current.new ≡ table_count current.old }
     ensures tables { IfOk result (λ touched. length touched.tables.items ≤ table_count current.old) }
 {
-    if place_of(statement) >= current.table_count() {
+    if statement.table() >= current.table_count() {
         return Err(Refusal::UnknownTable);
     }
     current.run(statement, t)

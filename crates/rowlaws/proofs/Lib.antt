@@ -6,6 +6,7 @@ pub mod Anys
 pub mod Sorted
 pub mod RowFacts
 pub mod Contents
+pub mod SameRow
 mod Inserted
 mod Listed
 mod Recut

@@ -1,5 +1,6 @@
 -- A list that has each row of a table once: what a program keeps in place of days.
 use Rattle.std.specs.Prelude.{◌≡◌, ◌≢◌, ◌↔◌, ℕ, ◌<◌, ◌≤◌, ◌⊎◌, Some, List, [], ◌∷◌, length, IsTrue, Contains, AllPairs}
+use Rattle.std.specs.Cmp.{IsTotalOrder}
 use Rattle.std.specs.List.Sorted.{IsStrictlySortedBy, IsPermutation}
 use Rattle.model.specs.declared.value.Value.{Value}
 use Rattle.model.specs.Values.{key_cmp}
@@ -27,6 +28,10 @@ pub record Lists (rows : List Row) (table : Table) : Type 0 where
   pub keys : IsStrictlySortedBy key_cmp table.keys
 
 -- ---- laws
+
+-- the order of keys is total
+abbrev pub KeysOrdered : Type 0
+KeysOrdered = IsTotalOrder key_cmp
 
 -- the elements of a list, in std's word
 abbrev pub HasContains : Type 0

@@ -7,7 +7,7 @@
 //! contract can cite.
 #![tactic(auto)]
 
-ghost use Rattle.rowlaws.specs.Rows.{HasContains, ApartPairs, OneRow, EachListed, SameRows, Permuted, RowCount};
+ghost use Rattle.rowlaws.specs.Rows.{KeysOrdered, HasContains, ApartPairs, OneRow, EachListed, SameRows, Permuted, RowCount};
 ghost use Rattle.rowlaws.specs.Cutting.{UpdateOnRows, DeleteOnRows};
 ghost use Rattle.rowlaws.specs.Changes.{OverlapsOnRows, InsertOnRows, OverflowsOnRows, ChangeOnRows, ChangeFollows, FollowsThen};
 ghost use Rattle.rowlaws.specs.Touching.{Untouched, Touched, TouchedBy, TouchedThen, Undo};
@@ -17,6 +17,11 @@ ghost use Rattle.rowlaws.specs.Transactions.{RowsInOrder, TransactionsOnRows, Te
 ghost use Rattle.rowlaws.specs.Logs.{LogsOnRows, LogsFollow, OutcomesOnRows, FineLogs};
 ghost use Rattle.rowlaws.specs.Parts.{PartsOfUpdate, PartsOfDelete};
 ghost use Rattle.rowlaws.specs.WorkedRows.{PortionUpdate, PortionTouched, Refused, CameAndWent, ReferenceGap};
+
+/// The order of keys is total, so a sort by it has one outcome.
+pub fn keys_ordered()
+    ensures { KeysOrdered }
+{}
 
 /// Which rows a list has, in std's word.
 pub fn has_contains()

@@ -10,13 +10,11 @@ use Rattle.sqlread.specs.Meaning.{table_of}
 use Rattle.rowtext.specs.Spacing.{Start, line}
 use Rattle.rowtext.specs.Transactions.{form_of, forms_of, statement_text, transaction_text}
 use Rattle.sqltokens.specs.Lexing.{tokens_of}
-use Rattle.sqltokens.specs.Syntax.{Spells}
+use Rattle.sqltokens.specs.Syntax.{Spells, IsTold}
 use Rattle.sqltokens.proofs.Functions.{are_tokens}
-use Rattle.sqltokens.proofs.Told.{is_told}
 use Rattle.phrase.specs.Grammar.{spell_all}
 use Rattle.sqlsyntax.specs.Transactions.{StatementForm, statement, statements}
 use Rattle.sqlsyntax.specs.Parsing.{parsed, or_syntax}
-use Rattle.sqlsyntax.proofs.LawsTransaction.{statements_lawful}
 use Rattle.rowtext.specs.Again.{IsWritten, lines}
 use Rattle.rowtext.proofs.Lexing.{lines_are_said}
 
@@ -29,9 +27,9 @@ unfolding statements
 row_spelled [] fits = let never = fits.1 in absurd cc
 row_spelled (form ∷ forms) fits = refl
 
-pub read_again : (forms : List StatementForm) → statements.fits forms → AllByRecursion (AllByRecursion IsWritten) (map statement.spell forms)
+pub read_again : IsTold statements → (forms : List StatementForm) → statements.fits forms → AllByRecursion (AllByRecursion IsWritten) (map statement.spell forms)
     → parsed statements (lines (map statement.spell forms)) ≡ Ok forms
-read_again forms fits written =
+read_again told forms fits written =
     let text = lines (map statement.spell forms) in
     let spells : Spells statements text forms = record {
       tokens = tokens_of text;
@@ -39,7 +37,7 @@ read_again forms fits written =
       fits = fits;
       spelled = lines_are_said (map statement.spell forms) written ∙ spelled_all forms ∙ row_spelled forms fits;
     } in
-    ap or_syntax (((is_told statements statements_lawful text).0 forms).0 spells)
+    ap or_syntax (((told text).0 forms).0 spells)
 
 one_line : (s : StatementShape) (found : Option (List ℕ × TableShape)) (rest : List StatementForm)
     → option_map_or (λ t. line Start (statement.spell (form_of t.0 t.1 s)) ++ 10 ∷ []) found [] ++ lines (map statement.spell rest)
@@ -53,6 +51,6 @@ transaction_lines tables [] = refl
 transaction_lines tables (s ∷ list) =
     ap (λ l. statement_text tables s ++ l) (transaction_lines tables list) ∙ one_line s (slice_get tables (table_of s)) (forms_of tables list)
 
-pub transaction_again : (tables : Tables) (list : List StatementShape) → statements.fits (forms_of tables list) → AllByRecursion (AllByRecursion IsWritten) (map statement.spell (forms_of tables list))
+pub transaction_again : IsTold statements → (tables : Tables) (list : List StatementShape) → statements.fits (forms_of tables list) → AllByRecursion (AllByRecursion IsWritten) (map statement.spell (forms_of tables list))
     → parsed statements (transaction_text tables list) ≡ Ok (forms_of tables list)
-transaction_again tables list fits written = ap (parsed statements) (transaction_lines tables list) ∙ read_again (forms_of tables list) fits written
+transaction_again told tables list fits written = ap (parsed statements) (transaction_lines tables list) ∙ read_again told (forms_of tables list) fits written

@@ -8,4 +8,6 @@ pub fn lines_read_again()
     ensures tokens { SaysWhatIsWritten }
     ensures statements { ReadsWhatIsWritten }
     ensures transactions { ReadsTransactions }
-{}
+{
+    sqlsyntax::laws::forms_told();
+}

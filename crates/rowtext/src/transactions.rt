@@ -3,7 +3,6 @@ ghost use Rattle.std.specs.Prelude.{◌≡◌, ◌<◌, ◌++◌, ◌∷◌, [],
 ghost use Rattle.std.specs.Fmt.{WritesOnOk};
 ghost use Rattle.std.specs.Option.{option_copied};
 ghost use Rattle.sqlchecks.specs.Columns.{field_at, kept_at};
-ghost use Rattle.sqlread.specs.Meaning.{table_of};
 ghost use Rattle.std.specs.Io.KnownBytes.{Appends};
 ghost use Rattle.sqltokens.specs.declared.token.Sign.TheVariants as sign;
 ghost use Rattle.sqltokens.specs.What.{What, Mark, Name};
@@ -99,7 +98,7 @@ fn write_statement<W: fmt::Write>(
 ) -> fmt::Result
     ensures { WritesOnOk W.write_str_gives f.old result (statement_text schema.now (statement_of statement.now)) f.new }
 {
-    let place = place_of(statement);
+    let place = statement.table();
     if place >= schema.len() {
         return Err(fmt::Error);
     }
@@ -108,17 +107,6 @@ fn write_statement<W: fmt::Write>(
         Statement::Insert(insert) => write_insert(name, table, insert, f),
         Statement::Update(update) => write_update(name, table, update, f),
         Statement::Delete(delete) => write_delete(name, table, delete, f),
-    }
-}
-
-// The place of the table that a statement changes.
-fn place_of(statement: &Statement) -> usize
-    ensures { result ≡ table_of (statement_of statement.now) }
-{
-    match statement {
-        Statement::Insert(insert) => insert.table,
-        Statement::Update(update) => update.table,
-        Statement::Delete(delete) => delete.table,
     }
 }
 

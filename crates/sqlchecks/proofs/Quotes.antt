@@ -1,9 +1,8 @@
 -- Quotes undoubled byte by byte.
 use Rattle.std.proofs.Common.{◌≡◌, ℕ, nat_eq, Bool, true, false, [], ◌∷◌, refl, sym, ap, ◌∙◌, inl, inr}
 use Rattle.std.specs.Prelude.{◌&&◌, if◌then◌else◌}
-use Rattle.std.proofs.lemmas.Bool.{eqb-true}
+use Rattle.std.proofs.lemmas.Bool.{eqb-true, cases_Bool, and_parts}
 use Rattle.sqlsyntax.specs.Shared.{Bytes}
-use Rattle.sqltokens.proofs.Texts.{decide, and_parts}
 use Rattle.sqlchecks.specs.Literals.{undoubled}
 use Rattle.sqlchecks.proofs.Choices.{if_true, if_false}
 
@@ -28,7 +27,7 @@ pub undoubled_is : (bs : Bytes) → undoubled bs ≡ left_over false bs
 unfolding undoubled
 undoubled_is [] = refl
 undoubled_is (b ∷ []) = sym (no_pair b [])
-undoubled_is (b ∷ c ∷ bs) = elim (decide (nat_eq b 39 && nat_eq c 39)) [
+undoubled_is (b ∷ c ∷ bs) = elim (cases_Bool (nat_eq b 39 && nat_eq c 39)) [
   | inl h ↦
       let q = eqb-true b 39 (and_parts (nat_eq b 39) (nat_eq c 39) h).0 in
       if_true (nat_eq b 39 && nat_eq c 39) (39 ∷ undoubled bs) (b ∷ undoubled (c ∷ bs)) h

@@ -15,6 +15,10 @@ use Rattle.schema.specs.declared.table.Kind.TheVariants.{Integer, Varchar, Date}
 use Rattle.sqlsyntax.specs.Shared.{Bytes, LiteralForm}
 use Rattle.sqlchecks.specs.Answering.{◌>>=◌, ◌>>◌, refuse_if, or_refuse}
 
+-- a whole number of 64 bits, or none
+unfoldable pub unsigned : ℕ → Option ℕ
+unsigned n = if nat_lt n 18_446_744_073_709_551_616 then Some n else None
+
 -- a whole number of 64 bits with a sign
 unfoldable pub signed : Option (Unit {0}) → ℕ → Result ℤ Refusal
 signed None n = if nat_lt n 9_223_372_036_854_775_808 then Ok (pos n) else Err OutOfRange

@@ -5,7 +5,7 @@ ghost use Rattle.sqlsyntax.specs.Shared.{minus, literal_form};
 ghost use Rattle.sqlchecks.specs.Answering.{Gives};
 ghost use Rattle.sqlsyntax.specs.Parsing.{GivesInMemory};
 ghost use Rattle.model.specs.Periods.{period_of};
-ghost use Rattle.sqlchecks.specs.Literals.{signed, day_named, instant_named, period_named, undoubled, text_within, literal_in};
+ghost use Rattle.sqlchecks.specs.Literals.{unsigned, signed, day_named, instant_named, period_named, undoubled, text_within, literal_in};
 
 use fault::{Refusal, Text};
 use model::value::Value;
@@ -35,11 +35,18 @@ pub fn literal_value(alloc: Global, kind: Kind, literal: Literal) -> Result<Valu
     }
 }
 
+/// The number that digits write, none where it is above 64 bits.
+pub fn unsigned(digits: Digits) -> Option<u64>
+    ensures { result ≡ unsigned (digits_value 10 digits.entry.digits.now) }
+{
+    digits.digits.parse::<u64>().ok()
+}
+
 /// The number that digits write, with a minus before them or without. Out of range where it does not fit in 64 bits.
 fn signed(negative: bool, digits: Digits) -> Result<i64, Refusal>
     ensures { result ≡ signed (minus negative) (digits_value 10 digits.entry.digits.now) }
 {
-    let Ok(magnitude) = digits.digits.parse::<u64>() else {
+    let Some(magnitude) = unsigned(digits) else {
         return Err(Refusal::OutOfRange);
     };
     if negative {
@@ -85,6 +92,7 @@ fn undoubled(alloc: Global, text: Quoted) -> Result<String, AllocError>
 pub fn read_day(date: Quoted) -> Result<Day, Refusal>
     ensures { Gives (λ d. d.number) result (day_named date.entry.source.now) }
 {
+    period::laws::day_texts();
     let Ok(day) = Day::read(date.source, 0) else {
         return Err(Refusal::OutOfRange);
     };
@@ -96,6 +104,7 @@ pub fn read_day(date: Quoted) -> Result<Day, Refusal>
 pub fn read_instant(timestamp: Quoted) -> Result<Instant, Refusal>
     ensures { Gives (λ i. i.microseconds) result (instant_named timestamp.entry.source.now) }
 {
+    period::laws::instant_texts();
     let Ok(instant) = Instant::read(timestamp.source, 0) else {
         return Err(Refusal::OutOfRange);
     };

@@ -1,5 +1,5 @@
 -- What the text of a schema says: the CREATE TABLE statements that its forms are, and their checks.
-use Rattle.std.specs.Prelude.{◌≡◌, ℕ, nat_lt, if◌then◌else◌, MatchBool, List, [], ◌∷◌, map, length, Option, Some, None, Result, Ok, Err}
+use Rattle.std.specs.Prelude.{◌≡◌, ℕ, nat_lt, MatchBool, List, [], ◌∷◌, map, length, Some, None, Result, Ok, Err}
 use Rattle.std.specs.Str.Parse.{digits_value}
 use mathlib.Core.Logic.{inl, inr}
 use Rattle.fault.specs.declared.refusal.Refusal.{Refusal}
@@ -19,16 +19,13 @@ use Rattle.sqlsyntax.specs.Shared.{Bytes}
 use Rattle.sqlsyntax.specs.Schemas.{TypeForm, ColumnForm, ApplicationForm, SystemForm, KeyNamesForm, ReferenceForm, TableForm, tables}
 use Rattle.sqlsyntax.specs.Parsing.{parsed}
 use Rattle.sqlchecks.specs.Columns.{Tables}
-
--- a number of at most 64 bits, or none
-abbrev pub in_64_bits : ℕ → Option ℕ
-in_64_bits n = if nat_lt n 18_446_744_073_709_551_616 then Some n else None
+use Rattle.sqlchecks.specs.Literals.{unsigned}
 
 -- ---- forms and statements are compared by their names, types and numbers
 
 abbrev pub type_said : TypeForm → ColumnType
 type_said (inl integer) = Integer
-type_said (inr (inl digits)) = Varchar (in_64_bits (digits_value 10 digits))
+type_said (inr (inl digits)) = Varchar (unsigned (digits_value 10 digits))
 type_said (inr (inr (inl date))) = Date
 type_said (inr (inr (inr (inl start)))) = RowStart
 type_said (inr (inr (inr (inr end)))) = RowEnd

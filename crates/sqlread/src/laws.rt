@@ -1,5 +1,6 @@
 //! Laws of what texts say.
 ghost use Rattle.sqlchecks.specs.Columns.{Tables};
+ghost use Rattle.sqlread.specs.Calendar.{LiteralsInCalendar};
 ghost use Rattle.sqlread.specs.Laws.{SaysTransaction, SaysQuery, SaysSchema, SaysOneSchema, IsBounded, IsBoundedSchema};
 ghost use Rattle.sqlread.specs.Texts.{transaction_in, query_in};
 
@@ -28,3 +29,8 @@ pub fn schema_says()
 {
     sqlsyntax::laws::forms_told();
 }
+
+/// What a literal is read as is a day of the calendar, where it is a day.
+pub fn literals_in_calendar()
+    ensures { LiteralsInCalendar }
+{}

@@ -1,22 +1,21 @@
 //! Reading schemas.
 ghost use Rattle.std.specs.Prelude.{◌≡◌, ◌⊎◌, map, IfOk, IfErr, Ok, Err};
-ghost use Rattle.std.specs.Str.Parse.{digits_value};
 ghost use Rattle.fault.specs.declared.refusal.Refusal.TheVariants.{NoMemory};
 ghost use Rattle.sqlsyntax.specs.Shared.{name_of, names_of};
 ghost use Rattle.sqlsyntax.specs.Schemas.{type_form, column_form, application_form, system_form, key_names_form, reference_form, table_form};
-ghost use Rattle.sqlread.specs.Schemas.{in_64_bits, type_said, column_of, column_said, application_of, system_of, key_of, reference_of, IsSaid, AreSaid, SchemaSays};
+ghost use Rattle.sqlread.specs.Schemas.{type_said, column_of, column_said, application_of, system_of, key_of, reference_of, IsSaid, AreSaid, SchemaSays};
 
 use fault::Refusal;
 use schema::syntax::{
     ApplicationPeriod, Column, ColumnType, CreateTable, ForeignKey, KeyNames, SystemPeriod,
 };
 use schema::{Name, Schema};
+use sqlchecks::literal::unsigned;
 use sqlsyntax::{
     ApplicationPeriod as ApplicationPeriodText, Column as ColumnText, ColumnType as TypeText,
     ForeignKey as ForeignKeyText, KeyNames as KeyNamesText, Name as NameText,
     SystemPeriod as SystemPeriodText, Table as TableText, read_schema_form,
 };
-use sqltokens::Digits;
 use std::alloc::{AllocError, Global};
 
 /// How many bytes the text of a schema may have.
@@ -38,19 +37,12 @@ fn names(alloc: Global, forms: &[NameText]) -> Result<Vec<Name>, AllocError>
     Ok(names)
 }
 
-/// The number that digits write, none where it is above 64 bits.
-fn number(digits: Digits) -> Option<u64>
-    ensures { result ≡ in_64_bits (digits_value 10 digits.entry.digits.now) }
-{
-    digits.digits.parse::<u64>().ok()
-}
-
 fn column_type(form: TypeText) -> ColumnType
     ensures { result ≡ type_said (type_form form.entry) }
 {
     match form {
         TypeText::Integer => ColumnType::Integer,
-        TypeText::Varchar(length) => ColumnType::Varchar(number(length)),
+        TypeText::Varchar(length) => ColumnType::Varchar(unsigned(length)),
         TypeText::Date => ColumnType::Date,
         TypeText::RowStart => ColumnType::RowStart,
         TypeText::RowEnd => ColumnType::RowEnd,

@@ -1,7 +1,8 @@
 //! The statements of a transaction, and what their assignments set.
 ghost use Rattle.std.specs.Prelude.{◌≡◌, ◌==◌, IfOk, find, option_map};
 ghost use Rattle.std.specs.Option.{option_copied};
-ghost use Rattle.sqlread.specs.Meaning.{new_value, set_at, set_of};
+ghost use Rattle.sqlread.specs.Meaning.{new_value, set_at, set_of, table_of};
+ghost use Rattle.sqlread.specs.Shapes.{statement_of};
 
 use model::value::Value;
 use period::Period;
@@ -123,6 +124,19 @@ pub enum Statement {
     Insert(Insert),
     Update(Update),
     Delete(Delete),
+}
+
+impl Statement {
+    /// The place in the schema of the table that it changes, from 0.
+    pub fn table(&self) -> usize
+        ensures { result ≡ table_of (statement_of self.now) }
+    {
+        match self {
+            Statement::Insert(insert) => insert.table,
+            Statement::Update(update) => update.table,
+            Statement::Delete(delete) => delete.table,
+        }
+    }
 }
 
 /// Statements that are executed in order: at least one, and at most 16.

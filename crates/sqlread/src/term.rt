@@ -102,6 +102,7 @@ pub(crate) fn read_terms(
 fn relates(relation: Relation, row: Period, other: Period) -> bool
     ensures { result ≡ relates relation (period_of row) (period_of other) }
 {
+    period::laws::by_ends();
     match relation {
         Relation::Overlaps => row.overlaps(other),
         Relation::Equals => row.equals(other),

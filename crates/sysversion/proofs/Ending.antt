@@ -4,7 +4,7 @@ use Rattle.std.proofs.lemmas.List.{append-nil}
 use Rattle.std.specs.List.{list_any}
 use Rattle.current.specs.declared.row.Row.{Row}
 use Rattle.current.specs.Rows.{row_of}
-use Rattle.current.proofs.Lists.{any_map}
+use Rattle.rowlaws.proofs.Anys.{any_map}
 use Rattle.versionlaws.specs.Versions.{Version}
 use Rattle.versionlaws.specs.Committing.{is_at, ended, committed}
 use Rattle.sysversion.specs.declared.version.Version.{Version as Declared}

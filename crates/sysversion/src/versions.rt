@@ -54,6 +54,7 @@ impl Versions {
         ensures ok { OnOk result ((n : ℕ) → n < table_count self.old → versions_of self.new n ≡ committed t (gone_in touched n) (come_in touched n) (versions_of self.old n)) }
         ensures count { table_count self.new ≡ table_count self.old }
     {
+        current::laws::nothing_beyond();
         for (table, changes) in touched.tables.into_iter().enumerate() {
             self.commit_table(table, changes, t)?;
         }

@@ -5,7 +5,7 @@ ghost use Rattle.current.specs.Current.{rows_of, table_count};
 ghost use Rattle.current.specs.Run.{AllUndoable};
 ghost use Rattle.current.specs.Touched.{gone_in, come_in};
 
-use super::{days, delete, insert, is_row, run, table, update};
+use super::{days, delete, insert, is_row, run, update};
 use crate::{Current, Touched};
 use fault::Refusal;
 use model::stamp::Stamp;
@@ -27,7 +27,7 @@ fn run_once(current: &mut Current, statement: &Statement, micros: u64) -> Result
     ensures touched { IfOk result (λ touched. AllUndoable (rows_of current.new) (gone_in touched) (come_in touched)) }
     ensures tables { IfOk result (λ touched. length touched.tables.items ≤ table_count current.new) }
 {
-    if table(statement) >= current.table_count() || micros > 1000 {
+    if statement.table() >= current.table_count() || micros > 1000 {
         return Err(Refusal::UnknownTable);
     }
     current.run(statement, Stamp::new(micros))

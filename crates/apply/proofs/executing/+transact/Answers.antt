@@ -9,7 +9,6 @@ use Rattle.current.specs.declared.touched.Touched.{Touched}
 use Rattle.current.specs.Touched.{gone_of, come_of, gone_in, come_in}
 use Rattle.apply.specs.Executing.{IsTransacted, IsRefusedWhole}
 use Rattle.apply.proofs.Fine.{statement_fine}
-use Rattle.apply.proofs.States.{plain, nothing_listed, some_state}
 use Rattle.apply.proofs.Transacted.{checked, unchecked, then_rest, stopped, undoable, undone, no_items}
 use Rattle.apply.proofs.executing.+transact.Goals as goal
 use Rattle.apply.proofs.executing.+transact.Goals.{then-not-is_no_memory+in_ok-undo-in-Err, else-not-is_no_memory}
@@ -41,9 +40,8 @@ returns-in_err-touched-clause-err t c =
 
 pub undo-requires-clause-touched : goal.undo-requires-clause-touched
 undo-requires-clause-touched t c =
-    let laws = c.row_laws.ensures in
     let touched = c.in_ok-touched.touched in
-    let start = some_state laws.insert laws.overlaps laws.same (nothing_listed laws.logs plain) c.args.current.now in
+    let start = c.row_laws.ensures.state c.args.current.now in
     undoable (schema_of c.args.schema.now) c.args.t (meaning (statement_of c.in-Some.statement.now)) (map meaning (map statement_of c.in-Some.rest.now)) (rows_of c.args.current.now) (rows_of c.run.new.current) (rows_of c.transact.new.current) (gone_in touched) (come_in touched) c.in-Err.refusal
     (λ h. both (c.is_no_memory.ensures.1 h) c.if-not-is_no_memory.true) start c.in_ok-touched.ensures.ok c.in-Err.ensures.err
 

@@ -9,7 +9,7 @@ use Rattle.apply.proofs.executing.execute.Goals as goal
 pub returns-in-Ok-clause-executed : goal.returns-in-Ok-clause-executed
 returns-in-Ok-clause-executed c =
     let e = ap (λ xs. map meaning (map statement_of xs)) c.as_slice.ensures.value ∙ c.in_ok-statements.ensures in
-    accepted (schema_of c.args.schema.now) c.args.t c.args.text.now (map meaning (map statement_of c.as_slice.result.now)) (rows_of c.args.current.now) (rows_of c.transact.new.current) c.in-Ok.touched c.args.versions.now c.commit.new.self (table_count c.args.current.now)
+    accepted c.nothing_beyond.ensures (schema_of c.args.schema.now) c.args.t c.args.text.now (map meaning (map statement_of c.as_slice.result.now)) (rows_of c.args.current.now) (rows_of c.transact.new.current) c.in-Ok.touched c.args.versions.now c.commit.new.self (table_count c.args.current.now)
     e c.in-Ok.ensures.ok c.in-Ok.ensures.tables c.commit.ensures.count c.in_ok-commit-in-Ok.ensures.ok
 
 pub returns-clause-executed : goal.returns-clause-executed

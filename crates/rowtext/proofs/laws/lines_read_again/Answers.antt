@@ -6,7 +6,7 @@ pub returns-clause-tokens : goal.returns-clause-tokens
 returns-clause-tokens c = lines_are_said
 
 pub returns-clause-statements : goal.returns-clause-statements
-returns-clause-statements c = read_again
+returns-clause-statements c = read_again c.forms_told.ensures.transaction
 
 pub returns-clause-transactions : goal.returns-clause-transactions
-returns-clause-transactions c = transaction_again
+returns-clause-transactions c = transaction_again c.forms_told.ensures.transaction

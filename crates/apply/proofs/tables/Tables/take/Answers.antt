@@ -41,7 +41,7 @@ returns-clause-kept c = λ list are.
     let unknown = sym c.in_ok-outcome.ensures ∙ c.in_default-2.is in
     let done = subst (λ text. IsExecuted schema e.stamp text (state_after schema (reverse list)) (rows_of new.current) (versions_of old.versions) (versions_of new.versions) o) c.as_str.ensures
     (c.in_ok-outcome-2.ensures.executed (state_after schema (reverse list)) are.rows (are.versions_tables ∙ sym are.current_tables)) in
-    executed_first schema list e laws.stays old are r c.in-Some.is unknown o done.is laws.commit laws.before laws.fine (reads_fine c.args.schema.now) new done.rows done.committed
+    executed_first schema list e laws.stays old are r c.in-Some.is unknown o done.is laws.commit laws.before laws.fine (reads_fine laws.calendar c.args.schema.now) new done.rows done.committed
     (λ k. c.in_ok-keep.ensures.ok k ∙ ap (λ x. with_latest r.client r.number x (latest_of old.requests) k) c.in_ok-kept.ensures) refl c.execute.ensures.current_tables c.execute.ensures.versions_tables
 
 pub returns-clause-outcome : goal.returns-clause-outcome

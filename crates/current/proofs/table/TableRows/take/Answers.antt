@@ -3,7 +3,7 @@ use Rattle.std.specs.List.{list_any}
 use Rattle.rowlaws.specs.Touching.{same_row}
 use Rattle.current.specs.Rows.{row_of}
 use Rattle.current.specs.Stored.{lines_of, rows_in}
-use Rattle.current.proofs.Lists.{any_map}
+use Rattle.rowlaws.proofs.Anys.{any_map}
 use Rattle.current.proofs.Undoing.{not_there, not_in_line, in_line_there, take_in_lines, row_taken, length_taken}
 use Rattle.current.proofs.table.TableRows.take.Goals as goal
 

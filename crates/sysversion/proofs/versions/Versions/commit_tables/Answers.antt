@@ -1,8 +1,7 @@
-use Rattle.std.proofs.Common.{◌≡◌, ◌∙◌, ◌≤◌, [], ◌∷◌, drop, length, sym, ap, subst, arith, inl, inr}
+use Rattle.std.proofs.Common.{◌≡◌, ◌∙◌, ◌≤◌, ◌∷◌, drop, length, sym, ap, subst, arith, inl, inr}
 use Rattle.std.proofs.lemmas.Bool.{cases_lt}
 use Rattle.std.specs.Vec.Iter.{into_iter_items}
 use Rattle.current.specs.Touched.{gone_of, come_of, gone_in, come_in}
-use Rattle.current.proofs.Joined.{rows_at-beyond}
 use Rattle.versionlaws.specs.Committing.{committed}
 use Rattle.sysversion.specs.Versions.{versions_of}
 use Rattle.sysversion.proofs.Ending.{none_committed}
@@ -49,7 +48,6 @@ returns-clause-ok c n l =
       | inr from ↦
           let none : length (drop c.loop-table.table-iterator.count touched.tables.items) ≡ 0 = let rest = ap length inv.rest in omega (arith, rest, c.loop-table.table-iterator.iter.rest.ok.0, steps.0.0) in
           let all : length touched.tables.items ≤ n = let most = drop_all touched.tables.items c.loop-table.table-iterator.count none in omega (arith, most, from) in
-          let gone : gone_in touched n ≡ [] = rows_at-beyond gone_of touched.tables.items n all in
-          let come : come_in touched n ≡ [] = rows_at-beyond come_of touched.tables.items n all in
+          let (gone, come) = c.nothing_beyond.ensures touched n all in
           inv.left n from ∙ sym (none_committed t old) ∙ (λ i. committed t (sym gone i) (sym come i) old)
     ]

@@ -21,6 +21,7 @@ use Rattle.current.specs.Current.{rows_of}
 use Rattle.current.specs.Places.{rows_at}
 use Rattle.current.specs.Stored.{lines_of, in_line}
 use Rattle.current.specs.Table.{rows_of_table}
+use Rattle.current.specs.Laws.{OfSomeState}
 use Rattle.current.proofs.InLine.{begins_line, each_in_line}
 use Rattle.current.proofs.Sorted.{in_its_line}
 use Rattle.current.proofs.Statements.{table_apart}
@@ -35,12 +36,13 @@ Fits (r ∷ rs) = (r.period.start < r.period.end) × (r.period.end ≤ days) × 
 clashes_itself : (r : Row) → r.period.start < r.period.end → clashes r.key r.period r ≡ true
 clashes_itself r some = and_from _ _ (and_from _ _ (same_key-itself r.key) (lt-ltb _ _ some)) (lt-ltb _ _ some)
 
-pub nothing_listed : LogsOnRows → (schema : Schema) → Lists [] empty_table
-unfolding rows_after state_after
-nothing_listed logs schema = logs schema [] tt 0
-
-unfoldable pub plain : Schema
+-- a schema without tables
+plain : Schema
 plain = record { tables = 0; name = λ n. []; references = []; reads = λ text. Ok [] }
+
+nothing_listed : LogsOnRows → Lists [] empty_table
+unfolding rows_after state_after
+nothing_listed logs = logs plain [] tt 0
 
 module _ (insert : InsertOnRows) (overlaps : OverlapsOnRows) (same : SameRows) (none : Lists [] empty_table) where
   table_with : (rows : List Row) → Fits rows → (table : Table) × Lists rows table
@@ -99,5 +101,8 @@ module _ (insert : InsertOnRows) (overlaps : OverlapsOnRows) (same : SameRows) (
   table_at (t ∷ ts) zero = table_with (rows_of_table t) (table_fits t)
   table_at (t ∷ ts) (suc n) = table_at ts n
 
-  pub some_state : (current : Current) → (state : State) × AllListed (rows_of current) state
-  some_state current = ((λ n. (table_at current.tables.items n).0), (λ n. (table_at current.tables.items n).1))
+  state_of : (current : Current) → (state : State) × AllListed (rows_of current) state
+  state_of current = ((λ n. (table_at current.tables.items n).0), (λ n. (table_at current.tables.items n).1))
+
+pub of_some_state : InsertOnRows → OverlapsOnRows → SameRows → LogsOnRows → OfSomeState
+of_some_state insert overlaps same logs current = state_of insert overlaps same (nothing_listed logs) current

@@ -1,0 +1,16 @@
+-- Laws of current rows, and of what is touched.
+use Rattle.std.specs.Prelude.{◌≡◌, ℕ, ◌≤◌, [], length}
+use Rattle.model.specs.Transactions.{State}
+use Rattle.rowlaws.specs.Statements.{AllListed}
+use Rattle.current.specs.declared.current.Current.{Current}
+use Rattle.current.specs.declared.touched.Touched.{Touched}
+use Rattle.current.specs.Current.{rows_of}
+use Rattle.current.specs.Touched.{gone_in, come_in}
+
+-- the rows of all tables are those of some state
+abbrev pub OfSomeState : Type 0
+OfSomeState = (current : Current) → (state : State) × AllListed (rows_of current) state
+
+-- nothing is touched of a table past the last that is told of
+abbrev pub NothingBeyond : Type 0
+NothingBeyond = (touched : Touched) (n : ℕ) → length touched.tables.items ≤ n → (gone_in touched n ≡ []) × (come_in touched n ≡ [])
