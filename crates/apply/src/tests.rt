@@ -3,6 +3,7 @@ ghost use Rattle.std.specs.Prelude.{◌≤◌};
 use crate::Tables;
 use fault::{Refusal, Text};
 use model::entry::{Entry, Request};
+use model::request::{Client, RequestNumber};
 use model::stamp::Stamp;
 use retry::Outcome;
 use schema::Schema;
@@ -59,6 +60,9 @@ fn request(
     number: u64,
     text: &str,
 ) -> Result<Entry, AllocError> {
+    let (Some(client), Some(number)) = (Client::new(client), RequestNumber::new(number)) else {
+        return Err(AllocError);
+    };
     let text = Text::new(format!(in alloc; "{text}")?);
     Ok(Entry {
         term: 1,

@@ -2,6 +2,7 @@
 use crate::draws::Draws;
 use crate::staff::{DEPT, EMP, STAFF, all_days};
 use fault::Refusal;
+use model::request::{Client, RequestNumber};
 use model::stamp::Stamp;
 use plain::{Judge, Outcome};
 use retry::{Judged, Requests};
@@ -12,7 +13,11 @@ use std::process::Abort;
 use std::test::Fail;
 
 /// What is told of a request, where it is not executed.
-fn told(requests: &Requests, client: u16, number: u64) -> Result<Option<Outcome>, AllocError> {
+fn told(
+    requests: &Requests,
+    client: Client,
+    number: RequestNumber,
+) -> Result<Option<Outcome>, AllocError> {
     match requests.judge(client, number) {
         Judged::New => Ok(None),
         Judged::Kept(Ok(stamp)) => Ok(Some(Ok(*stamp))),
@@ -20,6 +25,13 @@ fn told(requests: &Requests, client: u16, number: u64) -> Result<Option<Outcome>
         Judged::Old => Ok(Some(Err(Refusal::Old))),
         Judged::Gap => Ok(Some(Err(Refusal::Gap))),
     }
+}
+
+/// A client and a number of this size.
+fn named(client: u16, number: u64) -> Result<(Client, RequestNumber), Fail> {
+    let client = Client::new(client).ok_or("no client")?;
+    let number = RequestNumber::new(number).ok_or("no number")?;
+    Ok((client, number))
 }
 
 /// How many rows there are.
@@ -39,10 +51,10 @@ fn request(
     t: Stamp,
 ) -> Result<(), Fail> {
     let client = if draws.chance(50) { 1 } else { 2 };
-    let number = u64::from(draws.below(12));
+    let (client, number) = named(client, 1 + u64::from(draws.below(11)))?;
     let transaction = draws.transaction()?;
     let before = row_count(draws.alloc, schema, judge)?;
-    let given = judge.take(schema, t, client, number, transaction)?;
+    let given = judge.take(schema, t, client.get(), number.get(), transaction)?;
     match told(requests, client, number)? {
         None => requests.keep(client, number, given)?,
         Some(wanted) => {
@@ -64,7 +76,8 @@ fn requests(rt: HostRuntime) -> Result<(), Fail> {
         let t = Stamp::new(u64::from(micros));
         request(&rt, &mut draws, &schema, &mut judge, &mut kept, t)?;
     }
-    let told = told(&kept, 1, 11)?;
+    let (client, number) = named(1, 11)?;
+    let told = told(&kept, client, number)?;
     assert!(rt; !matches!(told, Some(Err(Refusal::Gap))), "{told:?}");
     Ok(())
 }

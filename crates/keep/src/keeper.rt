@@ -7,6 +7,7 @@ use crate::change::Change;
 use crate::error::StoreError;
 use crate::state::State;
 use model::entry::Entry;
+use schema::Schema;
 use std::alloc::Global;
 
 /// Keeps a member's term, vote and log over a restart.
@@ -40,10 +41,16 @@ pub trait Keeper: Drop {
     /// What an open of the image may find.
     ghost holds: { Self.Image → Durable → Type 0 };
 
-    /// Opens what an image holds. `StoreFault` where the store fails, `NoMemory` where memory is
-    /// refused, and `BadStore` where the image holds no state of a member. An error gives the image
-    /// back, and what it holds is as it was.
-    fn open(alloc: Global, image: Self::Image) -> Result<Self, (StoreError, Self::Image)>
+    /// Opens what an image holds. `StoreFault` where the store fails, and `NoMemory` where memory is
+    /// refused. A keeper over bytes from outside also judges whether what it finds is the state of a
+    /// member of a group of so many with these tables, and answers `BadStore` where it is not. An error
+    /// gives the image back, and what it holds is as it was.
+    fn open(
+        alloc: Global,
+        image: Self::Image,
+        members: usize,
+        schema: &Schema,
+    ) -> Result<Self, (StoreError, Self::Image)>
         ensures up { IfOk result (λ k. is_up k ≡ true) }
         ensures found { IfOk result (λ k. is_honest k → holds image (stored k)) }
         ensures back { IfErr result (λ e. (d : Durable) → holds e.1 d → holds image d) }

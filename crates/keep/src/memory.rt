@@ -7,6 +7,7 @@ use crate::keeper::Keeper;
 use crate::state::State;
 use model::entry::Entry;
 use model::member::Member;
+use schema::Schema;
 use std::alloc::{AllocError, Global};
 
 /// A store in memory: a member's term, vote and log. It can be told which call of the keeper that
@@ -90,7 +91,9 @@ fn copies_of(alloc: Global, entries: &[Entry]) -> Result<Vec<Entry>, AllocError>
     entries.to_vec(alloc)
 }
 
-/// A keeper whose store is a `MemImage`. It is always honest.
+/// A keeper whose store is a `MemImage`. It is always honest. Its image holds only what keepers of the
+/// same group saved, so `open` needs neither the number of members nor the schema: it judges nothing,
+/// and never answers `BadStore`.
 #[derive(Debug, Drop)]
 pub struct MemKeeper {
     image: MemImage,
@@ -158,8 +161,15 @@ impl Keeper for MemKeeper {
 
     ghost only_stored = { λ _ _ _ h. h };
 
-    fn open(alloc: Global, image: MemImage) -> Result<MemKeeper, (StoreError, MemImage)> {
+    fn open(
+        alloc: Global,
+        image: MemImage,
+        members: usize,
+        schema: &Schema,
+    ) -> Result<MemKeeper, (StoreError, MemImage)> {
         let _ = alloc;
+        let _ = members;
+        let _ = schema;
         let fail_at = image.fail_at;
         let image = MemImage {
             fail_at: 0,

@@ -3,6 +3,7 @@ ghost use Rattle.std.specs.Prelude.{◌≡◌, length, IfOk, vec_len};
 use crate::{Change, Keeper, MemImage, MemKeeper, StoreError};
 use model::entry::Entry;
 use model::stamp::Stamp;
+use schema::Schema;
 use std::alloc::{AllocError, Global};
 use std::process::Abort;
 use std::test::Fail;
@@ -25,6 +26,14 @@ fn first_change(alloc: Global) -> Result<Change, AllocError>
     })
 }
 
+// Opens an image of a member of three, where the schema has no tables.
+fn open(alloc: Global, image: MemImage) -> Result<MemKeeper, (StoreError, MemImage)> {
+    let Ok(schema) = Schema::of(alloc, Vec::new(alloc)) else {
+        return Err((StoreError::NoMemory, image));
+    };
+    MemKeeper::open(alloc, image, 3, &schema)
+}
+
 // Each call that may fail, once; which of them answered.
 fn call_each(alloc: Global, keeper: &mut MemKeeper) -> Result<usize, StoreError> {
     let found = keeper.state(alloc)?;
@@ -39,7 +48,7 @@ fn call_each(alloc: Global, keeper: &mut MemKeeper) -> Result<usize, StoreError>
 
 // What an image holds is what was there before the save, or after it; which of them.
 fn is_saved(rt: &impl Abort, alloc: Global, image: MemImage) -> Result<bool, Fail> {
-    let Ok(mut keeper) = MemKeeper::open(alloc, image) else {
+    let Ok(mut keeper) = open(alloc, image) else {
         return Err(Fail::from("the image does not open"));
     };
     let state = keeper.state(alloc)?;
@@ -73,7 +82,7 @@ fn fails_at_each_call(rt: HostRuntime) -> Result<(), Fail> {
     for call in 0..6 {
         let mut image = MemImage::with_vote(alloc, 1, Some(2));
         image.fail_at(call);
-        let mut keeper = match MemKeeper::open(alloc, image) {
+        let mut keeper = match open(alloc, image) {
             Ok(keeper) => keeper,
             Err((error, image)) => {
                 assert_eq!(rt; call, 1);
@@ -104,7 +113,7 @@ fn lacks_memory(rt: HostRuntime) -> Result<(), Fail> {
     let Ok(change) = first_change(alloc) else {
         return Ok(());
     };
-    let Ok(mut keeper) = MemKeeper::open(alloc, MemImage::with_vote(alloc, 1, Some(2))) else {
+    let Ok(mut keeper) = open(alloc, MemImage::with_vote(alloc, 1, Some(2))) else {
         return Err(Fail::from("the image does not open"));
     };
     if keeper.save(alloc, &change).is_ok() && keeper.entry(alloc, 0).is_ok() {

@@ -7,6 +7,7 @@ ghost use Rattle.model.specs.Rows.{FirstClose, FirstAnswer, TornVote, RepeatedAp
 pub mod entry;
 pub mod member;
 pub mod message;
+pub mod request;
 pub mod stamp;
 pub mod value;
 

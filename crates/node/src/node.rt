@@ -132,8 +132,8 @@ impl<K: Keeper> Node<K> {
     /// which knows of no leader and has applied nothing.
     ///
     /// `StoreFault` where the store fails, `NoMemory` where memory is refused, `BadStore` where the
-    /// image holds no state of a member. An error gives the image back, and what it holds is as it
-    /// was.
+    /// image holds no state of a member of such a group. An error gives the image back, and what it
+    /// holds is as it was.
     pub fn start(
         alloc: Global,
         image: K::Image,
@@ -151,7 +151,7 @@ impl<K: Keeper> Node<K> {
         let Ok(tables) = Tables::new(alloc, &schema) else {
             return Err((StoreError::NoMemory, image));
         };
-        let mut keeper = K::open(alloc, image)?;
+        let mut keeper = K::open(alloc, image, members, &schema)?;
         let state = match keeper.state(alloc) {
             Ok(state) => state,
             Err(error) => return Err((error, keeper.close())),

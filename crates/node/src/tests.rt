@@ -6,6 +6,7 @@ use keep::memory::{MemImage, MemKeeper};
 use keep::state::State;
 use model::entry::Request;
 use model::message::{Body, Input, Message};
+use model::request::{Client, RequestNumber};
 use raft::state::Work;
 use schema::Schema;
 use sqlread::query::Query;
@@ -85,7 +86,8 @@ fn lead(rt: &impl Abort, node: &mut Node<MemKeeper>) -> Result<(), Fault> {
 
 // What an image holds.
 fn state_of(alloc: Global, image: MemImage) -> Result<State, Fail> {
-    let Ok(mut keeper) = MemKeeper::open(alloc, image) else {
+    let schema = read_schema(alloc, SCHEMA)?;
+    let Ok(mut keeper) = MemKeeper::open(alloc, image, 3, &schema) else {
         return Err(Fail::from("the image does not open"));
     };
     let state = keeper.state(alloc)?;
@@ -178,11 +180,11 @@ fn reply(matched: usize) -> Work {
     }
 }
 
-fn insert(alloc: Global) -> Result<Work, AllocError> {
+fn insert(alloc: Global) -> Result<Work, Fail> {
     let text = format!(in alloc; "{INSERT}")?;
     let request = Request {
-        client: 7,
-        number: 1,
+        client: Client::new(7).ok_or("no client")?,
+        number: RequestNumber::new(1).ok_or("no number")?,
         text: Text::new(text),
     };
     Ok(Work::Local(Input::Submit {

@@ -9,6 +9,7 @@ use keep::state::State;
 use model::entry::Request;
 use model::member::Member;
 use model::message::{Body, Input, Message};
+use model::request::{Client, RequestNumber};
 use node::node::Fault;
 use sqlread::schemas::read_schema;
 use std::alloc::{AllocError, Global};
@@ -30,7 +31,8 @@ fn image_failing_at(alloc: Global, call: u64) -> MemImage {
 
 // What an image holds.
 fn stored(alloc: Global, image: MemImage) -> Result<State, Fail> {
-    let Ok(mut keeper) = MemKeeper::open(alloc, image) else {
+    let schema = read_schema(alloc, SCHEMA)?;
+    let Ok(mut keeper) = MemKeeper::open(alloc, image, 3, &schema) else {
         return Err(Fail::from("the image does not open"));
     };
     let Ok(state) = keeper.state(alloc) else {
@@ -132,7 +134,7 @@ fn feed(
         post.sent.push_back((mark, message))?;
     }
     for told in given.told {
-        let (index, client, number) = (told.index, told.client, told.number);
+        let (index, client, number) = (told.index, told.client.get(), told.number.get());
         let line = match told.outcome {
             Ok(stamp) => {
                 let at = stamp.micros();
@@ -223,8 +225,8 @@ fn applies_at_three(rt: HostRuntime) -> Result<(), Fail> {
     let words =
         "INSERT INTO Dept (DNo, DStart, DEnd, DName) VALUES (3, DATE '2000-01-01', DATE '2020-01-01', 'Test');";
     let request = Request {
-        client: 7,
-        number: 1,
+        client: Client::new(7).ok_or("no client")?,
+        number: RequestNumber::new(1).ok_or("no number")?,
         text: Text::new(String::from_str(rt.alloc(), words)?),
     };
     let input = Input::Submit {
@@ -251,15 +253,36 @@ fn applies_at_three(rt: HostRuntime) -> Result<(), Fail> {
     Ok(())
 }
 
+fn marks_after_the_envelope(
+    rt: &impl Abort,
+    alloc: Global,
+    cell: &mut Cell<MemKeeper>,
+) -> Result<(), Fail> {
+    assert_eq!(rt; cell.life.last_mark().number(), 1);
+    let first = cell.feed(timeout())?.mark;
+    let second = cell.feed(vote(Mark::new(5)))?.mark;
+    assert_eq!(rt; (first.number(), second.number()), (2, 6));
+    assert_eq!(rt; marks_of(alloc, cell)?.as_slice(), [2, 6].as_slice());
+    Ok(())
+}
+
 #[test]
 fn marks_follow_the_envelope(rt: HostRuntime) -> Result<(), Fail> {
     let image = image_failing_at(rt.alloc(), 0);
     let mut cell = start(rt.alloc(), image, 1, None)?;
-    assert_eq!(rt; cell.life.last_mark().number(), 1);
-    let first = cell.feed(timeout())?;
-    let second = cell.feed(vote(Mark::new(5)))?;
-    assert_eq!(rt; (first.mark.number(), second.mark.number()), (2, 6));
-    assert_eq!(rt; marks_of(rt.alloc(), &cell)?.as_slice(), [2, 6].as_slice());
+    marks_after_the_envelope(&rt, rt.alloc(), &mut cell)
+}
+
+fn refuses_and_records(
+    rt: &impl Abort,
+    alloc: Global,
+    cell: &mut Cell<MemKeeper>,
+) -> Result<(), Fail> {
+    let refused = cell.feed(close(100));
+    assert!(rt; matches!(&refused, Err(Fault::Kept(Refusal::NotLeader(None)))));
+    let ignored = cell.feed(beat())?;
+    assert!(rt; ignored.given.is_none());
+    assert_eq!(rt; marks_of(alloc, cell)?.as_slice(), [11, 12].as_slice());
     Ok(())
 }
 
@@ -267,14 +290,20 @@ fn marks_follow_the_envelope(rt: HostRuntime) -> Result<(), Fail> {
 fn records_what_is_refused(rt: HostRuntime) -> Result<(), Fail> {
     let image = image_failing_at(rt.alloc(), 0);
     let mut cell = start(rt.alloc(), image, 2, Mark::after(8))?;
-    let refused = cell.feed(close(100));
-    assert!(rt; matches!(&refused, Err(Fault::Kept(Refusal::NotLeader(None)))));
-    let ignored = cell.feed(beat())?;
-    assert!(rt; ignored.given.is_none());
-    assert_eq!(rt;
-        marks_of(rt.alloc(), &cell)?.as_slice(),
-        [11, 12].as_slice()
-    );
+    refuses_and_records(&rt, rt.alloc(), &mut cell)
+}
+
+// Whether the cell answers that its life is full, and records nothing.
+fn is_full(cell: &mut Cell<MemKeeper>) -> bool {
+    let before = cell.life.steps.len();
+    let answer = cell.feed(beat());
+    matches!(&answer, Err(Fault::Kept(Refusal::LifeFull))) && cell.life.steps.len() == before
+}
+
+fn feed_beats(cell: &mut Cell<MemKeeper>, count: usize) -> Result<(), Fail> {
+    for _ in 0..count {
+        let _ = cell.feed(beat())?;
+    }
     Ok(())
 }
 
@@ -282,15 +311,28 @@ fn records_what_is_refused(rt: HostRuntime) -> Result<(), Fail> {
 fn fills_a_life(rt: HostRuntime) -> Result<(), Fail> {
     let image = image_failing_at(rt.alloc(), 0);
     let mut cell = start(rt.alloc(), image, 2, None)?;
-    for _ in 0..LIFE_STEPS {
-        let _ = cell.feed(beat())?;
-    }
+    feed_beats(&mut cell, LIFE_STEPS)?;
     assert_eq!(rt; cell.life.steps.len(), LIFE_STEPS);
-    let full = cell.feed(beat());
-    assert!(rt; matches!(&full, Err(Fault::Kept(Refusal::LifeFull))));
-    assert_eq!(rt; cell.life.steps.len(), LIFE_STEPS);
+    assert!(rt; is_full(&mut cell));
     let last = cell.life.steps.last().map(|step| step.mark.number());
     assert_eq!(rt; last, Some(200_001));
+    Ok(())
+}
+
+// A life that would open after the last mark is refused, and the image comes back.
+fn refuses_to_open(
+    rt: &impl Abort,
+    alloc: Global,
+    image: MemImage,
+    last: Mark,
+) -> Result<(), Fail> {
+    let schema = read_schema(alloc, SCHEMA)?;
+    let Err((refusal, image)) = Cell::<MemKeeper>::start(alloc, image, schema, 3, 2, Some(last))
+    else {
+        return Err(Fail::from("a life after the last mark"));
+    };
+    assert_eq!(rt; refusal, Refusal::LifeFull);
+    assert_eq!(rt; stored(alloc, image)?.term, 0);
     Ok(())
 }
 
@@ -298,37 +340,26 @@ fn fills_a_life(rt: HostRuntime) -> Result<(), Fail> {
 fn runs_out_of_marks(rt: HostRuntime) -> Result<(), Fail> {
     let image = image_failing_at(rt.alloc(), 0);
     let mut cell = start(rt.alloc(), image, 2, Mark::after(LAST_MARK - 2))?;
-    let full = cell.feed(beat());
-    assert!(rt; matches!(&full, Err(Fault::Kept(Refusal::LifeFull))));
-    assert!(rt; cell.life.steps.is_empty());
+    assert!(rt; is_full(&mut cell));
     let (image, life) = cell.stop();
-    let last = life.last_mark();
-    let schema = read_schema(rt.alloc(), SCHEMA)?;
-    let Err((refusal, image)) = Cell::<MemKeeper>::start(
-        rt.alloc(),
-        image,
-        schema,
-        3,
-        2,
-        Some(last),
-    ) else {
-        return Err(Fail::from("a life after the last mark"));
-    };
-    assert_eq!(rt; refusal, Refusal::LifeFull);
-    let state = stored(rt.alloc(), image)?;
-    assert_eq!(rt; state.term, 0);
-    Ok(())
+    assert!(rt; life.steps.is_empty());
+    refuses_to_open(&rt, rt.alloc(), image, life.last_mark())
+}
+
+// The third call of the store fails: the first save.
+fn goes_down(rt: &impl Abort, cell: &mut Cell<MemKeeper>) {
+    let down = cell.feed(timeout());
+    assert!(rt; matches!(&down, Err(Fault::Down(StoreError::StoreFault))));
+    let late = cell.feed(beat());
+    assert!(rt; matches!(&late, Err(Fault::Kept(Refusal::NodeDown))));
+    assert_eq!(rt; cell.node.commit(), None);
 }
 
 #[test]
 fn tears_a_life(rt: HostRuntime) -> Result<(), Fail> {
     let image = image_failing_at(rt.alloc(), 3);
     let mut cell = start(rt.alloc(), image, 1, None)?;
-    let down = cell.feed(timeout());
-    assert!(rt; matches!(&down, Err(Fault::Down(StoreError::StoreFault))));
-    let late = cell.feed(beat());
-    assert!(rt; matches!(&late, Err(Fault::Kept(Refusal::NodeDown))));
-    assert_eq!(rt; cell.node.commit(), None);
+    goes_down(&rt, &mut cell);
     let (image, life) = cell.stop();
     assert!(rt; life.steps.is_empty());
     assert!(rt; matches!(&life.ending, Ending::Torn(_)));
@@ -339,26 +370,35 @@ fn tears_a_life(rt: HostRuntime) -> Result<(), Fail> {
     Ok(())
 }
 
-// Started again it follows, with the term, the vote and the log that it had.
+// Feeds the cell what makes its member lead term 1.
+fn lead(cell: &mut Cell<MemKeeper>) -> Result<(), Fail> {
+    let _ = cell.feed(timeout())?;
+    let _ = cell.feed(vote(Mark::new(1)))?;
+    Ok(())
+}
+
+// It follows, with the term, the vote and the log that it had.
+fn follows_with_what_was_stored(rt: &impl Abort, cell: &mut Cell<MemKeeper>) {
+    assert_eq!(rt; cell.life.last_mark().number(), 4);
+    let opening = &cell.life.opening;
+    assert_eq!(rt; (opening.term, opening.vote), (1, Some(1)));
+    assert_eq!(rt; opening.entries.len(), 1);
+    let first = opening.entries.first().map(|entry| entry.stamp.micros());
+    assert_eq!(rt; first, Some(100));
+    let refused = cell.feed(close(200));
+    assert!(rt; matches!(&refused, Err(Fault::Kept(Refusal::NotLeader(None)))));
+}
+
 #[test]
 fn stops_and_starts_again(rt: HostRuntime) -> Result<(), Fail> {
     let image = image_failing_at(rt.alloc(), 0);
     let mut cell = start(rt.alloc(), image, 1, None)?;
-    let _ = cell.feed(timeout())?;
-    let _ = cell.feed(vote(Mark::new(1)))?;
+    lead(&mut cell)?;
     let (image, life) = cell.stop();
     assert_eq!(rt; life.steps.len(), 2);
     assert!(rt; matches!(&life.ending, Ending::Stopped));
     let mut cell = start(rt.alloc(), image, 1, Some(life.last_mark()))?;
-    assert_eq!(rt; cell.life.last_mark().number(), 4);
-    assert_eq!(rt; cell.life.opening.entries.len(), 1);
-    let refused = cell.feed(close(200));
-    assert!(rt; matches!(&refused, Err(Fault::Kept(Refusal::NotLeader(None)))));
-    let stored = cell.node.durable()?;
-    assert_eq!(rt; (stored.term, stored.vote, stored.length), (1, Some(1), 1));
-    let entry = cell.node.entry(1)?;
-    assert_eq!(rt; entry.map(|entry| entry.stamp.micros()), Some(100));
-    assert!(rt; cell.node.entry(0)?.is_none() && cell.node.entry(2)?.is_none());
+    follows_with_what_was_stored(&rt, &mut cell);
     Ok(())
 }
 
@@ -403,7 +443,10 @@ fn answers_want_of_memory(rt: HostRuntime) -> Result<(), Fail> {
     let is_up = cell.node.is_up;
     let (image, life) = cell.stop();
     assert_eq!(rt; is_up, matches!(&life.ending, Ending::Stopped));
-    let Ok(mut keeper) = MemKeeper::open(rt.alloc(), image) else {
+    let Ok(schema) = read_schema(rt.alloc(), SCHEMA) else {
+        return Ok(());
+    };
+    let Ok(mut keeper) = MemKeeper::open(rt.alloc(), image, 3, &schema) else {
         return Err(Fail::from("the image does not open"));
     };
     if let Ok(state) = keeper.state(rt.alloc()) {

@@ -5,7 +5,7 @@ use Rattle.sqlread.specs.Meaning.{schema_of}
 use Rattle.model.specs.Members.{Node}
 use Rattle.model.specs.Steps.{After, Effect, Moves}
 use Rattle.model.specs.Kept.{Leaves}
-use Rattle.model.proofs.Kept.{hand_keeps, message_keeps, kept_and_new, same_log}
+use Rattle.raft.proofs.Kept.{hand_keeps, message_keeps, kept_and_new, same_log}
 use Rattle.keep.specs.declared.change.Change.{Change}
 use Rattle.raft.specs.declared.state.Work.{Work}
 use Rattle.raft.specs.declared.state.Work.TheVariants.{Local, Delivered}

@@ -1,5 +1,5 @@
 -- A core in the words of the definitions of a member and its step.
-use Rattle.std.specs.Prelude.{◌≡◌, ℕ, ◌≤◌, true, List, [], ◌++◌, take, length, Option, Some, None, MatchOption}
+use Rattle.std.specs.Prelude.{◌≡◌, ℕ, ◌≤◌, true, List, [], ◌∷◌, ◌++◌, take, length, Option, Some, None, MatchOption}
 use Rattle.raft.specs.declared.state.Core.{Core}
 use Rattle.raft.specs.declared.state.Before.{Before}
 use Rattle.keep.specs.declared.change.Change.{Change}
@@ -12,6 +12,7 @@ use Rattle.raft.specs.declared.state.Outcome.TheVariants.{Refused, Ignored, Sent
 use Rattle.model.specs.declared.message.Message.{Message}
 use Rattle.model.specs.declared.message.Role.TheVariants.{Follower}
 use Rattle.model.specs.declared.entry.Entry.{Entry}
+use Rattle.model.specs.declared.entry.Request.{Request}
 use Rattle.sqlchecks.specs.Columns.{Tables}
 use Rattle.sqlread.specs.Meaning.{schema_of}
 use Rattle.model.specs.Members.{Node}
@@ -41,6 +42,10 @@ forgotten (Some b) x = record x { term = b.term; vote = b.vote; role = b.role; k
 -- a member that starts with what is stored
 abbrev pub opening : ℕ → Option ℕ → List Entry → Node
 opening term vote log = record { term = term; vote = vote; log = log; up = true; role = Follower; commit = 0; known = None; votes = []; next = []; matched = [] }
+
+-- its log has one entry more, of its own term
+abbrev pub with_entry : ℕ → Option Request → Node → Node
+with_entry stamp request x = record x { log = x.log ++ record { term = x.term; stamp = stamp; request = request } ∷ [] }
 
 -- what the definitions say of this work
 abbrev pub works : Tables → ℕ → ℕ → Work → Node → Effect

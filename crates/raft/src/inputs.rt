@@ -1,14 +1,16 @@
 //! Local inputs: a timeout, a beat, and entries that a leader appends.
-ghost use Rattle.std.specs.Prelude.{◌≡◌, IfOk, false};
-ghost use Rattle.model.specs.Steps.{time_out, append_own, extended, is_time_full, is_log_full, on_input};
-ghost use Rattle.raft.specs.View.{node_of, IsSameSeat, outcome_of, SameIfNotSent};
+ghost use Rattle.std.specs.Prelude.{◌≡◌, IfOk, IfSome, IfNone, true, false};
+ghost use Rattle.model.specs.Stamps.{stamp};
+ghost use Rattle.model.specs.Logs.{least_stamp};
+ghost use Rattle.model.specs.Steps.{time_out, append_own, is_time_full, is_log_full, on_input};
+ghost use Rattle.raft.specs.View.{node_of, with_entry, IsSameSeat, outcome_of, SameIfNotSent};
 
-use crate::logs::least_stamp;
 use crate::state::{Core, Outcome};
+use closedtime::{closed, stamp};
 use fault::Refusal;
 use model::entry::{Entry, Request};
 use model::message::{Input, LAST_TERM, LOG_ROOM};
-use model::stamp::{LAST_MICROS, Stamp};
+use model::stamp::Stamp;
 use std::alloc::AllocError;
 
 impl Core {
@@ -31,11 +33,12 @@ impl Core {
         Ok(Outcome::Sent(messages))
     }
 
-    /// No stamp is left.
-    pub(crate) fn is_time_full(&self) -> bool
-        ensures { result ≡ is_time_full self.now.log.items }
+    /// The stamp of its next entry, none where no stamp is left.
+    pub(crate) fn next_stamp(&self, reading: i64) -> Option<Stamp>
+        ensures some { IfSome result (λ t. (t ≡ stamp reading (least_stamp self.now.log.items)) × (is_time_full self.now.log.items ≡ false)) }
+        ensures none { IfNone result (is_time_full self.now.log.items ≡ true) }
     {
-        least_stamp(&self.log) > LAST_MICROS
+        stamp(reading, closed(&self.log))
     }
 
     /// No room is left in the log.
@@ -45,18 +48,16 @@ impl Core {
         self.log.len() >= LOG_ROOM
     }
 
-    /// Appends an entry of its own term, stamped after the last.
+    /// Appends an entry of its own term.
     pub(crate) fn extend(
         &mut self,
-        reading: i64,
+        stamp: Stamp,
         request: Option<Request>,
     ) -> Result<(), AllocError>
-        requires time { is_time_full self.old.log.items ≡ false }
         requires room { is_log_full self.old.log.items ≡ false }
-        ensures done { IfOk result (λ _. node_of self.new ≡ extended reading request (node_of self.old)) }
+        ensures done { IfOk result (λ _. node_of self.new ≡ with_entry stamp request (node_of self.old)) }
         ensures seat { IsSameSeat self.old self.new }
     {
-        let stamp = Stamp::at(reading, least_stamp(&self.log));
         self.log.push(Entry {
             term: self.term,
             stamp,
@@ -77,13 +78,13 @@ impl Core {
         if !self.is_leader() {
             return Ok(Outcome::Refused(Refusal::NotLeader(self.known)));
         }
-        if self.is_time_full() {
+        let Some(stamp) = self.next_stamp(reading) else {
             return Ok(Outcome::Refused(Refusal::TimeFull));
-        }
+        };
         if self.is_log_full() {
             return Ok(Outcome::Refused(Refusal::LogFull));
         }
-        self.extend(reading, request)?;
+        self.extend(stamp, request)?;
         let messages = self.append_to_all()?;
         Ok(Outcome::Sent(messages))
     }

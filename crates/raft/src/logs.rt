@@ -2,7 +2,6 @@
 ghost use Rattle.std.specs.Prelude.{◌≡◌, ◌+◌, ◌-◌, ◌<◌, ◌≤◌, ◌^◌, length, take, slice_get, drop, vec_len, true, option_map, OnOk, OnErr, IfOk};
 ghost use Rattle.model.specs.Lists.{nth};
 ghost use Rattle.model.specs.Stamps.{above};
-ghost use Rattle.model.specs.Logs.{least_stamp};
 ghost use Rattle.model.specs.Members.{agreed, has_term, last_term, stands, term_at};
 ghost use Rattle.model.specs.Steps.{accepted};
 ghost use Rattle.model.specs.Kept.{kept_under};
@@ -44,14 +43,6 @@ pub(crate) fn last_term(log: &[Entry]) -> u64
     ensures { result ≡ last_term log.now }
 {
     term_at(log, log.len())
-}
-
-/// The least stamp of an entry that follows.
-pub(crate) fn least_stamp(log: &[Entry]) -> u64
-    ensures value { result ≡ least_stamp log.now }
-    ensures small { result ≤ 253402214400000000 }
-{
-    least_at(log, log.len())
 }
 
 pub(crate) fn copies_of(alloc: Global, entries: &[Entry]) -> Result<Vec<Entry>, AllocError>

@@ -157,10 +157,13 @@ impl Core {
         ensures done { IfOk result (λ _. node_of self.new ≡ opened reading (node_of self.old)) }
         ensures seat { IsSameSeat self.old self.new }
     {
-        if self.is_time_full() || self.is_log_full() {
+        let Some(stamp) = self.next_stamp(reading) else {
+            return Ok(());
+        };
+        if self.is_log_full() {
             return Ok(());
         }
-        self.extend(reading, None)
+        self.extend(stamp, None)
     }
 
     #[tactic(auto, unfolding(model::specs::Steps::on_vote))]

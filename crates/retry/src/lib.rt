@@ -6,6 +6,7 @@ ghost use Rattle.retry.specs.Judging.{latest_of, verdict_of, judged, with_latest
 
 use fault::Refusal;
 use indexmap::IndexMap;
+use model::request::{Client, RequestNumber};
 use model::stamp::Stamp;
 use std::alloc::{AllocError, Global};
 
@@ -18,14 +19,14 @@ pub type Outcome = Result<Stamp, Refusal>;
 /// A client's latest request that was executed, and what came of it.
 #[derive(Debug, Drop)]
 struct Latest {
-    number: u64,
+    number: RequestNumber,
     outcome: Outcome,
 }
 
 /// For each client its latest request that was executed.
 #[derive(Drop)]
 pub struct Requests {
-    latest: IndexMap<u16, Latest>,
+    latest: IndexMap<Client, Latest>,
 }
 
 /// What becomes of a request.
@@ -52,23 +53,22 @@ impl Requests {
     }
 
     /// What becomes of a client's request of this number. Takes no memory.
-    pub fn judge(&self, client: u16, number: u64) -> Judged<'_>
+    pub fn judge(&self, client: Client, number: RequestNumber) -> Judged<'_>
         ensures { verdict_of result ≡ judged (latest_of self.now client) number }
     {
         let Some(latest) = self.latest.get(&client) else {
-            return if number == 1 {
+            return if number.get() == 1 {
                 Judged::New
-            } else if number == 0 {
-                Judged::Old
             } else {
                 Judged::Gap
             };
         };
-        if number < latest.number {
+        let last = latest.number.get();
+        if number.get() < last {
             Judged::Old
-        } else if number == latest.number {
+        } else if number.get() == last {
             Judged::Kept(&latest.outcome)
-        } else if latest.number.checked_add(1) == Some(number) {
+        } else if number.get() == last + 1 {
             Judged::New
         } else {
             Judged::Gap
@@ -77,7 +77,12 @@ impl Requests {
 
     /// Keeps the outcome of a client's request, which is its latest from now on. Refused for want of
     /// memory alone, which changes nothing.
-    pub fn keep(&mut self, client: u16, number: u64, outcome: Outcome) -> Result<(), AllocError>
+    pub fn keep(
+        &mut self,
+        client: Client,
+        number: RequestNumber,
+        outcome: Outcome,
+    ) -> Result<(), AllocError>
         ensures ok { OnOk result ((c : ℕ) → latest_of self.new c ≡ with_latest client number outcome (latest_of self.old) c) }
         ensures err { OnErr result ((c : ℕ) → latest_of self.new c ≡ latest_of self.old c) }
     {

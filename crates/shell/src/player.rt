@@ -9,6 +9,7 @@ use fault::{Refusal, Text};
 use model::entry::Request;
 use model::member::Member;
 use model::message::Input;
+use model::request::{Client, RequestNumber};
 use schema::Schema;
 use sqlread::query::read_query;
 use std::alloc::{AllocError, Global};
@@ -163,8 +164,8 @@ impl Player {
     fn submission(
         &self,
         node: Member,
-        client: u16,
-        number: u64,
+        client: Client,
+        number: RequestNumber,
         text: &Text,
     ) -> Result<Input, AllocError> {
         let reading = self.reading_of(node);

@@ -9,6 +9,7 @@ use fault::{Refusal, Text};
 use model::entry::{Request, Told};
 use model::member::Member;
 use model::message::{Body, Input, Message};
+use model::request::{Client, RequestNumber};
 use model::stamp::Stamp;
 use sqlread::query::{Query, Time};
 use sqlread::schemas::read_schema;
@@ -65,8 +66,11 @@ pub fn group(alloc: Global, members: usize) -> Result<World, AllocError>
 
 // The one transaction of these tests, as request of client 7.
 pub fn request(alloc: Global, number: u64) -> Result<Request, AllocError> {
+    let (Some(client), Some(number)) = (Client::new(7), RequestNumber::new(number)) else {
+        return Err(AllocError);
+    };
     Ok(Request {
-        client: 7,
+        client,
         number,
         text: Text::new(String::from_str(alloc, INSERT)?),
     })
@@ -111,7 +115,7 @@ fn sent_text(alloc: Global, number: usize, message: &Message) -> Result<String, 
 }
 
 fn told_text(alloc: Global, member: Member, told: &Told) -> Result<String, AllocError> {
-    let (index, client, number) = (told.index, told.client, told.number);
+    let (index, client, number) = (told.index, told.client.get(), told.number.get());
     match &told.outcome {
         Ok(stamp) => {
             let at = stamp.micros();
