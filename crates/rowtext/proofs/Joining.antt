@@ -68,3 +68,21 @@ module _ {A : Type 0} (f : A → List ℕ) (all : List A) (i : ℕ) (item : A) (
       ap (λ l. l ++ flat_after) flat-next
       ∙ sym (flat_map-append f (take (i + 1) all) (drop (i + 1) all))
       ∙ ap (flat_map f) (take-append-drop (i + 1) all)
+
+-- each made from an item of another list
+pub flat_of_map : {A B : Type 0} (f : B → List ℕ) (g : A → B) (list : List A) → flat_map (λ a. f (g a)) list ≡ flat_map f (map g list)
+flat_of_map f g [] = refl
+flat_of_map f g (a ∷ list) = ap (λ l. f (g a) ++ l) (flat_of_map f g list)
+
+module _ {A B : Type 0} (f : B → List ℕ) (g : A → B) (all : List A) (i : ℕ) (item : A) (within : i < length all) (is : item ≡ get_or all i item) where
+  pub mapped-next : flat_map f (map g (take i all)) ++ f (g item) ≡ flat_map f (map g (take (i + 1) all))
+  mapped-next =
+      ap (λ l. l ++ f (g item)) (sym (flat_of_map f g (take i all)))
+      ∙ flat-next (λ a. f (g a)) all i item within is
+      ∙ flat_of_map f g (take (i + 1) all)
+
+  pub mapped-all : (flat_map f (map g (take i all)) ++ f (g item)) ++ flat_after (λ a. f (g a)) all i item within is ≡ flat_map f (map g all)
+  mapped-all =
+      ap (λ l. (l ++ f (g item)) ++ flat_after (λ a. f (g a)) all i item within is) (sym (flat_of_map f g (take i all)))
+      ∙ flat-all (λ a. f (g a)) all i item within is
+      ∙ flat_of_map f g all

@@ -20,7 +20,7 @@ use Rattle.rowtext.specs.Again.{IsWritten, lines}
 
 -- ---- bytes in a row
 
-take_all : (xs rest : List ℕ) → take (length xs) (xs ++ rest) ≡ xs
+pub take_all : (xs rest : List ℕ) → take (length xs) (xs ++ rest) ≡ xs
 take_all [] rest = refl
 take_all (x ∷ xs) rest = ap (λ l. x ∷ l) (take_all xs rest)
 
@@ -82,7 +82,7 @@ apart_close = record { word = refl; digit = refl; quote = λ e. absurd (omega (a
 some_is : {A : Type 0} (x y : A) → Some x ≡ Some y → x ≡ y
 some_is x y e = cc
 
-word_parts : (b : ℕ) (bs : List ℕ) (t : What) → is_ascii_alphabetic b ≡ true → token_of (b ∷ bs) ≡ Some t
+pub word_parts : (b : ℕ) (bs : List ℕ) (t : What) → is_ascii_alphabetic b ≡ true → token_of (b ∷ bs) ≡ Some t
     → (list_all is_word_byte bs ≡ true) × (length bs ≤ 31) × (word_what (b ∷ bs) ≡ t)
 unfolding token_of
 word_parts b bs t alpha e = go (decide (list_all is_word_byte bs && nat_le (length bs) 31)) where
@@ -93,7 +93,7 @@ word_parts b bs t alpha e = go (decide (list_all is_word_byte bs && nat_le (leng
       (both.0, leb-true (length bs) 31 both.1, some_is (word_what (b ∷ bs)) t (rw (alpha, h) at e))
   go (inr h) = let none = rw (alpha, h) at e in absurd cc
 
-digits_parts : (b : ℕ) (bs : List ℕ) (t : What) → is_ascii_alphabetic b ≡ false → is_ascii_digit b ≡ true → token_of (b ∷ bs) ≡ Some t
+pub digits_parts : (b : ℕ) (bs : List ℕ) (t : What) → is_ascii_alphabetic b ≡ false → is_ascii_digit b ≡ true → token_of (b ∷ bs) ≡ Some t
     → (list_all is_ascii_digit bs ≡ true) × (Digits (b ∷ bs) ≡ t)
 unfolding token_of
 digits_parts b bs t alpha digit e = go (decide (list_all is_ascii_digit bs)) where
@@ -101,14 +101,14 @@ digits_parts b bs t alpha digit e = go (decide (list_all is_ascii_digit bs)) whe
   go (inl h) = (h, some_is (Digits (b ∷ bs)) t (rw (alpha, digit, h) at e))
   go (inr h) = let none = rw (alpha, digit, h) at e in absurd cc
 
-text_parts : (bs : List ℕ) (t : What) → token_of (39 ∷ bs) ≡ Some t → (closes bs ≡ true) × (Text (take (length bs - 1) bs) ≡ t)
+pub text_parts : (bs : List ℕ) (t : What) → token_of (39 ∷ bs) ≡ Some t → (closes bs ≡ true) × (Text (take (length bs - 1) bs) ≡ t)
 unfolding token_of
 text_parts bs t e = go (decide (closes bs)) where
   go : (closes bs ≡ true) ⊎ (closes bs ≡ false) → (closes bs ≡ true) × (Text (take (length bs - 1) bs) ≡ t)
   go (inl h) = (h, some_is (Text (take (length bs - 1) bs)) t (rw h at e))
   go (inr h) = let none = rw h at e in absurd cc
 
-sign_parts : (b : ℕ) (bs : List ℕ) → is_ascii_alphabetic b ≡ false → is_ascii_digit b ≡ false → b ≢ 39 → token_of (b ∷ bs) ≡ option_map Mark (sign_of (b ∷ bs))
+pub sign_parts : (b : ℕ) (bs : List ℕ) → is_ascii_alphabetic b ≡ false → is_ascii_digit b ≡ false → b ≢ 39 → token_of (b ∷ bs) ≡ option_map Mark (sign_of (b ∷ bs))
 unfolding token_of
 sign_parts b bs alpha digit quote = rw (alpha, digit, ne_eqb b 39 quote) refl
 
@@ -193,7 +193,7 @@ longest_quoted bs rest t e end =
     let is : Text (take (length bs - 1) (bs ++ rest)) ≡ t = ap Text (take_within (length bs - 1) bs rest (omega arith)) ∙ parts.1 in
     subst (λ w. IsLongest (39 ∷ bs ++ rest) (length (39 ∷ bs)) w) is (subst (λ n. IsLongest (39 ∷ bs ++ rest) n (Text (take (length bs - 1) (bs ++ rest)))) one found)
 
-mark_is : (o : Option Sign) (t : What) → option_map Mark o ≡ Some t → (s : Sign) × (o ≡ Some s) × (t ≡ Mark s)
+pub mark_is : (o : Option Sign) (t : What) → option_map Mark o ≡ Some t → (s : Sign) × (o ≡ Some s) × (t ≡ Mark s)
 mark_is None t e = absurd cc
 mark_is (Some s) t e = (s, refl, sym (some_is (Mark s) t e))
 
@@ -210,7 +210,7 @@ longest_sign b (c ∷ []) rest t other e end =
     subst (λ w. IsLongest (b ∷ c ∷ rest) 2 w) (sym m.2) (two_at_front (b ∷ c ∷ rest) m.0 (omega arith) other m.1)
 longest_sign b (c ∷ d ∷ bs) rest t other e end = let none = sym (sign_parts b (c ∷ d ∷ bs) other.letter other.digit other.quote) ∙ e in absurd cc
 
-no_token : token_of [] ≡ None
+pub no_token : token_of [] ≡ None
 unfolding token_of
 no_token = refl
 

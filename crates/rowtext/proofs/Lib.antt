@@ -6,3 +6,12 @@ pub mod Values
 pub mod Statements
 pub mod Lexing
 pub mod ReadAgain
+pub mod Steps
+pub mod Tokens
+pub mod SameNames
+pub mod LiteralsAgain
+pub mod ChangesAgain
+pub mod InsertsAgain
+pub mod StatementsAgain
+pub mod KeptColumns
+pub mod SameAgain

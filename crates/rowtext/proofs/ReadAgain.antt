@@ -27,17 +27,21 @@ unfolding statements
 row_spelled [] fits = let never = fits.1 in absurd cc
 row_spelled (form ∷ forms) fits = refl
 
-pub read_again : IsTold statements → (forms : List StatementForm) → statements.fits forms → AllByRecursion (AllByRecursion IsWritten) (map statement.spell forms)
-    → parsed statements (lines (map statement.spell forms)) ≡ Ok forms
-read_again told forms fits written =
+pub lines_spell : (forms : List StatementForm) → statements.fits forms → AllByRecursion (AllByRecursion IsWritten) (map statement.spell forms) → Spells statements (lines (map statement.spell forms)) forms
+lines_spell forms fits written =
     let text = lines (map statement.spell forms) in
-    let spells : Spells statements text forms = record {
+    record {
       tokens = tokens_of text;
       are_tokens = are_tokens text;
       fits = fits;
       spelled = lines_are_said (map statement.spell forms) written ∙ spelled_all forms ∙ row_spelled forms fits;
-    } in
-    ap or_syntax (((told text).0 forms).0 spells)
+    }
+
+pub read_again : IsTold statements → (forms : List StatementForm) → statements.fits forms → AllByRecursion (AllByRecursion IsWritten) (map statement.spell forms)
+    → parsed statements (lines (map statement.spell forms)) ≡ Ok forms
+read_again told forms fits written =
+    let text = lines (map statement.spell forms) in
+    ap or_syntax (((told text).0 forms).0 (lines_spell forms fits written))
 
 one_line : (s : StatementShape) (found : Option (List ℕ × TableShape)) (rest : List StatementForm)
     → option_map_or (λ t. line Start (statement.spell (form_of t.0 t.1 s)) ++ 10 ∷ []) found [] ++ lines (map statement.spell rest)
@@ -45,7 +49,7 @@ one_line : (s : StatementShape) (found : Option (List ℕ × TableShape)) (rest 
 one_line s None rest = refl
 one_line s (Some t) rest = refl
 
-transaction_lines : (tables : Tables) (list : List StatementShape) → transaction_text tables list ≡ lines (map statement.spell (forms_of tables list))
+pub transaction_lines : (tables : Tables) (list : List StatementShape) → transaction_text tables list ≡ lines (map statement.spell (forms_of tables list))
 unfolding statement_text
 transaction_lines tables [] = refl
 transaction_lines tables (s ∷ list) =

@@ -1,8 +1,9 @@
 -- The lines of statements, as their parts are written one after the other.
-use Rattle.std.proofs.Common.{◌≡◌, ℕ, suc, ◌+◌, ◌<◌, true, false, List, [], ◌∷◌, ◌++◌, length, map, filter, flat_map, codes, Option, Some, refl, sym, ap, ◌∙◌, append_assoc, arith, cond}
+use Rattle.std.proofs.Common.{◌≡◌, ℕ, zero, suc, ◌+◌, ◌-◌, ◌<◌, true, false, List, [], ◌∷◌, ◌++◌, length, map, filter, flat_map, codes, Option, Some, refl, sym, ap, ◌∙◌, append_assoc, add-zero, arith, cond, subst}
 use Rattle.std.specs.Prelude.{option_map, not, slice_get}
 use Rattle.std.specs.List.{range_with_len}
-use Rattle.std.proofs.lemmas.List.{append-nil, map-append, map-id}
+use Rattle.std.proofs.lemmas.List.{append-nil, map-append, map-id, length-append}
+use Rattle.std.proofs.lemmas.Grind.{flat_map-append}
 use Rattle.std.proofs.lemmas.List.FromFn.{filter_of_map_range_with_len_more}
 use Rattle.period.specs.Day.{day_text}
 use Rattle.period.specs.declared.period.Period.{Period as Declared}
@@ -25,12 +26,13 @@ use Rattle.model.specs.Periods.{period_of}
 use Rattle.sqlread.specs.Shapes.{InsertShape, insert_of, update_of, delete_of, statement_of}
 use Rattle.rowtext.specs.Spacing.{Start, Word, line}
 use Rattle.rowtext.specs.Transactions.{column_name, cell_of, portion_of, comparison_of, conditions_of, assignment_of, given_columns, insert_form, update_form, delete_form, statement_text}
+use Rattle.rowtext.proofs.Joining.{flat_of_map}
 use Rattle.rowtext.proofs.Spaced.{portion_line, insert_line, update_line, delete_line, names_line, literals_line, condition_line, assignments_line, commas, separator, commas_more, literal_text, comparison_text, assignment_text}
 
 pub portion_written : (table : TableShape) (p : Option Declared) (period : Declared) (name : Bytes) → p ≡ Some period → name ≡ table.period
-    → codes " FOR PORTION OF " ++ ((name ++ codes " ") ++ (codes "FROM DATE '" ++ (day_text period.start.number ++ (codes "' TO DATE '" ++ (day_text period.end.number ++ codes "'")))))
+    → codes " FOR PORTION OF " ++ (name ++ (codes " FROM DATE '" ++ (day_text period.start.number ++ (codes "' TO DATE '" ++ (day_text period.end.number ++ codes "'")))))
     ≡ line Word (spell_some portion (option_map (portion_of table) (option_map period_of p)))
-portion_written table p period name e f = rw (e, f, portion_line table.period (day_text period.start.number) (day_text period.end.number)) (simp append_assoc refl)
+portion_written table p period name e f = rw (e, f, portion_line table.period (day_text period.start.number) (day_text period.end.number)) refl
 
 pub insert_written : (name : Bytes) (ns : List Bytes) (ls : List LiteralForm)
     → ((((codes "INSERT INTO " ++ (name ++ codes " (")) ++ line Start (name_list.spell ns)) ++ codes ") VALUES (") ++ line Start (literals.spell ls)) ++ codes ");\n"
@@ -48,10 +50,6 @@ pub delete_written : (name : Bytes) (p : Option PortionForm) (cs : Option (List 
 delete_written name p cs = rw (delete_line name p cs) (simp append_assoc refl)
 
 -- ---- the conditions and the assignments
-
-flat_of_map : {A B : Type 0} (f : B → Bytes) (g : A → B) (list : List A) → flat_map (λ a. f (g a)) list ≡ flat_map f (map g list)
-flat_of_map f g [] = refl
-flat_of_map f g (a ∷ list) = ap (λ l. f (g a) ++ l) (flat_of_map f g list)
 
 pub conditions_written : (table : TableShape) (all : List Comparison) (c : Comparison) (rest : List Comparison) → all ≡ c ∷ rest
     → (codes " WHERE " ++ comparison_text (comparison_of table c)) ++ flat_map (λ d. codes " AND " ++ comparison_text (comparison_of table d)) rest
@@ -106,24 +104,14 @@ next_written table text n before x e f h =
     ∙ sym (commas_more (map text (given_within table n)) (text n))
     ∙ ap commas (sym (given_next table text n e))
 
--- something is written where a separator stands
+-- something is written where a separator stands, and only there
 some_there : (list : List Bytes) (before : Bytes) → before ≡ separator list → 0 < length before → 0 < length list
 some_there [] before e lt = let none = ap (λ (b : Bytes). length b) e in absurd (omega (arith, none, lt))
 some_there (x ∷ list) before e lt = omega arith
 
-pub columns_written : (table : TableShape) (n : ℕ) (before : Bytes) → n ≡ length table.columns → before ≡ separator (map (column_name table) (given_within table n)) → 0 < length before
-    → commas (map (column_name table) (given_within table n)) ≡ line Start (name_list.spell (map (column_name table) (given_columns table)))
-columns_written table n before e f lt =
-    let names = map (column_name table) (given_within table n) in
-    sym (names_line names (some_there names before f lt))
-    ∙ ap (λ k. line Start (name_list.spell (map (column_name table) (given_within table k)))) e
-
-pub column_named : (table : TableShape) (n : ℕ) (name : Bytes) (kind : Kind) → slice_get table.columns n ≡ Some (name, kind) → name ≡ column_name table n
-column_named table n name kind e = rw e refl
-
--- the literal of a column
-abbrev pub cell_text : TableShape → InsertShape → ℕ → Bytes
-cell_text table row c = literal_text (cell_of table row c)
+pub none_there : (list : List Bytes) (before : Bytes) → before ≡ separator list → length before ≡ 0 → commas list ≡ []
+none_there [] before e none = refl
+none_there (x ∷ list) before e none = let two = ap (λ (b : Bytes). length b) e in absurd (omega (arith, none, two))
 
 length_of_map : {A B : Type 0} (f : A → B) (list : List A) → length (map f list) ≡ length list
 length_of_map f [] = refl
@@ -133,15 +121,85 @@ map_of_map : {A B : Type 0} (g : B → Bytes) (f : A → B) (list : List A) → 
 map_of_map g f [] = refl
 map_of_map g f (a ∷ list) = ap (λ l. g (f a) ∷ l) (map_of_map g f list)
 
+-- the items of so many columns, and of more
+given_grows : (table : TableShape) (n k : ℕ) → (rest : List ℕ) × (given_within table (n + k) ≡ given_within table n ++ rest)
+given_grows table n zero = ([], ap (given_within table) (add-zero n) ∙ sym (append-nil (given_within table n)))
+given_grows table n (suc k) =
+    let so_far = given_grows table n k in
+    let next : List ℕ = cond (not (is_system table (n + k))) ((n + k) ∷ []) [] in
+    let one : n + suc k ≡ n + k + 1 = omega arith in (
+      so_far.0 ++ next,
+      ap (given_within table) one
+          ∙ given_more table (n + k)
+          ∙ ap (λ l. l ++ next) so_far.1
+          ∙ append_assoc (given_within table n) so_far.0 next,
+    )
+
+commas_grow : (xs ys : List Bytes) → 0 < length xs → commas (xs ++ ys) ≡ commas xs ++ flat_map (λ y. codes ", " ++ y) ys
+commas_grow [] ys lt = absurd (omega arith)
+commas_grow (x ∷ xs) ys lt =
+    ap (λ l. x ++ l) (flat_map-append (λ y. codes ", " ++ y) xs ys)
+    ∙ sym (append_assoc x (flat_map (λ y. codes ", " ++ y) xs) (flat_map (λ y. codes ", " ++ y) ys))
+
+-- a column that a row is given, with what is written of the row up to it and after it
+module _ (table : TableShape) (text : ℕ → Bytes) (n : ℕ) (before x : Bytes) (given : is_system table n ≡ false) (stands : before ≡ separator (map text (given_within table n))) (is : x ≡ text n) (within : n < length table.columns) where
+  pub grown : (rest : List ℕ) × (given_columns table ≡ given_within table (n + 1) ++ rest)
+  grown =
+      let more = given_grows table (n + 1) (length table.columns - (n + 1)) in
+      let all : length table.columns ≡ n + 1 + (length table.columns - (n + 1)) = omega arith in
+      (more.0, ap (given_within table) all ∙ more.1)
+
+  some_within : 0 < length (map text (given_within table (n + 1)))
+  some_within =
+      let long = ap (λ (l : List Bytes). length l) (given_next table text n given) in
+      omega (arith, long, length-append (map text (given_within table n)) (text n ∷ []))
+
+  pub some_given : 0 < length (given_columns table)
+  some_given =
+      let long = ap (λ (l : List ℕ). length l) grown.1 in
+      omega (arith, long, length-append (given_within table (n + 1)) grown.0, length_of_map text (given_within table (n + 1)), some_within)
+
+  abbrev pub after_column : Bytes
+  after_column = flat_map (λ y. codes ", " ++ y) (map text grown.0)
+
+  pub around_column : (commas (map text (given_within table n)) ++ (before ++ x)) ++ after_column ≡ commas (map text (given_columns table))
+  around_column =
+      ap (λ l. l ++ after_column) (next_written table text n before x given stands is)
+      ∙ sym (commas_grow (map text (given_within table (n + 1))) (map text grown.0) some_within)
+      ∙ ap commas (sym (map-append text (given_within table (n + 1)) grown.0))
+      ∙ ap (λ l. commas (map text l)) (sym grown.1)
+
+-- the columns
+pub column_named : (table : TableShape) (n : ℕ) (name : Bytes) (kind : Kind) → slice_get table.columns n ≡ Some (name, kind) → name ≡ column_name table n
+column_named table n name kind e = rw e refl
+
+pub columns_line : (table : TableShape) → 0 < length (given_columns table)
+    → commas (map (column_name table) (given_columns table)) ≡ line Start (name_list.spell (map (column_name table) (given_columns table)))
+columns_line table some = sym (names_line (map (column_name table) (given_columns table)) (rw (length_of_map (column_name table) (given_columns table)) some))
+
+pub columns_written : (table : TableShape) (n : ℕ) (before : Bytes) → n ≡ length table.columns → before ≡ separator (map (column_name table) (given_within table n)) → 0 < length before
+    → commas (map (column_name table) (given_within table n)) ≡ line Start (name_list.spell (map (column_name table) (given_columns table)))
+columns_written table n before e f lt =
+    let there = some_there (map (column_name table) (given_within table n)) before f lt in
+    let some : 0 < length (given_within table n) = rw (length_of_map (column_name table) (given_within table n)) at there in
+    ap (λ k. commas (map (column_name table) (given_within table k))) e ∙ columns_line table (let P : ℕ → Type 0 = λ k. 0 < length (given_within table k) in subst P e some)
+
+-- the literal of a column
+abbrev pub cell_text : TableShape → InsertShape → ℕ → Bytes
+cell_text table row c = literal_text (cell_of table row c)
+
+pub row_line : (table : TableShape) (row : InsertShape) → 0 < length (given_columns table)
+    → commas (map (cell_text table row) (given_columns table)) ≡ line Start (literals.spell (map (cell_of table row) (given_columns table)))
+row_line table row some =
+    ap commas (sym (map_of_map literal_text (cell_of table row) (given_columns table)))
+    ∙ sym (literals_line (map (cell_of table row) (given_columns table)) (rw (length_of_map (cell_of table row) (given_columns table)) some))
+
 pub row_written : (table : TableShape) (row : InsertShape) (n : ℕ) (before : Bytes) → n ≡ length table.columns → before ≡ separator (map (cell_text table row) (given_within table n)) → 0 < length before
     → commas (map (cell_text table row) (given_within table n)) ≡ line Start (literals.spell (map (cell_of table row) (given_columns table)))
 row_written table row n before e f lt =
-    let list = given_within table n in
-    let there = some_there (map (cell_text table row) list) before f lt in
-    let some : 0 < length (map (cell_of table row) list) = rw (length_of_map (cell_of table row) list) (rw (length_of_map (cell_text table row) list) at there) in
-    ap commas (sym (map_of_map literal_text (cell_of table row) list))
-    ∙ sym (literals_line (map (cell_of table row) list) some)
-    ∙ ap (λ k. line Start (literals.spell (map (cell_of table row) (given_within table k)))) e
+    let there = some_there (map (cell_text table row) (given_within table n)) before f lt in
+    let some : 0 < length (given_within table n) = rw (length_of_map (cell_text table row) (given_within table n)) at there in
+    ap (λ k. commas (map (cell_text table row) (given_within table k))) e ∙ row_line table row (let P : ℕ → Type 0 = λ k. 0 < length (given_within table k) in subst P e some)
 
 -- ---- a statement of a schema
 

@@ -28,6 +28,9 @@ appends-kept (Some us) None c x p q = absurd p
 appends-kept (Some us) (Some vs) None x p q = absurd q
 appends-kept (Some us) (Some vs) (Some ws) x p q = q ∙ p
 
+pub begins-nothing : (a : Option (List ℕ)) (x : List ℕ) → AppendsBeginning a a x
+begins-nothing a x = ([], x, refl, appends-nothing a)
+
 pub begins-more : (a b c : Option (List ℕ)) (x y : List ℕ) → Appends a b x → AppendsBeginning b c y → AppendsBeginning a c (x ++ y)
 begins-more a b c x y p q = (x ++ q.0, q.1, append_assoc x q.0 q.1 ∙ ap (λ l. x ++ l) q.2, appends-more a b c x q.0 p q.3)
 

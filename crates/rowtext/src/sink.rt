@@ -6,7 +6,7 @@ ghost use Rattle.std.specs.Fmt.InlineText.{inline_text as text_of};
 ghost use Rattle.std.specs.Io.KnownBytes.{Appends};
 ghost use Rattle.std.proofs.Common.{◌∙◌};
 ghost use Rattle.rowtext.specs.Sinks.{AppendsBeginning, WritesOrBegins, Puts};
-ghost use Rattle.rowtext.specs.Appending.{has_written-nothing, has_written-more, appends-nothing, appends-more, begins-more, begins-longer};
+ghost use Rattle.rowtext.specs.Appending.{has_written-nothing, has_written-more, appends-nothing, appends-more, begins-nothing, begins-more, begins-longer};
 
 use std::fmt::{InlineText, Write};
 use std::{fmt, io};
@@ -16,7 +16,7 @@ const PIECE_BYTES: usize = 1_024;
 
 // What takes texts piece by piece.
 pub(crate) trait Sink {
-    type Fault;
+    type Fault: From<fmt::Error>;
 
     // The sink before, a text that was put whole, and the sink after.
     ghost takes: { Self → List ℕ → Self → Type 0 };
@@ -28,6 +28,8 @@ pub(crate) trait Sink {
         ensures { IfSome (D.output piece) (λ text. Puts takes begins self.old result text self.new) };
 
     ghost nothing: { (a : Self) → takes a [] a };
+
+    ghost not_begun: { (a : Self) (x : List ℕ) → begins a x a };
 
     ghost then_takes: { (a b c : Self) (x y : List ℕ) → takes a x b → takes b y c → takes a (x ++ y) c };
 
@@ -48,6 +50,8 @@ impl<W: fmt::Write> Sink for fmt::Formatter<W> {
     }
 
     ghost nothing = { λ a plain. has_written-nothing W.write_str_gives a plain };
+
+    ghost not_begun = { λ a x. tt };
 
     ghost then_takes = { λ a b c x y p q plain. has_written-more W.write_str_gives a b c x y (p plain) (q (p plain).plain) };
 
@@ -75,6 +79,8 @@ impl<W: io::Write> Sink for Pen<'_, W> {
     }
 
     ghost nothing = { λ a. (refl, appends-nothing (W.contents a.writer.now)) };
+
+    ghost not_begun = { λ a x. (refl, begins-nothing (W.contents a.writer.now) x) };
 
     ghost then_takes = { λ a b c x y p q. (q.0 ∙ p.0, appends-more (W.contents a.writer.now) (W.contents b.writer.now) (W.contents c.writer.now) x y p.1 q.1) };
 

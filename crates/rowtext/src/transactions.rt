@@ -1,9 +1,7 @@
 //! Transactions written as SQL.
-ghost use Rattle.std.specs.Prelude.{◌≡◌, ◌<◌, ◌++◌, ◌∷◌, [], Some, IfSome, OnOk, IsOk, length, map, flat_map, option_map, option_and_then, codes};
-ghost use Rattle.std.specs.Fmt.{WritesOnOk};
+ghost use Rattle.std.specs.Prelude.{◌≡◌, ◌<◌, ◌++◌, ◌∷◌, [], Some, IfSome, MatchResult, length, map, flat_map, option_map, option_and_then, codes};
 ghost use Rattle.std.specs.Option.{option_copied};
 ghost use Rattle.sqlchecks.specs.Columns.{field_at, kept_at};
-ghost use Rattle.std.specs.Io.KnownBytes.{Appends};
 ghost use Rattle.sqltokens.specs.declared.token.Sign.TheVariants as sign;
 ghost use Rattle.sqltokens.specs.What.{What, Mark, Name};
 ghost use Rattle.phrase.specs.Grammar.{Phrase, spell_some};
@@ -12,9 +10,11 @@ ghost use Rattle.sqlsyntax.specs.Transactions.{literals, portion as portion_phra
 ghost use Rattle.sqlread.specs.Changes.{is_system};
 ghost use Rattle.model.specs.Periods.{period_of};
 ghost use Rattle.sqlread.specs.Shapes.{statement_of, insert_of, update_of, delete_of};
+ghost use Rattle.rowtext.specs.Sinks.{Puts, WritesOrBegins};
 ghost use Rattle.rowtext.specs.Spacing.{Start, Sign, Word, token_text, line};
 ghost use Rattle.rowtext.specs.Transactions.{literal_of, cell_of, column_name, field_name, portion_of, value_of, assignment_of, comparison_of, conditions_of, insert_form, update_form, delete_form, given_columns, statement_text, transaction_text};
 
+use crate::sink::{Pen, Sink};
 use literals::Literal;
 use model::value::Value;
 use period::Period;
@@ -59,72 +59,76 @@ impl fmt::Display for Written<'_> {
     ghost output = { λ w. Some (transaction_text w.schema.now (map statement_of w.transaction.now.statements.items)) };
 
     fn fmt<W: fmt::Write>(&self, f: &mut fmt::Formatter<W>) -> fmt::Result {
-        write_statements(self.schema, &self.transaction.statements, f)
+        put_statements(self.schema, &self.transaction.statements, f)
     }
 }
 
-/// Writes a transaction over the tables of the schema, as `Written` shows it. On an error a part of it may be written.
+/// Writes a transaction over the tables of the schema, as `Written` prints it. Where the writer fails, its error is
+/// returned; it fails too where the schema lacks what a statement names, as `Written` does. In each case a beginning of
+/// the text was written. A value whose literal takes more than 900 bytes, which none of a transaction that was read
+/// does, may be an error too.
 pub fn write_transaction<W: io::Write>(
     schema: &Schema,
     transaction: &Transaction,
     writer: &mut W,
 ) -> io::Result<()>
-    ensures { OnOk result (Appends (W.contents writer.old) (W.contents writer.new) (transaction_text schema.now (map statement_of transaction.now.statements.items))) }
+    ensures { WritesOrBegins (W.contents writer.old) (W.contents writer.new) result (transaction_text schema.now (map statement_of transaction.now.statements.items)) }
 {
-    let written = Written {
-        schema,
-        transaction,
-    };
-    write!(writer, "{written}")
+    let mut pen = Pen { writer };
+    let written = put_statements(schema, &transaction.statements, &mut pen);
+    let Pen { writer } = pen;
+    // Does nothing: the proof takes from this what the writer holds.
+    let _ = &*writer;
+    written
 }
 
-fn write_statements<W: fmt::Write>(
+fn put_statements<S: Sink>(
     schema: &Schema,
     statements: &[Statement],
-    f: &mut fmt::Formatter<W>,
-) -> fmt::Result
-    ensures { WritesOnOk W.write_str_gives f.old result (transaction_text schema.now (map statement_of statements.now)) f.new }
+    sink: &mut S,
+) -> Result<(), S::Fault>
+    ensures { Puts S.takes S.begins sink.old result (transaction_text schema.now (map statement_of statements.now)) sink.new }
 {
     for statement in statements {
-        write_statement(schema, statement, f)?;
+        put_statement(schema, statement, sink)?;
     }
     Ok(())
 }
 
-fn write_statement<W: fmt::Write>(
+fn put_statement<S: Sink>(
     schema: &Schema,
     statement: &Statement,
-    f: &mut fmt::Formatter<W>,
-) -> fmt::Result
-    ensures { WritesOnOk W.write_str_gives f.old result (statement_text schema.now (statement_of statement.now)) f.new }
+    sink: &mut S,
+) -> Result<(), S::Fault>
+    ensures { Puts S.takes S.begins sink.old result (statement_text schema.now (statement_of statement.now)) sink.new }
 {
     let place = statement.table();
     if place >= schema.len() {
-        return Err(fmt::Error);
+        return Err(S::Fault::from(fmt::Error));
     }
     let (name, table) = schema.table(place);
     match statement {
-        Statement::Insert(insert) => write_insert(name, table, insert, f),
-        Statement::Update(update) => write_update(name, table, update, f),
-        Statement::Delete(delete) => write_delete(name, table, delete, f),
+        Statement::Insert(insert) => put_insert(name, table, insert, sink),
+        Statement::Update(update) => put_update(name, table, update, sink),
+        Statement::Delete(delete) => put_delete(name, table, delete, sink),
     }
 }
 
 // ---- INSERT
 
-fn write_insert<W: fmt::Write>(
+fn put_insert<S: Sink>(
     name: &Name,
     table: &Table,
     insert: &Insert,
-    f: &mut fmt::Formatter<W>,
-) -> fmt::Result
-    ensures { WritesOnOk W.write_str_gives f.old result (line Start (insert_phrase.spell (insert_form name.now table.now (insert_of insert.now))) ++ 10 ∷ []) f.new }
+    sink: &mut S,
+) -> Result<(), S::Fault>
+    ensures { Puts S.takes S.begins sink.old result (line Start (insert_phrase.spell (insert_form name.now table.now (insert_of insert.now))) ++ 10 ∷ []) sink.new }
 {
-    write!(f, "INSERT INTO {name} (")?;
-    write_columns(table, f)?;
-    f.write_str(") VALUES (")?;
-    write_row(table, insert, f)?;
-    f.write_str(");\n")
+    sink.put(format_args!("INSERT INTO {name} ("))?;
+    put_columns(table, sink)?;
+    sink.put(") VALUES (")?;
+    put_row(table, insert, sink)?;
+    sink.put(");\n")
 }
 
 fn is_system(table: &Table, column: usize) -> bool
@@ -134,42 +138,40 @@ fn is_system(table: &Table, column: usize) -> bool
 }
 
 // The names of the columns of a row.
-fn write_columns<W: fmt::Write>(table: &Table, f: &mut fmt::Formatter<W>) -> fmt::Result
-    ensures { WritesOnOk W.write_str_gives f.old result (line Start (name_list.spell (map (column_name table.now) (given_columns table.now)))) f.new }
+fn put_columns<S: Sink>(table: &Table, sink: &mut S) -> Result<(), S::Fault>
+    ensures { Puts S.takes S.begins sink.old result (line Start (name_list.spell (map (column_name table.now) (given_columns table.now)))) sink.new }
 {
     let mut separator = "";
     for column in 0..table.column_count() {
         if !is_system(table, column) {
             let name = table.column(column).0;
-            write!(f, "{separator}{name}")?;
+            sink.put(format_args!("{separator}{name}"))?;
             separator = ", ";
         }
     }
-    some_written(separator)
+    some_written(separator)?;
+    Ok(())
 }
 
 // The values of a row, in the order of the columns.
-fn write_row<W: fmt::Write>(
-    table: &Table,
-    insert: &Insert,
-    f: &mut fmt::Formatter<W>,
-) -> fmt::Result
-    ensures { WritesOnOk W.write_str_gives f.old result (line Start (literals.spell (map (cell_of table.now (insert_of insert.now)) (given_columns table.now)))) f.new }
+fn put_row<S: Sink>(table: &Table, insert: &Insert, sink: &mut S) -> Result<(), S::Fault>
+    ensures { Puts S.takes S.begins sink.old result (line Start (literals.spell (map (cell_of table.now (insert_of insert.now)) (given_columns table.now)))) sink.new }
 {
     let mut separator = "";
     for column in 0..table.column_count() {
         if !is_system(table, column) {
-            f.write_str(separator)?;
-            write_cell(table, insert, column, f)?;
+            sink.put(separator)?;
+            put_cell(table, insert, column, sink)?;
             separator = ", ";
         }
     }
-    some_written(separator)
+    some_written(separator)?;
+    Ok(())
 }
 
 // Whether anything stands before the next item of a list.
 fn some_written(separator: &str) -> fmt::Result
-    ensures { IsOk result → 0 < length separator.now }
+    ensures { MatchResult result (λ _. 0 < length separator.now) (λ _. length separator.now ≡ 0) }
 {
     if separator.is_empty() {
         return Err(fmt::Error);
@@ -178,23 +180,23 @@ fn some_written(separator: &str) -> fmt::Result
 }
 
 // The value of a column.
-fn write_cell<W: fmt::Write>(
+fn put_cell<S: Sink>(
     table: &Table,
     insert: &Insert,
     column: usize,
-    f: &mut fmt::Formatter<W>,
-) -> fmt::Result
-    ensures { WritesOnOk W.write_str_gives f.old result (line Start (literal_phrase.spell (cell_of table.now (insert_of insert.now) column))) f.new }
+    sink: &mut S,
+) -> Result<(), S::Fault>
+    ensures { Puts S.takes S.begins sink.old result (line Start (literal_phrase.spell (cell_of table.now (insert_of insert.now) column))) sink.new }
 {
     let start = insert.period.start;
     let end = insert.period.end;
     if column == table.start() {
-        write!(f, "DATE '{start}'")
+        sink.put(format_args!("DATE '{start}'"))
     } else if column == table.end() {
-        write!(f, "DATE '{end}'")
+        sink.put(format_args!("DATE '{end}'"))
     } else {
         let literal = SqlLiteral(value_at(table, insert, column).ok_or(fmt::Error)?);
-        write!(f, "{literal}")
+        sink.put(literal)
     }
 }
 
@@ -220,43 +222,43 @@ fn kept_at(insert: &Insert, field: Field) -> Option<&Value>
 
 // ---- UPDATE and DELETE
 
-fn write_update<W: fmt::Write>(
+fn put_update<S: Sink>(
     name: &Name,
     table: &Table,
     update: &Update,
-    f: &mut fmt::Formatter<W>,
-) -> fmt::Result
-    ensures { WritesOnOk W.write_str_gives f.old result (line Start (update_phrase.spell (update_form name.now table.now (update_of update.now))) ++ 10 ∷ []) f.new }
+    sink: &mut S,
+) -> Result<(), S::Fault>
+    ensures { Puts S.takes S.begins sink.old result (line Start (update_phrase.spell (update_form name.now table.now (update_of update.now))) ++ 10 ∷ []) sink.new }
 {
-    write!(f, "UPDATE {name}")?;
-    write_portion(table, update.portion, f)?;
-    f.write_str(" SET ")?;
-    write_assignments(table, &update.assignments, f)?;
-    write_conditions(table, &update.conditions, f)?;
-    f.write_str(";\n")
+    sink.put(format_args!("UPDATE {name}"))?;
+    put_portion(table, update.portion, sink)?;
+    sink.put(" SET ")?;
+    put_assignments(table, &update.assignments, sink)?;
+    put_conditions(table, &update.conditions, sink)?;
+    sink.put(";\n")
 }
 
-fn write_delete<W: fmt::Write>(
+fn put_delete<S: Sink>(
     name: &Name,
     table: &Table,
     delete: &Delete,
-    f: &mut fmt::Formatter<W>,
-) -> fmt::Result
-    ensures { WritesOnOk W.write_str_gives f.old result (line Start (delete_phrase.spell (delete_form name.now table.now (delete_of delete.now))) ++ 10 ∷ []) f.new }
+    sink: &mut S,
+) -> Result<(), S::Fault>
+    ensures { Puts S.takes S.begins sink.old result (line Start (delete_phrase.spell (delete_form name.now table.now (delete_of delete.now))) ++ 10 ∷ []) sink.new }
 {
-    write!(f, "DELETE FROM {name}")?;
-    write_portion(table, delete.portion, f)?;
-    write_conditions(table, &delete.conditions, f)?;
-    f.write_str(";\n")
+    sink.put(format_args!("DELETE FROM {name}"))?;
+    put_portion(table, delete.portion, sink)?;
+    put_conditions(table, &delete.conditions, sink)?;
+    sink.put(";\n")
 }
 
 // The portion, if there is one, behind a name.
-fn write_portion<W: fmt::Write>(
+fn put_portion<S: Sink>(
     table: &Table,
     portion: Option<Period>,
-    f: &mut fmt::Formatter<W>,
-) -> fmt::Result
-    ensures { WritesOnOk W.write_str_gives f.old result (line Word (spell_some portion_phrase (option_map (portion_of table.now) (option_map period_of portion)))) f.new }
+    sink: &mut S,
+) -> Result<(), S::Fault>
+    ensures { Puts S.takes S.begins sink.old result (line Word (spell_some portion_phrase (option_map (portion_of table.now) (option_map period_of portion)))) sink.new }
 {
     match portion {
         None => Ok(()),
@@ -264,54 +266,53 @@ fn write_portion<W: fmt::Write>(
             let name = table.period();
             let start = period.start;
             let end = period.end;
-            write!(f, " FOR PORTION OF {name} ")?;
-            write!(f, "FROM DATE '{start}' TO DATE '{end}'")
+            sink.put(format_args!(" FOR PORTION OF {name} FROM DATE '{start}' TO DATE '{end}'"))
         }
     }
 }
 
-fn write_assignments<W: fmt::Write>(
+fn put_assignments<S: Sink>(
     table: &Table,
     assignments: &[Assignment],
-    f: &mut fmt::Formatter<W>,
-) -> fmt::Result
-    ensures { WritesOnOk W.write_str_gives f.old result (line Start (assignments_phrase.spell (map (assignment_of table.now) assignments.now))) f.new }
+    sink: &mut S,
+) -> Result<(), S::Fault>
+    ensures { Puts S.takes S.begins sink.old result (line Start (assignments_phrase.spell (map (assignment_of table.now) assignments.now))) sink.new }
 {
     let (first, others) = assignments.split_first().ok_or(fmt::Error)?;
-    write_assignment(table, first, f)?;
-    write_more_assignments(table, others, f)
+    put_assignment(table, first, sink)?;
+    put_more_assignments(table, others, sink)
 }
 
 // Each assignment, with a comma before it.
-fn write_more_assignments<W: fmt::Write>(
+fn put_more_assignments<S: Sink>(
     table: &Table,
     assignments: &[Assignment],
-    f: &mut fmt::Formatter<W>,
-) -> fmt::Result
-    ensures { WritesOnOk W.write_str_gives f.old result (flat_map (λ a. codes ", " ++ line Start (assignment_phrase.spell (assignment_of table.now a))) assignments.now) f.new }
+    sink: &mut S,
+) -> Result<(), S::Fault>
+    ensures { Puts S.takes S.begins sink.old result (flat_map (λ a. codes ", " ++ line Start (assignment_phrase.spell (assignment_of table.now a))) assignments.now) sink.new }
 {
     for assignment in assignments {
-        f.write_str(", ")?;
-        write_assignment(table, assignment, f)?;
+        sink.put(", ")?;
+        put_assignment(table, assignment, sink)?;
     }
     Ok(())
 }
 
-fn write_assignment<W: fmt::Write>(
+fn put_assignment<S: Sink>(
     table: &Table,
     assignment: &Assignment,
-    f: &mut fmt::Formatter<W>,
-) -> fmt::Result
-    ensures { WritesOnOk W.write_str_gives f.old result (line Start (assignment_phrase.spell (assignment_of table.now assignment.now))) f.new }
+    sink: &mut S,
+) -> Result<(), S::Fault>
+    ensures { Puts S.takes S.begins sink.old result (line Start (assignment_phrase.spell (assignment_of table.now assignment.now))) sink.new }
 {
     let name = field_name(table, Field::Value(assignment.place)).ok_or(fmt::Error)?;
     match &assignment.value {
         NewValue::Literal(value) => {
             let literal = SqlLiteral(value);
-            write!(f, "{name} = {literal}")
+            sink.put(format_args!("{name} = {literal}"))
         }
-        NewValue::Plus(more) => write!(f, "{name} = {name} + {more}"),
-        NewValue::Minus(less) => write!(f, "{name} = {name} - {less}"),
+        NewValue::Plus(more) => sink.put(format_args!("{name} = {name} + {more}")),
+        NewValue::Minus(less) => sink.put(format_args!("{name} = {name} - {less}")),
     }
 }
 
@@ -331,47 +332,47 @@ fn field_name(table: &Table, field: Field) -> Option<&Name>
 }
 
 // The conditions, if there are any, behind a word.
-fn write_conditions<W: fmt::Write>(
+fn put_conditions<S: Sink>(
     table: &Table,
     conditions: &[Comparison],
-    f: &mut fmt::Formatter<W>,
-) -> fmt::Result
-    ensures { WritesOnOk W.write_str_gives f.old result (line Word (spell_some condition (conditions_of table.now conditions.now))) f.new }
+    sink: &mut S,
+) -> Result<(), S::Fault>
+    ensures { Puts S.takes S.begins sink.old result (line Word (spell_some condition (conditions_of table.now conditions.now))) sink.new }
 {
     let Some((first, others)) = conditions.split_first() else {
         return Ok(());
     };
-    f.write_str(" WHERE ")?;
-    write_comparison(table, first, f)?;
-    write_more_comparisons(table, others, f)
+    sink.put(" WHERE ")?;
+    put_comparison(table, first, sink)?;
+    put_more_comparisons(table, others, sink)
 }
 
 // Each comparison, with AND before it.
-fn write_more_comparisons<W: fmt::Write>(
+fn put_more_comparisons<S: Sink>(
     table: &Table,
     comparisons: &[Comparison],
-    f: &mut fmt::Formatter<W>,
-) -> fmt::Result
-    ensures { WritesOnOk W.write_str_gives f.old result (flat_map (λ c. codes " AND " ++ line Start (comparison_phrase.spell (comparison_of table.now c))) comparisons.now) f.new }
+    sink: &mut S,
+) -> Result<(), S::Fault>
+    ensures { Puts S.takes S.begins sink.old result (flat_map (λ c. codes " AND " ++ line Start (comparison_phrase.spell (comparison_of table.now c))) comparisons.now) sink.new }
 {
     for comparison in comparisons {
-        f.write_str(" AND ")?;
-        write_comparison(table, comparison, f)?;
+        sink.put(" AND ")?;
+        put_comparison(table, comparison, sink)?;
     }
     Ok(())
 }
 
-fn write_comparison<W: fmt::Write>(
+fn put_comparison<S: Sink>(
     table: &Table,
     comparison: &Comparison,
-    f: &mut fmt::Formatter<W>,
-) -> fmt::Result
-    ensures { WritesOnOk W.write_str_gives f.old result (line Start (comparison_phrase.spell (comparison_of table.now comparison.now))) f.new }
+    sink: &mut S,
+) -> Result<(), S::Fault>
+    ensures { Puts S.takes S.begins sink.old result (line Start (comparison_phrase.spell (comparison_of table.now comparison.now))) sink.new }
 {
     let name = field_name(table, comparison.field).ok_or(fmt::Error)?;
     let operator = operator_text(comparison.operator);
     let literal = SqlLiteral(&comparison.value);
-    write!(f, "{name} {operator} {literal}")
+    sink.put(format_args!("{name} {operator} {literal}"))
 }
 
 fn operator_text(operator: Operator) -> &'static str

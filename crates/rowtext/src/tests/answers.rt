@@ -1,3 +1,4 @@
+use crate::tests::weak::Weak;
 use crate::{Lines, write_answer};
 use answer::{Answer, Column, Shown, Shows};
 use fault::Text;
@@ -5,7 +6,6 @@ use model::stamp::Stamp;
 use model::value::Value;
 use period::{Day, Period};
 use std::alloc::{AllocError, Global};
-use std::io;
 use std::test::Fail;
 
 const WANTED: &str = "last 1970-01-01 00:00:00.000202
@@ -122,44 +122,12 @@ fn places_that_a_row_does_not_have(rt: HostRuntime) -> Result<(), Fail> {
     Ok(())
 }
 
-// Takes at most five bytes a call, is interrupted at each third, and fails when no calls are left.
-#[derive(Drop)]
-struct Weak {
-    taken: Vec<u8>,
-    calls: usize,
-    calls_left: usize,
-}
-
-impl io::Write for Weak {
-    fn write(&mut self, bytes: &[u8]) -> io::Result<usize> {
-        if self.calls_left == 0 {
-            return Err(io::Error::from(io::ErrorKind::StorageFull));
-        }
-        self.calls_left -= 1;
-        self.calls = self.calls.saturating_add(1);
-        if self.calls % 3 == 0 {
-            return Err(io::Error::from(io::ErrorKind::Interrupted));
-        }
-        let count = bytes.len().min(5);
-        self.taken.extend_from_slice(&bytes[..count])?;
-        Ok(count)
-    }
-
-    fn flush(&mut self) -> io::Result<()> {
-        Ok(())
-    }
-}
-
 #[test]
 fn a_writer_that_fails_holds_a_beginning(rt: HostRuntime) -> Result<(), Fail> {
     let answer = two_rows(rt.alloc())?;
     let mut is_whole = false;
     for calls_left in 0..400 {
-        let mut writer = Weak {
-            taken: Vec::new(rt.alloc()),
-            calls: 0,
-            calls_left,
-        };
+        let mut writer = Weak::new(rt.alloc(), calls_left);
         let written = write_answer(&answer, &mut writer);
         assert!(rt; WANTED.as_bytes().starts_with(writer.taken.as_slice()));
         is_whole = written.is_ok();
