@@ -1,12 +1,13 @@
 //! Playing scripts on a group.
-ghost use Rattle.std.specs.Prelude.{◌≡◌, ◌≤◌, ◌<◌, length, false, IsTrue, IfSome, OnOk, OnErr, IfOk, IfErr};
+ghost use Rattle.std.specs.Prelude.{◌≡◌, ◌≤◌, ◌<◌, length, false, IsTrue, IfSome, IsErr, OnOk, OnErr, IfOk, IfErr};
 ghost use Rattle.fault.specs.declared.refusal.Refusal.TheVariants.{NoMemory};
+ghost use Rattle.world.specs.View.{entry_in};
 
 use crate::line::{Job, Line};
 use crate::printing::Printed;
 use crate::run_fault::RunFault;
 use fault::{Refusal, Text};
-use model::entry::Request;
+use model::entry::{Entry, Request};
 use model::member::Member;
 use model::message::Input;
 use model::request::{Client, RequestNumber};
@@ -42,7 +43,7 @@ struct Sent {
 }
 
 impl Player {
-    ghost use Rattle.shell.specs.Player.{has_failed, IsPlayFault};
+    ghost use Rattle.shell.specs.Player.{commit_of, has_failed, member_in, IsPlayFault};
 
     /// A group of 3 to 7 members with tables of this schema, at its opening, where all clocks show 0.
     pub fn new(alloc: Global, members: usize, schema: Schema) -> Result<Player, AllocError>
@@ -73,6 +74,35 @@ impl Player {
         let played = self.play_line(line, writer);
         self.has_failed = played.is_err();
         played
+    }
+
+    /// Up to which index of its log a node has applied. None for a node that is down or not there, and where memory
+    /// was refused to the group. Takes no memory.
+    pub fn commit(&self, node: Member) -> Option<usize>
+        ensures { result ≡ commit_of self.now node }
+    {
+        self.world.commit(node)
+    }
+
+    /// The entry that a node has stored at an index of its log, counted from 1. None outside the log, and for a node
+    /// that is down or not there. No member changes.
+    ///
+    /// It fails only by want of memory, and after that the player answers nothing else; so it does after a line that
+    /// failed.
+    pub fn entry(&mut self, node: Member, index: usize) -> Result<Option<Entry>, AllocError>
+        ensures found { IfOk result (λ found. found ≡ entry_in index (member_in self.old node)) }
+        ensures same { OnOk result (member_in self.new ≡ member_in self.old) }
+        ensures fails { OnErr result (IsTrue (has_failed self.new)) }
+        ensures goes_on { OnOk result (has_failed self.new ≡ false) }
+        ensures stays { IsTrue (has_failed self.old) → IsErr result }
+    {
+        if self.has_failed {
+            return Err(AllocError);
+        }
+        self.has_failed = true;
+        let entry = self.world.entry(node, index)?;
+        self.has_failed = false;
+        Ok(entry)
     }
 
     fn play_line<W: io::Write>(&mut self, line: &Line, writer: &mut W) -> Result<(), RunFault>
@@ -135,7 +165,7 @@ impl Player {
 
     // Whether a member is up.
     fn is_up(&self, node: Member) -> bool {
-        self.world.commit(node).is_some()
+        self.commit(node).is_some()
     }
 
     // The place of the message of this number among those sent, if it was.

@@ -1,0 +1,111 @@
+//! What is known of a group from outside: what was decided, and who leads.
+use model::entry::{Entry, Request};
+use std::alloc::{AllocError, Global};
+
+/// What is known of a group.
+#[derive(Drop)]
+pub(crate) struct Known {
+    pub members: usize,
+    /// Who last sent entries.
+    pub leader: usize,
+    /// How many messages were sent.
+    pub sent: usize,
+    /// The longest list of entries that any member had applied.
+    pub decided: Vec<Entry>,
+    /// The term and the place, from 0, of entries that a member had stored past these.
+    pub stored: Vec<(u64, usize)>,
+}
+
+/// Whether both are the same request.
+fn is_same_request(request: &Request, other: &Request) -> bool {
+    request.client == other.client && request.number == other.number && request.text == other.text
+}
+
+/// Whether both are the same entry.
+pub(crate) fn is_same(entry: &Entry, other: &Entry) -> bool {
+    let is_same_time = entry.term == other.term && entry.stamp.micros() == other.stamp.micros();
+    match (&entry.request, &other.request) {
+        (None, None) => is_same_time,
+        (Some(request), Some(other)) => is_same_time && is_same_request(request, other),
+        _ => false,
+    }
+}
+
+impl Known {
+    pub(crate) fn new(alloc: Global, members: usize) -> Known {
+        Known {
+            members,
+            leader: 1,
+            sent: 0,
+            decided: Vec::new(alloc),
+            stored: Vec::new(alloc),
+        }
+    }
+
+    /// How many requests of a client were executed.
+    pub(crate) fn executed(&self, client: u16) -> u64 {
+        let mut count: u64 = 0;
+        for entry in self.decided.iter() {
+            let Some(request) = &entry.request else {
+                continue;
+            };
+            let number = request.number.get();
+            if request.client.get() == client && count.checked_add(1) == Some(number) {
+                count = number;
+            }
+        }
+        count
+    }
+
+    /// Whether the last two stamps rise.
+    pub(crate) fn is_stamped(&self) -> bool {
+        match self.decided.as_slice() {
+            [.., before, last] => before.stamp.micros() < last.stamp.micros(),
+            _ => true,
+        }
+    }
+
+    /// The places, from 0, of the requests from a place on, up to another.
+    pub(crate) fn requests(
+        &self,
+        alloc: Global,
+        from: usize,
+        to: usize,
+    ) -> Result<Vec<usize>, AllocError> {
+        let mut places = Vec::new(alloc);
+        for (place, entry) in self.decided.iter().enumerate() {
+            if from <= place && place < to && entry.request.is_some() {
+                places.push(place)?;
+            }
+        }
+        Ok(places)
+    }
+
+    /// In how many terms the decided requests were taken.
+    pub(crate) fn terms(&self) -> usize {
+        let mut count: usize = 0;
+        let mut last = 0;
+        for entry in self.decided.iter() {
+            if entry.request.is_some() && entry.term != last {
+                count = count.saturating_add(1);
+                last = entry.term;
+            }
+        }
+        count
+    }
+
+    /// How many entries that a member had stored gave way to others.
+    pub(crate) fn overruled(&self) -> usize {
+        let mut count: usize = 0;
+        for (term, place) in self.stored.iter() {
+            if self
+                .decided
+                .get(*place)
+                .is_some_and(|entry| entry.term != *term)
+            {
+                count = count.saturating_add(1);
+            }
+        }
+        count
+    }
+}
