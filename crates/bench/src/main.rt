@@ -1,9 +1,14 @@
-//! Measures how fast texts are read, and how long statements and questions take. Without words it reads each text once
-//! and tells what it found; with the word `rates` it reads each for about a megabyte, and prints how many bytes it reads
-//! in a second; with the word `tables` it prints the nanoseconds of an INSERT, of an UPDATE of a portion and of a
-//! question by key, over tables of 1,000, 5,000 and 20,000 rows.
+//! Measures how fast texts are read, and how long statements, questions and whole groups take. Without words it reads
+//! each text once and plays a little of each group, and tells what it found. With a word it prints times:
+//! - `rates`: how many bytes of a text are read in a second;
+//! - `tables`: the nanoseconds of an INSERT, of an UPDATE of a portion and of a question by key, over tables of 1,000,
+//!   5,000 and 20,000 rows;
+//! - `requests`: how many requests a group of three decides in a second, and how many questions by key it then answers;
+//! - `elections`: how many elections it holds in a second;
+//! - `restarts`: how long it takes until a member that was down has what was decided without it.
 #![tactic(auto)]
 
+mod groups;
 mod tables;
 
 use anyhow::Result;
@@ -30,33 +35,50 @@ fn main(rt: HostRuntime) -> Result<()> {
     let alloc = rt.alloc();
     let schema = read_schema(alloc, SCHEMA)?;
     match words_given(&rt)? {
-        Asked::Texts => tell_texts(&rt, alloc, &schema),
+        Asked::Checks => tell_checks(&rt, alloc, &schema),
         Asked::Rates => tell_rates(&rt, alloc, &schema),
         Asked::Tables => tables::tell(&rt, alloc, &schema),
+        Asked::Requests => groups::tell_requests(&rt, alloc, &schema),
+        Asked::Elections => groups::tell_elections(&rt, alloc, &schema),
+        Asked::Restarts => groups::tell_restarts(&rt, alloc, &schema),
     }
 }
 
 // What is to be measured.
 enum Asked {
-    /// Nothing: each text is read once.
-    Texts,
+    /// Nothing: each text is read once, and a little of each group is played.
+    Checks,
     /// How fast texts are read.
     Rates,
     /// How long statements and questions take.
     Tables,
+    /// How many requests are decided, and how many questions answered.
+    Requests,
+    /// How many elections are held.
+    Elections,
+    /// How long a member that was down takes to catch up.
+    Restarts,
 }
 
 fn words_given<R: AllocGlobal + Env>(rt: &R) -> Result<Asked> {
     let mut words = env::args(rt)?;
     let _program = words.next();
     let Some(word) = words.next() else {
-        return Ok(Asked::Texts);
+        return Ok(Asked::Checks);
     };
     Ok(match word.as_str() {
         "rates" => Asked::Rates,
         "tables" => Asked::Tables,
-        _ => Asked::Texts,
+        "requests" => Asked::Requests,
+        "elections" => Asked::Elections,
+        "restarts" => Asked::Restarts,
+        _ => Asked::Checks,
     })
+}
+
+fn tell_checks<R: Print + Clock>(rt: &R, alloc: Global, schema: &Schema) -> Result<()> {
+    tell_texts(rt, alloc, schema)?;
+    groups::tell_checks(rt, alloc, schema)
 }
 
 fn tell_texts<R: Print>(rt: &R, alloc: Global, schema: &Schema) -> Result<()> {

@@ -31,6 +31,8 @@ pub struct Player {
     clocks: Vec<i64>,
     /// In order of the messages, which count from 1.
     sent: Vec<Sent>,
+    /// How many of the first messages rounds of `settle` have gone through: none of them is left.
+    settled: usize,
     has_failed: bool,
 }
 
@@ -56,6 +58,7 @@ impl Player {
             world: World::new(alloc, members, schema)?,
             clocks: vec![in alloc; 0; members]?,
             sent: Vec::new(alloc),
+            settled: 0,
             has_failed: false,
         })
     }
@@ -336,12 +339,14 @@ impl Player {
         ensures { IfErr result IsPlayFault }
     {
         let mut was_left = false;
-        for place in 0..self.sent.len() {
+        let count = self.sent.len();
+        for place in self.settled..count {
             if self.is_left(place) {
                 was_left = true;
                 self.settle_at(place, writer)?;
             }
         }
+        self.settled = count;
         Ok(was_left)
     }
 

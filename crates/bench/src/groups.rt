@@ -1,0 +1,266 @@
+//! How long whole groups take. Each piece of a script is played as `sim` plays it, and what it printed is looked at.
+use anyhow::{Result, bail, ensure};
+use schema::Schema;
+use shell::line::{Line, read_line};
+use shell::player::Player;
+use std::alloc::Global;
+use std::rt::Clock;
+use std::time::Instant;
+
+// How many members a group has.
+const MEMBERS: usize = 3;
+
+// What a piece of a script printed, and how long it took.
+#[derive(Drop)]
+struct Played {
+    printed: String,
+    nanos: u128,
+}
+
+/// Prints how many requests, each an INSERT of one row, a group decides in a second, and how many questions by key it
+/// then answers in a second.
+pub(crate) fn tell_requests<R: Print + Clock>(
+    rt: &R,
+    alloc: Global,
+    schema: &Schema,
+) -> Result<()> {
+    for count in [1_000, 5_000] {
+        let mut player = led_group(rt, alloc, schema)?;
+        let decided = rate(count, decide_all(rt, alloc, &mut player, count)?);
+        let answered = rate(count, ask_all(rt, alloc, &mut player, count)?);
+        println!(rt;
+            "{count} requests: {decided} decided in a second, then {answered} questions by key answered in a second"
+        )?;
+    }
+    Ok(())
+}
+
+/// Prints how many elections a group holds in a second.
+pub(crate) fn tell_elections<R: Print + Clock>(
+    rt: &R,
+    alloc: Global,
+    schema: &Schema,
+) -> Result<()> {
+    let count = 1_000;
+    let mut player = led_group(rt, alloc, schema)?;
+    let held = rate(count, elect_all(rt, alloc, &mut player, count)?);
+    println!(rt; "{count} elections: {held} in a second")?;
+    Ok(())
+}
+
+/// Prints how long it takes until a member that was down has applied what was decided without it.
+pub(crate) fn tell_restarts<R: Print + Clock>(
+    rt: &R,
+    alloc: Global,
+    schema: &Schema,
+) -> Result<()> {
+    for count in [1_000, 10_000] {
+        let mut player = led_group(rt, alloc, schema)?;
+        let closed = close_without(rt, alloc, &mut player, count)? / 1_000_000;
+        let micros = catch_up(rt, alloc, &mut player, count)? / 1_000;
+        println!(rt;
+            "{count} entries decided in {closed} milliseconds reach a member that was down in {micros} microseconds"
+        )?;
+    }
+    Ok(())
+}
+
+/// Plays a little of each, and prints how much was as it should be.
+pub(crate) fn tell_checks<R: Print + Clock>(rt: &R, alloc: Global, schema: &Schema) -> Result<()> {
+    let count = 20;
+    let mut player = led_group(rt, alloc, schema)?;
+    let _ = decide_all(rt, alloc, &mut player, count)?;
+    println!(rt; "{count} requests: accepted at each node")?;
+    let _ = ask_all(rt, alloc, &mut player, count)?;
+    println!(rt; "{count} questions by key: a row each")?;
+    let mut player = led_group(rt, alloc, schema)?;
+    let _ = elect_all(rt, alloc, &mut player, count)?;
+    println!(rt; "{count} elections: a new leader each")?;
+    let mut player = led_group(rt, alloc, schema)?;
+    let _ = close_without(rt, alloc, &mut player, count)?;
+    let _ = catch_up(rt, alloc, &mut player, count)?;
+    println!(rt; "{count} entries: at a member that was down")?;
+    Ok(())
+}
+
+// How many of so many are done in a second, where all took so many nanoseconds.
+fn rate(count: usize, nanos: u128) -> u128 {
+    (count as u128).saturating_mul(1_000_000_000) / nanos.max(1)
+}
+
+// Plays lines of a script, and takes the time of that alone.
+fn play<R: Clock>(rt: &R, alloc: Global, player: &mut Player, script: &str) -> Result<Played> {
+    let lines = lines_of(alloc, script)?;
+    let mut printed = Vec::new(alloc);
+    let start = Instant::now(rt)?;
+    for line in &lines {
+        player.play(line, &mut printed)?;
+    }
+    let nanos = start.elapsed(rt)?.as_nanos();
+    let printed = String::from_utf8(printed)?;
+    Ok(Played { printed, nanos })
+}
+
+fn lines_of(alloc: Global, script: &str) -> Result<Vec<Line>> {
+    let mut lines = Vec::new(alloc);
+    for text in script.lines() {
+        match read_line(alloc, MEMBERS, text)? {
+            Some(line) => lines.push(line)?,
+            None => bail!("no line of a script: {text}"),
+        }
+    }
+    Ok(lines)
+}
+
+// Whether a line begins so.
+fn has_line(printed: &str, beginning: &str) -> bool {
+    for line in printed.lines() {
+        if line.starts_with(beginning) {
+            return true;
+        }
+    }
+    false
+}
+
+// A group that member 1 leads, in which one entry, stamped 0, is decided. All clocks show 0, so each entry after it is
+// stamped one more.
+fn led_group<R: Clock>(rt: &R, alloc: Global, schema: &Schema) -> Result<Player> {
+    let mut player = Player::new(alloc, MEMBERS, schema.clone()?)?;
+    let _ = elect(rt, alloc, &mut player, 1, 1)?;
+    Ok(player)
+}
+
+// The nanoseconds of so many requests, each of which is decided before the next is submitted.
+fn decide_all<R: Clock>(rt: &R, alloc: Global, player: &mut Player, count: usize) -> Result<u128> {
+    let mut nanos = 0u128;
+    for number in 1..=count {
+        nanos = nanos.saturating_add(decide(rt, alloc, player, number)?);
+    }
+    Ok(nanos)
+}
+
+// Submits a request. Each member is to tell that it was accepted.
+fn decide<R: Clock>(rt: &R, alloc: Global, player: &mut Player, number: usize) -> Result<u128> {
+    let script = format!(in alloc;
+        "submit 1 7 {number} INSERT INTO Dept (DNo, DStart, DEnd, DName) VALUES ({number}, DATE '2000-01-01', DATE '2020-01-01', 'Test');\nsettle\n"
+    )?;
+    let played = play(rt, alloc, player, script.as_str())?;
+    for node in 1..=MEMBERS {
+        let index = number.saturating_add(1);
+        let told = format!(in alloc;
+            "node {node} entry {index} request 7 {number} accepted 1970-01-01 00:00:00.{number:06}"
+        )?;
+        let is_told = has_line(played.printed.as_str(), told.as_str());
+        ensure!(is_told, "request {number} is not accepted at node {node}");
+    }
+    Ok(played.nanos)
+}
+
+// The nanoseconds of so many questions, of each key after so many rows with a key of their own.
+fn ask_all<R: Clock>(rt: &R, alloc: Global, player: &mut Player, rows: usize) -> Result<u128> {
+    let mut nanos = 0u128;
+    for key in 1..=rows {
+        nanos = nanos.saturating_add(ask(rt, alloc, player, key, rows)?);
+    }
+    Ok(nanos)
+}
+
+// Asks one member after the other for a key's row as of the last instant. One row is to be the answer.
+fn ask<R: Clock>(
+    rt: &R,
+    alloc: Global,
+    player: &mut Player,
+    key: usize,
+    rows: usize,
+) -> Result<u128> {
+    let node = key % MEMBERS + 1;
+    let script = format!(in alloc;
+        "ask {node} SELECT * FROM Dept FOR SYSTEM_TIME AS OF TIMESTAMP '1970-01-01 00:00:00.{rows:06}' WHERE DNo = {key};\n"
+    )?;
+    let played = play(rt, alloc, player, script.as_str())?;
+    let printed = played.printed.as_str();
+    let row = format!(in alloc; "row {key},2000-01-01,2020-01-01,'Test',")?;
+    let is_answered = has_line(printed, row.as_str()) && printed.ends_with("\nrows 1\n");
+    ensure!(
+        is_answered,
+        "node {node} does not give the row of key {key}"
+    );
+    Ok(played.nanos)
+}
+
+// The nanoseconds of so many elections, of one member after the other, in a group that member 1 leads in term 1.
+fn elect_all<R: Clock>(rt: &R, alloc: Global, player: &mut Player, count: usize) -> Result<u128> {
+    let mut nanos = 0u128;
+    for past in 1..=count {
+        let node = past % MEMBERS + 1;
+        let term = past.saturating_add(1);
+        nanos = nanos.saturating_add(elect(rt, alloc, player, node, term)?);
+    }
+    Ok(nanos)
+}
+
+// Lets a member stand for election in this term, in a group that has decided an entry in each earlier one. It is to
+// lead, and to decide the entry of this one.
+fn elect<R: Clock>(
+    rt: &R,
+    alloc: Global,
+    player: &mut Player,
+    node: usize,
+    term: usize,
+) -> Result<u128> {
+    let script = format!(in alloc; "timeout {node}\nsettle\n")?;
+    let played = play(rt, alloc, player, script.as_str())?;
+    let other = if node == 1 { 2 } else { 1 };
+    let decided = format!(in alloc;
+        " {node}->{other} append term {term} prev {term} {term} commit {term} entries 0\n"
+    )?;
+    let is_led = played.printed.as_str().contains(decided.as_str());
+    ensure!(is_led, "node {node} does not lead term {term}");
+    Ok(played.nanos)
+}
+
+// The nanoseconds of so many entries that are decided while member 3 is down.
+fn close_without<R: Clock>(
+    rt: &R,
+    alloc: Global,
+    player: &mut Player,
+    count: usize,
+) -> Result<u128> {
+    let mut nanos = play(rt, alloc, player, "stop 3\n")?.nanos;
+    for _ in 0..count {
+        let played = play(rt, alloc, player, "close 1\nsettle\n")?;
+        nanos = nanos.saturating_add(played.nanos);
+    }
+    ensure!(
+        has_applied(rt, alloc, player, 1, count)?,
+        "{count} entries are not decided"
+    );
+    Ok(nanos)
+}
+
+// The nanoseconds until member 3, which comes up again, has applied the entry of this stamp.
+fn catch_up<R: Clock>(rt: &R, alloc: Global, player: &mut Player, last: usize) -> Result<u128> {
+    let mut nanos = play(rt, alloc, player, "start 3\n")?.nanos;
+    for _ in 0..last {
+        let played = play(rt, alloc, player, "beat 1\nsettle\n")?;
+        nanos = nanos.saturating_add(played.nanos);
+        if has_applied(rt, alloc, player, 3, last)? {
+            return Ok(nanos);
+        }
+    }
+    bail!("member 3 does not get {last} entries")
+}
+
+// Whether the last entry that a member has applied bears this stamp: a question without system time names it.
+fn has_applied<R: Clock>(
+    rt: &R,
+    alloc: Global,
+    player: &mut Player,
+    node: usize,
+    stamp: usize,
+) -> Result<bool> {
+    let script = format!(in alloc; "ask {node} SELECT * FROM Dept WHERE DNo = 0;\n")?;
+    let played = play(rt, alloc, player, script.as_str())?;
+    let last = format!(in alloc; "last 1970-01-01 00:00:00.{stamp:06}")?;
+    Ok(has_line(played.printed.as_str(), last.as_str()))
+}
