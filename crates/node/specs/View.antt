@@ -47,6 +47,11 @@ Gave c effect (Ok None) = Nothing ≡ effect
 Gave c effect (Err (Kept refusal)) = Refuses refusal ≡ effect
 Gave c effect (Err (Down error)) = Unit {0}
 
+-- nothing changed
+abbrev pub IsKept : Fault → Type 0
+IsKept (Kept refusal) = Unit {0}
+IsKept (Down error) = ⊥
+
 -- a fault that is kept leaves the node up or down as it was, any other takes it down
 abbrev pub LeavesUp : Bool → Bool → Fault → Type 0
 LeavesUp up up' (Kept refusal) = up' ≡ up

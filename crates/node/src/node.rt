@@ -10,8 +10,9 @@ ghost use Rattle.model.specs.Kept.{node_after};
 ghost use Rattle.model.specs.Logs.{IsStamped};
 ghost use Rattle.model.specs.Members.{applied};
 ghost use Rattle.keep.specs.Durable.{Durable, IsBeforeOrAfter};
+ghost use Rattle.raft.specs.Memory.{spares_memory};
 ghost use Rattle.raft.specs.View.{node_of, works};
-ghost use Rattle.node.specs.View.{durable_of, after_change, Fits, Gave, IsSame, IsTorn, IsCause, HasCause, LeavesUp, started_from, told_between};
+ghost use Rattle.node.specs.View.{durable_of, after_change, Fits, Gave, IsKept, IsSame, IsTorn, IsCause, HasCause, LeavesUp, started_from, told_between};
 
 use crate::telling::tell;
 use answer::Answer;
@@ -181,11 +182,12 @@ impl<K: Keeper> Node<K> {
     /// `Fault::Kept` is a refusal that leaves the node as it was: `NodeDown` where it is down, and
     /// those of `Core::step`. `Fault::Down` takes the node down: `StoreFault` where the store fails,
     /// `NoMemory` where memory is refused. What is stored is then what was so before the step, or
-    /// after it.
+    /// after it. A timeout, a beat or a close that is refused or ignored takes no memory, and never takes the node down.
     #[tactic(auto, using(crate::proofs::Stored::fits, crate::proofs::Stored::short, crate::proofs::Stored::synced))]
     pub fn step(&mut self, work: Work) -> Result<Option<Out>, Fault>
         ensures done { self.old.is_up ≡ true → Gave self.new.core (works self.old.core.schema self.old.core.members self.old.core.me work (node_of self.old.core)) result }
         ensures told { IfOk result (λ o. MatchOption o (Unit {0}) (λ out. out.told.items ≡ told_between (schema_of self.old.core.schema) self.new.core.log.items self.old.core.commit self.new.core.commit)) }
+        ensures spares { spares_memory self.old.core.members self.old.core.me work (node_of self.old.core) ≡ true → IfErr result IsKept }
         ensures same { IsSame (node_of self.old.core) (node_of self.new.core) result }
         ensures torn { IsTorn (durable_of (node_of self.old.core)) (durable_of (node_after (node_of self.old.core) (works self.old.core.schema self.old.core.members self.old.core.me work (node_of self.old.core)))) (K.may_hold self.new.keeper) result }
         ensures up { OnOk result ((self.old.is_up ≡ true) × (self.new.is_up ≡ true)) }

@@ -2,8 +2,9 @@
 ghost use Rattle.std.specs.Prelude.{◌≡◌, ◌≢◌, ◌≤◌, ◌⊎◌, [], ◌++◌, ◌∷◌, true, false, Some, None, IfOk, IfErr, OnOk, MatchOption, unwrap_or};
 ghost use Rattle.sqlread.specs.Meaning.{schema_of};
 ghost use Rattle.keep.specs.Durable.{Durable};
+ghost use Rattle.raft.specs.Memory.{spares_memory};
 ghost use Rattle.raft.specs.View.{node_of, works};
-ghost use Rattle.node.specs.View.{durable_of, Gave, LeavesUp, HasCause, told_between};
+ghost use Rattle.node.specs.View.{durable_of, Gave, IsKept, LeavesUp, HasCause, told_between};
 ghost use Rattle.nodes.specs.Marks.{mark_after};
 ghost use Rattle.nodes.specs.Lives.{work_of, opened_with, replay, IsLeft, torn_step, all_steps, marks_rise, mark_for};
 ghost use Rattle.nodes.specs.Feeds.{IsLifeWith, IsRecorded, given_of, IsTurnedAway, IsStartRefusal, ending_of};
@@ -95,6 +96,7 @@ impl<K: Keeper> Cell<K> {
             × MatchOption (mark_for self.old.life packet) ⊥ (λ m. IsRecorded self.old.life self.new.life (record { mark = m; packet = packet }) result)
             × Gave self.new.node.core (works self.old.node.core.schema self.old.node.core.members self.old.node.core.me (work_of packet) (node_of self.old.node.core)) (given_of result)) }
         ensures told { IfOk result (λ out. MatchOption out.given (Unit {0}) (λ given. given.told.items ≡ told_between (schema_of self.old.node.core.schema) self.new.node.core.log.items self.old.node.core.commit self.new.node.core.commit)) }
+        ensures spares { spares_memory self.old.node.core.members self.old.node.core.me (work_of packet) (node_of self.old.node.core) ≡ true → IfErr result IsKept }
         ensures up { OnOk result ((self.old.node.is_up ≡ true) × (self.new.node.is_up ≡ true)) }
         ensures leaves { IfErr result (LeavesUp self.old.node.is_up self.new.node.is_up) }
         ensures cause { IfErr result (HasCause (K.failed self.old.node.keeper) (K.failed self.new.node.keeper)) }

@@ -1,8 +1,9 @@
 //! Local inputs: a timeout, a beat, and entries that a leader appends.
-ghost use Rattle.std.specs.Prelude.{◌≡◌, IfOk, IfSome, IfNone, true, false};
+ghost use Rattle.std.specs.Prelude.{◌≡◌, IfOk, IsOk, IfSome, IfNone, true, false};
 ghost use Rattle.model.specs.Stamps.{stamp};
 ghost use Rattle.model.specs.Logs.{least_stamp};
 ghost use Rattle.model.specs.Steps.{time_out, append_own, is_time_full, is_log_full, on_input};
+ghost use Rattle.raft.specs.Memory.{is_idle};
 ghost use Rattle.raft.specs.View.{node_of, with_entry, IsSameSeat, outcome_of, SameIfNotSent};
 
 use crate::state::{Core, Outcome};
@@ -19,6 +20,7 @@ impl Core {
     fn time_out(&mut self) -> Result<Outcome, AllocError>
         ensures done { IfOk result
             (λ o. outcome_of self.new o ≡ time_out self.old.members self.old.me (node_of self.old)) }
+        ensures spares { is_idle (time_out self.old.members self.old.me (node_of self.old)) ≡ true → IsOk result }
         ensures same { IfOk result (SameIfNotSent self.old self.new) }
         ensures seat { IsSameSeat self.old self.new }
     {
@@ -72,6 +74,7 @@ impl Core {
         ensures done { IfOk result
             (λ o. outcome_of self.new o
             ≡ append_own self.old.members self.old.me reading request (node_of self.old)) }
+        ensures spares { is_idle (append_own self.old.members self.old.me reading request (node_of self.old)) ≡ true → IsOk result }
         ensures same { IfOk result (SameIfNotSent self.old self.new) }
         ensures seat { IsSameSeat self.old self.new }
     {
@@ -93,6 +96,7 @@ impl Core {
         ensures done { IfOk result
             (λ o. outcome_of self.new o
             ≡ on_input self.old.members self.old.me input (node_of self.old)) }
+        ensures spares { is_idle (on_input self.old.members self.old.me input (node_of self.old)) ≡ true → IsOk result }
         ensures same { IfOk result (SameIfNotSent self.old self.new) }
         ensures seat { IsSameSeat self.old self.new }
     {

@@ -1,5 +1,5 @@
 //! One step of a member.
-ghost use Rattle.std.specs.Prelude.{◌≡◌, ◌<◌, ◌≤◌, length, drop, vec_len, IfOk, OnOk, OnErr, IsErr, nat_le, ◌&&◌, None, true, false};
+ghost use Rattle.std.specs.Prelude.{◌≡◌, ◌<◌, ◌≤◌, length, drop, vec_len, IfOk, OnOk, OnErr, IsOk, IsErr, nat_le, ◌&&◌, None, true, false};
 ghost use Rattle.std.specs.List.{list_all};
 ghost use Rattle.sqlread.specs.Meaning.{schema_of};
 ghost use Rattle.model.specs.Steps.{is_honest, entries_of, spells, on_message, on_body, go_on};
@@ -7,6 +7,8 @@ ghost use Rattle.model.specs.Worlds.{hand};
 ghost use Rattle.model.specs.Kept.{kept_at};
 ghost use Rattle.model.specs.Lists.{IsBeginning};
 ghost use Rattle.model.specs.Members.{applied};
+ghost use Rattle.raft.specs.Memory.{spares_memory};
+ghost use Rattle.raft.specs.declared.state.Work.TheVariants.{Local};
 ghost use Rattle.raft.specs.View.{node_of, after_of, works, kept_of, IsSameSeat, outcome_of, SameIfNotSent, effect_of, EffectFits, Grows};
 
 use crate::logs::{copies_of, go_on, kept_under};
@@ -164,6 +166,7 @@ impl Core {
         ensures done { IfOk result
             (λ o. outcome_of self.new o
             ≡ hand (schema_of self.old.schema) self.old.members self.old.me input (node_of self.old)) }
+        ensures spares { spares_memory self.old.members self.old.me (Local input) (node_of self.old) ≡ true → IsOk result }
         ensures same { IfOk result (SameIfNotSent self.old self.new) }
         ensures seat { IsSameSeat self.old self.new }
     {
@@ -186,6 +189,7 @@ impl Core {
         ensures done { IfOk result
             (λ o. outcome_of self.new o
             ≡ works self.old.schema self.old.members self.old.me work (node_of self.old)) }
+        ensures spares { spares_memory self.old.members self.old.me work (node_of self.old) ≡ true → IsOk result }
         ensures same { IfOk result (SameIfNotSent self.old self.new) }
         ensures seat { IsSameSeat self.old self.new }
     {
@@ -233,6 +237,7 @@ impl Core {
     fn take_work(&mut self, work: Work) -> Result<Effect, AllocError>
         ensures done { IfOk result
             (λ e. effect_of self.new e ≡ works self.old.schema self.old.members self.old.me work (node_of self.old)) }
+        ensures spares { spares_memory self.old.members self.old.me work (node_of self.old) ≡ true → IsOk result }
         ensures fits { IfOk result (EffectFits self.old self.new) }
         ensures seat { IsSameSeat self.old self.new }
     {
@@ -270,10 +275,11 @@ impl Core {
     /// another are ignored. The commit index never falls, and the log stays as it is up to there.
     ///
     /// An `Err` is want of memory: the state may be half changed, and each later step gives an `Err`
-    /// too.
+    /// too. A timeout, a beat or a close that is refused or ignored takes no memory.
     pub fn step(&mut self, work: Work) -> Result<Effect, AllocError>
         ensures done { IfOk result
             (λ e. effect_of self.new e ≡ works self.old.schema self.old.members self.old.me work (node_of self.old)) }
+        ensures spares { self.old.is_spent ≡ false → spares_memory self.old.members self.old.me work (node_of self.old) ≡ true → IsOk result }
         ensures fits { IfOk result (EffectFits self.old self.new) }
         ensures grows { IfOk result (λ e. Grows (node_of self.old) (node_of self.new)) }
         ensures begins { IfOk result (λ e. IsBeginning (applied (node_of self.old)) (applied (node_of self.new))) }
