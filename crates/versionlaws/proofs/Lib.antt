@@ -3,3 +3,4 @@ mod Committed
 mod Kept
 mod Found
 mod Answered
+mod Existing
