@@ -4,3 +4,4 @@ mod Kept
 mod Found
 mod Answered
 mod Existing
+mod Unanswered

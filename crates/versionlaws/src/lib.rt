@@ -7,6 +7,7 @@
 ghost use Rattle.versionlaws.specs.Versions.{NoVersions, HeldBefore, HeldOn, HeldKept};
 ghost use Rattle.versionlaws.specs.Committing.{Commit, CommitEntry, EntryStays, Lasts, HoldsAfter, KeepsAfter};
 ghost use Rattle.versionlaws.specs.Answering.{VersionsRows, VersionsEnds, VersionsGive, VersionsAnswer, SomeAnswer, ClosedAnswer};
+ghost use Rattle.versionlaws.specs.Unanswered.{NoAnswer};
 ghost use Rattle.versionlaws.specs.WorkedRows.{DeletedVersion, CutVersion};
 
 /// Before the first instant no versions are held, whatever comes.
@@ -120,6 +121,13 @@ pub fn closed_answer()
     safety::however_late();
     safety::one_answer();
     some_answer();
+}
+
+/// No answer: where a text says what is not well formed, a query that is closed may have no answer.
+pub fn no_answer()
+    ensures { NoAnswer }
+{
+    safety::state_up_to();
 }
 
 /// Rows by computation: the versions of a row that is deleted, and of one that is cut, and what the
