@@ -2,3 +2,4 @@ pub mod Executing
 pub mod View
 pub mod Asking
 pub mod Once
+pub mod Laws

@@ -3,6 +3,7 @@
 
 mod asking;
 mod executing;
+pub mod laws;
 pub mod tables;
 #[cfg(test)]
 mod tests;

@@ -3,3 +3,5 @@ mod Committed
 mod Kept
 mod Found
 mod Answered
+mod Existing
+mod Unanswered

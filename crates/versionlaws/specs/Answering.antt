@@ -1,11 +1,11 @@
 -- The answer that versions give.
-use Rattle.std.specs.Prelude.{◌≡◌, ◌↔◌, ℕ, ◌≤◌, Bool, true, ◌&&◌, nat_lt, nat_le, IsTrue, Option, Some, None, List, map, filter, reverse, if◌then◌else◌}
+use Rattle.std.specs.Prelude.{◌≡◌, ◌↔◌, ℕ, ◌≤◌, Bool, true, ◌&&◌, nat_lt, nat_le, IsTrue, Option, Some, None, List, ◌++◌, map, filter, reverse, if◌then◌else◌}
 use Rattle.std.specs.declared.cmp.Ordering.{Ordering}
 use Rattle.model.specs.declared.entry.Entry.{Entry}
 use Rattle.model.specs.Tables.{Table, Row}
 use Rattle.model.specs.Transactions.{Schema}
-use Rattle.model.specs.Logs.{IsStamped}
-use Rattle.model.specs.Answers.{SystemTime, AsOf, From, Between, IsInstant, last_instant, Query, Shown, Answer, row_cmp, IsAsked, IsShownEnd, IsAnswerOver, IsAnswer}
+use Rattle.model.specs.Logs.{IsStamped, closed}
+use Rattle.model.specs.Answers.{SystemTime, AsOf, From, Between, IsInstant, last_instant, Query, Select, read_at, Shown, Answer, row_cmp, IsAsked, IsShownEnd, IsAnswerOver, IsAnswer, IsClosed}
 use Rattle.rowlaws.specs.Rows.{Has, Apart}
 use Rattle.rowlaws.specs.Sorting.{in_order}
 use Rattle.rowlaws.specs.Logs.{AllFine}
@@ -72,3 +72,21 @@ VersionsGive = (versions : List Version) (history : ℕ → Table) (now : ℕ) (
 abbrev pub VersionsAnswer : Type 0
 VersionsAnswer = (schema : Schema) (q : Query) (list : List Entry) → IsStamped list → AllFine schema list → HasInstant q.time →
     IsAnswer schema q list (answer_from q (versions_after schema q.table (reverse list)))
+
+-- ---- that there is an answer
+
+-- a query has an answer in each log of well formed texts, also one that has no instant
+abbrev pub SomeAnswer : Type 0
+SomeAnswer = (schema : Schema) (q : Query) (list : List Entry) → IsStamped list → AllFine schema list → (a : Answer) × IsAnswer schema q list a
+
+-- the query is closed in the list, and it has an answer there, which is the only one in the list and in every longer one
+pub record HasAnswer (schema : Schema) (q : Select) (list : List Entry) : Type 0 where
+  pub now : ℕ
+  pub answer : Answer
+  pub at : closed list ≡ Some now
+  pub is : IsAnswer schema (read_at now q) list answer
+  pub only : (later : List Entry) (a : Answer) → IsStamped (list ++ later) → IsAnswer schema (read_at now q) (list ++ later) a ↔ (a ≡ answer)
+
+-- a query that is closed in a log of well formed texts has an answer
+abbrev pub ClosedAnswer : Type 0
+ClosedAnswer = (schema : Schema) (q : Select) (list : List Entry) → IsStamped list → AllFine schema list → IsClosed q list → HasAnswer schema q list

@@ -2,3 +2,4 @@ pub mod Versions
 pub mod Committing
 pub mod Answering
 pub mod WorkedRows
+pub mod Unanswered

@@ -6,7 +6,8 @@
 
 ghost use Rattle.versionlaws.specs.Versions.{NoVersions, HeldBefore, HeldOn, HeldKept};
 ghost use Rattle.versionlaws.specs.Committing.{Commit, CommitEntry, EntryStays, Lasts, HoldsAfter, KeepsAfter};
-ghost use Rattle.versionlaws.specs.Answering.{VersionsRows, VersionsEnds, VersionsGive, VersionsAnswer};
+ghost use Rattle.versionlaws.specs.Answering.{VersionsRows, VersionsEnds, VersionsGive, VersionsAnswer, SomeAnswer, ClosedAnswer};
+ghost use Rattle.versionlaws.specs.Unanswered.{NoAnswer};
 ghost use Rattle.versionlaws.specs.WorkedRows.{DeletedVersion, CutVersion};
 
 /// Before the first instant no versions are held, whatever comes.
@@ -101,6 +102,32 @@ pub fn versions_answer()
 {
     holds();
     keeps();
+}
+
+/// Some answer: a query has an answer in each log whose stamps rise and whose texts are well formed.
+/// One that has no instant has none of the rows.
+pub fn some_answer()
+    ensures { SomeAnswer }
+{
+    versions_answer();
+}
+
+/// Closed answer: a query that is closed in a log whose texts are well formed has an answer there, and
+/// it is the only answer in that log and in every longer one whose stamps rise. A query without system
+/// time is read AS OF the closed time.
+pub fn closed_answer()
+    ensures { ClosedAnswer }
+{
+    safety::however_late();
+    safety::one_answer();
+    some_answer();
+}
+
+/// No answer: where a text says what is not well formed, a query that is closed may have no answer.
+pub fn no_answer()
+    ensures { NoAnswer }
+{
+    safety::state_up_to();
 }
 
 /// Rows by computation: the versions of a row that is deleted, and of one that is cut, and what the

@@ -1,0 +1,17 @@
+-- What is so of every list of entries by the schema of any tables, whatever the texts say.
+use Rattle.std.specs.Prelude.{List}
+use Rattle.model.specs.declared.entry.Entry.{Entry}
+use Rattle.model.specs.Logs.{IsStamped}
+use Rattle.model.specs.Answers.{Select, IsClosed}
+use Rattle.rowlaws.specs.Logs.{ReadsFine}
+use Rattle.versionlaws.specs.Answering.{HasAnswer}
+use Rattle.sqlchecks.specs.Columns.{Tables}
+use Rattle.sqlread.specs.Meaning.{schema_of}
+
+-- what any text says is well formed
+abbrev pub TextsFine : Type 0
+TextsFine = (tables : Tables) → ReadsFine (schema_of tables)
+
+-- a query that is closed in a list whose stamps rise has an answer
+abbrev pub EachAnswered : Type 0
+EachAnswered = (tables : Tables) (q : Select) (list : List Entry) → IsStamped list → IsClosed q list → HasAnswer (schema_of tables) q list
