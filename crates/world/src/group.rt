@@ -1,5 +1,5 @@
 //! The members of a group, and every message that they sent.
-ghost use Rattle.std.specs.Prelude.{◌≡◌, ◌+◌, ◌++◌, ◌<◌, ℕ, None, true, false, length, map, vec_len, IfOk, OnOk, MatchOption};
+ghost use Rattle.std.specs.Prelude.{◌≡◌, ◌+◌, ◌++◌, ◌<◌, ℕ, None, true, false, length, map, vec_len, IfOk, IsOk, OnOk, MatchOption};
 ghost use Rattle.std.specs.List.{All};
 ghost use Rattle.model.specs.Lists.{nth};
 ghost use Rattle.model.specs.Members.{Node as TheNode};
@@ -10,7 +10,7 @@ ghost use Rattle.raft.specs.View.{works};
 ghost use Rattle.sqlchecks.specs.Columns.{Tables};
 ghost use Rattle.sqlread.specs.Meaning.{schema_of, select_of};
 ghost use Rattle.sqlread.specs.Shapes.{query_of};
-ghost use Rattle.world.specs.View.{brings, brought, commit_in, durable_in, entry_in, event_of, job_of, left_of, outputs_of, world_of, AllStamped, HasColumns, IsGroup, ShowsColumns};
+ghost use Rattle.world.specs.View.{brings, brought, commit_in, durable_in, entry_in, event_of, if_up, job_of, left_of, outputs_of, world_of, AllStamped, HasColumns, IsGroup, ShowsColumns};
 
 use crate::event::{Event, Job, Left, copy_of_input};
 use crate::output::{Output, announce, apply_all, copy_of, refused, single};
@@ -251,6 +251,7 @@ impl Group {
         requires group { IsGroup self.old.schema self.old.members self.old.seats.items }
         ensures found { IfOk result (λ found. found ≡ entry_in index (nth (world_of self.old).nodes member)) }
         ensures group { OnOk result (IsGroup self.old.schema self.old.members self.new.seats.items) }
+        ensures down { if_up (nth (world_of self.old).nodes member) ≡ None → IsOk result }
         ensures world { world_of self.new ≡ world_of self.old }
         ensures same { (self.new.schema ≡ self.old.schema) × (self.new.members ≡ self.old.members) }
     {

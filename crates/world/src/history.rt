@@ -3,7 +3,7 @@ ghost use Rattle.std.specs.Prelude.{◌≡◌, ◌++◌, ◌∷◌, ◌≤◌, �
 ghost use Rattle.model.specs.Agreement.{Agree};
 ghost use Rattle.model.specs.Worlds.{Gives, GivesAll, new_world};
 ghost use Rattle.sqlread.specs.Meaning.{schema_of};
-ghost use Rattle.world.specs.View.{commit_in, durable_in, entry_in, event_of, outputs_of, world_of, IsRun};
+ghost use Rattle.world.specs.View.{commit_in, durable_in, entry_in, event_of, if_up, outputs_of, world_of, IsRun};
 
 use crate::event::Event;
 use crate::group::Group;
@@ -174,9 +174,11 @@ impl World {
     /// The entry that a member has stored at an index of its log, counted from 1. None outside the
     /// log, and for a member that is down or not there.
     ///
-    /// The one error is want of memory. The world is spent then, and keeps its events.
+    /// The one error is want of memory, never of a member that is down or not there. The world is
+    /// spent then, and keeps its events.
     pub fn entry(&mut self, member: Member, index: usize) -> Result<Option<Entry>, AllocError>
         ensures found { IfOk result (λ found. found ≡ entry_in index (member_of self.old member)) }
+        ensures down { self.old.is_spent ≡ false → if_up (member_of self.old member) ≡ None → IsOk result }
         ensures tables { tables_in self.new ≡ tables_in self.old }
         ensures kept { self.new.kept.items ≡ self.old.kept.items }
         ensures same { (schema_in self.new ≡ schema_in self.old) × (members_in self.new ≡ members_in self.old) }

@@ -1,5 +1,5 @@
 //! A member's place in a group.
-ghost use Rattle.std.specs.Prelude.{◌≡◌, ◌≤◌, ℕ, Some, IfOk, OnOk, if◌then◌else◌};
+ghost use Rattle.std.specs.Prelude.{◌≡◌, ◌≤◌, ℕ, Some, false, IfOk, IsOk, OnOk, if◌then◌else◌};
 ghost use Rattle.answer.specs.Answers.{columns_in};
 ghost use Rattle.model.specs.Worlds.{node_left, started, stopped};
 ghost use Rattle.sqlchecks.specs.Columns.{Tables};
@@ -130,6 +130,7 @@ impl Seat {
         ensures found { IfOk result (λ found. (t : Tables) (n m : ℕ) → IsSeat t n m self.old → found ≡ entry_in index (Some (node_in self.old))) }
         ensures seat { OnOk result ((t : Tables) (n m : ℕ) → IsSeat t n m self.old → IsSeat t n m self.new) }
         ensures same { node_in self.new ≡ node_in self.old }
+        ensures down { (node_in self.old).up ≡ false → IsOk result }
     {
         match self {
             Seat::Up(node) => match node.entry(index) {
