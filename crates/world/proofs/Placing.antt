@@ -1,5 +1,5 @@
 -- A group in which one seat is looked at, or changed.
-use Rattle.std.proofs.Common.{◌≡◌, ◌∙◌, ℕ, zero, suc, ◌+◌, ◌<◌, ◌⊎◌, inl, inr, ⊎_elim, Some, None, List, [], ◌∷◌, ◌++◌, map, length, slice_get, slice_set, slice_index_or, refl, sym, ap, subst, option_map, add-one, append-nil}
+use Rattle.std.proofs.Common.{◌≡◌, ◌∙◌, Bool, true, false, if◌then◌else◌, ℕ, zero, suc, ◌+◌, ◌<◌, ◌⊎◌, inl, inr, ⊎_elim, Some, None, List, [], ◌∷◌, ◌++◌, map, length, slice_get, slice_set, slice_index_or, refl, sym, ap, subst, option_map, add-one, append-nil}
 use Rattle.std.proofs.lemmas.Option.{same_Some, slice_get-map, slice_get_read, get_or_from_slice_get}
 use Rattle.std.proofs.lemmas.List.{map-set, set-get_or}
 use Rattle.std.proofs.Math.ListN.{length-set}
@@ -16,7 +16,7 @@ use Rattle.sqlchecks.specs.Columns.{Tables}
 use Rattle.sqlread.specs.Meaning.{schema_of}
 use Rattle.world.specs.declared.seat.Seat.{Seat}
 use Rattle.world.specs.declared.seat.Step.TheVariants.{Moved, Refused as RefusedStep, Ignored}
-use Rattle.world.specs.View.{brings, brought, node_in, nodes_of, works_at, IsGroup, IsSeat, IsStep}
+use Rattle.world.specs.View.{brings, brought, if_up, node_in, nodes_of, works_at, IsGroup, IsSeat, IsStep}
 
 get_set : {A : Type 0} (xs : List A) (i k : ℕ) (v s : A) → slice_get (slice_set xs i v) k ≡ Some s → ((k ≡ i) × (v ≡ s)) ⊎ (slice_get xs k ≡ Some s)
 get_set {A} [] i k v s e = inr e
@@ -35,6 +35,14 @@ set_next xs m i y e = rw (e, add-one) refl
 pub nobody : (seats : List Seat) (m : ℕ) → nth seats m ≡ None → nth (nodes_of seats) m ≡ None
 nobody seats zero e = refl
 nobody seats (suc k) e = slice_get-map node_in seats k ∙ ap (option_map node_in) e
+
+down_if : {A : Type 0} (b : Bool) (x : A) → (if b then Some x else None) ≡ None → b ≡ false
+down_if true x e = cc
+down_if false x e = refl
+
+-- nothing is told of a member that is there, so it is down
+pub is_down : (x : Node) → if_up (Some x) ≡ None → x.up ≡ false
+is_down x e = down_if x.up x e
 
 -- the world of these members
 abbrev pub world_with : List Node → List Message → World

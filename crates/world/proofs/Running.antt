@@ -1,5 +1,10 @@
 -- Runs, one more event at a time.
-use Rattle.std.proofs.Common.{◌≡◌, ◌∙◌, ℕ, List, [], ◌∷◌, ◌++◌, map, refl, sym, ap, subst, append-nil}
+use Rattle.std.proofs.Common.{◌≡◌, ◌∙◌, ℕ, ◌+◌, ⊎_elim, Some, List, [], ◌∷◌, ◌++◌, map, take, length, slice_get, refl, sym, ap, subst, append-nil, append_assoc, Result, Ok, Err, OnErr}
+use Rattle.std.proofs.lemmas.Option.{same_Some}
+use Rattle.std.proofs.lemmas.List.{take-map}
+use Rattle.std.specs.declared.vec.Vec.{Vec}
+use Rattle.std.specs.declared.alloc.Global.{Global}
+use Rattle.sqlchecks.specs.Columns.{Tables}
 use Rattle.model.specs.Lists.{nth}
 use Rattle.model.specs.Transactions.{Schema}
 use Rattle.model.specs.Agreement.{Agree}
@@ -7,7 +12,10 @@ use Rattle.model.specs.Worlds.{World, Event, Output, happens, run, Gives, GivesA
 use Rattle.world.specs.declared.event.Event.{Event as Given}
 use Rattle.sqlread.specs.Meaning.{schema_of}
 use Rattle.world.specs.declared.group.Group.{Group}
-use Rattle.world.specs.View.{event_of, world_of, AllStamped, IsGroup, IsRun}
+use Rattle.world.specs.declared.output.Output.{Output as Out}
+use Rattle.world.specs.Run.{IsBegun}
+use Rattle.world.specs.View.{event_of, world_of, AllStamped, EachShowsColumns, IsGroup, IsRun, ShowsColumns}
+use Rattle.world.proofs.Lists.{map_append, push_get}
 
 run_more : (s : Schema) (n : ℕ) (w : World) (es fs : List Event) → run s n w (es ++ fs) ≡ run s n (run s n w es) fs
 run_more s n w [] fs = refl
@@ -17,10 +25,6 @@ gives_more : (s : Schema) (n : ℕ) (w : World) (es : List Event) (outs : List (
 gives_more s n w [] outs e out all one = (out, [], ap (λ xs. xs ++ out ∷ []) all, one, refl)
 gives_more s n w (f ∷ es) outs e out all one =
     (all.0, all.1 ++ out ∷ [], ap (λ xs. xs ++ out ∷ []) all.2, all.3, gives_more s n (happens s n w f) es all.1 e out all.4 one)
-
-pub map_append : {A B : Type 0} (f : A → B) (xs ys : List A) → map f (xs ++ ys) ≡ map f xs ++ map f ys
-map_append f [] ys = refl
-map_append f (x ∷ xs) ys = ap (λ zs. f x ∷ zs) (map_append f xs ys)
 
 -- after the events kept, and those taken since
 pub step_more : (s : Schema) (n : ℕ) (w : World) (kept : List Event) (taken : List Given) (e : Given) (outs : List (List Output)) (out : List Output) →
@@ -50,3 +54,29 @@ run_is old new kept after e r g w schema members is = record {
   group = rw (schema, members) g;
   world = rw (schema, members, is) (w ∙ ap (λ (v : World). happens (schema_of old.schema) old.members v (event_of e)) r.world ∙ sym (run_next (schema_of old.schema) old.members (new_world old.members) (map event_of kept) (event_of e)));
 }
+
+-- after the outputs of one more event
+pub columns_more : (t : Tables) (all : List Given) (outs after : List (Vec Out Global)) (i : ℕ) (e : Given) (out : Vec Out Global) → length outs ≡ i → after ≡ outs ++ out ∷ [] → slice_get all i ≡ Some e →
+    EachShowsColumns t all outs → ShowsColumns t e out.items → EachShowsColumns t all after
+columns_more t all outs after i e out count is here before new k f v at gave =
+    let P : Given → Type 0 = λ g. ShowsColumns t g out.items in
+    let Q : Vec Out Global → Type 0 = λ o. ShowsColumns t f o.items in
+    ⊎_elim (λ (h : slice_get outs k ≡ Some v). before k f v at h)
+    (λ (h : (k ≡ length outs) × (out ≡ v)). subst Q h.1 (subst P (same_Some e f (sym here ∙ ap (slice_get all) (sym (h.0 ∙ count)) ∙ at)) new))
+    (push_get outs out v k (ap (λ (xs : List (Vec Out Global)). slice_get xs k) (sym is) ∙ gave))
+
+-- the first events that were done are kept
+pub begun_with : (old new : List Event) (all : List Given) (i : ℕ) → new ≡ old ++ map event_of (take i all) → IsBegun old (map event_of all) new
+begun_with old new all i is = (i, is ∙ ap (λ es. old ++ es) (sym (take-map event_of i all)))
+
+pub none_begun : (old these : List Event) → IsBegun old these old
+none_begun old these = (0, sym (append-nil old))
+
+-- one more event is kept
+pub kept_through : (old now new : List Event) (all : List Given) (i : ℕ) (e : Given) → now ≡ old ++ map event_of (take i all) → new ≡ now ++ event_of e ∷ [] → take (i + 1) all ≡ take i all ++ e ∷ [] → new ≡ old ++ map event_of (take (i + 1) all)
+kept_through old now new all i e before is next =
+    is ∙ ap (λ es. es ++ event_of e ∷ []) before ∙ append_assoc old (map event_of (take i all)) (event_of e ∷ []) ∙ ap (λ es. old ++ es) (sym (ap (map event_of) next ∙ map_append event_of (take i all) (e ∷ [])))
+
+pub on_err : {A E : Type 0} (r : Result A E) {P : Type 0} → P → OnErr r P
+on_err (Ok x) p = tt
+on_err (Err e) p = p

@@ -1,18 +1,11 @@
 -- The members as they are started, one after another.
-use Rattle.std.proofs.Common.{◌≡◌, ◌∙◌, ℕ, zero, suc, ◌+◌, ◌⊎◌, inl, inr, ⊎_elim, Some, List, [], ◌∷◌, ◌++◌, length, replicate, slice_get, refl, sym, ap, subst}
-use Rattle.std.proofs.lemmas.Option.{same_Some}
+use Rattle.std.proofs.Common.{◌≡◌, ◌∙◌, ℕ, ◌+◌, ⊎_elim, Some, List, [], ◌∷◌, ◌++◌, length, replicate, slice_get, sym, ap, subst}
 use Rattle.std.proofs.lemmas.List.{replicate-append-replicate}
 use Rattle.sqlchecks.specs.Columns.{Tables}
 use Rattle.model.specs.Members.{Node}
 use Rattle.world.specs.declared.seat.Seat.{Seat}
 use Rattle.world.specs.View.{node_in, nodes_of, IsSeat}
-use Rattle.world.proofs.Running.{map_append}
-
-push_get : {A : Type 0} (xs : List A) (v s : A) (k : ℕ) → slice_get (xs ++ v ∷ []) k ≡ Some s → (slice_get xs k ≡ Some s) ⊎ ((k ≡ length xs) × (v ≡ s))
-push_get [] v s zero e = inr (refl, same_Some v s e)
-push_get [] v s (suc k) e = inl e
-push_get (x ∷ xs) v s zero e = inl e
-push_get (x ∷ xs) v s (suc k) e = ⊎_elim (λ h. inl h) (λ h. inr (ap suc h.0, h.1)) (push_get xs v s k e)
+use Rattle.world.proofs.Lists.{map_append, push_get}
 
 -- one more member
 pub each_push : (t : Tables) (n i : ℕ) (xs ys : List Seat) (x : Seat) → length xs ≡ i → ys ≡ xs ++ x ∷ [] →

@@ -1,15 +1,20 @@
 -- A world as its run.
-use Rattle.std.specs.Prelude.{ℕ, List, map, Option}
+use Rattle.std.specs.Prelude.{◌≡◌, ◌++◌, ℕ, List, map, take, Option}
 use Rattle.model.specs.Lists.{nth}
 use Rattle.model.specs.Members.{Node}
 use Rattle.model.specs.Transactions.{Schema}
 use Rattle.model.specs.Worlds.{World, Event, new_world, run}
+use Rattle.sqlchecks.specs.Columns.{Tables}
 use Rattle.sqlread.specs.Meaning.{schema_of}
 use Rattle.world.specs.declared.history.World.{World as Whole}
 use Rattle.world.specs.View.{event_of}
 
 abbrev pub schema_in : Whole → Schema
 schema_in w = schema_of w.group.schema
+
+-- the same, as they were declared
+abbrev pub tables_in : Whole → Tables
+tables_in w = w.group.schema
 
 abbrev pub members_in : Whole → ℕ
 members_in w = w.group.members
@@ -21,6 +26,10 @@ opening_of w = new_world (members_in w)
 -- what happened, from the first event on
 abbrev pub events_of : Whole → List Event
 events_of w = map event_of w.kept.items
+
+-- the old events, and then a beginning of these
+abbrev pub IsBegun : List Event → List Event → List Event → Type 0
+IsBegun old these new = (count : ℕ) × (new ≡ old ++ take count these)
 
 -- the world after what happened
 abbrev pub now_of : Whole → World

@@ -1,6 +1,9 @@
 -- Events, outputs and a group as the definitions see them.
 use Rattle.std.specs.Prelude.{◌≡◌, ℕ, ◌≤◌, ◌+◌, Bool, true, false, Option, Some, None, Result, Err, List, [], map, length, slice_get, option_map, option_and_then, if◌then◌else◌}
+use Rattle.std.specs.List.{All}
 use Rattle.std.specs.Option.{ForSome}
+use Rattle.std.specs.declared.vec.Vec.{Vec}
+use Rattle.std.specs.declared.alloc.Global.{Global}
 use Rattle.fault.specs.declared.refusal.Refusal.{Refusal}
 use Rattle.fault.specs.declared.refusal.Refusal.TheVariants.{NodeDown}
 use Rattle.model.specs.declared.entry.Entry.{Entry}
@@ -21,7 +24,7 @@ use Rattle.raft.specs.declared.state.Core.{Core}
 use Rattle.raft.specs.declared.state.Work.{Work}
 use Rattle.raft.specs.View.{node_of, works}
 use Rattle.answer.specs.declared.Answer.{Answer}
-use Rattle.answer.specs.Answers.{answer_of}
+use Rattle.answer.specs.Answers.{answer_of, columns_in}
 use Rattle.sqlchecks.specs.Columns.{Tables}
 use Rattle.sqlread.specs.Shapes.{QueryShape, query_of}
 use Rattle.sqlread.specs.Meaning.{schema_of, select_of}
@@ -65,6 +68,26 @@ output_of (AnsweredOut m answer) = Answered m (answer_of answer)
 
 abbrev pub outputs_of : List Out → List Output
 outputs_of = map output_of
+
+-- an answer has the columns of the table at this place
+abbrev pub HasColumns : Tables → ℕ → Out → Type 0
+HasColumns tables table (SentOut number message) = Unit {0}
+HasColumns tables table (AppliedOut m told) = Unit {0}
+HasColumns tables table (RefusedOut m refusal) = Unit {0}
+HasColumns tables table (AnsweredOut m answer) = answer.columns.items ≡ columns_in tables table
+
+-- what an Ask gives has the columns of the table that was asked
+abbrev pub ShowsColumns : Tables → Given → List Out → Type 0
+ShowsColumns tables (Hand m input) outs = Unit {0}
+ShowsColumns tables (Deliver k reading) outs = Unit {0}
+ShowsColumns tables (Stop m) outs = Unit {0}
+ShowsColumns tables (Start m) outs = Unit {0}
+ShowsColumns tables (Torn m job left) outs = Unit {0}
+ShowsColumns tables (Ask m query) outs = All (HasColumns tables query.table) outs
+
+-- each of these events, with what it gives in its turn
+abbrev pub EachShowsColumns : Tables → List Given → List (Vec Out Global) → Type 0
+EachShowsColumns tables events outs = (k : ℕ) (e : Given) (out : Vec Out Global) → slice_get events k ≡ Some e → slice_get outs k ≡ Some out → ShowsColumns tables e out.items
 
 -- ---- a member
 

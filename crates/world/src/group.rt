@@ -1,5 +1,6 @@
 //! The members of a group, and every message that they sent.
-ghost use Rattle.std.specs.Prelude.{◌≡◌, ◌+◌, ◌++◌, ◌<◌, ℕ, None, true, false, length, map, vec_len, IfOk, OnOk, MatchOption};
+ghost use Rattle.std.specs.Prelude.{◌≡◌, ◌+◌, ◌++◌, ◌<◌, ℕ, None, true, false, length, map, vec_len, IfOk, IsOk, OnOk, MatchOption};
+ghost use Rattle.std.specs.List.{All};
 ghost use Rattle.model.specs.Lists.{nth};
 ghost use Rattle.model.specs.Members.{Node as TheNode};
 ghost use Rattle.model.specs.Worlds.{effect, happens, is_for, numbered, Gives, IsGivenAt};
@@ -9,7 +10,7 @@ ghost use Rattle.raft.specs.View.{works};
 ghost use Rattle.sqlchecks.specs.Columns.{Tables};
 ghost use Rattle.sqlread.specs.Meaning.{schema_of, select_of};
 ghost use Rattle.sqlread.specs.Shapes.{query_of};
-ghost use Rattle.world.specs.View.{brings, brought, commit_in, durable_in, entry_in, event_of, job_of, left_of, outputs_of, world_of, AllStamped, IsGroup};
+ghost use Rattle.world.specs.View.{brings, brought, commit_in, durable_in, entry_in, event_of, if_up, job_of, left_of, outputs_of, world_of, AllStamped, HasColumns, IsGroup, ShowsColumns};
 
 use crate::event::{Event, Job, Left, copy_of_input};
 use crate::output::{Output, announce, apply_all, copy_of, refused, single};
@@ -189,7 +190,8 @@ impl Group {
     fn ask(&self, member: Member, query: &Query) -> Result<Vec<Output>, AllocError>
         requires group { IsGroup self.now.schema self.now.members self.now.seats.items }
         requires stamped { AllStamped (world_of self.now) }
-        ensures { IfOk result (λ outs. IsGivenAt (schema_of self.now.schema) member (select_of (query_of query.now)) (nth (world_of self.now).nodes member) (outputs_of outs.items)) }
+        ensures given { IfOk result (λ outs. IsGivenAt (schema_of self.now.schema) member (select_of (query_of query.now)) (nth (world_of self.now).nodes member) (outputs_of outs.items)) }
+        ensures columns { IfOk result (λ outs. All (HasColumns self.now.schema query.now.table) outs.items) }
     {
         let Some(place) = self.place(member) else {
             return Ok(Vec::new(self.alloc));
@@ -207,6 +209,7 @@ impl Group {
         ensures group { OnOk result (IsGroup self.old.schema self.old.members self.new.seats.items) }
         ensures world { OnOk result (world_of self.new ≡ happens (schema_of self.old.schema) self.old.members (world_of self.old) (event_of event.now)) }
         ensures gives { IfOk result (λ outs. Gives (schema_of self.old.schema) self.old.members (world_of self.old) (event_of event.now) (outputs_of outs.items)) }
+        ensures columns { IfOk result (λ outs. ShowsColumns self.old.schema event.now outs.items) }
         ensures same { (self.new.schema ≡ self.old.schema) × (self.new.members ≡ self.old.members) }
     {
         match event {
@@ -248,6 +251,7 @@ impl Group {
         requires group { IsGroup self.old.schema self.old.members self.old.seats.items }
         ensures found { IfOk result (λ found. found ≡ entry_in index (nth (world_of self.old).nodes member)) }
         ensures group { OnOk result (IsGroup self.old.schema self.old.members self.new.seats.items) }
+        ensures down { if_up (nth (world_of self.old).nodes member) ≡ None → IsOk result }
         ensures world { world_of self.new ≡ world_of self.old }
         ensures same { (self.new.schema ≡ self.old.schema) × (self.new.members ≡ self.old.members) }
     {

@@ -1,9 +1,9 @@
 //! A group, and all that happened to it.
-ghost use Rattle.std.specs.Prelude.{◌≡◌, ◌++◌, ◌∷◌, ◌≤◌, ◌↔◌, [], true, false, map, None, IfOk, IsErr, OnErr, OnOk, if◌then◌else◌};
+ghost use Rattle.std.specs.Prelude.{◌≡◌, ◌++◌, ◌∷◌, ◌≤◌, ◌↔◌, [], true, false, map, None, IfOk, IsErr, IsOk, OnErr, OnOk, if◌then◌else◌};
 ghost use Rattle.model.specs.Agreement.{Agree};
 ghost use Rattle.model.specs.Worlds.{Gives, GivesAll, new_world};
 ghost use Rattle.sqlread.specs.Meaning.{schema_of};
-ghost use Rattle.world.specs.View.{commit_in, durable_in, entry_in, event_of, outputs_of, world_of, IsRun};
+ghost use Rattle.world.specs.View.{commit_in, durable_in, entry_in, event_of, if_up, outputs_of, world_of, IsRun};
 
 use crate::event::Event;
 use crate::group::Group;
@@ -25,7 +25,8 @@ pub struct World {
 }
 
 impl World {
-    ghost use Rattle.world.specs.Run.{schema_in, members_in, opening_of, events_of, now_of, member_of};
+    ghost use Rattle.world.specs.Run.{schema_in, tables_in, members_in, opening_of, events_of, now_of, member_of, IsBegun};
+    ghost use Rattle.world.specs.View.{EachShowsColumns, ShowsColumns};
 
     /// A group of 3 to 7 members in one program, with tables of this schema: all up, as followers in term 0 with no vote and empty
     /// logs. Nothing has happened yet.
@@ -37,6 +38,7 @@ impl World {
         ensures opening { IfOk result (λ w. world_of w.group ≡ new_world members) }
         ensures members { IfOk result (λ w. members_in w ≡ members) }
         ensures schema { IfOk result (λ w. schema_in w ≡ schema_of schema) }
+        ensures tables { IfOk result (λ w. tables_in w ≡ schema) }
         ensures nothing { IfOk result (λ w. w.kept.items ≡ []) }
         ensures live { IfOk result (λ w. w.is_spent ≡ false) }
     {
@@ -57,7 +59,7 @@ impl World {
 
     /// The tables of its members.
     pub fn schema(&self) -> &Schema
-        ensures { schema_of result.now ≡ schema_in self.now }
+        ensures { result.now ≡ tables_in self.now }
     {
         &self.group.schema
     }
@@ -83,7 +85,9 @@ impl World {
     fn happen(&mut self, event: &Event) -> Result<Vec<Output>, AllocError>
         requires live { self.old.is_spent ≡ false }
         ensures gives { IfOk result (λ outs. Gives (schema_in self.old) (members_in self.old) (now_of self.old) (event_of event.now) (outputs_of outs.items)) }
+        ensures columns { IfOk result (λ outs. ShowsColumns (tables_in self.old) event.now outs.items) }
         ensures kept { OnOk result (events_of self.new ≡ events_of self.old ++ event_of event.now ∷ []) }
+        ensures err { OnErr result (self.new.kept.items ≡ self.old.kept.items) }
         ensures same { (self.new.group.schema ≡ self.old.group.schema) × (self.new.group.members ≡ self.old.group.members) }
         ensures ok { OnOk result (self.new.is_spent ≡ false) }
     {
@@ -96,13 +100,16 @@ impl World {
         Ok(outs)
     }
 
-    /// Each of these events, until memory is refused.
+    /// Each of these events, until memory is refused. No events take no memory.
     fn run_all(&mut self, events: &[Event]) -> Result<Vec<Vec<Output>>, AllocError>
         requires live { self.old.is_spent ≡ false }
         ensures gives { IfOk result (λ outs. GivesAll (schema_in self.old) (members_in self.old) (now_of self.old) (map event_of events.now) (map (λ o. outputs_of o.items) outs.items)) }
+        ensures columns { IfOk result (λ outs. EachShowsColumns (tables_in self.old) events.now outs.items) }
         ensures kept { OnOk result (events_of self.new ≡ events_of self.old ++ map event_of events.now) }
+        ensures begun { OnErr result (IsBegun (events_of self.old) (map event_of events.now) (events_of self.new)) }
         ensures same { (self.new.group.schema ≡ self.old.group.schema) × (self.new.group.members ≡ self.old.group.members) }
         ensures ok { OnOk result (self.new.is_spent ≡ false) }
+        ensures idle { events.now ≡ [] → IsOk result }
     {
         let mut outs = Vec::new(self.group.alloc);
         for event in events {
@@ -123,15 +130,24 @@ impl World {
     /// All members agree about all that happened so far: the State Machine Safety Property of "In
     /// Search of an Understandable Consensus Algorithm", and what it comes to for answers.
     ///
-    /// The one error is want of memory. The world is spent then: each later call gives it too.
+    /// An answer has the columns of the table that was asked, in declared order.
+    ///
+    /// The one error is want of memory, never of a list of no events. The world is spent then: each
+    /// later call gives it too, and changes nothing. Kept are the earlier events, and then those of
+    /// these that were done, from the first on.
     pub fn run(&mut self, events: &[Event]) -> Result<Vec<Vec<Output>>, AllocError>
         ensures gives { IfOk result (λ outs. GivesAll (schema_in self.old) (members_in self.old) (now_of self.old) (map event_of events.now) (map (λ o. outputs_of o.items) outs.items)) }
+        ensures columns { IfOk result (λ outs. EachShowsColumns (tables_in self.old) events.now outs.items) }
         ensures kept { OnOk result (events_of self.new ≡ events_of self.old ++ map event_of events.now) }
+        ensures begun { OnErr result (IsBegun (events_of self.old) (map event_of events.now) (events_of self.new)) }
         ensures agree { Agree (schema_in self.new) (members_in self.new) (opening_of self.new) (events_of self.new) }
+        ensures tables { tables_in self.new ≡ tables_in self.old }
         ensures same { (schema_in self.new ≡ schema_in self.old) × (members_in self.new ≡ members_in self.old) }
         ensures ok { OnOk result ((self.old.is_spent ≡ false) × (self.new.is_spent ≡ false)) }
         ensures err { OnErr result (self.new.is_spent ≡ true) }
+        ensures idle { self.old.is_spent ≡ false → events.now ≡ [] → IsOk result }
         ensures spent { self.old.is_spent ≡ true → IsErr result }
+        ensures stays { self.old.is_spent ≡ true → self.new ≡ self.old }
     {
         safety::agreement();
         self.check_live()?;
@@ -158,14 +174,18 @@ impl World {
     /// The entry that a member has stored at an index of its log, counted from 1. None outside the
     /// log, and for a member that is down or not there.
     ///
-    /// The one error is want of memory. The world is spent then.
+    /// The one error is want of memory, never of a member that is down or not there. The world is
+    /// spent then, and keeps its events.
     pub fn entry(&mut self, member: Member, index: usize) -> Result<Option<Entry>, AllocError>
         ensures found { IfOk result (λ found. found ≡ entry_in index (member_of self.old member)) }
+        ensures down { self.old.is_spent ≡ false → if_up (member_of self.old member) ≡ None → IsOk result }
+        ensures tables { tables_in self.new ≡ tables_in self.old }
         ensures kept { self.new.kept.items ≡ self.old.kept.items }
         ensures same { (schema_in self.new ≡ schema_in self.old) × (members_in self.new ≡ members_in self.old) }
         ensures ok { OnOk result ((self.old.is_spent ≡ false) × (self.new.is_spent ≡ false)) }
         ensures err { OnErr result (self.new.is_spent ≡ true) }
         ensures spent { self.old.is_spent ≡ true → IsErr result }
+        ensures stays { self.old.is_spent ≡ true → self.new ≡ self.old }
     {
         self.check_live()?;
         self.is_spent = true;

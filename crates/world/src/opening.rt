@@ -18,7 +18,9 @@ fn start_member(
     members: usize,
     me: Member,
 ) -> Result<Seat, AllocError>
-    requires { members ≤ 7 }
+    requires few { members ≤ 7 }
+    requires first { 1 ≤ me }
+    requires last { me ≤ members }
     ensures node { IfOk result (λ s. node_in s ≡ fresh 0 None) }
     ensures seat { IfOk result (IsSeat schema members me) }
 {

@@ -1,5 +1,6 @@
 //! A member's place in a group.
-ghost use Rattle.std.specs.Prelude.{◌≡◌, ◌≤◌, ℕ, Some, IfOk, OnOk, if◌then◌else◌};
+ghost use Rattle.std.specs.Prelude.{◌≡◌, ◌≤◌, ℕ, Some, false, IfOk, IsOk, OnOk, if◌then◌else◌};
+ghost use Rattle.answer.specs.Answers.{columns_in};
 ghost use Rattle.model.specs.Worlds.{node_left, started, stopped};
 ghost use Rattle.sqlchecks.specs.Columns.{Tables};
 ghost use Rattle.sqlread.specs.Meaning.{schema_of};
@@ -73,6 +74,8 @@ impl Seat {
         me: Member,
     ) -> Result<(), AllocError>
         requires few { members ≤ 7 }
+        requires first { 1 ≤ me }
+        requires last { me ≤ members }
         requires seat { IsSeat schema members me self.old }
         ensures seat { OnOk result (IsSeat schema members me self.new) }
         ensures node { OnOk result (node_in self.new ≡ (if (node_in self.old).up then node_in self.old else started (node_in self.old))) }
@@ -127,6 +130,7 @@ impl Seat {
         ensures found { IfOk result (λ found. (t : Tables) (n m : ℕ) → IsSeat t n m self.old → found ≡ entry_in index (Some (node_in self.old))) }
         ensures seat { OnOk result ((t : Tables) (n m : ℕ) → IsSeat t n m self.old → IsSeat t n m self.new) }
         ensures same { node_in self.new ≡ node_in self.old }
+        ensures down { (node_in self.old).up ≡ false → IsOk result }
     {
         match self {
             Seat::Up(node) => match node.entry(index) {
@@ -149,7 +153,8 @@ impl Seat {
 
     /// What the member answers.
     pub(crate) fn ask(&self, query: &Query) -> Result<Answer, Refusal>
-        ensures { (t : Tables) (n m : ℕ) → IsSeat t n m self.now → IsAskedAt (schema_of t) (query_of query.now) (node_in self.now) (node_in self.now).up result }
+        ensures asked { (t : Tables) (n m : ℕ) → IsSeat t n m self.now → IsAskedAt (schema_of t) (query_of query.now) (node_in self.now) (node_in self.now).up result }
+        ensures columns { IfOk result (λ a. (t : Tables) (n m : ℕ) → IsSeat t n m self.now → a.columns.items ≡ columns_in t query.now.table) }
     {
         match self {
             Seat::Up(node) => node.ask(query),

@@ -1,12 +1,14 @@
-use Rattle.std.proofs.Common.{rules, ◌≡◌, ◌∙◌, ◌+◌, ◌<◌, ◌++◌, ◌∷◌, [], ℕ, map, length, take, subst, sym, ap, List, append_assoc}
+use Rattle.std.proofs.Common.{rules, ◌≡◌, ◌∙◌, ◌+◌, ◌<◌, ◌++◌, ◌∷◌, [], ℕ, map, length, take, subst, sym, ap, refl, List, Some, slice_get, length-append}
 use Rattle.std.proofs.lemmas.List.{take_more}
+use Rattle.std.proofs.lemmas.Option.{slice_get_read}
 use Rattle.model.specs.Worlds.{new_world, run, Event, Gives, Output, GivesAll}
 use Rattle.sqlchecks.specs.Columns.{Tables}
 use Rattle.sqlread.specs.Meaning.{schema_of}
 use Rattle.world.specs.declared.event.Event.{Event as Given}
 use Rattle.world.specs.Run.{schema_in, members_in, events_of, now_of}
-use Rattle.world.specs.View.{event_of, outputs_of}
-use Rattle.world.proofs.Running.{step_more, map_append}
+use Rattle.world.specs.View.{event_of, outputs_of, ShowsColumns}
+use Rattle.world.proofs.Lists.{map_append}
+use Rattle.world.proofs.Running.{begun_with, columns_more, kept_through, on_err, step_more}
 use Rattle.world.proofs.history.World.run_all.Goals as goal
 
 pub loop-event-preserved : goal.loop-event-preserved
@@ -27,10 +29,30 @@ loop-event-preserved c =
     let more = step_more (schema_in old) (members_in old) (new_world (members_in old)) (events_of old) (take i all) e _ out inv.gives gave in
     let S : List Given → Type 0 = λ es. GivesAll (schema_in old) (members_in old) (now_of old) (map event_of es) (map (λ o. outputs_of o.items) c.push.new.self.items) in
     let T : List (List Output) → Type 0 = λ os. GivesAll (schema_in old) (members_in old) (now_of old) (map event_of (take i all ++ e ∷ [])) os in
+    let U : Tables → Type 0 = λ s. ShowsColumns s e c.in_ok-happen.field-0.items in
+    let at : slice_get all i ≡ Some e = slice_get_read all (length all) i e refl within c.event-item.is in
     record {
       live = c.in_ok-happen.ensures.ok;
       schema = c.happen.ensures.same.0 ∙ inv.schema;
       members = c.happen.ensures.same.1 ∙ inv.members;
-      kept = c.in_ok-happen.ensures.kept ∙ ap (λ k. k ++ event_of e ∷ []) inv.kept ∙ append_assoc (events_of old) (map event_of (take i all)) (event_of e ∷ []) ∙ ap (λ es. events_of old ++ es) (sym (ap (map event_of) next ∙ map_append event_of (take i all) (e ∷ [])));
+      kept = kept_through (events_of old) (events_of c.loop-event.self) (events_of c.happen.new.self) all i e inv.kept c.in_ok-happen.ensures.kept next;
       gives = subst S (sym next) (subst T (sym (ap (map (λ o. outputs_of o.items)) pushed ∙ map_append (λ o. outputs_of o.items) c.loop-event.outs.items (c.in_ok-happen.field-0 ∷ []))) more);
+      count = ap length pushed ∙ length-append c.loop-event.outs.items (c.in_ok-happen.field-0 ∷ []) ∙ ap (λ n. n + 1) inv.count;
+      columns = columns_more old.group.schema all c.loop-event.outs.items c.push.new.self.items i e c.in_ok-happen.field-0 inv.count pushed at inv.columns (subst U inv.schema c.in_ok-happen.ensures.columns);
     }
+
+pub returns-in_err-happen-clause-begun : goal.returns-in_err-happen-clause-begun
+returns-in_err-happen-clause-begun c =
+    let old = c.args.self.now in
+    on_err c.from_residual.result (begun_with (events_of old) (events_of c.happen.new.self) c.args.events.now c.loop-event.event-index (ap (map event_of) c.in_err-happen.ensures.err ∙ c.loop-event.invariant.kept))
+
+pub returns-in_err-push-clause-begun : goal.returns-in_err-push-clause-begun
+returns-in_err-push-clause-begun c =
+    let i = c.loop-event.event-index in
+    let all = c.args.events.now in
+    let e = c.event-item.result in
+    let old = c.args.self.now in
+    let within : i < length all = search rules in
+    let next : take (i + 1) all ≡ take i all ++ e ∷ [] = take_more all i e within ∙ ap (λ x. take i all ++ x ∷ []) (sym c.event-item.is) in
+    let kept = kept_through (events_of old) (events_of c.loop-event.self) (events_of c.happen.new.self) all i e c.loop-event.invariant.kept c.in_ok-happen.ensures.kept next in
+    on_err c.from_residual-in_err-push.result (begun_with (events_of old) (events_of c.happen.new.self) all (i + 1) kept)
