@@ -1,7 +1,7 @@
 //! How long whole groups take. Each piece of a script is played as `sim` plays it, and what it printed is looked at.
 use anyhow::{Result, bail, ensure};
+use lines::line::{Line, read_line};
 use schema::Schema;
-use shell::line::{Line, read_line};
 use shell::player::Player;
 use std::alloc::Global;
 use std::rt::Clock;

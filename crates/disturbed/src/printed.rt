@@ -1,6 +1,6 @@
 //! What a line prints, taken apart.
 use crate::known::Known;
-use shell::number::read_number;
+use lines::number::read_number;
 use std::alloc::{AllocError, Global};
 
 /// What a member told of a request.

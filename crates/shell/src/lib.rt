@@ -2,12 +2,9 @@
 #![tactic(auto)]
 
 pub mod command;
-pub mod line;
-pub mod number;
 pub mod player;
 pub mod printing;
 pub mod run_fault;
-pub mod script;
 pub mod sim;
 #[cfg(test)]
 mod tests;

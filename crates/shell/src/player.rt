@@ -1,12 +1,14 @@
 //! Playing scripts on a group.
 ghost use Rattle.std.specs.Prelude.{◌≡◌, ◌≤◌, ◌<◌, length, false, IsTrue, IfSome, IsErr, OnOk, OnErr, IfOk, IfErr};
 ghost use Rattle.fault.specs.declared.refusal.Refusal.TheVariants.{NoMemory};
+ghost use Rattle.lines.specs.declared.line.Left.TheVariants.{Old, New};
+ghost use Rattle.world.specs.declared.event.Left.TheVariants as events;
 ghost use Rattle.world.specs.View.{entry_in};
 
-use crate::line::{Job, Line};
 use crate::printing::Printed;
 use crate::run_fault::RunFault;
 use fault::{Refusal, Text};
+use lines::line::{Job, Left, Line};
 use model::entry::{Entry, Request};
 use model::member::Member;
 use model::message::Input;
@@ -15,7 +17,7 @@ use schema::Schema;
 use sqlread::query::read_query;
 use std::alloc::{AllocError, Global};
 use std::io;
-use world::event::{self, Event, Left};
+use world::event::{self, Event};
 use world::history::World;
 use world::output::Output;
 
@@ -258,7 +260,7 @@ impl Player {
             return Ok(());
         }
         match self.torn_job(node, job)? {
-            Some(job) => self.happen(Event::Torn(node, job, left), writer),
+            Some(job) => self.happen(Event::Torn(node, job, kept(left)), writer),
             None => Ok(()),
         }
     }
@@ -382,5 +384,16 @@ impl Player {
             write!(writer, "{}", Printed(output))?;
         }
         Ok(())
+    }
+}
+
+// What a step that is cut short leaves in the store, as an event says it.
+fn kept(left: Left) -> event::Left
+    ensures old { left ≡ Old → result ≡ events.Old }
+    ensures new { left ≡ New → result ≡ events.New }
+{
+    match left {
+        Left::Old => event::Left::Old,
+        Left::New => event::Left::New,
     }
 }

@@ -3,14 +3,14 @@ ghost use Rattle.std.specs.Prelude.{◌≡◌, ◌≢◌, ◌⊎◌, ℕ, List, 
 ghost use Rattle.fault.specs.declared.refusal.Refusal.TheVariants.{NoMemory, BadScript};
 ghost use Rattle.fault.specs.declared.refusal.Refusal.{Refusal as AnyRefusal};
 ghost use Rattle.sqlchecks.specs.Columns.{Tables};
-ghost use Rattle.shell.specs.declared.line.Line.{Line};
+ghost use Rattle.lines.specs.declared.line.Line.{Line};
 ghost use Rattle.shell.specs.Player.{IsSimFault};
-ghost use Rattle.shell.specs.Script.{HasLines};
+ghost use Rattle.lines.specs.Script.{HasLines};
 
 use crate::player::Player;
 use crate::run_fault::RunFault;
-use crate::script::{Script, read_script};
 use fault::Refusal;
+use lines::script::{Script, read_script};
 use std::alloc::Global;
 use std::io;
 

@@ -1,0 +1,4 @@
+pub mod Script
+pub mod Reading
+pub mod Line
+pub mod Number
