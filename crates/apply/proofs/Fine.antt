@@ -14,8 +14,9 @@ use Rattle.rowlaws.specs.Statements.{AreFine}
 use Rattle.rowlaws.specs.Logs.{ReadsFine}
 use Rattle.schema.specs.Shape.{TableShape}
 use Rattle.schema.specs.declared.table.Kind.{Kind}
-use Rattle.sqlsyntax.specs.Shared.{Bytes, LiteralForm}
-use Rattle.sqlsyntax.specs.Parsing.{parsed}
+use Rattle.namesyntax.specs.Names.{Bytes}
+use Rattle.sqlsyntax.specs.Shared.{LiteralForm}
+use Rattle.namesyntax.specs.Parsing.{parsed}
 use Rattle.sqlsyntax.specs.Transactions.{PortionForm, InsertForm, UpdateForm, DeleteForm, StatementForm, statements}
 use Rattle.sqlchecks.specs.Answering.{◌>>=◌, ◌>>◌, refuse_if, or_refuse, each_of}
 use Rattle.sqlchecks.specs.Columns.{Tables, table_named}

@@ -21,8 +21,9 @@ use Rattle.sqltokens.specs.declared.token.Sign.TheVariants as sign
 use Rattle.sqltokens.specs.What.{What, Name, is_word, is_mark}
 use Rattle.sqltokens.specs.Classes.{digits, dates}
 use Rattle.sqlsyntax.specs.declared.forms.Operator.{Operator}
-use Rattle.sqlsyntax.specs.Words.{is_name_text}
-use Rattle.sqlsyntax.specs.Shared.{Bytes, names, operators, operator_sign, date, literal, comparison, another_comparison, comparisons, condition}
+use Rattle.namesyntax.specs.Words.{is_name_text}
+use Rattle.namesyntax.specs.Names.{Bytes, names}
+use Rattle.sqlsyntax.specs.Shared.{operators, operator_sign, date, literal, comparison, another_comparison, comparisons, condition}
 use Rattle.sqlsyntax.specs.Transactions.{portion, new_value, AssignmentForm, assignment, another_assignment, assignments}
 use Rattle.sqlchecks.specs.declared.field.Field.{Field}
 use Rattle.sqlchecks.specs.declared.field.Field.TheVariants as fields

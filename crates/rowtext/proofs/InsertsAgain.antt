@@ -17,8 +17,9 @@ use Rattle.schema.specs.Shape.{TableShape}
 use Rattle.schema.specs.declared.table.Kind.{Kind}
 use Rattle.schema.specs.declared.table.Kind.TheVariants as kind
 use Rattle.sqltokens.specs.What.{Name}
-use Rattle.sqlsyntax.specs.Words.{is_name_text}
-use Rattle.sqlsyntax.specs.Shared.{Bytes, names, LiteralForm, literal}
+use Rattle.namesyntax.specs.Words.{is_name_text}
+use Rattle.namesyntax.specs.Names.{Bytes, names}
+use Rattle.sqlsyntax.specs.Shared.{LiteralForm, literal}
 use Rattle.sqlchecks.specs.declared.field.Field.{Field}
 use Rattle.sqlchecks.specs.declared.field.Field.TheVariants as fields
 use Rattle.sqlchecks.specs.Answering.{◌>>=◌, ◌>>◌, refuse_if, each_of}

@@ -9,7 +9,7 @@ use Rattle.std.proofs.lemmas.List.Folds.{list_any-append}
 use Rattle.schema.specs.declared.syntax.CreateTable.{CreateTable}
 use Rattle.schema.specs.Shape.{TableShape}
 use Rattle.schema.specs.Tables.{numbers_below, is_one_of, entry_of, shape_of, tables_after, schema_of}
-use Rattle.sqlsyntax.specs.Shared.{Bytes}
+use Rattle.namesyntax.specs.Names.{Bytes}
 use Rattle.sqlchecks.specs.declared.field.Field.{Field}
 use Rattle.sqlchecks.specs.declared.field.Field.TheVariants as fields
 use Rattle.sqlchecks.specs.Columns.{or_else, field_at}

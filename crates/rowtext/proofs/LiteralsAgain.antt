@@ -20,7 +20,8 @@ use Rattle.sqltokens.specs.declared.token.Sign.TheVariants as sign
 use Rattle.sqltokens.specs.What.{Digits, Text}
 use Rattle.sqltokens.specs.Classes.{digits, texts}
 use Rattle.sqltokens.specs.Lexing.{is_printable, closes, token_of}
-use Rattle.sqlsyntax.specs.Shared.{Bytes, LiteralForm, literal}
+use Rattle.namesyntax.specs.Names.{Bytes}
+use Rattle.sqlsyntax.specs.Shared.{LiteralForm, literal}
 use Rattle.sqlchecks.specs.Answering.{◌>>=◌}
 use Rattle.sqlchecks.specs.Literals.{signed, named, day_named, undoubled, text_within, literal_in}
 use Rattle.rowtext.specs.Transactions.{literal_of}

@@ -14,7 +14,7 @@ use Rattle.sqltokens.specs.Syntax.{Spells, IsTold}
 use Rattle.sqltokens.proofs.Functions.{are_tokens}
 use Rattle.phrase.specs.Grammar.{spell_all}
 use Rattle.sqlsyntax.specs.Transactions.{StatementForm, statement, statements}
-use Rattle.sqlsyntax.specs.Parsing.{parsed, or_syntax}
+use Rattle.namesyntax.specs.Parsing.{parsed, or_syntax}
 use Rattle.rowtext.specs.Again.{IsWritten, lines}
 use Rattle.rowtext.proofs.Lexing.{lines_are_said}
 

@@ -16,8 +16,8 @@ use Rattle.schema.specs.Shape.{TableShape}
 use Rattle.sqltokens.specs.declared.token.Keyword.{Keyword}
 use Rattle.sqltokens.specs.What.{Name}
 use Rattle.sqltokens.specs.Lexing.{is_word_byte, keyword_in, keyword_of, word_or_name, token_of}
-use Rattle.sqlsyntax.specs.Shared.{Bytes}
-use Rattle.sqlsyntax.specs.Words.{begins_with_letter, is_name_text}
+use Rattle.namesyntax.specs.Names.{Bytes}
+use Rattle.namesyntax.specs.Words.{begins_with_letter, is_name_text}
 use Rattle.sqlchecks.specs.Columns.{Tables, table_named, column_named, column_at}
 use Rattle.sqlchecks.specs.Answering.{or_refuse}
 use Rattle.rowtext.specs.Again.{IsWritten}

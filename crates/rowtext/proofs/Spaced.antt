@@ -8,7 +8,8 @@ use Rattle.sqltokens.specs.Classes.{digits, texts, dates}
 use Rattle.phrase.specs.Grammar.{spell_all, spell_some}
 use Rattle.sqlsyntax.specs.declared.forms.Operator.{Operator}
 use Rattle.sqlsyntax.specs.declared.forms.Operator.TheVariants as operator
-use Rattle.sqlsyntax.specs.Shared.{Bytes, names, another_name, name_list, operators, operator_sign, date, LiteralForm, literal, ComparisonForm, comparison, another_comparison, comparisons, condition}
+use Rattle.namesyntax.specs.Names.{Bytes, names, another_name, name_list}
+use Rattle.sqlsyntax.specs.Shared.{operators, operator_sign, date, LiteralForm, literal, ComparisonForm, comparison, another_comparison, comparisons, condition}
 use Rattle.sqlsyntax.specs.Transactions.{another_literal, literals, PortionForm, portion, new_value, AssignmentForm, assignment, another_assignment, assignments, insert, update, delete}
 use Rattle.rowtext.specs.Spacing.{Before, Start, Sign, Word, behind, space, sign_text, token_text, line}
 

@@ -10,7 +10,8 @@ use Rattle.period.specs.declared.period.Period.{Period as Declared}
 use Rattle.schema.specs.Shape.{TableShape}
 use Rattle.schema.specs.declared.table.Kind.{Kind}
 use Rattle.phrase.specs.Grammar.{spell_some}
-use Rattle.sqlsyntax.specs.Shared.{Bytes, name_list, LiteralForm, ComparisonForm, condition}
+use Rattle.namesyntax.specs.Names.{Bytes, name_list}
+use Rattle.sqlsyntax.specs.Shared.{LiteralForm, ComparisonForm, condition}
 use Rattle.sqlsyntax.specs.Transactions.{literals, PortionForm, portion, AssignmentForm, assignments, insert, update, delete, statement}
 use Rattle.sqlchecks.specs.Columns.{Tables}
 use Rattle.sqlread.specs.declared.statement.Insert.{Insert as InsertRead}

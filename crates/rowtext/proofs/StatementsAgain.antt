@@ -14,8 +14,9 @@ use Rattle.sqltokens.specs.declared.token.Keyword.TheVariants as keyword
 use Rattle.sqltokens.specs.declared.token.Sign.TheVariants as sign
 use Rattle.sqltokens.specs.What.{What, Word as Keyed, Mark, Name, is_mark}
 use Rattle.sqltokens.specs.Syntax.{Spells}
-use Rattle.sqlsyntax.specs.Words.{is_name_text}
-use Rattle.sqlsyntax.specs.Shared.{Bytes, names, another_name, name_list, literal, condition}
+use Rattle.namesyntax.specs.Words.{is_name_text}
+use Rattle.namesyntax.specs.Names.{Bytes, names, another_name, name_list}
+use Rattle.sqlsyntax.specs.Shared.{literal, condition}
 use Rattle.sqlsyntax.specs.Transactions.{another_literal, literals, portion, assignments, InsertForm, insert, UpdateForm, update, DeleteForm, delete, StatementForm, statement, is_statement, statements}
 use Rattle.sqlchecks.specs.declared.comparison.Comparison.{Comparison}
 use Rattle.sqlchecks.specs.Answering.{◌>>=◌, or_refuse, each_of}

@@ -8,7 +8,8 @@ use Rattle.model.specs.Texts.{doubled, value_text}
 use Rattle.period.specs.Day.{day_text}
 use Rattle.schema.specs.Shape.{TableShape}
 use Rattle.sqltokens.specs.What.{Mark}
-use Rattle.sqlsyntax.specs.Shared.{Bytes, literal, comparison, operator_sign}
+use Rattle.namesyntax.specs.Names.{Bytes}
+use Rattle.sqlsyntax.specs.Shared.{literal, comparison, operator_sign}
 use Rattle.sqlsyntax.specs.Transactions.{assignment}
 use Rattle.sqlchecks.specs.declared.comparison.Comparison.{Comparison}
 use Rattle.sqlchecks.specs.declared.field.Field.TheVariants as field

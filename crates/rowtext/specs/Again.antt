@@ -13,7 +13,7 @@ use Rattle.sqltokens.specs.What.{What}
 use Rattle.sqltokens.specs.Lexing.{token_of, tokens_of}
 use Rattle.sqltokens.specs.Syntax.{said, Spells}
 use Rattle.sqlsyntax.specs.Transactions.{StatementForm, portion, assignment, statement, statements}
-use Rattle.sqlsyntax.specs.Parsing.{parsed}
+use Rattle.namesyntax.specs.Parsing.{parsed}
 use Rattle.sqlchecks.specs.declared.field.Field.{Field}
 use Rattle.sqlchecks.specs.Columns.{Tables, field_at}
 use Rattle.sqlchecks.specs.Comparisons.{comparison_in}

@@ -9,7 +9,8 @@ use Rattle.model.specs.declared.value.Value.TheVariants as value
 use Rattle.model.specs.Tables.{Period}
 use Rattle.model.specs.Texts.{doubled, value_text}
 use Rattle.schema.specs.Shape.{TableShape}
-use Rattle.sqlsyntax.specs.Shared.{Bytes, LiteralForm, literal, ComparisonForm}
+use Rattle.namesyntax.specs.Names.{Bytes}
+use Rattle.sqlsyntax.specs.Shared.{LiteralForm, literal, ComparisonForm}
 use Rattle.sqlsyntax.specs.Transactions.{PortionForm, ValueForm, AssignmentForm, InsertForm, UpdateForm, DeleteForm, StatementForm, statement}
 use Rattle.sqlchecks.specs.declared.field.Field.{Field}
 use Rattle.sqlchecks.specs.declared.field.Field.TheVariants as field

@@ -2,7 +2,7 @@
 use Rattle.std.proofs.Common.{◌≡◌, ℕ, nat_eq, Bool, true, false, [], ◌∷◌, refl, sym, ap, ◌∙◌, inl, inr}
 use Rattle.std.specs.Prelude.{◌&&◌, if◌then◌else◌}
 use Rattle.std.proofs.lemmas.Bool.{eqb-true, cases_Bool, and_parts}
-use Rattle.sqlsyntax.specs.Shared.{Bytes}
+use Rattle.namesyntax.specs.Names.{Bytes}
 use Rattle.sqlchecks.specs.Literals.{undoubled}
 use Rattle.sqlchecks.proofs.Choices.{if_true, if_false}
 

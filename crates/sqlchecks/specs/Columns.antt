@@ -6,7 +6,7 @@ use Rattle.model.specs.declared.value.Value.{Value as RowValue}
 use Rattle.schema.specs.Name.{same_name}
 use Rattle.schema.specs.Shape.{TableShape}
 use Rattle.schema.specs.declared.table.Kind.{Kind}
-use Rattle.sqlsyntax.specs.Shared.{Bytes}
+use Rattle.namesyntax.specs.Names.{Bytes}
 use Rattle.sqlchecks.specs.declared.field.Field.{Field}
 use Rattle.sqlchecks.specs.declared.field.Field.TheVariants.{Key, Value}
 use Rattle.sqlchecks.specs.Answering.{or_refuse}

@@ -12,7 +12,8 @@ use Rattle.model.specs.declared.value.Value.TheVariants as value
 use Rattle.model.specs.Tables.{Period}
 use Rattle.schema.specs.declared.table.Kind.{Kind}
 use Rattle.schema.specs.declared.table.Kind.TheVariants.{Integer, Varchar, Date}
-use Rattle.sqlsyntax.specs.Shared.{Bytes, LiteralForm}
+use Rattle.namesyntax.specs.Names.{Bytes}
+use Rattle.sqlsyntax.specs.Shared.{LiteralForm}
 use Rattle.sqlchecks.specs.Answering.{◌>>=◌, ◌>>◌, refuse_if, or_refuse}
 
 -- a whole number of 64 bits, or none

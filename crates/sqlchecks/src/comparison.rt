@@ -3,7 +3,7 @@ ghost use Rattle.std.specs.Prelude.{◌≡◌, map};
 ghost use Rattle.std.specs.List.{list_all};
 ghost use Rattle.std.specs.Option.{option_copied};
 ghost use Rattle.sqlsyntax.specs.Shared.{comparison_form};
-ghost use Rattle.sqlsyntax.specs.Parsing.{GivesInMemory};
+ghost use Rattle.namesyntax.specs.Parsing.{GivesInMemory};
 ghost use Rattle.sqlchecks.specs.Columns.{kept_at};
 ghost use Rattle.sqlchecks.specs.Comparisons.{compared_kind, comparison_in, comparisons_in, holds, compares};
 

@@ -3,7 +3,7 @@ ghost use Rattle.std.specs.Prelude.{◌≡◌, IfOk, string_bytes};
 ghost use Rattle.std.specs.Str.Parse.{digits_value};
 ghost use Rattle.sqlsyntax.specs.Shared.{minus, literal_form};
 ghost use Rattle.sqlchecks.specs.Answering.{Gives};
-ghost use Rattle.sqlsyntax.specs.Parsing.{GivesInMemory};
+ghost use Rattle.namesyntax.specs.Parsing.{GivesInMemory};
 ghost use Rattle.model.specs.Periods.{period_of};
 ghost use Rattle.sqlchecks.specs.Literals.{unsigned, signed, day_named, instant_named, period_named, undoubled, text_within, literal_in};
 

@@ -9,7 +9,8 @@ use Rattle.model.specs.declared.value.Value.{Value}
 use Rattle.model.specs.declared.value.Value.TheVariants as value
 use Rattle.schema.specs.declared.table.Kind.{Kind}
 use Rattle.schema.specs.declared.table.Kind.TheVariants.{Integer, Varchar, Date}
-use Rattle.sqlsyntax.specs.Shared.{Bytes, LiteralForm}
+use Rattle.namesyntax.specs.Names.{Bytes}
+use Rattle.sqlsyntax.specs.Shared.{LiteralForm}
 use Rattle.sqlchecks.specs.Answering.{◌>>=◌, or_refuse}
 use Rattle.sqlchecks.specs.Literals.{signed, text_within, undoubled, named, day_named, literal_in}
 use Rattle.sqlread.specs.Calendar.{is_in_calendar}

@@ -17,8 +17,8 @@ use Rattle.schema.specs.Rules.{column_checks, application_period_checks, system_
 use Rattle.schema.specs.Shape.{ReferenceShape, TableShape}
 use Rattle.schema.specs.Tables.{shape_of, tables_after, schema_of}
 use Rattle.schema.specs.Tables as made
-use Rattle.sqlsyntax.specs.Shared.{Bytes}
-use Rattle.sqlsyntax.specs.Schemas.{ApplicationForm, SystemForm, TableForm}
+use Rattle.namesyntax.specs.Names.{Bytes}
+use Rattle.schemasyntax.specs.Schemas.{ApplicationForm, SystemForm, TableForm}
 use Rattle.sqlchecks.specs.Columns.{Tables}
 use Rattle.sqlread.specs.Schemas.{column_of, application_of, system_of, key_of, reference_of, IsSaid, AreSaid, Makes, MakesSaid}
 

@@ -8,7 +8,8 @@ use Rattle.model.specs.declared.value.Value.TheVariants as value
 use Rattle.schema.specs.Shape.{TableShape}
 use Rattle.schema.specs.declared.table.Kind.{Kind}
 use Rattle.schema.specs.declared.table.Kind.TheVariants.{Integer, Varchar, Date, SystemStart, SystemEnd}
-use Rattle.sqlsyntax.specs.Shared.{Bytes, LiteralForm, ComparisonForm}
+use Rattle.namesyntax.specs.Names.{Bytes}
+use Rattle.sqlsyntax.specs.Shared.{LiteralForm, ComparisonForm}
 use Rattle.sqlsyntax.specs.Transactions.{PortionForm, ValueForm, AssignmentForm, InsertForm, UpdateForm, DeleteForm, StatementForm}
 use Rattle.sqlsyntax.specs.Queries.{PredicateForm, TermForm, TimeForm, QueryForm}
 use Rattle.sqlchecks.specs.Answering.{◌>>=◌, ◌>>◌, refuse_if, or_refuse, each_of}

@@ -6,7 +6,7 @@ use Rattle.fault.specs.declared.refusal.Refusal.TheVariants.{Syntax, TooLarge}
 use Rattle.phrase.specs.Grammar.{Phrase}
 use Rattle.sqltokens.specs.What.{What}
 use Rattle.sqltokens.specs.Syntax.{IsTold, spelled_in}
-use Rattle.sqlsyntax.specs.Parsing.{or_syntax, parsed}
+use Rattle.namesyntax.specs.Parsing.{or_syntax, parsed}
 use Rattle.sqlsyntax.specs.Transactions.{statements}
 use Rattle.sqlsyntax.specs.Queries.{query}
 use Rattle.sqlchecks.specs.Answering.{◌>>=◌}

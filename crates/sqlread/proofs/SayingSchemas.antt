@@ -11,8 +11,8 @@ use Rattle.schema.specs.declared.syntax.CreateTable.{CreateTable}
 use Rattle.schema.specs.Checks.{Check, first_failing, each_after, each}
 use Rattle.schema.specs.Rules.{column_checks, application_period_checks, system_period_checks, key_name_checks, key_names_checks, key_checks, parent_checks, table_named, foreign_key_checks, name_and_size_checks, table_checks, schema_checks}
 use Rattle.sqltokens.specs.Syntax.{IsTold, spelled_in}
-use Rattle.sqlsyntax.specs.Parsing.{or_syntax, parsed}
-use Rattle.sqlsyntax.specs.Schemas.{TableForm, tables}
+use Rattle.namesyntax.specs.Parsing.{or_syntax, parsed}
+use Rattle.schemasyntax.specs.Schemas.{TableForm, tables}
 use Rattle.sqlchecks.specs.Columns.{Tables}
 use Rattle.sqlread.specs.Schemas.{MakesSaid, SchemaSays}
 use Rattle.sqlread.specs.Laws.{SaysSchema, IsBoundedSchema, SaysOneSchema}

@@ -7,7 +7,7 @@ use Rattle.sqltokens.specs.What.{What}
 use Rattle.sqltokens.specs.Syntax.{Spells, IsWrongAt}
 use Rattle.sqlsyntax.specs.Transactions.{statements}
 use Rattle.sqlsyntax.specs.Queries.{query}
-use Rattle.sqlsyntax.specs.Schemas.{TableForm, tables}
+use Rattle.schemasyntax.specs.Schemas.{TableForm, tables}
 use Rattle.sqlchecks.specs.Columns.{Tables}
 use Rattle.sqlread.specs.Changes.{statements_in}
 use Rattle.sqlread.specs.Questions.{question_in}

@@ -8,7 +8,7 @@ use Rattle.schema.specs.Name.{same_name}
 use Rattle.schema.specs.Shape.{TableShape}
 use Rattle.sqlsyntax.specs.declared.forms.Relation.{Relation}
 use Rattle.sqlsyntax.specs.declared.forms.Relation.TheVariants.{Overlaps, Equals, Precedes, Succeeds, ImmediatelyPrecedes, ImmediatelySucceeds}
-use Rattle.sqlsyntax.specs.Shared.{Bytes}
+use Rattle.namesyntax.specs.Names.{Bytes}
 use Rattle.sqlsyntax.specs.Queries.{RelationForm, PredicateForm, TermForm, TimeForm, QueryForm}
 use Rattle.sqlchecks.specs.Answering.{◌>>=◌, ◌>>◌, refuse_if, each_of}
 use Rattle.sqlchecks.specs.Literals.{day_named, instant_named, period_named}

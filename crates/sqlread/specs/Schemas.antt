@@ -15,9 +15,9 @@ use Rattle.schema.specs.declared.syntax.CreateTable.{CreateTable}
 use Rattle.schema.specs.Checks.{first_failing}
 use Rattle.schema.specs.Rules.{schema_checks}
 use Rattle.schema.specs.Tables.{schema_of}
-use Rattle.sqlsyntax.specs.Shared.{Bytes}
-use Rattle.sqlsyntax.specs.Schemas.{TypeForm, ColumnForm, ApplicationForm, SystemForm, KeyNamesForm, ReferenceForm, TableForm, tables}
-use Rattle.sqlsyntax.specs.Parsing.{parsed}
+use Rattle.namesyntax.specs.Names.{Bytes}
+use Rattle.schemasyntax.specs.Schemas.{TypeForm, ColumnForm, ApplicationForm, SystemForm, KeyNamesForm, ReferenceForm, TableForm, tables}
+use Rattle.namesyntax.specs.Parsing.{parsed}
 use Rattle.sqlchecks.specs.Columns.{Tables}
 use Rattle.sqlchecks.specs.Literals.{unsigned}
 

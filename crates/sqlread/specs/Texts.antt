@@ -2,7 +2,7 @@
 use Rattle.std.specs.Prelude.{ℕ, List, length, if◌then◌else◌, nat_lt, Result, Err}
 use Rattle.fault.specs.declared.refusal.Refusal.{Refusal}
 use Rattle.fault.specs.declared.refusal.Refusal.TheVariants.{TooLarge}
-use Rattle.sqlsyntax.specs.Parsing.{parsed}
+use Rattle.namesyntax.specs.Parsing.{parsed}
 use Rattle.sqlsyntax.specs.Transactions.{statements}
 use Rattle.sqlsyntax.specs.Queries.{query}
 use Rattle.sqlchecks.specs.Answering.{◌>>=◌}

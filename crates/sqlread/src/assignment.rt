@@ -1,8 +1,8 @@
 //! The assignments of SET.
 ghost use Rattle.std.specs.Prelude.{◌≡◌, [], map};
-ghost use Rattle.sqlsyntax.specs.Shared.{name_of};
+ghost use Rattle.namesyntax.specs.Names.{name_of};
 ghost use Rattle.sqlsyntax.specs.Transactions.{side, value_form, assignment_form};
-ghost use Rattle.sqlsyntax.specs.Parsing.{GivesInMemory};
+ghost use Rattle.namesyntax.specs.Parsing.{GivesInMemory};
 ghost use Rattle.sqlread.specs.Changes.{is_among, assignable, amount, changed_in, new_value_in, assignment_in, assignments_after};
 
 use crate::statement::{Assignment, NewValue};

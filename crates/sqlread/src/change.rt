@@ -4,7 +4,7 @@ ghost use Rattle.std.specs.Option.{option_map};
 ghost use Rattle.sqlsyntax.specs.Shared.{comparison_form};
 ghost use Rattle.sqlsyntax.specs.Transactions.{portion_form, update_form, delete_form, statement_form};
 ghost use Rattle.sqlchecks.specs.Answering.{Gives};
-ghost use Rattle.sqlsyntax.specs.Parsing.{GivesInMemory};
+ghost use Rattle.namesyntax.specs.Parsing.{GivesInMemory};
 ghost use Rattle.sqlchecks.specs.Comparisons.{comparisons_in};
 ghost use Rattle.model.specs.Periods.{period_of};
 ghost use Rattle.sqlread.specs.Shapes.{update_of, delete_of, statement_of};

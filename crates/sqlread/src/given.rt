@@ -20,7 +20,7 @@ pub(crate) struct Given {
 
 impl Given {
     ghost use Rattle.sqlsyntax.specs.Shared.{literal_form};
-    ghost use Rattle.sqlsyntax.specs.Parsing.{GivesInMemory};
+    ghost use Rattle.namesyntax.specs.Parsing.{GivesInMemory};
     ghost use Rattle.sqlread.specs.Changes.{given_of, given, day_of};
 
     /// A literal as the value of a column, which is named by its place and its kind.

@@ -1,10 +1,11 @@
 //! INSERT: the column list, the literals and the row.
 ghost use Rattle.std.specs.Prelude.{◌≡◌, ◌==◌, [], map, find};
 ghost use Rattle.std.specs.Option.{option_copied};
-ghost use Rattle.sqlsyntax.specs.Shared.{names_of, literal_form};
+ghost use Rattle.namesyntax.specs.Names.{names_of};
+ghost use Rattle.sqlsyntax.specs.Shared.{literal_form};
 ghost use Rattle.sqlsyntax.specs.Transactions.{insert_form};
 ghost use Rattle.sqlchecks.specs.Answering.{each_of};
-ghost use Rattle.sqlsyntax.specs.Parsing.{GivesInMemory};
+ghost use Rattle.namesyntax.specs.Parsing.{GivesInMemory};
 ghost use Rattle.sqlread.specs.Shapes.{insert_of};
 ghost use Rattle.sqlread.specs.Changes.{given_of, is_system, is_among, listed, listed_after, has_all, list_in, values_in, value_given, day_given, row_given, insert_into, insert_in};
 

@@ -27,7 +27,7 @@ pub fn schema_says()
     ensures bounded { IsBoundedSchema }
     ensures one { SaysOneSchema }
 {
-    sqlsyntax::laws::forms_told();
+    schemasyntax::laws::forms_told();
 }
 
 /// What a literal is read as is a day of the calendar, where it is a day.

@@ -2,7 +2,7 @@
 ghost use Rattle.std.specs.Prelude.{◌≡◌, map, option_map};
 ghost use Rattle.sqlsyntax.specs.Queries.{time_form, term_form, query_form};
 ghost use Rattle.sqlchecks.specs.Answering.{Gives, each_of};
-ghost use Rattle.sqlsyntax.specs.Parsing.{GivesInMemory};
+ghost use Rattle.namesyntax.specs.Parsing.{GivesInMemory};
 ghost use Rattle.sqlread.specs.Shapes.{time_of, term_of, query_of};
 ghost use Rattle.sqlread.specs.Changes.{if_given, all_given};
 ghost use Rattle.sqlread.specs.Questions.{time_in, term_in, question_in};

@@ -1,8 +1,8 @@
 //! Reading schemas.
 ghost use Rattle.std.specs.Prelude.{◌≡◌, ◌⊎◌, map, IfOk, IfErr, Ok, Err};
 ghost use Rattle.fault.specs.declared.refusal.Refusal.TheVariants.{NoMemory};
-ghost use Rattle.sqlsyntax.specs.Shared.{name_of, names_of};
-ghost use Rattle.sqlsyntax.specs.Schemas.{type_form, column_form, application_form, system_form, key_names_form, reference_form, table_form};
+ghost use Rattle.namesyntax.specs.Names.{name_of, names_of};
+ghost use Rattle.schemasyntax.specs.Schemas.{type_form, column_form, application_form, system_form, key_names_form, reference_form, table_form};
 ghost use Rattle.sqlread.specs.Schemas.{type_said, column_of, column_said, application_of, system_of, key_of, reference_of, IsSaid, AreSaid, SchemaSays};
 
 use fault::Refusal;
@@ -10,12 +10,12 @@ use schema::syntax::{
     ApplicationPeriod, Column, ColumnType, CreateTable, ForeignKey, KeyNames, SystemPeriod,
 };
 use schema::{Name, Schema};
-use sqlchecks::literal::unsigned;
-use sqlsyntax::{
+use schemasyntax::{
     ApplicationPeriod as ApplicationPeriodText, Column as ColumnText, ColumnType as TypeText,
     ForeignKey as ForeignKeyText, KeyNames as KeyNamesText, Name as NameText,
     SystemPeriod as SystemPeriodText, Table as TableText, read_schema_form,
 };
+use sqlchecks::literal::unsigned;
 use std::alloc::{AllocError, Global};
 
 /// How many bytes the text of a schema may have.

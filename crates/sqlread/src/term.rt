@@ -3,7 +3,7 @@ ghost use Rattle.std.specs.Prelude.{◌≡◌, ℕ, map};
 ghost use Rattle.std.specs.List.{list_all};
 ghost use Rattle.sqlsyntax.specs.Queries.{term_form};
 ghost use Rattle.sqlchecks.specs.Answering.{Gives, each_of};
-ghost use Rattle.sqlsyntax.specs.Parsing.{GivesInMemory};
+ghost use Rattle.namesyntax.specs.Parsing.{GivesInMemory};
 ghost use Rattle.model.specs.Periods.{period_of};
 ghost use Rattle.sqlread.specs.Shapes.{row, term_of};
 ghost use Rattle.sqlread.specs.Questions.{of_period, term_in};

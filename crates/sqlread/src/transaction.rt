@@ -1,6 +1,6 @@
 //! Reading transactions.
 ghost use Rattle.std.specs.Prelude.{◌≡◌, map, IfOk};
-ghost use Rattle.sqlsyntax.specs.Parsing.{GivesInMemory};
+ghost use Rattle.namesyntax.specs.Parsing.{GivesInMemory};
 ghost use Rattle.model.specs.Transactions.{misreading};
 ghost use Rattle.sqlread.specs.Meaning.{schema_of};
 ghost use Rattle.sqlread.specs.Shapes.{statement_of};

@@ -6,11 +6,12 @@ use Rattle.sqltokens.specs.declared.token.Keyword.TheVariants.{Select, From, For
 use Rattle.sqltokens.specs.declared.token.Sign.TheVariants.{Star, Semicolon, Open, Close, Comma}
 use Rattle.sqltokens.specs.What.{What, Mark, is_word, word, sign}
 use Rattle.phrase.specs.Grammar.{Phrase, one, only, ◌▹◌, ◌◃◌, ◌▸◌, optional, either}
-use Rattle.sqlsyntax.specs.Shared.{Bytes, names, operators, is_operator, date, literal}
+use Rattle.namesyntax.specs.Names.{Bytes, names}
+use Rattle.sqlsyntax.specs.Shared.{operators, is_operator, date, literal}
 use Rattle.sqlsyntax.specs.Queries.{SpanForm, span, RelationForm, relation, predicate, TermForm, term, another_term, terms, condition, stamp, time, query}
 use Rattle.phrase.proofs.Laws.{stops, IsLawful, Begins, Parts, Repeats, after_fixed, before_fixed, in_turn, only_fixed, left_out, one_of, in_row}
 use Rattle.sqltokens.proofs.Marks.{a_word, a_sign, stamps_lawful, stops_nothing}
-use Rattle.sqlsyntax.proofs.LawsNames.{name_then}
+use Rattle.namesyntax.proofs.LawsNames.{name_then}
 use Rattle.sqlsyntax.proofs.LawsShared.{operator_begins, date_lawful, date_then, operation_lawful}
 
 -- ---- spans

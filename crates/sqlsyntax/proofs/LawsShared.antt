@@ -9,10 +9,11 @@ use Rattle.sqlsyntax.specs.declared.forms.Operator.TheVariants as operator
 use Rattle.sqltokens.specs.What.{What, Word, Mark, Name, Digits, Text, Stray, is_word, is_mark, word, sign}
 use Rattle.sqltokens.specs.Classes.{digits, texts, dates, is_text}
 use Rattle.phrase.specs.Grammar.{Phrase, one, only, ◌▸◌, next, optional, either}
-use Rattle.sqlsyntax.specs.Shared.{Bytes, operator_of, operator_in, operator_sign, operators, is_operator, date, literal, comparison, another_comparison, comparisons, condition}
+use Rattle.namesyntax.specs.Names.{Bytes}
+use Rattle.sqlsyntax.specs.Shared.{operator_of, operator_in, operator_sign, operators, is_operator, date, literal, comparison, another_comparison, comparisons, condition}
 use Rattle.phrase.proofs.Laws.{stops, IsClass, IsLawful, Begins, Parts, Repeats, after_fixed, in_turn, one_token, only_fixed, left_out, one_of, in_row}
 use Rattle.sqltokens.proofs.Marks.{a_word, a_sign, digits_lawful, texts_lawful, dates_lawful, stops_nothing}
-use Rattle.sqlsyntax.proofs.LawsNames.{name_then}
+use Rattle.namesyntax.proofs.LawsNames.{name_then}
 
 -- ---- operators
 

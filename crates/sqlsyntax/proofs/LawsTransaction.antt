@@ -6,11 +6,12 @@ use Rattle.sqltokens.specs.declared.token.Sign.TheVariants.{Semicolon, Open, Clo
 use Rattle.sqltokens.specs.What.{What, Word, Mark, is_word, is_mark, word, sign}
 use Rattle.sqltokens.specs.Classes.{digits, texts, is_name}
 use Rattle.phrase.specs.Grammar.{Phrase, one, only, ◌▹◌, ◌◃◌, ◌▸◌, optional, either}
-use Rattle.sqlsyntax.specs.Shared.{Bytes, names, date, literal, comparison, another_comparison, comparisons, ComparisonForm, condition, another_name, name_list}
+use Rattle.namesyntax.specs.Names.{Bytes, names, another_name, name_list}
+use Rattle.sqlsyntax.specs.Shared.{date, literal, comparison, another_comparison, comparisons, ComparisonForm, condition}
 use Rattle.sqlsyntax.specs.Transactions.{another_literal, literals, PortionForm, portion, new_value, assignment, another_assignment, assignments, insert, update, delete, statement, is_statement, statements}
 use Rattle.phrase.proofs.Laws.{stops, IsLawful, Begins, Parts, Repeats, after_fixed, before_fixed, in_turn, only_fixed, left_out, one_of, in_row}
 use Rattle.sqltokens.proofs.Marks.{a_word, a_sign, digits_lawful}
-use Rattle.sqlsyntax.proofs.LawsNames.{name_then, name_list_lawful}
+use Rattle.namesyntax.proofs.LawsNames.{name_then, name_list_lawful}
 use Rattle.sqlsyntax.proofs.LawsShared.{date_lawful, date_then, literal_lawful, condition_lawful, condition_begins}
 
 -- ---- literals

@@ -17,7 +17,8 @@ use Rattle.sqlsyntax.specs.declared.forms.Query.{Query}
 use Rattle.sqltokens.specs.What.{What, is_word, word, sign}
 use Rattle.sqltokens.specs.Classes.{stamps}
 use Rattle.phrase.specs.Grammar.{Phrase, one, only, ◌▹◌, ◌◃◌, ◌▸◌, optional, either, row}
-use Rattle.sqlsyntax.specs.Shared.{Bytes, names, name_of, operators, is_operator, date, LiteralForm, literal, literal_form}
+use Rattle.namesyntax.specs.Names.{Bytes, names, name_of}
+use Rattle.sqlsyntax.specs.Shared.{operators, is_operator, date, LiteralForm, literal, literal_form}
 
 -- the two dates
 abbrev pub SpanForm : Type 0

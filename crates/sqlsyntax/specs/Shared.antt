@@ -1,39 +1,18 @@
 -- The grammar that queries and transactions share.
-use Rattle.std.specs.Prelude.{◌≡◌, ℕ, Bool, true, false, if◌then◌else◌, List, Option, Some, None, is_some, ◌⊎◌, map, codes}
+use Rattle.std.specs.Prelude.{Bool, true, false, List, Option, Some, None, is_some, ◌⊎◌}
 use mathlib.Core.Logic.{inl, inr}
 use Rattle.sqltokens.specs.declared.token.Keyword.TheVariants as keyword
 use Rattle.sqltokens.specs.declared.token.Sign.{Sign}
 use Rattle.sqltokens.specs.declared.token.Sign.TheVariants as sign'
-use Rattle.sqlsyntax.specs.declared.forms.Name.{Name as Given}
 use Rattle.sqlsyntax.specs.declared.forms.Operator.{Operator}
 use Rattle.sqlsyntax.specs.declared.forms.Operator.TheVariants as operator
 use Rattle.sqlsyntax.specs.declared.forms.Literal.{Literal}
 use Rattle.sqlsyntax.specs.declared.forms.Literal.TheVariants as literals
 use Rattle.sqlsyntax.specs.declared.forms.Comparison.{Comparison}
-use Rattle.sqltokens.specs.What.{What, Mark, Name, is_word, is_mark, word, sign}
-use Rattle.sqltokens.specs.Classes.{Always, name_in, digits, texts, dates, is_text}
+use Rattle.sqltokens.specs.What.{What, Mark, is_word, is_mark, word, sign}
+use Rattle.sqltokens.specs.Classes.{Always, digits, texts, dates, is_text}
 use Rattle.phrase.specs.Grammar.{Phrase, Class, one, only, ◌▹◌, ◌▸◌, optional, either, row}
-use Rattle.sqlsyntax.specs.Words.{is_name_text}
-
-abbrev pub Bytes : Type 0
-Bytes = List ℕ
-
--- ---- names
-
-abbrev pub if_name : Option Bytes → Option Bytes
-if_name None = None
-if_name (Some name) = if is_name_text name then Some name else None
-
--- a word that is not reserved
-unfoldable pub names : Class What Bytes
-names = record { fits = λ name. is_name_text name ≡ true; what = Name; of = λ w. if_name (name_in w); example = codes "a" }
-
-unfoldable pub another_name : Phrase What Bytes
-another_name = sign sign'.Comma ▹ one names
-
--- name { "," name }
-unfoldable pub name_list : Phrase What (List Bytes)
-name_list = row (one names) (is_mark sign'.Comma) another_name
+use Rattle.namesyntax.specs.Names.{Bytes, names, name_of}
 
 -- ---- operators
 
@@ -96,12 +75,6 @@ unfoldable pub condition : Phrase What (List ComparisonForm)
 condition = word keyword.Where ▹ comparisons
 
 -- ---- the parts of what the code reads
-
-abbrev pub name_of : Given → Bytes
-name_of n = n.written.now
-
-abbrev pub names_of : List Given → List Bytes
-names_of ns = map name_of ns
 
 abbrev pub minus : Bool → Option (Unit {0})
 minus true = Some tt

@@ -16,7 +16,8 @@ use Rattle.sqlsyntax.specs.declared.forms.Statement.TheVariants as kinds
 use Rattle.sqltokens.specs.What.{What, is_word, is_mark, word, sign}
 use Rattle.sqltokens.specs.Classes.{digits, is_name}
 use Rattle.phrase.specs.Grammar.{Phrase, one, only, ◌▹◌, ◌◃◌, ◌▸◌, optional, either, row}
-use Rattle.sqlsyntax.specs.Shared.{Bytes, names, name_of, names_of, date, LiteralForm, literal, literal_form, ComparisonForm, comparison_form, condition, name_list}
+use Rattle.namesyntax.specs.Names.{Bytes, names, name_of, names_of, name_list}
+use Rattle.sqlsyntax.specs.Shared.{date, LiteralForm, literal, literal_form, ComparisonForm, comparison_form, condition}
 
 unfoldable pub another_literal : Phrase What LiteralForm
 another_literal = sign Comma ▹ literal

@@ -2,7 +2,6 @@
 ghost use Rattle.sqltokens.specs.Syntax.{IsTold};
 ghost use Rattle.sqlsyntax.specs.Queries.{query};
 ghost use Rattle.sqlsyntax.specs.Transactions.{statements};
-ghost use Rattle.sqlsyntax.specs.Schemas.{tables};
 
 /// Each reader answers by its grammar alone: Ok with a form exactly where the text's tokens are the
 /// spelling of that form, and a syntax error at a byte exactly where no form spells the text and the
@@ -10,5 +9,4 @@ ghost use Rattle.sqlsyntax.specs.Schemas.{tables};
 pub fn forms_told()
     ensures query { IsTold query }
     ensures transaction { IsTold statements }
-    ensures schema { IsTold tables }
 {}

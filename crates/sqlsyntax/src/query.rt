@@ -8,8 +8,8 @@ ghost use Rattle.phrase.specs.Reading.{Gives, with_front};
 ghost use Rattle.sqlsyntax.specs.Queries.{span, span_form, relation, relation_form, predicate, predicate_form, term, term_form, another_term, terms, condition, stamp, time, time_form, query, query_form};
 
 use crate::forms::{Predicate, Query, Relation, Span, SystemTime, Term};
-use crate::names::name;
 use crate::shared::{date, literal, next_is_operator, operator};
+use namesyntax::names::name;
 use phrase::ReadError;
 use sqltokens::{Cursor, Keyword, Quoted, Sign, next_is, sign, stamp_text, word};
 use std::alloc::Global;

@@ -8,7 +8,7 @@ ghost use Rattle.phrase.specs.Reading.{Gives, with_front};
 ghost use Rattle.sqlsyntax.specs.Shared.{operator_of, is_operator, operators, date, literal, literal_form, comparison, comparison_form, another_comparison, comparisons, condition};
 
 use crate::forms::{Comparison, Literal, Operator};
-use crate::names::name;
+use namesyntax::names::name;
 use phrase::ReadError;
 use sqltokens::{
     Cursor, Keyword, Kind, Quoted, Sign, date_text, digits, next_is, next_is_sign, next_is_text,

@@ -11,8 +11,8 @@ ghost use Rattle.sqlsyntax.specs.Transactions.{another_literal, literals, portio
 use crate::forms::{
     Assignment, Comparison, Delete, Insert, Literal, NewValue, Portion, Statement, Update,
 };
-use crate::names::{name, name_list, next_is_name};
 use crate::shared::{condition, date, literal};
+use namesyntax::names::{name, name_list, next_is_name};
 use phrase::ReadError;
 use sqltokens::{Cursor, Keyword, Sign, digits, next_is, next_is_sign, sign, word};
 use std::alloc::Global;

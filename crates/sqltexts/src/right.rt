@@ -1,7 +1,7 @@
+use schemasyntax::{ColumnType, KeyNames, Table, read_schema_form};
 use sqlsyntax::{
-    ColumnType, Comparison, KeyNames, Literal, Name, NewValue, Operator, Predicate, Query,
-    Relation, Span, Statement, SystemTime, Table, Term, Update, read_query_form, read_schema_form,
-    read_transaction_form,
+    Comparison, Literal, Name, NewValue, Operator, Predicate, Query, Relation, Span, Statement,
+    SystemTime, Term, Update, read_query_form, read_transaction_form,
 };
 use std::test::Fail;
 

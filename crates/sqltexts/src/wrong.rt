@@ -1,5 +1,6 @@
 use fault::Refusal;
-use sqlsyntax::{read_query_form, read_schema_form, read_transaction_form};
+use schemasyntax::read_schema_form;
+use sqlsyntax::{read_query_form, read_transaction_form};
 use std::alloc::Global;
 use std::test::Fail;
 

@@ -1,5 +1,5 @@
 use Rattle.std.proofs.Common.{◌≡◌, ◌∙◌, ◌<◌, List, ℕ, sym, subst, length, map, arith}
-use Rattle.sqlsyntax.specs.Shared.{name_list}
+use Rattle.namesyntax.specs.Names.{name_list}
 use Rattle.rowtext.specs.Spacing.{Start, line}
 use Rattle.rowtext.specs.Transactions.{column_name, given_columns}
 use Rattle.rowtext.proofs.Putting.{at_err, fault_in}

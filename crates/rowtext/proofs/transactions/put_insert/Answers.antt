@@ -1,5 +1,5 @@
 use Rattle.std.proofs.Common.{map, codes}
-use Rattle.sqlsyntax.specs.Shared.{name_list}
+use Rattle.namesyntax.specs.Names.{name_list}
 use Rattle.sqlsyntax.specs.Transactions.{literals}
 use Rattle.sqlread.specs.Shapes.{insert_of}
 use Rattle.rowtext.specs.Spacing.{Start, line}

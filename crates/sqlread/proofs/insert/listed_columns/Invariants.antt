@@ -1,5 +1,5 @@
 use Rattle.std.proofs.Common.{◌≡◌, drop, []}
-use Rattle.sqlsyntax.specs.Shared.{names_of}
+use Rattle.namesyntax.specs.Names.{names_of}
 use Rattle.sqlread.specs.Changes.{listed_after}
 use Rattle.sqlread.proofs.insert.listed_columns.Given as goal
 

@@ -2,7 +2,7 @@ use Rattle.sqlread.proofs.SayingSchemas.{schema_says, schema_bounded, schema_one
 use Rattle.sqlread.proofs.laws.schema_says.Goals as goal
 
 pub returns-clause-says : goal.returns-clause-says
-returns-clause-says c = schema_says c.forms_told.ensures.schema
+returns-clause-says c = schema_says c.forms_told.ensures
 
 pub returns-clause-bounded : goal.returns-clause-bounded
 returns-clause-bounded c = schema_bounded

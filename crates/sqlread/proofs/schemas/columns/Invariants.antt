@@ -1,5 +1,5 @@
 use Rattle.std.proofs.Common.{◌≡◌, map, take}
-use Rattle.sqlsyntax.specs.Schemas.{column_form}
+use Rattle.schemasyntax.specs.Schemas.{column_form}
 use Rattle.sqlread.specs.Schemas.{column_of, column_said}
 use Rattle.sqlread.proofs.schemas.columns.Given as goal
 

@@ -1,4 +1,4 @@
-use Rattle.sqlsyntax.specs.Schemas.{table_form}
+use Rattle.schemasyntax.specs.Schemas.{table_form}
 use Rattle.sqlread.proofs.Declared.{said_more}
 use Rattle.sqlread.proofs.schemas.create_tables.Goals as goal
 

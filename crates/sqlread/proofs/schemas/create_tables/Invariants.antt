@@ -1,5 +1,5 @@
 use Rattle.std.proofs.Common.{map, take}
-use Rattle.sqlsyntax.specs.Schemas.{table_form}
+use Rattle.schemasyntax.specs.Schemas.{table_form}
 use Rattle.sqlread.specs.Schemas.{AreSaid}
 use Rattle.sqlread.proofs.schemas.create_tables.Given as goal
 

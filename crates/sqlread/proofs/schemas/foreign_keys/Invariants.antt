@@ -1,5 +1,5 @@
 use Rattle.std.proofs.Common.{◌≡◌, map, take}
-use Rattle.sqlsyntax.specs.Schemas.{reference_form}
+use Rattle.schemasyntax.specs.Schemas.{reference_form}
 use Rattle.sqlread.specs.Schemas.{reference_of}
 use Rattle.sqlread.proofs.schemas.foreign_keys.Given as goal
 

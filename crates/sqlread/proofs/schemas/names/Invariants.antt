@@ -1,5 +1,5 @@
 use Rattle.std.proofs.Common.{◌≡◌, take}
-use Rattle.sqlsyntax.specs.Shared.{names_of}
+use Rattle.namesyntax.specs.Names.{names_of}
 use Rattle.sqlread.proofs.schemas.names.Given as goal
 
 abbrev pub invariant-loop-next : goal.invariant-loop-next

@@ -7,9 +7,9 @@ use Rattle.sqltokens.specs.declared.token.Token.{Token}
 use Rattle.sqltokens.specs.What.{whats, pieces}
 use Rattle.sqltokens.specs.Syntax.{all_of}
 use Rattle.sqlsyntax.specs.Queries.{query, query_form}
-use Rattle.sqlsyntax.specs.Parsing.{IsWithin, refusal_of, parsed}
+use Rattle.namesyntax.specs.Parsing.{IsWithin, refusal_of, parsed}
 use Rattle.sqlsyntax.proofs.LawsQuery.{query_lawful}
-use Rattle.sqlsyntax.proofs.Parsed.{parsed_ok, parsed_err, within}
+use Rattle.namesyntax.proofs.Parsed.{parsed_ok, parsed_err, within}
 use Rattle.sqlsyntax.proofs.entry.read_query_form.Goals as goal
 
 pub returns-in-Ok : goal.returns-in-Ok

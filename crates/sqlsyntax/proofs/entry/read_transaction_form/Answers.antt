@@ -7,9 +7,9 @@ use Rattle.sqltokens.specs.declared.token.Token.{Token}
 use Rattle.sqltokens.specs.What.{whats, pieces}
 use Rattle.sqltokens.specs.Syntax.{all_of}
 use Rattle.sqlsyntax.specs.Transactions.{statements, transaction_form}
-use Rattle.sqlsyntax.specs.Parsing.{IsWithin, refusal_of, parsed}
+use Rattle.namesyntax.specs.Parsing.{IsWithin, refusal_of, parsed}
 use Rattle.sqlsyntax.proofs.LawsTransaction.{statements_lawful}
-use Rattle.sqlsyntax.proofs.Parsed.{parsed_ok, parsed_err, within}
+use Rattle.namesyntax.proofs.Parsed.{parsed_ok, parsed_err, within}
 use Rattle.sqlsyntax.proofs.entry.read_transaction_form.Goals as goal
 
 pub returns-in-Ok : goal.returns-in-Ok

@@ -1,0 +1,2 @@
+pub mod LawsNames
+pub mod Parsed
