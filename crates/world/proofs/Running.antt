@@ -13,7 +13,7 @@ use Rattle.world.specs.declared.event.Event.{Event as Given}
 use Rattle.sqlread.specs.Meaning.{schema_of}
 use Rattle.world.specs.declared.group.Group.{Group}
 use Rattle.world.specs.declared.output.Output.{Output as Out}
-use Rattle.world.specs.Run.{IsBegun}
+use Rattle.world.specs.Run.{AddsBeginning}
 use Rattle.world.specs.View.{event_of, world_of, AllStamped, EachShowsColumns, IsGroup, IsRun, ShowsColumns}
 use Rattle.world.proofs.Lists.{map_append, push_get}
 
@@ -66,11 +66,8 @@ columns_more t all outs after i e out count is here before new k f v at gave =
     (push_get outs out v k (ap (λ (xs : List (Vec Out Global)). slice_get xs k) (sym is) ∙ gave))
 
 -- the first events that were done are kept
-pub begun_with : (old new : List Event) (all : List Given) (i : ℕ) → new ≡ old ++ map event_of (take i all) → IsBegun old (map event_of all) new
+pub begun_with : (old new : List Event) (all : List Given) (i : ℕ) → new ≡ old ++ map event_of (take i all) → AddsBeginning old new (map event_of all)
 begun_with old new all i is = (i, is ∙ ap (λ es. old ++ es) (sym (take-map event_of i all)))
-
-pub none_begun : (old these : List Event) → IsBegun old these old
-none_begun old these = (0, sym (append-nil old))
 
 -- one more event is kept
 pub kept_through : (old now new : List Event) (all : List Given) (i : ℕ) (e : Given) → now ≡ old ++ map event_of (take i all) → new ≡ now ++ event_of e ∷ [] → take (i + 1) all ≡ take i all ++ e ∷ [] → new ≡ old ++ map event_of (take (i + 1) all)

@@ -28,8 +28,8 @@ abbrev pub events_of : Whole → List Event
 events_of w = map event_of w.kept.items
 
 -- the old events, and then a beginning of these
-abbrev pub IsBegun : List Event → List Event → List Event → Type 0
-IsBegun old these new = (count : ℕ) × (new ≡ old ++ take count these)
+abbrev pub AddsBeginning : List Event → List Event → List Event → Type 0
+AddsBeginning old new these = (count : ℕ) × (new ≡ old ++ take count these)
 
 -- the world after what happened
 abbrev pub now_of : Whole → World

@@ -25,7 +25,7 @@ pub struct World {
 }
 
 impl World {
-    ghost use Rattle.world.specs.Run.{schema_in, tables_in, members_in, opening_of, events_of, now_of, member_of, IsBegun};
+    ghost use Rattle.world.specs.Run.{schema_in, tables_in, members_in, opening_of, events_of, now_of, member_of, AddsBeginning};
     ghost use Rattle.world.specs.View.{EachShowsColumns, ShowsColumns};
 
     /// A group of 3 to 7 members in one program, with tables of this schema: all up, as followers in term 0 with no vote and empty
@@ -106,7 +106,7 @@ impl World {
         ensures gives { IfOk result (λ outs. GivesAll (schema_in self.old) (members_in self.old) (now_of self.old) (map event_of events.now) (map (λ o. outputs_of o.items) outs.items)) }
         ensures columns { IfOk result (λ outs. EachShowsColumns (tables_in self.old) events.now outs.items) }
         ensures kept { OnOk result (events_of self.new ≡ events_of self.old ++ map event_of events.now) }
-        ensures begun { OnErr result (IsBegun (events_of self.old) (map event_of events.now) (events_of self.new)) }
+        ensures begun { OnErr result (AddsBeginning (events_of self.old) (events_of self.new) (map event_of events.now)) }
         ensures same { (self.new.group.schema ≡ self.old.group.schema) × (self.new.group.members ≡ self.old.group.members) }
         ensures ok { OnOk result (self.new.is_spent ≡ false) }
         ensures idle { events.now ≡ [] → IsOk result }
@@ -139,7 +139,7 @@ impl World {
         ensures gives { IfOk result (λ outs. GivesAll (schema_in self.old) (members_in self.old) (now_of self.old) (map event_of events.now) (map (λ o. outputs_of o.items) outs.items)) }
         ensures columns { IfOk result (λ outs. EachShowsColumns (tables_in self.old) events.now outs.items) }
         ensures kept { OnOk result (events_of self.new ≡ events_of self.old ++ map event_of events.now) }
-        ensures begun { OnErr result (IsBegun (events_of self.old) (map event_of events.now) (events_of self.new)) }
+        ensures begun { OnErr result (AddsBeginning (events_of self.old) (events_of self.new) (map event_of events.now)) }
         ensures agree { Agree (schema_in self.new) (members_in self.new) (opening_of self.new) (events_of self.new) }
         ensures tables { tables_in self.new ≡ tables_in self.old }
         ensures same { (schema_in self.new ≡ schema_in self.old) × (members_in self.new ≡ members_in self.old) }
