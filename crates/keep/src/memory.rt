@@ -1,5 +1,5 @@
 //! A keeper in memory.
-ghost use Rattle.std.specs.Prelude.{◌≡◌, ◌<◌, ◌≤◌, ◌++◌, ◌⊎◌, true, false, take, IfOk, IfErr, OnOk, OnErr};
+ghost use Rattle.std.specs.Prelude.{◌≡◌, ◌≢◌, ◌↔◌, ◌-◌, ◌≤◌, ◌++◌, ◌⊎◌, true, false, take, length, slice_get, IfOk, IfErr, IsOk, IsErr, OnOk, OnErr};
 
 use crate::change::Change;
 use crate::error::StoreError;
@@ -46,7 +46,8 @@ impl MemImage {
     }
 
     /// Tells which call of the next keeper is to answer `StoreFault`: its open is 1, and then each
-    /// `state`, `entry` and `save` counts one more; 0 is none. What is stored stays.
+    /// `state`, `entry` and `save` counts one more; 0 is none. It takes the place of what was told
+    /// before. What is stored stays.
     pub fn fail_at(&mut self, call: u64)
         ensures stored { stored_in self.new ≡ stored_in self.old }
         ensures failing { failing_call self.new ≡ call }
@@ -60,6 +61,7 @@ impl MemImage {
         requires { tail.items ≡ change.now.entries.items }
         ensures ok { OnOk result (stored_in self.new ≡ after change.now (stored_in self.old)) }
         ensures err { OnErr result (stored_in self.new ≡ stored_in self.old) }
+        ensures failing { failing_call self.new ≡ failing_call self.old }
     {
         replace_tail(&mut self.entries, change.kept, tail)?;
         self.term = change.term;
@@ -93,7 +95,12 @@ fn copies_of(alloc: Global, entries: &[Entry]) -> Result<Vec<Entry>, AllocError>
 
 /// A keeper whose store is a `MemImage`. It is always honest. Its image holds only what keepers of the
 /// same group saved, so `open` needs neither the number of members nor the schema: it judges nothing,
-/// and never answers `BadStore`.
+/// takes no memory, and never answers `BadStore`.
+///
+/// It answers `StoreFault` at the call that the image was told to fail, and at no other: at the open,
+/// which is call 1, or at a later `state`, `entry` or `save`, which count one each; `failures` and
+/// `close` are not counted. No later keeper of the image is to fail, unless the image is told so again.
+/// After an error what is stored is as it was before the call.
 #[derive(Debug, Drop)]
 pub struct MemKeeper {
     image: MemImage,
@@ -102,18 +109,20 @@ pub struct MemKeeper {
     failures: u64,
     is_up: bool,
     ghost unfailed: { is_up ≡ true → failures ≡ 0 },
+    ghost untold: { image.fail_at ≡ 0 },
 }
 
 impl MemKeeper {
+    ghost use Rattle.keep.specs.Calls.{IsCounted};
+
     /// Counts a call, and says whether it may go on.
     fn count_call(&mut self) -> Result<(), StoreError>
         ensures image { self.new.image ≡ self.old.image }
-        ensures ok { OnOk result ((self.old.is_up ≡ true) × (self.new.is_up ≡ true) × (self.new.failures ≡ self.old.failures)) }
+        ensures counted { IsCounted self.old self.new result }
+        ensures ok { OnOk result ((self.old.is_up ≡ true) × (self.new.is_up ≡ true)) }
         ensures err { OnErr result (self.new.is_up ≡ false) }
-        ensures store { result ≡ Err StoreError.StoreFault → (self.old.is_up ≡ true) × (self.old.failures < self.new.failures) }
-        ensures down { self.old.is_up ≡ false → (result ≡ Err StoreError.NodeDown) × (self.new.failures ≡ self.old.failures) }
+        ensures down { self.old.is_up ≡ false → result ≡ Err StoreError.NodeDown }
         ensures named { IfErr result (λ e. (e ≡ StoreError.StoreFault) ⊎ ((e ≡ StoreError.NodeDown) × (self.old.is_up ≡ false))) }
-        ensures counts { self.old.failures ≤ self.new.failures }
     {
         if !self.is_up {
             return Err(StoreError::NodeDown);
@@ -133,7 +142,7 @@ impl MemKeeper {
     fn lack_memory(&mut self) -> StoreError
         ensures result { result ≡ StoreError.NoMemory }
         ensures down { self.new.is_up ≡ false }
-        ensures same { (self.new.image ≡ self.old.image) × (self.new.failures ≡ self.old.failures) }
+        ensures same { (self.new.image ≡ self.old.image) × (self.new.failures ≡ self.old.failures) × (self.new.left ≡ self.old.left) }
     {
         self.is_up = false;
         StoreError::NoMemory
@@ -141,7 +150,9 @@ impl MemKeeper {
 }
 
 impl Keeper for MemKeeper {
-    ghost use Rattle.keep.specs.Durable.{stored_in};
+    ghost use Rattle.keep.specs.Durable.{stored_in, failing_call, after};
+    ghost use Rattle.keep.specs.Errors.{IsAnswered};
+    ghost use Rattle.keep.specs.Calls.{stored_by, failing_next, failures_of, IsCounted};
 
     type Image = MemImage;
 
@@ -166,7 +177,13 @@ impl Keeper for MemKeeper {
         image: MemImage,
         members: usize,
         schema: &Schema,
-    ) -> Result<MemKeeper, (StoreError, MemImage)> {
+    ) -> Result<MemKeeper, (StoreError, MemImage)>
+        ensures fails { IsErr result ↔ (failing_call image ≡ 1) }
+        ensures fault { IfErr result (λ e. (e.0 ≡ StoreError.StoreFault) × (stored_in e.1 ≡ stored_in image) × (failing_call e.1 ≡ 0)) }
+        ensures stored { IfOk result (λ k. stored_by k ≡ stored_in image) }
+        ensures told { IfOk result (λ k. failing_next k ≡ failing_call image - 1) }
+        ensures up { IfOk result (λ k. (k.is_up ≡ true) × (failures_of k ≡ 0)) }
+    {
         let _ = alloc;
         let _ = members;
         let _ = schema;
@@ -186,7 +203,12 @@ impl Keeper for MemKeeper {
         })
     }
 
-    fn state(&mut self, alloc: Global) -> Result<State, StoreError> {
+    fn state(&mut self, alloc: Global) -> Result<State, StoreError>
+        ensures ok { IfOk result (λ s. (s.term ≡ (stored_by self.old).term) × (s.vote ≡ (stored_by self.old).vote) × (s.entries.items ≡ (stored_by self.old).log)) }
+        ensures same { stored_by self.new ≡ stored_by self.old }
+        ensures answered { IsAnswered self.old.is_up self.new.is_up (failures_of self.old) (failures_of self.new) result }
+        ensures counted { IsCounted self.old self.new result }
+    {
         self.count_call()?;
         let Ok(entries) = copies_of(alloc, &self.image.entries) else {
             return Err(self.lack_memory());
@@ -198,7 +220,14 @@ impl Keeper for MemKeeper {
         })
     }
 
-    fn entry(&mut self, alloc: Global, i: usize) -> Result<Option<Entry>, StoreError> {
+    fn entry(&mut self, alloc: Global, i: usize) -> Result<Option<Entry>, StoreError>
+        ensures ok { IfOk result (λ e. e ≡ slice_get (stored_by self.old).log i) }
+        // past the end no memory is taken
+        ensures past { self.old.is_up ≡ true → failing_next self.old ≢ 1 → length (stored_by self.old).log ≤ i → IsOk result }
+        ensures same { stored_by self.new ≡ stored_by self.old }
+        ensures answered { IsAnswered self.old.is_up self.new.is_up (failures_of self.old) (failures_of self.new) result }
+        ensures counted { IsCounted self.old self.new result }
+    {
         let _ = alloc;
         self.count_call()?;
         let Some(entry) = self.image.entries.get(i) else {
@@ -210,7 +239,12 @@ impl Keeper for MemKeeper {
         Ok(Some(copy))
     }
 
-    fn save(&mut self, alloc: Global, change: &Change) -> Result<(), StoreError> {
+    fn save(&mut self, alloc: Global, change: &Change) -> Result<(), StoreError>
+        ensures ok { OnOk result (stored_by self.new ≡ after change.now (stored_by self.old)) }
+        ensures err { OnErr result (stored_by self.new ≡ stored_by self.old) }
+        ensures answered { IsAnswered self.old.is_up self.new.is_up (failures_of self.old) (failures_of self.new) result }
+        ensures counted { IsCounted self.old self.new result }
+    {
         self.count_call()?;
         let Ok(tail) = copies_of(alloc, &change.entries) else {
             return Err(self.lack_memory());
@@ -225,7 +259,11 @@ impl Keeper for MemKeeper {
         self.failures
     }
 
-    fn close(self) -> MemImage {
-        self.image
+    fn close(self) -> MemImage
+        ensures stored { stored_in result ≡ stored_by self }
+        ensures failing { failing_call result ≡ 0 }
+    {
+        let MemKeeper { image, .. } = self;
+        image
     }
 }

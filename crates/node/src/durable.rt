@@ -3,7 +3,7 @@ ghost use Rattle.std.specs.Prelude.{◌≡◌, true, false, IfOk, IfErr, OnOk, O
 ghost use Rattle.model.specs.Lists.{nth};
 ghost use Rattle.keep.specs.Durable.{Durable};
 ghost use Rattle.raft.specs.View.{node_of};
-ghost use Rattle.node.specs.View.{durable_of};
+ghost use Rattle.node.specs.View.{durable_of, HasCause};
 ghost use Rattle.node.specs.Answered.{stored_of, IsFaultOf};
 
 use crate::node::{Fault, Node};
@@ -43,6 +43,8 @@ impl<K: Keeper> Node<K> {
         ensures ok { IfOk result (λ found. K.is_honest self.new.keeper → found ≡ nth self.old.core.log.items index) }
         ensures up { OnOk result ((self.old.is_up ≡ true) × (self.new.is_up ≡ true)) }
         ensures fails { IfErr result (IsFaultOf self.old.is_up self.new.is_up) }
+        ensures cause { IfErr result (HasCause (K.failed self.old.keeper) (K.failed self.new.keeper)) }
+        ensures stays { self.old.is_up ≡ false → self.new ≡ self.old }
         ensures core { self.new.core ≡ self.old.core }
         ensures left { (d : Durable) → K.may_hold self.new.keeper d → K.may_hold self.old.keeper d }
     {

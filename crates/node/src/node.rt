@@ -130,7 +130,8 @@ fn finish<K: Keeper>(
 
 impl<K: Keeper> Node<K> {
     /// Opens what the image holds, as a follower with the term, the vote and the log that are stored,
-    /// which knows of no leader and has applied nothing.
+    /// which knows of no leader and has applied nothing. `me` is one of the group: from 1 to `members`, of
+    /// which there are up to 7; the caller sees to this.
     ///
     /// `StoreFault` where the store fails, `NoMemory` where memory is refused, `BadStore` where the
     /// image holds no state of a member of such a group. An error gives the image back, and what it
@@ -143,6 +144,7 @@ impl<K: Keeper> Node<K> {
         me: Member,
     ) -> Result<Node<K>, (StoreError, K::Image)>
         requires few { members ≤ 7 }
+        requires member { (1 ≤ me) × (me ≤ members) }
         ensures opened { IfOk result (λ n. node_of n.core ≡ started_from (durable_of (node_of n.core))) }
         ensures found { IfOk result (λ n. K.is_honest n.keeper → K.holds image (durable_of (node_of n.core))) }
         ensures group { IfOk result (λ n. (n.is_up ≡ true) × (n.core.schema ≡ schema) × (n.core.members ≡ members) × (n.core.me ≡ me)) }
@@ -192,6 +194,7 @@ impl<K: Keeper> Node<K> {
         ensures torn { IsTorn (durable_of (node_of self.old.core)) (durable_of (node_after (node_of self.old.core) (works self.old.core.schema self.old.core.members self.old.core.me work (node_of self.old.core)))) (K.may_hold self.new.keeper) result }
         ensures up { OnOk result ((self.old.is_up ≡ true) × (self.new.is_up ≡ true)) }
         ensures down { self.old.is_up ≡ false → result ≡ Err (Fault.Kept Refusal.NodeDown) }
+        ensures stays { self.old.is_up ≡ false → self.new ≡ self.old }
         ensures ends { IfErr result (λ f. f ≡ Fault.Kept Refusal.NodeDown → self.new.is_up ≡ self.old.is_up) }
         ensures leaves { IfErr result (LeavesUp self.old.is_up self.new.is_up) }
         ensures cause { IfErr result (HasCause (K.failed self.old.keeper) (K.failed self.new.keeper)) }

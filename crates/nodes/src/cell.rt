@@ -42,7 +42,8 @@ pub struct Cell<K: Keeper> {
 
 impl<K: Keeper> Cell<K> {
     /// Opens a life with what the image holds. `last` is the greatest mark that the node had before,
-    /// none if it had none; the opening's is one more. 42 where no mark is left, else 40, 43 or 44;
+    /// none if it had none; the opening's is one more. `me` is one of the group: from 1 to `members`, of
+    /// which there are up to 7; the caller sees to this. 42 where no mark is left, else 40, 43 or 44;
     /// the image comes back with each.
     pub fn start(
         alloc: Global,
@@ -53,6 +54,7 @@ impl<K: Keeper> Cell<K> {
         last: Option<Mark>,
     ) -> Result<Cell<K>, (Refusal, K::Image)>
         requires few { members ≤ 7 }
+        requires member { (1 ≤ me) × (me ≤ members) }
         ensures opened { IfOk result (λ c. (c.node.is_up ≡ true) × (c.life.steps.items ≡ []) × (Some c.life.opening.mark ≡ mark_after (unwrap_or last 0))) }
         ensures stored { IfOk result (λ c. K.is_honest c.node.keeper → K.holds image (opened_with c.life.opening)) }
         ensures group { IfOk result (λ c. (c.node.core.schema ≡ schema) × (c.node.core.members ≡ members) × (c.node.core.me ≡ me)) }

@@ -28,7 +28,7 @@ use Rattle.raft.specs.declared.state.Work.TheVariants.{Local, Delivered}
 use Rattle.raft.specs.declared.state.Effect.{Effect as Given}
 use Rattle.raft.specs.declared.state.Effect.TheVariants.{Refused as RefusedGiven, Ignored as IgnoredGiven, Done}
 use Rattle.raft.specs.View.{node_of, works, effect_of, EffectFits, Grows}
-use Rattle.raft.proofs.Lists.{Between, agreed_between, ltb_tells}
+use Rattle.raft.proofs.Lists.{Between, agreed_between, ltb_tells, is_so, stands_within}
 
 -- ---- tests
 
@@ -48,18 +48,7 @@ not_both : (a b : Bool) → (a && b) ≡ false → a ≡ true → b ≡ false
 not_both true b e h = e
 not_both false b e h = absurd (cc h)
 
-is_so : (b : Bool) → not b ≡ false → b ≡ true
-is_so true e = refl
-is_so false e = absurd (cc e)
-
 -- ---- a log that takes entries
-
-pub stands_within : (log : List Entry) (prev t : ℕ) → stands log prev t ≡ true → prev ≤ length log
-stands_within log zero t e = omega arith
-stands_within log (suc i) t e = elim (ltb_tells i (length log)) [
-  | inl lt ↦ omega (arith, lt.1)
-  | inr ge ↦ let none : has_term (slice_get log i) t ≡ false = rw (slice_get_past log i (omega (arith, ge.1))) refl in absurd (cc (none, e))
-]
 
 -- up to where log and entries agree, if a cut there leaves what is committed
 cut_after : (c : ℕ) (log : List Entry) (prev : ℕ) (es : List Entry) → cuts_below c log prev es ≡ false → agreed log prev es < prev + length es → c ≤ agreed log prev es

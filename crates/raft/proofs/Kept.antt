@@ -1,7 +1,5 @@
 -- Which beginning of the log a step keeps.
-use Rattle.std.proofs.Common.{◌≡◌, ◌∙◌, ℕ, ℤ, ◌+◌, ◌-◌, min, Bool, true, false, not, cond, ◌==◌, nat_lt, nat_le, ◌&&◌, ◌||◌, Option, Some, None, Result, Ok, Err, List, [], ◌∷◌, ◌++◌, take, drop, length, refl, sym, ap, subst, arith}
-use Rattle.std.proofs.lemmas.List.{take-append-le, take-take, length-take, take-append-drop, take_all, drop_all}
-use Rattle.std.proofs.Common.{append-nil}
+use Rattle.std.proofs.Common.{◌≡◌, ◌⊎◌, ℕ, ℤ, ◌+◌, ◌-◌, min, Bool, true, false, not, cond, ◌==◌, nat_lt, nat_le, ◌&&◌, ◌||◌, Option, Some, None, Result, Ok, Err, List, [], ◌∷◌, ◌++◌, length, refl, subst, inl, inr}
 use Rattle.model.specs.declared.entry.Entry.{Entry}
 use Rattle.model.specs.declared.entry.Request.{Request}
 use Rattle.model.specs.declared.message.Body.{Body}
@@ -14,58 +12,54 @@ use Rattle.model.specs.Stamps.{stamp}
 use Rattle.model.specs.Logs.{least_stamp}
 use Rattle.model.specs.Lists.{nth}
 use Rattle.model.specs.Transactions.{Schema, Statement}
-use Rattle.model.specs.Members.{Node, agreed, is_leader, is_candidate, is_majority, is_in, stands}
+use Rattle.model.specs.Members.{Node, is_leader, is_candidate, is_majority, is_in, stands}
 use Rattle.model.specs.Steps.{After, Effect, Moves, Refuses, Nothing, TERM_LAST, LOG_LIMIT, accepted, time_out, append_own, on_input, is_time_full, is_log_full, extended, opened, crowned, counted, hears, in_term, grants, on_request_vote, on_vote, go_on, cuts_below, on_append, on_reply, on_reply_yes, on_reply_no, on_body, is_honest, on_message}
 use Rattle.model.specs.Worlds.{hand, unless_misread}
-use Rattle.model.specs.Kept.{kept_under, kept_at, Leaves}
+use Rattle.model.specs.Kept.{kept_under, kept_at, node_after}
+use Rattle.raft.proofs.Lists.{stands_within, is_so}
+use Rattle.raft.proofs.Cuts.{Cut, pushed, accepted_turns}
 
 cond_both : {A : Type 0} (P : A → Type 0) (b : Bool) (u v : A) → P u → P v → P (cond b u v)
 cond_both P true u v p q = p
 cond_both P false u v p q = q
 
-accepted_keeps : (prev : ℕ) (es log : List Entry) → take (kept_under prev es log) (accepted log prev es) ≡ take (kept_under prev es log) log
-unfolding kept_under
-accepted_keeps prev es log =
-    let j = agreed log prev es in
-    elim (j == prev + length es) as (λ b. take (cond b (length log) (min j (length log))) (cond b log (take j log ++ drop (j - prev) es)) ≡ take (cond b (length log) (min j (length log))) log) [
-      | true ↦ refl
-      | false ↦
-          let m = min j (length log) in
-          take-append-le m (take j log) (drop (j - prev) es) (omega (arith, length-take j log)) ∙ take-take m j log (omega arith)
-    ]
+cond_told : {A : Type 0} (P : A → Type 0) (b : Bool) (u v : A) → (b ≡ true → P u) → (b ≡ false → P v) → P (cond b u v)
+cond_told P true u v p q = p refl
+cond_told P false u v p q = q refl
 
 -- records, so that antt finds the parts of an `if` under them
 record Keeps (k : ℕ) (log : List Entry) (a : After) : Type 0 where
-  pub same : take k a.node.log ≡ take k log
+  pub turns : (a.node.log ≡ log) ⊎ Cut k log a.node.log
 
 record Begins (k : ℕ) (log : List Entry) (y : Node) : Type 0 where
-  pub same : take k y.log ≡ take k log
+  pub turns : (y.log ≡ log) ⊎ Cut k log y.log
 
-pushed : (xs : List Entry) (e : Entry) → take (length xs) (xs ++ e ∷ []) ≡ take (length xs) xs
-pushed xs e = take-append-le (length xs) xs (e ∷ []) (omega arith)
+-- the step leaves the log as it was, or cuts it after the first k entries
+pub record Leaves (k : ℕ) (x : Node) (effect : Effect) : Type 0 where
+  pub turns : ((node_after x effect).log ≡ x.log) ⊎ Cut k x.log (node_after x effect).log
 
 extended_keeps : (reading : ℤ) (request : Option Request) (x : Node) → Begins (length x.log) x.log (extended reading request x)
-extended_keeps reading request x = record { same = pushed x.log (record { term = x.term; stamp = stamp reading (least_stamp x.log); request = request }) }
+extended_keeps reading request x = record { turns = inr (pushed x.log (record { term = x.term; stamp = stamp reading (least_stamp x.log); request = request })) }
 
 time_out_keeps : (n me k : ℕ) (x : Node) → Leaves k x (time_out n me x)
 unfolding time_out
-time_out_keeps n me k x = cond_both (Leaves k x) (is_leader x.role) _ _ (record { same = refl }) (cond_both (Leaves k x) (nat_le TERM_LAST x.term) _ _ (record { same = refl }) (record { same = refl }))
+time_out_keeps n me k x = cond_both (Leaves k x) (is_leader x.role) _ _ (record { turns = inl refl }) (cond_both (Leaves k x) (nat_le TERM_LAST x.term) _ _ (record { turns = inl refl }) (record { turns = inl refl }))
 
 append_own_keeps : (n me : ℕ) (reading : ℤ) (request : Option Request) (x : Node) → Leaves (length x.log) x (append_own n me reading request x)
 unfolding append_own
 append_own_keeps n me reading request x =
     let P : Effect → Type 0 = Leaves (length x.log) x in
-    cond_both P (not (is_leader x.role)) _ _ (record { same = refl }) (cond_both P (is_time_full x.log) _ _ (record { same = refl }) (cond_both P (is_log_full x.log) _ _ (record { same = refl }) (record { same = (extended_keeps reading request x).same })))
+    cond_both P (not (is_leader x.role)) _ _ (record { turns = inl refl }) (cond_both P (is_time_full x.log) _ _ (record { turns = inl refl }) (cond_both P (is_log_full x.log) _ _ (record { turns = inl refl }) (record { turns = (extended_keeps reading request x).turns })))
 
 input_keeps : (n me : ℕ) (input : Input) (x : Node) → Leaves (length x.log) x (on_input n me input x)
 input_keeps n me Timeout x = time_out_keeps n me (length x.log) x
-input_keeps n me Beat x = cond_both (Leaves (length x.log) x) (is_leader x.role) _ _ (record { same = refl }) (record { same = refl })
+input_keeps n me Beat x = cond_both (Leaves (length x.log) x) (is_leader x.role) _ _ (record { turns = inl refl }) (record { turns = inl refl })
 input_keeps n me (Close reading) x = append_own_keeps n me reading None x
 input_keeps n me (Submit reading request) x = append_own_keeps n me reading (Some request) x
 
 unless_keeps : (r : Result (List Statement) Refusal) (effect : Effect) (x : Node) → Leaves (length x.log) x effect → Leaves (length x.log) x (unless_misread r effect)
 unless_keeps (Ok statements) effect x h = h
-unless_keeps (Err refusal) effect x h = record { same = refl }
+unless_keeps (Err refusal) effect x h = record { turns = inl refl }
 
 pub hand_keeps : (schema : Schema) (n me : ℕ) (input : Input) (x : Node) → Leaves (length x.log) x (hand schema n me input x)
 hand_keeps schema n me Timeout x = input_keeps n me Timeout x
@@ -74,7 +68,7 @@ hand_keeps schema n me (Close reading) x = input_keeps n me (Close reading) x
 hand_keeps schema n me (Submit reading request) x = unless_keeps (schema.reads request.text) _ x (input_keeps n me (Submit reading request) x)
 
 opened_keeps : (reading : ℤ) (x : Node) → Begins (length x.log) x.log (opened reading x)
-opened_keeps reading x = cond_both (Begins (length x.log) x.log) (is_time_full x.log || is_log_full x.log) _ _ (record { same = refl }) (extended_keeps reading None x)
+opened_keeps reading x = cond_both (Begins (length x.log) x.log) (is_time_full x.log || is_log_full x.log) _ _ (record { turns = inl refl }) (extended_keeps reading None x)
 
 hears_keeps : (term : ℕ) (x : Node) → (hears term x).log ≡ x.log
 unfolding hears
@@ -82,52 +76,46 @@ hears_keeps term x = elim (nat_lt x.term term) as (λ b. (cond b (in_term term x
 
 request_vote_keeps : (me sender term i t k : ℕ) (x : Node) → Keeps k x.log (on_request_vote me sender term i t x)
 unfolding on_request_vote
-request_vote_keeps me sender term i t k x = cond_both (Keeps k x.log) (grants sender term i t x) _ _ (record { same = refl }) (record { same = refl })
+request_vote_keeps me sender term i t k x = cond_both (Keeps k x.log) (grants sender term i t x) _ _ (record { turns = inl refl }) (record { turns = inl refl })
 
 vote_keeps : (n me : ℕ) (reading : ℤ) (sender term : ℕ) (given : Bool) (x : Node) → Keeps (length x.log) x.log (on_vote n me reading sender term given x)
 unfolding on_vote
 vote_keeps n me reading sender term given x =
     let P : After → Type 0 = Keeps (length x.log) x.log in
-    cond_both P (given && (term == x.term) && is_candidate x.role) _ _ (cond_both P (is_majority n (is_in (counted sender x).votes)) _ _ (record { same = (opened_keeps reading (crowned n x)).same }) (record { same = refl })) (record { same = refl })
+    cond_both P (given && (term == x.term) && is_candidate x.role) _ _ (cond_both P (is_majority n (is_in (counted sender x).votes)) _ _ (record { turns = (opened_keeps reading (crowned n x)).turns }) (record { turns = inl refl })) (record { turns = inl refl })
 
 append_keeps : (me sender term prev prev_term : ℕ) (es : List Entry) (commit : ℕ) (x : Node) → Leaves (kept_under prev es x.log) x (on_append me sender term prev prev_term es commit x)
 unfolding on_append
 append_keeps me sender term prev prev_term es commit x =
     let P : Effect → Type 0 = Leaves (kept_under prev es x.log) x in
-    cond_both P (nat_lt term x.term) _ _ (record { same = refl }) (cond_both P (is_leader x.role) _ _ (record { same = refl }) (cond_both P (not (stands x.log prev prev_term)) _ _ (record { same = refl }) (cond_both P (not (go_on (nth x.log prev) term es) || cuts_below x.commit x.log prev es || nat_lt LOG_LIMIT (length (accepted x.log prev es))) _ _ (record { same = refl }) (record { same = accepted_keeps prev es x.log }))))
+    cond_both P (nat_lt term x.term) _ _ (record { turns = inl refl }) (cond_both P (is_leader x.role) _ _ (record { turns = inl refl }) (cond_told P (not (stands x.log prev prev_term)) _ _ (λ other. record { turns = inl refl }) (λ standing.
+    let within = stands_within x.log prev prev_term (is_so (stands x.log prev prev_term) standing) in
+    cond_both P (not (go_on (nth x.log prev) term es) || cuts_below x.commit x.log prev es || nat_lt LOG_LIMIT (length (accepted x.log prev es))) _ _ (record { turns = inl refl }) (record { turns = accepted_turns prev es x.log within }))))
 
 reply_yes_keeps : (n me sender matched k : ℕ) (x : Node) → Leaves k x (on_reply_yes n me sender matched x)
 unfolding on_reply_yes
-reply_yes_keeps n me sender matched k x = cond_both (Leaves k x) (nat_lt (length x.log) matched) _ _ (record { same = refl }) (record { same = refl })
+reply_yes_keeps n me sender matched k x = cond_both (Leaves k x) (nat_lt (length x.log) matched) _ _ (record { turns = inl refl }) (record { turns = inl refl })
 
 reply_no_keeps : (me sender k : ℕ) (x : Node) → Leaves k x (on_reply_no me sender x)
 unfolding on_reply_no
-reply_no_keeps me sender k x = record { same = refl }
+reply_no_keeps me sender k x = record { turns = inl refl }
 
 reply_keeps : (n me sender term : ℕ) (ok : Bool) (matched k : ℕ) (x : Node) → Leaves k x (on_reply n me sender term ok matched x)
 reply_keeps n me sender term ok matched k x =
-    cond_both (Leaves k x) (is_leader x.role && (term == x.term)) _ _ (cond_both (Leaves k x) ok _ _ (reply_yes_keeps n me sender matched k x) (reply_no_keeps me sender k x)) (record { same = refl })
+    cond_both (Leaves k x) (is_leader x.role && (term == x.term)) _ _ (cond_both (Leaves k x) ok _ _ (reply_yes_keeps n me sender matched k x) (reply_no_keeps me sender k x)) (record { turns = inl refl })
 
 body_keeps : (n me : ℕ) (reading : ℤ) (sender term : ℕ) (b : Body) (x : Node) → Leaves (kept_at b x.log) x (on_body n me reading sender term b x)
-body_keeps n me reading sender term (RequestVote i t) x = record { same = (request_vote_keeps me sender term i t (length x.log) x).same }
-body_keeps n me reading sender term (Vote given) x = record { same = (vote_keeps n me reading sender term given x).same }
+body_keeps n me reading sender term (RequestVote i t) x = record { turns = (request_vote_keeps me sender term i t (length x.log) x).turns }
+body_keeps n me reading sender term (Vote given) x = record { turns = (vote_keeps n me reading sender term given x).turns }
 body_keeps n me reading sender term (Append prev prev_term es commit) x = append_keeps me sender term prev prev_term es commit x
 body_keeps n me reading sender term (Reply ok matched) x = reply_keeps n me sender term ok matched (length x.log) x
 
 -- the term that was heard of changes no log
 heard : (b : Body) (x y : Node) (effect : Effect) → y.log ≡ x.log → Leaves (kept_at b y.log) y effect → Leaves (kept_at b x.log) x effect
-heard b x y (Moves a) e h = record { same = let P : List Entry → Type 0 = λ log. take (kept_at b log) a.node.log ≡ take (kept_at b log) log in subst P e h.same }
-heard b x y (Refuses refusal) e h = record { same = refl }
-heard b x y Nothing e h = record { same = refl }
+heard b x y (Moves a) e h = record { turns = let P : List Entry → Type 0 = λ log. (a.node.log ≡ log) ⊎ Cut (kept_at b log) log a.node.log in subst P e h.turns }
+heard b x y (Refuses refusal) e h = record { turns = inl refl }
+heard b x y Nothing e h = record { turns = inl refl }
 
 pub message_keeps : (schema : Schema) (n me : ℕ) (reading : ℤ) (m : Message) (x : Node) → Leaves (kept_at m.body x.log) x (on_message schema n me reading m x)
 message_keeps schema n me reading m x =
-    cond_both (Leaves (kept_at m.body x.log) x) (is_honest schema n me m) _ _ (heard m.body x (hears m.term x) _ (hears_keeps m.term x) (body_keeps n me reading m.sender m.term m.body (hears m.term x))) (record { same = refl })
-
--- what a keeper is told: what is kept, and what comes after it
-pub kept_and_new : (k : ℕ) (x : Node) (a : After) → Leaves k x (Moves a) → take k x.log ++ drop k a.node.log ≡ a.node.log
-kept_and_new k x a h = ap (λ xs. xs ++ drop k a.node.log) (sym h.same) ∙ take-append-drop k a.node.log
-
-pub same_log : (k : ℕ) (old new : List Entry) → take k old ++ drop k new ≡ new → k ≡ length old → length new ≡ length old → new ≡ old
-same_log k old new e here len =
-    sym e ∙ ap (λ ys. take k old ++ ys) (drop_all k new (omega arith)) ∙ append-nil (take k old) ∙ take_all k old (omega arith)
+    cond_both (Leaves (kept_at m.body x.log) x) (is_honest schema n me m) _ _ (heard m.body x (hears m.term x) _ (hears_keeps m.term x) (body_keeps n me reading m.sender m.term m.body (hears m.term x))) (record { turns = inl refl })

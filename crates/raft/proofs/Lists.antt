@@ -1,4 +1,4 @@
-use Rattle.std.proofs.Common.{◌≡◌, ◌⊎◌, ◌∙◌, ℕ, zero, suc, ◌+◌, ◌-◌, ◌≤◌, ◌<◌, min, Bool, ◌&&◌, true, false, cond, nat_lt, if◌then◌else◌, Option, Some, option_map, List, [], ◌∷◌, slice_get, slice_set, slice_index_or, ◌++◌, map, take, drop, length, replicate, refl, sym, ap, arith, add-one, inl, inr}
+use Rattle.std.proofs.Common.{◌≡◌, ◌⊎◌, ◌∙◌, ℕ, zero, suc, ◌+◌, ◌-◌, ◌≤◌, ◌<◌, min, Bool, ◌&&◌, true, false, not, cond, nat_lt, if◌then◌else◌, Option, Some, option_map, List, [], ◌∷◌, slice_get, slice_set, slice_index_or, ◌++◌, map, take, drop, length, replicate, refl, sym, ap, arith, add-one, inl, inr}
 use Rattle.std.proofs.Math.Seq.{take-length, drop-length}
 use Rattle.std.proofs.lemmas.List.{take_all, drop_all, map_push, length-take, length-drop}
 use Rattle.std.proofs.Common.{length-append}
@@ -8,7 +8,7 @@ use Rattle.std.proofs.Math.Seq.{drop-cons}
 use Rattle.model.specs.declared.entry.Entry.{Entry}
 use Rattle.model.specs.Lists.{nth_or, with_nth}
 use Rattle.model.specs.Stamps.{above}
-use Rattle.model.specs.Members.{others, agreed, has_term, term_of}
+use Rattle.model.specs.Members.{others, agreed, has_term, term_of, stands}
 use Rattle.model.specs.Steps.{go_on, accepted}
 use Rattle.raft.specs.Follows.{may_follow, go_on_from}
 
@@ -122,3 +122,14 @@ room_accepted log prev es small within =
         | inr ge ↦ absurd (e.1 (omega (arith, ge.1, far.high)))
       ]
     ]
+
+pub is_so : (b : Bool) → not b ≡ false → b ≡ true
+is_so true e = refl
+is_so false e = absurd (cc e)
+
+pub stands_within : (log : List Entry) (prev t : ℕ) → stands log prev t ≡ true → prev ≤ length log
+stands_within log zero t e = omega arith
+stands_within log (suc i) t e = elim (ltb_tells i (length log)) [
+  | inl lt ↦ omega (arith, lt.1)
+  | inr ge ↦ let none : has_term (slice_get log i) t ≡ false = rw (slice_get_past log i (omega (arith, ge.1))) refl in absurd (cc (none, e))
+]

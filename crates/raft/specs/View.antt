@@ -86,18 +86,24 @@ effect_of c (RefusedGiven refusal) = Refuses refusal
 effect_of c IgnoredGiven = Nothing
 effect_of c (Done t) = Moves (after_of c t.messages.items)
 
--- what is stored goes from that of x to that of y by this change
-pub record IsChange (x y : Node) (c : Change) : Type 0 where
-  pub term : c.term ≡ y.term
-  pub vote : c.vote ≡ y.vote
-  pub within : c.kept ≤ length x.log
-  pub log : take c.kept x.log ++ c.entries.items ≡ y.log
-
+-- what is stored is as it was
 pub record IsStoredAlready (x y : Node) : Type 0 where
   pub term : y.term ≡ x.term
   pub vote : y.vote ≡ x.vote
   pub log : y.log ≡ x.log
 
+-- what is stored goes from that of x to that of y by this change, which is needed and no greater than it has to be
+pub record IsChange (x y : Node) (c : Change) : Type 0 where
+  pub term : c.term ≡ y.term
+  pub vote : c.vote ≡ y.vote
+  pub within : c.kept ≤ length x.log
+  pub log : take c.kept x.log ++ c.entries.items ≡ y.log
+  -- it keeps the longest beginning that the two logs have in common
+  pub most : (k : ℕ) → k ≤ length x.log → take k y.log ≡ take k x.log → k ≤ c.kept
+  -- something changes
+  pub news : IsStoredAlready x y → ⊥
+
+-- none exactly where what is stored stays
 abbrev pub ChangeFits : Node → Node → Option Change → Type 0
 ChangeFits x y change = MatchOption change (IsStoredAlready x y) (λ c. IsChange x y c)
 

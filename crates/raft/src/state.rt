@@ -22,7 +22,8 @@ pub enum Work {
 /// What a step gives that changes or sends something.
 #[derive(Debug, Drop)]
 pub struct Taken {
-    /// What is to be stored before a message leaves, none where what is stored stays.
+    /// What is to be stored before a message leaves, none exactly where what is stored stays. It keeps
+    /// the longest beginning that the log before the step and the log after it have in common.
     pub change: Option<Change>,
     /// In the order of their addressees.
     pub messages: Vec<Message>,
@@ -95,6 +96,7 @@ pub struct Core {
     /// Memory was refused within a step, so that no further step is taken.
     pub is_spent: bool,
     ghost one_of_few: { members ≤ 7 },
+    ghost is_member: { (1 ≤ me) × (me ≤ members) },
     ghost term_within: { term ≤ 9223372036854775807 },
     ghost log_within: { vec_len log ≤ 100000 },
     ghost commit_within: { commit ≤ vec_len log },
@@ -107,7 +109,8 @@ impl Core {
     ghost use Rattle.raft.specs.View.{node_of, opening};
 
     /// A member that starts with what was stored, as a follower that knows of no leader and of no
-    /// committed entry.
+    /// committed entry. `me` is one of the group: from 1 to `members`, of which there are up to 7. The
+    /// caller sees to this, and to a term of at most `LAST_TERM` and a log of at most 100,000 entries.
     pub fn start(
         alloc: Global,
         schema: Schema,
@@ -118,6 +121,7 @@ impl Core {
         log: Vec<Entry>,
     ) -> Core
         requires few { members ≤ 7 }
+        requires member { (1 ≤ me) × (me ≤ members) }
         requires term { term ≤ LAST_TERM }
         requires log { vec_len log ≤ LOG_ROOM }
         ensures node { node_of result ≡ opening term vote log.items }

@@ -1,17 +1,17 @@
 //! One step of a member.
-ghost use Rattle.std.specs.Prelude.{◌≡◌, ◌<◌, ◌≤◌, length, drop, vec_len, IfOk, OnOk, OnErr, IsOk, IsErr, nat_le, ◌&&◌, None, true, false};
+ghost use Rattle.std.specs.Prelude.{◌≡◌, ◌+◌, ◌<◌, ◌≤◌, length, drop, vec_len, [], IfOk, OnOk, OnErr, IsOk, IsErr, MatchOption, nat_le, ◌&&◌, None, true, false};
 ghost use Rattle.std.specs.List.{list_all};
 ghost use Rattle.sqlread.specs.Meaning.{schema_of};
 ghost use Rattle.model.specs.Steps.{is_honest, entries_of, spells, on_message, on_body, go_on};
 ghost use Rattle.model.specs.Worlds.{hand};
 ghost use Rattle.model.specs.Kept.{kept_at};
 ghost use Rattle.model.specs.Lists.{IsBeginning};
-ghost use Rattle.model.specs.Members.{applied};
+ghost use Rattle.model.specs.Members.{applied, term_at};
 ghost use Rattle.raft.specs.Memory.{spares_memory};
 ghost use Rattle.raft.specs.declared.state.Work.TheVariants.{Local};
 ghost use Rattle.raft.specs.View.{node_of, after_of, works, kept_of, IsSameSeat, outcome_of, SameIfNotSent, effect_of, EffectFits, Grows};
 
-use crate::logs::{copies_of, go_on, kept_under};
+use crate::logs::{copies_of, go_on, kept_under, term_at};
 use crate::state::{Core, Effect, Outcome, Taken, Work};
 use keep::change::Change;
 use model::entry::{Entry, Request};
@@ -217,6 +217,42 @@ impl Core {
         }
     }
 
+    /// Whether a step left the log as it was: as long as then, and with an entry of the same term after
+    /// those that the step keeps in any case.
+    fn is_log_as_before(&self, len: usize, kept: usize, next_term: u64) -> bool
+        requires { kept ≤ 100000 }
+        ensures yes { result ≡ true → (vec_len self.now.log ≡ len) × (term_at self.now.log.items (kept + 1) ≡ next_term) }
+        ensures no { result ≡ false → vec_len self.now.log ≡ len → term_at self.now.log.items (kept + 1) ≡ next_term → ⊥ }
+    {
+        self.log.len() == len && term_at(&self.log, kept + 1) == next_term
+    }
+
+    /// The change to its term and vote, and to a log that keeps so many entries and goes on with these.
+    fn change_to(&self, kept: usize, entries: Vec<Entry>) -> Change
+        ensures { result ≡ record { term = self.now.term; vote = self.now.vote; kept = kept; entries = entries } }
+    {
+        Change {
+            term: self.term,
+            vote: self.vote,
+            kept,
+            entries,
+        }
+    }
+
+    /// What is to be stored, after a step that left the log as it was: none where term and vote are as
+    /// they were, too.
+    fn change_of_vote(&self, term: u64, vote: Option<Member>) -> Option<Change>
+        ensures { MatchOption result
+            ((self.now.term ≡ term) × (self.now.vote ≡ vote))
+            (λ c. (c.term ≡ self.now.term) × (c.vote ≡ self.now.vote) × (c.kept ≡ length self.now.log.items) × (c.entries.items ≡ [])
+            × (self.now.term ≡ term → self.now.vote ≡ vote → ⊥)) }
+    {
+        if self.term == term && self.vote == vote {
+            return None;
+        }
+        Some(self.change_to(self.log.len(), Vec::new(self.alloc)))
+    }
+
     /// What is to be stored, after a step that kept so much of the log.
     #[tactic(auto, using(crate::proofs::Lists::drop_min))]
     fn change_from(&self, kept: usize) -> Result<Change, AllocError>
@@ -225,12 +261,7 @@ impl Core {
     {
         let (_, tail) = self.log.split_at(kept.min(self.log.len()));
         let entries = copies_of(self.alloc, tail)?;
-        Ok(Change {
-            term: self.term,
-            vote: self.vote,
-            kept,
-            entries,
-        })
+        Ok(self.change_to(kept, entries))
     }
 
     /// Does the work, and says what changes in what is stored.
@@ -242,18 +273,20 @@ impl Core {
         ensures seat { IsSameSeat self.old self.new }
     {
         let kept = self.kept_of(&work);
+        let next_term = term_at(&self.log, kept + 1);
+        let len = self.log.len();
         let term = self.term;
         let vote = self.vote;
-        let len = self.log.len();
         let committed_before = self.commit;
         let messages = match self.on_work(work)? {
             Outcome::Refused(refusal) => return Ok(Effect::Refused(refusal)),
             Outcome::Ignored => return Ok(Effect::Ignored),
             Outcome::Sent(messages) => messages,
         };
-        if self.term == term && self.vote == vote && kept == len && self.log.len() == len {
+        if self.is_log_as_before(len, kept, next_term) {
+            let change = self.change_of_vote(term, vote);
             return Ok(Effect::Done(Taken {
-                change: None,
+                change,
                 messages,
                 committed_before,
             }));
