@@ -1,6 +1,7 @@
 //! Tables by the entries that were applied to them.
-ghost use Rattle.std.specs.Prelude.{◌≡◌, true, [], ◌∷◌, ◌++◌, List, reverse, Err, alloc_error, OnOk, OnErr, IfOk, IfErr};
+ghost use Rattle.std.specs.Prelude.{◌≡◌, true, false, [], ◌∷◌, ◌++◌, List, reverse, Err, alloc_error, OnOk, OnErr, IfOk, IfErr};
 ghost use Rattle.std.specs.Option.{option_map};
+ghost use Rattle.fault.specs.declared.refusal.Refusal.TheVariants.{NoMemory};
 ghost use Rattle.model.specs.declared.entry.Entry as entries;
 ghost use Rattle.model.specs.Logs.{IsStamped, outcome};
 ghost use Rattle.sqlread.specs.Calendar.{LiteralsInCalendar};
@@ -86,7 +87,8 @@ fn unless_new(requests: &Requests, request: &Request) -> Result<Option<Outcome>,
 impl Tables {
     /// The tables of a schema before any entry.
     pub fn new(alloc: Global, schema: &Schema) -> Result<Tables, AllocError>
-        ensures { IfOk result (λ tables. AreTables (schema_of schema.now) [] tables) }
+        ensures tables { IfOk result (λ tables. AreTables (schema_of schema.now) [] tables) }
+        ensures up { IfOk result (λ tables. is_failed tables ≡ false) }
     {
         log_laws();
         let count = schema.len();
@@ -107,6 +109,7 @@ impl Tables {
     fn take(&mut self, schema: &Schema, entry: &Entry) -> Result<Option<Outcome>, AllocError>
         ensures kept { OnOk result ((list : List entries.Entry) → AreTables (schema_of schema.now) list self.old → AreTables (schema_of schema.now) (list ++ entry.now ∷ []) self.new) }
         ensures outcome { IfOk result (λ o. (list : List entries.Entry) → AreTables (schema_of schema.now) list self.old → o ≡ option_map (λ r. outcome (schema_of schema.now) entry.now.stamp r (reverse list)) entry.now.request) }
+        ensures failed { is_failed self.new ≡ is_failed self.old }
     {
         log_laws();
         self.last = Some(entry.stamp);
@@ -138,6 +141,7 @@ impl Tables {
         ensures kept { OnOk result ((list : List entries.Entry) → AreTables (schema_of schema.now) list self.old → AreTables (schema_of schema.now) (list ++ entry.now ∷ []) self.new) }
         ensures outcome { IfOk result (λ o. (list : List entries.Entry) → AreTables (schema_of schema.now) list self.old → o ≡ option_map (λ r. outcome (schema_of schema.now) entry.now.stamp r (reverse list)) entry.now.request) }
         ensures err { OnErr result (is_failed self.new ≡ true) }
+        ensures up { OnOk result (is_failed self.new ≡ false) }
         ensures once_failed { is_failed self.old ≡ true → result ≡ Err alloc_error }
     {
         if self.failed {
@@ -158,6 +162,7 @@ impl Tables {
     pub fn ask(&self, schema: &Schema, query: &Query) -> Result<Answer, Refusal>
         ensures asked { (list : List entries.Entry) → AreTables (schema_of schema.now) list self.now → IsStamped list → IsAskedOf (schema_of schema.now) (query_of query.now) list result }
         ensures columns { IfOk result (λ a. a.columns.items ≡ columns_in schema.now query.now.table) }
+        ensures once_failed { is_failed self.now ≡ true → result ≡ Err NoMemory }
     {
         if self.failed {
             return Err(Refusal::NoMemory);

@@ -1,5 +1,5 @@
 //! Questions that have a system time.
-ghost use Rattle.std.specs.Prelude.{◌≡◌, IfOk, IfErr, IsSome};
+ghost use Rattle.std.specs.Prelude.{◌≡◌, true, Err, IfOk, IfErr, IsSome};
 ghost use Rattle.fault.specs.declared.refusal.Refusal.TheVariants.{NoMemory};
 ghost use Rattle.sqlread.specs.Shapes.{query_of};
 ghost use Rattle.sqlread.specs.Meaning.{select_of};
@@ -21,7 +21,7 @@ use sysversion::Versions;
 
 /// What answers questions that have a system time.
 pub trait Ask {
-    ghost use Rattle.std.specs.Prelude.{◌≡◌, IfOk, IfErr, IsSome, ℕ, List};
+    ghost use Rattle.std.specs.Prelude.{◌≡◌, true, Err, IfOk, IfErr, IsSome, ℕ, Bool, List};
     ghost use Rattle.fault.specs.declared.refusal.Refusal.TheVariants.{NoMemory};
     ghost use Rattle.sqlread.specs.Shapes.{query_of};
     ghost use Rattle.sqlread.specs.Meaning.{select_of};
@@ -34,23 +34,32 @@ pub trait Ask {
     /// The versions of each table, by its number, that the answers come from.
     ghost versions_in: { Self → ℕ → List Version };
 
+    /// It has found no memory, and answers no more.
+    ghost failed_in: { Self → Bool };
+
     /// The answer to a question that has a system time.
     ///
-    /// Refused for want of memory alone.
+    /// Refused for want of memory alone, always once it has failed.
     fn ask(&self, alloc: Global, schema: &Schema, query: &Query) -> Result<Answer, Refusal>
         requires { IsSome query.now.time }
         ensures ok { IfOk result (λ a. answer_of a ≡ answer_from (read_at 0 (select_of (query_of query.now))) (versions_in self.now query.now.table)) }
         ensures kept { IfOk result (λ a. IsKept (read_at 0 (select_of (query_of query.now))) (versions_in self.now query.now.table) (answer_of a)) }
         ensures columns { IfOk result (λ a. a.columns.items ≡ columns_in schema.now query.now.table) }
-        ensures err { IfErr result (λ refusal. refusal ≡ NoMemory) };
+        ensures err { IfErr result (λ refusal. refusal ≡ NoMemory) }
+        ensures once_failed { failed_in self.now ≡ true → result ≡ Err NoMemory };
 }
 
 impl Ask for Versions {
-    ghost use Rattle.sysversion.specs.Versions.{versions_of};
+    ghost use Rattle.sysversion.specs.Versions.{versions_of, is_failed};
 
     ghost versions_in = { versions_of };
 
+    ghost failed_in = { is_failed };
+
     fn ask(&self, alloc: Global, schema: &Schema, query: &Query) -> Result<Answer, Refusal> {
+        if self.has_failed() {
+            return Err(Refusal::NoMemory);
+        }
         versionlaws::versions_give();
         let instants = Instants::of(query.time.unwrap());
         let versions = self.versions(query.table);

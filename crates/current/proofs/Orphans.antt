@@ -1,5 +1,5 @@
 -- The search for the first day without a parent: tables, keys and rows in turn.
-use Rattle.std.proofs.Common.{◌≡◌, ℕ, zero, suc, ◌+◌, ◌-◌, ◌<◌, ◌≤◌, ◌==◌, false, List, [], ◌∷◌, ◌++◌, map, drop, length, get_or, Option, Some, None, find, refl, sym, ap, ◌∙◌, inl, inr, arith, eq-eqb}
+use Rattle.std.proofs.Common.{◌≡◌, ℕ, zero, suc, ◌+◌, ◌-◌, ◌<◌, ◌≤◌, ◌==◌, true, false, List, [], ◌∷◌, ◌++◌, map, drop, length, get_or, Option, Some, None, find, refl, sym, ap, ◌∙◌, inl, inr, arith, eq-eqb}
 use Rattle.std.proofs.lemmas.Bool.{cases_Bool, eqb-true}
 use Rattle.std.specs.Prelude.{slice_get}
 use Rattle.std.specs.List.{range_with_len}
@@ -81,6 +81,12 @@ missing_of_table ts n name t all r h = missing_from 0 n n ts name t all r (omega
 pub rows_of_table_miss : (ts : Tables) (n : ℕ) (name : List ℕ) (t : TableShape) (all : Rows) (rows : List Row) → slice_get ts n ≡ Some (name, t) → missing_in_rows (references_from 0 ts) all n rows ≡ missing_in_rows (map (reference_of n t) t.references) all n rows
 rows_of_table_miss ts n name t all [] h = refl
 rows_of_table_miss ts n name t all (r ∷ rows) h = rw (missing_of_table ts n name t all r h, rows_of_table_miss ts n name t all rows h) refl
+
+-- of a table without foreign keys nothing is missing
+pub none_refer : (m : ℕ) (t : TableShape) (rs : List ReferenceShape) (all : Rows) (n : ℕ) (rows : List Row) → (length rs == 0) ≡ true → missing_in_rows (map (reference_of m t) rs) all n rows ≡ None
+none_refer m t [] all n [] e = refl
+none_refer m t [] all n (r ∷ rows) e = none_refer m t [] all n rows e
+none_refer m t (f ∷ rs) all n rows e = let none = eqb-true (length (f ∷ rs)) 0 e in absurd (omega arith)
 
 pub row_misses : (fs : List Reference) (all : Rows) (n : ℕ) (rows : List Declared) (i : ℕ) (row : Declared) (d : ℕ) → i < length rows → row ≡ get_or rows i row → missing fs all n (row_of row) ≡ Some d → missing_in_rows fs all n (map row_of (drop i rows)) ≡ Some (record { table = n; key = row.key; day = d })
 row_misses fs all n rows i row d l e h = rw (drop_here rows i row l e) (ap (λ o. place_at n (row_of row) o (missing_in_rows fs all n (map row_of (drop (i + 1) rows)))) h)

@@ -1,5 +1,5 @@
 //! The current rows of all tables.
-ghost use Rattle.std.specs.Prelude.{◌≡◌, ◌<◌, ◌≤◌, ◌++◌, ◌⊎◌, ℕ, [], true, Ok, Err, alloc_error, length, unwrap_or, OnOk, OnErr, IfOk, IfErr};
+ghost use Rattle.std.specs.Prelude.{◌≡◌, ◌<◌, ◌≤◌, ◌++◌, ◌⊎◌, ℕ, [], true, false, Ok, Err, alloc_error, length, unwrap_or, OnOk, OnErr, IfOk, IfErr};
 ghost use Rattle.std.specs.Option.{option_map};
 ghost use Rattle.fault.specs.declared.refusal.Refusal.TheVariants.{NoMemory, NoParent};
 ghost use Rattle.sqlread.specs.Shapes.{insert_of, update_of, delete_of, statement_of};
@@ -64,6 +64,7 @@ impl Current {
     pub fn new(alloc: Global, tables: usize) -> Result<Current, AllocError>
         ensures rows { IfOk result (λ current. (n : ℕ) → rows_of current n ≡ []) }
         ensures count { IfOk result (λ current. table_count current ≡ tables) }
+        ensures up { IfOk result (λ current. is_failed current ≡ false) }
     {
         let mut all = Vec::new(alloc);
         for _ in 0..tables {
@@ -201,6 +202,7 @@ impl Current {
         requires touched { AllUndoable (rows_of self.old) (gone_in touched.now) (come_in touched.now) }
         ensures ok { OnOk result (IsUndone (rows_of self.old) (rows_of self.new) (gone_in touched.now) (come_in touched.now)) }
         ensures err { OnErr result (is_failed self.new ≡ true) }
+        ensures up { OnOk result (is_failed self.new ≡ false) }
         ensures count { table_count self.new ≡ table_count self.old }
         ensures once_failed { is_failed self.old ≡ true → result ≡ Err alloc_error }
     {

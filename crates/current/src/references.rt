@@ -160,7 +160,7 @@ fn missing_in_rows<'a>(
     Ok(None)
 }
 
-// The first such day of the rows of all keys.
+// The first such day of the rows of all keys, which are not looked at where the table has no foreign key.
 fn missing_in_lines<'a>(
     alloc: Global,
     tables: &[TableRows],
@@ -170,6 +170,9 @@ fn missing_in_lines<'a>(
 ) -> Result<Option<Place<'a>>, AllocError>
     ensures { IfOk result (λ found. option_map place_of found ≡ covering.missing_in_rows (map (reference_of place table.now) table.now.references) (rows_at rows_of_table tables.now) place (rows_in lines.now.entries)) }
 {
+    if table.references().is_empty() {
+        return Ok(None);
+    }
     for (_, rows) in lines {
         if let Some(found) = missing_in_rows(alloc, tables, place, table, rows.as_slice())? {
             return Ok(Some(found));

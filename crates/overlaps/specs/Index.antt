@@ -18,7 +18,7 @@ AreApart periods = AllPairs (λ p q. p.end ≤ q.start) periods
 abbrev pub shares_day : Period → Period → Bool
 shares_day p q = list_any (inside q) (days_of p)
 
--- p is compared with each period that ends before it starts, and with the one after these, if there is one
+-- how many periods there are up to the first that ends after p starts: each before that one, and that one, if there is one
 abbrev pub compared : Period → List Period → ℕ
 compared p periods = min (length periods) (suc (prefix_len (λ q. nat_le q.end p.start) periods))
 

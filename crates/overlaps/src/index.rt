@@ -15,7 +15,9 @@ use std::collections::BTreeMap;
 pub struct Found {
     /// The first stored period that was sought, if there is one.
     pub period: Option<Period>,
-    /// With how many stored periods the sought one was compared.
+    /// How many stored periods of the key stand up to the first, in their order, that ends after the sought one starts,
+    /// that one included; all of them where none does. The search counts one for each that it compares. A contract says
+    /// the number, and not which periods are read.
     pub probes: u64,
 }
 
@@ -58,9 +60,8 @@ impl KeyIndex {
         }
     }
 
-    /// The first stored period of the key, in the order of starts, that has a day of `p`. `p` is
-    /// compared with the stored periods of the key in their order, up to the first that ends after
-    /// `p` starts. Takes no memory.
+    /// The first stored period of the key, in the order of starts, that has a day of `p`, and how far a search in that
+    /// order goes for it. Takes no memory.
     pub fn find(&self, key: &Key, p: Period) -> Found
         ensures period { option_map period_of result.period ≡ find (shares_day (period_of p)) (periods_of self.now key.now) }
         ensures probes { result.probes ≡ compared (period_of p) (periods_of self.now key.now) }

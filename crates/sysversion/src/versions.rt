@@ -64,7 +64,7 @@ impl Versions {
     /// Takes in what a transaction at an instant touched: the versions of the rows that went end then, and the rows
     /// that came begin as open versions. What is touched of a table that is not there is passed over.
     ///
-    /// Want of memory may leave some of it out: the value has then failed, and answers only that.
+    /// Want of memory may leave some of it out: the value has then failed, and each later commit is refused.
     pub fn commit(&mut self, touched: Touched, t: Stamp) -> Result<(), AllocError>
         ensures ok { OnOk result ((n : ℕ) → n < table_count self.old → versions_of self.new n ≡ committed t (gone_in touched n) (come_in touched n) (versions_of self.old n)) }
         ensures err { OnErr result (is_failed self.new ≡ true) }
@@ -81,6 +81,9 @@ impl Versions {
     }
 
     /// The versions of a table in the order in which they came; none of a table that is not there. Takes no memory.
+    ///
+    /// Of a value that has failed, as `has_failed` tells, those that it has: of the transaction at which it failed some
+    /// may be missing.
     pub fn versions(&self, table: usize) -> &[Version]
         ensures { map version_of result.now ≡ versions_of self.now table }
     {

@@ -1,15 +1,22 @@
-use Rattle.std.proofs.Common.{◌≡◌, ◌∷◌, ◌∙◌, ap, map, option_map, sym}
+use Rattle.std.proofs.Common.{◌≡◌, ◌∷◌, ◌==◌, ◌∙◌, ap, map, length, option_map, sym}
 use Rattle.std.specs.Map.Iter.{deref_pair}
 use Rattle.std.proofs.lemmas.Map.Iter.{rest_more}
 use Rattle.rowlaws.specs.Covering.{missing_in_rows}
 use Rattle.sqlread.specs.Meaning.{reference_of}
 use Rattle.current.specs.Orphans.{place_of}
 use Rattle.current.specs.Rows.{row_of}
+use Rattle.current.specs.Stored.{rows_in}
 use Rattle.current.specs.Places.{rows_at}
 use Rattle.current.specs.Table.{rows_of_table}
-use Rattle.current.proofs.Orphans.{found_in_entry, none_in_entry}
+use Rattle.current.proofs.Orphans.{found_in_entry, none_in_entry, none_refer}
 use Rattle.current.proofs.Planning.{Entry}
 use Rattle.current.proofs.references.missing_in_lines.Goals as goal
+
+pub returns-then-is_empty : goal.returns-then-is_empty
+returns-then-is_empty c =
+    let table = c.args.table.now in
+    let none = ap (λ rs. length rs == 0) (sym c.references.ensures) ∙ sym c.is_empty.ensures ∙ c.if-is_empty.true in
+    sym (none_refer c.args.place table table.references (rows_at rows_of_table c.args.tables.now) c.args.place (rows_in c.args.lines.now.entries) none)
 
 pub returns-in-Some-2 : goal.returns-in-Some-2
 returns-in-Some-2 c =
