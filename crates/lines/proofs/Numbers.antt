@@ -18,7 +18,7 @@ pub spelled : {E : Type 0} (bs : List ℕ) (r : Result ℕ E) → ParsesUnsigned
 spelled {E} bs (Ok n) h bare = let p = parse_plain own {E = E} 64 bs (Ok n) h bare.0 in sym (ap decimal p.1 ∙ decimal-digits_value own bs p.0.0 p.0.1 bare.1 p.0.2)
 spelled {E} bs (Err e) h bare = tt
 
-outside : (c : ℕ) → c < 48 → ¬ (IsInRange 48 57 c)
+pub outside : (c : ℕ) → c < 48 → ¬ (IsInRange 48 57 c)
 outside c low = λ h. absurd (omega arith)
 
 no_sign : (n c : ℕ) → n < 2 ^ 64 → c < 48 → get_or (decimal n) 0 0 ≢ c

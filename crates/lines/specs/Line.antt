@@ -1,6 +1,7 @@
 -- The texts of lines, each of which has one spelling.
-use Rattle.std.specs.Prelude.{ℕ, ◌≤◌, ◌^◌, Some, None, List, ◌∷◌, ◌++◌, codes, decimal, ⊤}
+use Rattle.std.specs.Prelude.{◌≢◌, ℕ, ◌≤◌, ◌<◌, ◌^◌, Some, None, List, ◌∷◌, ◌++◌, codes, decimal, ⊤}
 use Rattle.std.specs.Fmt.{signed_decimal}
+use Rattle.lines.specs.Number.{IsSigned}
 use Rattle.lines.specs.declared.line.Left.{Left}
 use Rattle.lines.specs.declared.line.Left.TheVariants.{Old, New}
 use Rattle.lines.specs.declared.line.Job.{Job}
@@ -46,25 +47,25 @@ IsNode members node = (1 ≤ node) × (node ≤ members)
 
 -- a client and the number of its request
 abbrev pub IsRequest : ℕ → ℕ → Type 0
-IsRequest client number = (1 ≤ client) × ((1 ≤ number) × (number ≤ 2 ^ 62))
+IsRequest client number = (1 ≤ client) × (client < 2 ^ 16) × (1 ≤ number) × (number ≤ 2 ^ 62)
 
 abbrev pub IsJobInRange : Job → Type 0
 IsJobInRange jobs.Timeout = ⊤
 IsJobInRange jobs.Beat = ⊤
 IsJobInRange jobs.Close = ⊤
 IsJobInRange (jobs.Submit client number text) = IsRequest client number
-IsJobInRange (jobs.Deliver message) = ⊤
+IsJobInRange (jobs.Deliver message) = message < 2 ^ 64
 
 -- its numbers are in range, in a script of so many members
 abbrev pub IsInRange : ℕ → Line → Type 0
-IsInRange members (Clock node reading) = IsNode members node
-IsInRange members (ClockAll reading) = ⊤
+IsInRange members (Clock node reading) = IsNode members node × IsSigned reading
+IsInRange members (ClockAll reading) = IsSigned reading
 IsInRange members (Submit node client number text) = IsNode members node × IsRequest client number
 IsInRange members (Timeout node) = IsNode members node
 IsInRange members (Beat node) = IsNode members node
 IsInRange members (Close node) = IsNode members node
-IsInRange members (Deliver message) = ⊤
-IsInRange members (Lose message) = ⊤
+IsInRange members (Deliver message) = message < 2 ^ 64
+IsInRange members (Lose message) = message < 2 ^ 64
 IsInRange members LoseAll = ⊤
 IsInRange members (Settle None) = ⊤
 IsInRange members (Settle (Some rounds)) = (1 ≤ rounds) × (rounds ≤ 100)
@@ -72,3 +73,7 @@ IsInRange members (Stop node) = IsNode members node
 IsInRange members (Start node) = IsNode members node
 IsInRange members (Torn node left job) = IsNode members node × IsJobInRange job
 IsInRange members (Ask node text) = IsNode members node
+
+-- the text of no line in range, in a script of so many members
+abbrev pub IsNoLine : ℕ → List ℕ → Type 0
+IsNoLine members text = (line : Line) → IsInRange members line → text ≢ line_text line

@@ -1,6 +1,7 @@
 //! The lines of scripts.
-ghost use Rattle.std.specs.Prelude.{◌≡◌, ◌≤◌, ◌^◌, ◌∷◌, ◌++◌, codes, decimal, IfSome, IfOk};
-ghost use Rattle.lines.specs.Line.{line_text, left_text, job_text, IsInRange, IsJobInRange, IsRequest, IsNode};
+ghost use Rattle.std.specs.Prelude.{◌≡◌, ◌≢◌, ℕ, ◌≤◌, ◌<◌, ◌^◌, ◌∷◌, ◌++◌, codes, decimal, IfSome, IfNone, IfOk};
+ghost use Rattle.lines.specs.Line.{line_text, left_text, job_text, request_text, IsInRange, IsJobInRange, IsRequest, IsNode, IsNoLine};
+ghost use Rattle.lines.specs.Reading.{HasNoSpace, IsNoNode, IsNoRequest, IsNoJob, IsNoTorn, IsNoLong};
 
 use crate::number::{read_number, read_signed};
 use fault::Text;
@@ -101,7 +102,8 @@ pub enum Line {
 
 /// The line that a text spells in a script of so many members, if it spells one.
 pub fn read_line(alloc: Global, members: usize, text: &str) -> Result<Option<Line>, AllocError>
-    ensures { IfOk result (λ read. IfSome read (λ line. IsInRange members line × (text.now ≡ line_text line))) }
+    ensures some { IfOk result (λ read. IfSome read (λ line. IsInRange members line × (text.now ≡ line_text line))) }
+    ensures none { IfOk result (λ read. IfNone read (IsNoLine members text.now)) }
 {
     let Some((word, rest)) = split_word(text) else {
         return Ok(if text == "settle" {
@@ -121,7 +123,9 @@ pub fn read_line(alloc: Global, members: usize, text: &str) -> Result<Option<Lin
 
 // A first word, and what follows the space after it.
 fn split_word(text: &str) -> Option<(&str, &str)>
-    ensures { IfSome result (λ p. text.now ≡ p.0.now ++ 32 ∷ p.1.now) }
+    ensures parts { IfSome result (λ p. text.now ≡ p.0.now ++ 32 ∷ p.1.now) }
+    ensures first { IfSome result (λ p. HasNoSpace p.0.now) }
+    ensures none { IfNone result (HasNoSpace text.now) }
 {
     text.split_once(' ')
 }
@@ -129,7 +133,10 @@ fn split_word(text: &str) -> Option<(&str, &str)>
 // A line that names a node, a message or rounds and no more, from its first word and what follows
 // the space after it.
 fn read_short(members: usize, word: &str, rest: &str) -> Option<Line>
-    ensures { IfSome result (λ line. IsInRange members line × (word.now ++ 32 ∷ rest.now ≡ line_text line)) }
+    requires first { HasNoSpace word.now }
+    requires short { IsNoLong word.now }
+    ensures some { IfSome result (λ line. IsInRange members line × (word.now ++ 32 ∷ rest.now ≡ line_text line)) }
+    ensures none { IfNone result (IsNoLine members (word.now ++ 32 ∷ rest.now)) }
 {
     match word {
         "timeout" => Some(Line::Timeout {
@@ -162,7 +169,8 @@ fn read_short(members: usize, word: &str, rest: &str) -> Option<Line>
 }
 
 fn read_clock(members: usize, rest: &str) -> Option<Line>
-    ensures { IfSome result (λ line. IsInRange members line × (codes "clock " ++ rest.now ≡ line_text line)) }
+    ensures some { IfSome result (λ line. IsInRange members line × (codes "clock " ++ rest.now ≡ line_text line)) }
+    ensures none { IfNone result (IsNoLine members (codes "clock " ++ rest.now)) }
 {
     let (node, reading) = split_word(rest)?;
     let reading = read_signed(reading)?;
@@ -176,15 +184,16 @@ fn read_clock(members: usize, rest: &str) -> Option<Line>
 }
 
 fn read_submit(alloc: Global, members: usize, rest: &str) -> Result<Option<Line>, AllocError>
-    ensures { IfOk result (λ read. IfSome read (λ line. IsInRange members line × (codes "submit " ++ rest.now ≡ line_text line))) }
+    ensures some { IfOk result (λ read. IfSome read (λ line. IsInRange members line × (codes "submit " ++ rest.now ≡ line_text line))) }
+    ensures none { IfOk result (λ read. IfNone read (IsNoLine members (codes "submit " ++ rest.now))) }
 {
     let Some((node, request)) = split_word(rest) else {
         return Ok(None);
     };
-    let (Some(node), Some((client, number, text))) = (
-        read_node(members, node),
-        split_request(request),
-    ) else {
+    let Some(node) = read_node(members, node) else {
+        return Ok(None);
+    };
+    let Some((client, number, text)) = split_request(request) else {
         return Ok(None);
     };
     let text = Text::new(String::from_str(alloc, text)?);
@@ -199,7 +208,8 @@ fn read_submit(alloc: Global, members: usize, rest: &str) -> Result<Option<Line>
 // The client, the number and the text of a request.
 fn split_request(rest: &str) -> Option<(Client, RequestNumber, &str)>
     ensures range { IfSome result (λ p. IsRequest p.0 p.1) }
-    ensures text { IfSome result (λ p. rest.now ≡ decimal p.0 ++ 32 ∷ (decimal p.1 ++ 32 ∷ p.2.now)) }
+    ensures text { IfSome result (λ p. rest.now ≡ request_text p.0 p.1 p.2.now) }
+    ensures none { IfNone result (IsNoRequest rest.now) }
 {
     let (client, rest) = split_word(rest)?;
     let (number, text) = split_word(rest)?;
@@ -207,7 +217,8 @@ fn split_request(rest: &str) -> Option<(Client, RequestNumber, &str)>
 }
 
 fn read_torn(alloc: Global, members: usize, rest: &str) -> Result<Option<Line>, AllocError>
-    ensures { IfOk result (λ read. IfSome read (λ line. IsInRange members line × (codes "torn " ++ rest.now ≡ line_text line))) }
+    ensures some { IfOk result (λ read. IfSome read (λ line. IsInRange members line × (codes "torn " ++ rest.now ≡ line_text line))) }
+    ensures none { IfOk result (λ read. IfNone read (IsNoLine members (codes "torn " ++ rest.now))) }
 {
     let Some((node, left, job)) = split_torn(members, rest) else {
         return Ok(None);
@@ -222,6 +233,7 @@ fn read_torn(alloc: Global, members: usize, rest: &str) -> Result<Option<Line>, 
 fn split_torn(members: usize, rest: &str) -> Option<(Member, Left, &str)>
     ensures range { IfSome result (λ p. IsNode members p.0) }
     ensures text { IfSome result (λ p. rest.now ≡ decimal p.0 ++ 32 ∷ (left_text p.1 ++ 32 ∷ p.2.now)) }
+    ensures none { IfNone result (IsNoTorn members rest.now) }
 {
     let (node, rest) = split_word(rest)?;
     let (left, job) = split_word(rest)?;
@@ -235,7 +247,8 @@ fn split_torn(members: usize, rest: &str) -> Option<(Member, Left, &str)>
 
 // What the step of a `torn` was about.
 fn read_job(alloc: Global, text: &str) -> Result<Option<Job>, AllocError>
-    ensures { IfOk result (λ read. IfSome read (λ job. IsJobInRange job × (text.now ≡ job_text job))) }
+    ensures some { IfOk result (λ read. IfSome read (λ job. IsJobInRange job × (text.now ≡ job_text job))) }
+    ensures none { IfOk result (λ read. IfNone read (IsNoJob text.now)) }
 {
     let Some((word, rest)) = split_word(text) else {
         return Ok(match text {
@@ -253,7 +266,8 @@ fn read_job(alloc: Global, text: &str) -> Result<Option<Job>, AllocError>
 }
 
 fn read_torn_submit(alloc: Global, rest: &str) -> Result<Option<Job>, AllocError>
-    ensures { IfOk result (λ read. IfSome read (λ job. IsJobInRange job × (codes "submit " ++ rest.now ≡ job_text job))) }
+    ensures some { IfOk result (λ read. IfSome read (λ job. IsJobInRange job × (codes "submit " ++ rest.now ≡ job_text job))) }
+    ensures none { IfOk result (λ read. IfNone read (IsNoJob (codes "submit " ++ rest.now))) }
 {
     let Some((client, number, text)) = split_request(rest) else {
         return Ok(None);
@@ -267,7 +281,8 @@ fn read_torn_submit(alloc: Global, rest: &str) -> Result<Option<Job>, AllocError
 }
 
 fn read_torn_delivery(rest: &str) -> Option<Job>
-    ensures { IfSome result (λ job. IsJobInRange job × (codes "deliver " ++ rest.now ≡ job_text job)) }
+    ensures some { IfSome result (λ job. IsJobInRange job × (codes "deliver " ++ rest.now ≡ job_text job)) }
+    ensures none { IfNone result (IsNoJob (codes "deliver " ++ rest.now)) }
 {
     Some(Job::Deliver {
         message: read_number(rest)?,
@@ -275,7 +290,8 @@ fn read_torn_delivery(rest: &str) -> Option<Job>
 }
 
 fn read_ask(alloc: Global, members: usize, rest: &str) -> Result<Option<Line>, AllocError>
-    ensures { IfOk result (λ read. IfSome read (λ line. IsInRange members line × (codes "ask " ++ rest.now ≡ line_text line))) }
+    ensures some { IfOk result (λ read. IfSome read (λ line. IsInRange members line × (codes "ask " ++ rest.now ≡ line_text line))) }
+    ensures none { IfOk result (λ read. IfNone read (IsNoLine members (codes "ask " ++ rest.now))) }
 {
     let Some((node, text)) = split_word(rest) else {
         return Ok(None);
@@ -290,6 +306,7 @@ fn read_ask(alloc: Global, members: usize, rest: &str) -> Result<Option<Line>, A
 fn read_node(members: usize, word: &str) -> Option<Member>
     ensures range { IfSome result (λ n. IsNode members n) }
     ensures text { IfSome result (λ n. word.now ≡ decimal n) }
+    ensures none { IfNone result (IsNoNode members word.now) }
 {
     let number = read_number(word)?;
     if 1 <= number && number <= members as u64 {
@@ -300,8 +317,9 @@ fn read_node(members: usize, word: &str) -> Option<Member>
 }
 
 fn read_client(word: &str) -> Option<Client>
-    ensures range { IfSome result (λ n. 1 ≤ n) }
+    ensures range { IfSome result (λ n. (1 ≤ n) × (n < 2 ^ 16)) }
     ensures text { IfSome result (λ n. word.now ≡ decimal n) }
+    ensures none { IfNone result ((n : ℕ) → 1 ≤ n → n < 2 ^ 16 → word.now ≢ decimal n) }
 {
     let number = read_number(word)?;
     if number > 65_535 {
@@ -314,6 +332,7 @@ fn read_client(word: &str) -> Option<Client>
 fn read_request_number(word: &str) -> Option<RequestNumber>
     ensures range { IfSome result (λ n. (1 ≤ n) × (n ≤ 2 ^ 62)) }
     ensures text { IfSome result (λ n. word.now ≡ decimal n) }
+    ensures none { IfNone result ((n : ℕ) → 1 ≤ n → n ≤ 2 ^ 62 → word.now ≢ decimal n) }
 {
     let number = RequestNumber::new(read_number(word)?)?;
     Some(number)
@@ -322,6 +341,7 @@ fn read_request_number(word: &str) -> Option<RequestNumber>
 fn read_rounds(word: &str) -> Option<u8>
     ensures range { IfSome result (λ n. (1 ≤ n) × (n ≤ 100)) }
     ensures text { IfSome result (λ n. word.now ≡ decimal n) }
+    ensures none { IfNone result ((n : ℕ) → 1 ≤ n → n ≤ 100 → word.now ≢ decimal n) }
 {
     let number = read_number(word)?;
     if 1 <= number && number <= 100 {

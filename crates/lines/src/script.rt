@@ -1,9 +1,8 @@
 //! Reading whole scripts.
-ghost use Rattle.std.specs.Prelude.{◌≡◌, ◌≤◌, ◌+◌, ◌^◌, ◌<◌, ◌∷◌, IfSome, IfOk, IfErr, All, length, map, string_bytes};
-ghost use Rattle.fault.specs.declared.refusal.Refusal.TheVariants.{BadScript};
-ghost use Rattle.lines.specs.Line.{line_text, IsInRange};
-ghost use Rattle.lines.specs.Script.{is_skipped as skips, counted, pieces, members_text, HasLines, IsScriptFault};
-ghost use Rattle.lines.specs.Reading.{IsFaultIn, IsFaultOrNoMemory, IsCounted, IsOpening, IsBlock};
+ghost use Rattle.std.specs.Prelude.{◌≡◌, ◌≢◌, ℕ, ◌≤◌, ◌+◌, ◌^◌, ◌<◌, ◌∷◌, [], IfSome, IfNone, IfOk, IfErr, ◌⊎◌, length, string_bytes};
+ghost use Rattle.fault.specs.declared.refusal.Refusal.TheVariants.{NoMemory, BadScript};
+ghost use Rattle.lines.specs.Script.{is_skipped as skips, pieces, members_text, HasLines, IsMemberCount, IsBadAt, IsScriptFault};
+ghost use Rattle.lines.specs.Reading.{IsCounted, IsNoneCounted, IsOpening, IsBlock, IsEndless, IsSaid, IsUnsaid};
 
 use crate::line::{Line, read_line};
 use crate::number::read_number;
@@ -31,18 +30,15 @@ struct Rest<'a> {
 
 /// A script: its opening line `members N`, with N from 3 to 7, the line `schema`, the lines of the
 /// schema, the line `end`, and the lines after it. Empty lines and those that begin with `#` are
-/// left out, but for the schema's, which are read as they are.
+/// left out, but for the schema's, which are read as they are. Each line ends with LF.
 ///
 /// A script with a fault is refused as 60 at the line of the first fault, where the first line is 1;
-/// one that ends too early, at the line after its last. A schema that is refused is answered by its
-/// own refusal, 10 to 18, before the lines after it are read. The only other refusal is want of
-/// memory.
-#[tactic(auto, using(crate::proofs::Scripts::lines_of, crate::proofs::Scripts::script_fault, crate::proofs::Scripts::script_fault_or_no_memory, crate::proofs::Scripts::schema_fault))]
+/// one that ends too early, at the line after its last, and one that does not end with LF, at its
+/// last line. A schema that is refused is answered by its own refusal, 10 to 18, before the lines
+/// after it are read. The only other refusal is want of memory.
 pub fn read_script(alloc: Global, text: &str) -> Result<Script, Refusal>
     ensures lines { IfOk result (λ script. HasLines text.now script.members script.schema script.lines.items) }
-    ensures members { IfOk result (λ script. (3 ≤ script.members) × (script.members ≤ 7)) }
-    ensures range { IfOk result (λ script. All (IsInRange script.members) script.lines.items) }
-    ensures err { IfErr result (λ refusal. IsScriptFault text.now refusal) }
+    ensures err { IfErr result (IsScriptFault text.now) }
 {
     let (members, rest) = read_opening(Rest { number: 0, text })?;
     let (block, rest) = read_block(alloc, rest)?;
@@ -56,13 +52,12 @@ pub fn read_script(alloc: Global, text: &str) -> Result<Script, Refusal>
 }
 
 // The number of members of the opening line, and what is left after the line `schema`.
-#[tactic(auto, using(crate::proofs::Scripts::opening_of))]
 fn read_opening(rest: Rest<'_>) -> Result<(usize, Rest<'_>), Refusal>
-    requires { rest.number + length rest.text.now < 2 ^ 63 }
-    ensures opening { IfOk result (λ p. IsOpening rest.entry.text.now p.0 p.1.text.now) }
-    ensures members { IfOk result (λ p. (3 ≤ p.0) × (p.0 ≤ 7)) }
-    ensures left { IfOk result (λ p. p.1.number + length p.1.text.now ≤ rest.entry.number + length rest.entry.text.now) }
-    ensures err { IfErr result (IsFaultIn rest.entry.number rest.entry.text.now) }
+    requires whole { rest.number ≡ 0 }
+    requires fits { length rest.text.now < 2 ^ 63 }
+    ensures opening { IfOk result (λ p. IsOpening rest.entry.text.now p.0 p.1.number p.1.text.now) }
+    ensures left { IfOk result (λ p. p.1.number + length p.1.text.now ≤ length rest.entry.text.now) }
+    ensures err { IfErr result (λ refusal. (k : ℕ) × (refusal ≡ BadScript k) × IsBadAt rest.entry.text.now k) }
 {
     let (line, rest) = next_counted(rest)?;
     let Some(members) = read_members(line) else {
@@ -76,12 +71,12 @@ fn read_opening(rest: Rest<'_>) -> Result<(usize, Rest<'_>), Refusal>
 }
 
 // The text of the schema, and what is left after the line `end`.
-#[tactic(auto, using(crate::proofs::Scripts::block_empty, crate::proofs::Scripts::block_more, crate::proofs::Scripts::block_ends))]
+#[tactic(auto, using(crate::proofs::Scripts::block_empty))]
 fn read_block(alloc: Global, rest: Rest<'_>) -> Result<(String, Rest<'_>), Refusal>
     requires { rest.number + length rest.text.now < 2 ^ 63 }
-    ensures block { IfOk result (λ p. IsBlock rest.entry.text.now (string_bytes p.0) p.1.text.now) }
+    ensures block { IfOk result (λ p. IsBlock rest.entry.number rest.entry.text.now (string_bytes p.0) p.1.number p.1.text.now) }
     ensures left { IfOk result (λ p. p.1.number + length p.1.text.now ≤ rest.entry.number + length rest.entry.text.now) }
-    ensures err { IfErr result (IsFaultOrNoMemory rest.entry.number rest.entry.text.now) }
+    ensures err { IfErr result (λ refusal. (refusal ≡ NoMemory) ⊎ IsEndless rest.entry.number rest.entry.text.now refusal) }
 {
     let mut block = String::new(alloc);
     let mut rest = rest;
@@ -97,12 +92,10 @@ fn read_block(alloc: Global, rest: Rest<'_>) -> Result<(String, Rest<'_>), Refus
 }
 
 // The lines that are left, in a script of so many members.
-#[tactic(auto, using(crate::proofs::Scripts::lines_skip, crate::proofs::Scripts::lines_more))]
 fn read_lines(alloc: Global, members: usize, rest: Rest<'_>) -> Result<Vec<Line>, Refusal>
     requires { rest.number + length rest.text.now < 2 ^ 63 }
-    ensures lines { IfOk result (λ lines. counted (pieces rest.entry.text.now) ≡ map line_text lines.items) }
-    ensures range { IfOk result (λ lines. All (IsInRange members) lines.items) }
-    ensures err { IfErr result (IsFaultOrNoMemory rest.entry.number rest.entry.text.now) }
+    ensures lines { IfOk result (λ lines. IsSaid members rest.entry.text.now lines.items) }
+    ensures err { IfErr result (λ refusal. (refusal ≡ NoMemory) ⊎ IsUnsaid rest.entry.number members rest.entry.text.now refusal) }
 {
     let mut lines = Vec::new(alloc);
     let mut rest = rest;
@@ -123,10 +116,9 @@ fn read_lines(alloc: Global, members: usize, rest: Rest<'_>) -> Result<Vec<Line>
 // The next line that counts, and what is left after it.
 fn next_counted(rest: Rest<'_>) -> Result<(&str, Rest<'_>), Refusal>
     requires { rest.number + length rest.text.now < 2 ^ 63 }
-    ensures line { IfOk result (λ p. IsCounted rest.entry.text.now p.0.now p.1.text.now) }
-    ensures number { IfOk result (λ p. 1 ≤ p.1.number) }
+    ensures line { IfOk result (λ p. IsCounted rest.entry.number rest.entry.text.now p.0.now p.1.number p.1.text.now) }
     ensures left { IfOk result (λ p. p.1.number + length p.1.text.now ≤ rest.entry.number + length rest.entry.text.now) }
-    ensures err { IfErr result (IsFaultIn rest.entry.number rest.entry.text.now) }
+    ensures err { IfErr result (IsNoneCounted rest.entry.number rest.entry.text.now) }
 {
     let mut rest = rest;
     loop {
@@ -146,6 +138,7 @@ fn next_line(rest: Rest<'_>) -> Result<(&str, Rest<'_>), Refusal>
     ensures number { IfOk result (λ p. p.1.number ≡ rest.entry.number + 1) }
     ensures left { IfOk result (λ p. p.1.number + length p.0.now + length p.1.text.now ≡ rest.entry.number + length rest.entry.text.now) }
     ensures err { IfErr result (λ refusal. refusal ≡ BadScript (rest.entry.number + 1)) }
+    ensures last { IfErr result (λ _. pieces rest.entry.text.now ≡ rest.entry.text.now ∷ []) }
 {
     let number = rest.number + 1;
     match split_line(rest.text) {
@@ -156,7 +149,8 @@ fn next_line(rest: Rest<'_>) -> Result<(&str, Rest<'_>), Refusal>
 
 // The number of members that an opening line names.
 fn read_members(line: &str) -> Option<usize>
-    ensures { IfSome result (λ n. ((3 ≤ n) × (n ≤ 7)) × (line.now ≡ members_text n)) }
+    ensures some { IfSome result (λ n. IsMemberCount n × (line.now ≡ members_text n)) }
+    ensures none { IfNone result ((n : ℕ) → IsMemberCount n → line.now ≢ members_text n) }
 {
     let number = read_number(line.strip_prefix("members ")?)?;
     if 3 <= number && number <= 7 {
@@ -170,6 +164,7 @@ fn read_members(line: &str) -> Option<usize>
 fn split_line(text: &str) -> Option<(&str, &str)>
     ensures first { IfSome result (λ p. pieces text.now ≡ p.0.now ∷ pieces p.1.now) }
     ensures len { IfSome result (λ p. length p.0.now + 1 + length p.1.now ≡ length text.now) }
+    ensures last { IfNone result (pieces text.now ≡ text.now ∷ []) }
 {
     text.split_once('\n')
 }

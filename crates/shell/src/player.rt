@@ -1,7 +1,9 @@
 //! Playing scripts on a group.
-ghost use Rattle.std.specs.Prelude.{◌≡◌, ◌≤◌, ◌<◌, length, false, IsTrue, IfSome, IsErr, OnOk, OnErr, IfOk, IfErr};
+ghost use Rattle.std.specs.Prelude.{◌≡◌, ◌≤◌, ◌<◌, pos, [], length, replicate, false, IsTrue, IfSome, IsErr, OnOk, OnErr, IfOk, IfErr};
 ghost use Rattle.fault.specs.declared.refusal.Refusal.TheVariants.{NoMemory};
 ghost use Rattle.lines.specs.declared.line.Left.TheVariants.{Old, New};
+ghost use Rattle.model.specs.Worlds.{new_world};
+ghost use Rattle.sqlread.specs.Meaning.{schema_of};
 ghost use Rattle.world.specs.declared.event.Left.TheVariants as events;
 ghost use Rattle.world.specs.View.{entry_in};
 
@@ -47,13 +49,20 @@ struct Sent {
 }
 
 impl Player {
-    ghost use Rattle.shell.specs.Player.{commit_of, has_failed, member_in, IsPlayFault};
+    ghost use Rattle.shell.specs.Player.{clocks_of, commit_of, group_of, has_failed, member_in, sent_count, IsPlayFault};
+    ghost use Rattle.world.specs.Run.{events_of, members_in, now_of, schema_in};
 
     /// A group of 3 to 7 members with tables of this schema, at its opening, where all clocks show 0.
     pub fn new(alloc: Global, members: usize, schema: Schema) -> Result<Player, AllocError>
         requires least { 3 ≤ members }
         requires most { members ≤ 7 }
-        ensures { IfOk result (λ player. has_failed player ≡ false) }
+        ensures goes_on { IfOk result (λ player. has_failed player ≡ false) }
+        ensures members { IfOk result (λ player. members_in (group_of player) ≡ members) }
+        ensures schema { IfOk result (λ player. schema_in (group_of player) ≡ schema_of schema) }
+        ensures group { IfOk result (λ player. now_of (group_of player) ≡ new_world members) }
+        ensures nothing { IfOk result (λ player. events_of (group_of player) ≡ []) }
+        ensures clocks { IfOk result (λ player. clocks_of player ≡ replicate members (pos 0)) }
+        ensures unsent { IfOk result (λ player. sent_count player ≡ 0) }
     {
         Ok(Player {
             alloc,

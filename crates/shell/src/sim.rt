@@ -25,7 +25,7 @@ pub fn run_sim<R: io::Read, W: io::Write>(
     ensures status { IfOk result (λ status. status ≡ 0) }
     ensures script { OnOk result (IfSome (R.remaining reader.old)
         (λ bytes. (members : ℕ) × (schema : Tables) × (lines : List Line) × HasLines bytes members schema lines)) }
-    ensures err { IfErr result IsSimFault }
+    ensures err { IfErr result (IsSimFault (R.remaining reader.old)) }
     ensures bad { (line : ℕ) → result ≡ Err (RunFault.Refused (BadScript line)) → writer.new ≡ writer.old }
     ensures refused { (refusal : AnyRefusal) → result ≡ Err (RunFault.Refused refusal) → refusal ≢ NoMemory → writer.new ≡ writer.old }
 {

@@ -7,5 +7,6 @@ pub loop-line-preserved : goal.loop-line-preserved
 loop-line-preserved c =
     let skips : is_skipped c.in_ok-line.line.now ≡ true = search rules in (
       omega (arith, c.in_ok-line.ensures.left, c.loop-line.invariant.0),
-      skips_more c.args.rest.text.now c.loop-line.rest.text.now c.in_ok-line.after.text.now c.in_ok-line.line.now c.loop-line.invariant.1 c.in_ok-line.ensures.line skips,
+      skips_more c.args.rest.number c.loop-line.rest.number c.in_ok-line.after.number c.args.rest.text.now c.loop-line.rest.text.now c.in_ok-line.after.text.now c.in_ok-line.line.now
+          c.in_ok-line.ensures.line c.in_ok-line.ensures.number c.loop-line.invariant.1 skips,
     )
