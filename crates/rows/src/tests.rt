@@ -1,9 +1,9 @@
 //! Each output is worked out by hand from the rules of replication, requests and tables.
 use crate::playing::{AS_OF, ASKED, DEPT_3, DEPT_4, ELECTED, SCHEMA, prints, settled, with_schema};
+use schemaread::schemas::read_schema;
 use shell::line::Line;
 use shell::player::Player;
 use shell::sim::run_sim;
-use sqlread::schemas::read_schema;
 use std::io;
 use std::test::Fail;
 

@@ -2,7 +2,7 @@
 use Rattle.std.specs.Prelude.{◌≡◌, ℕ, Bool, List, Err, None, Option, ◌⊎◌, ⊤, if◌then◌else◌}
 use Rattle.fault.specs.declared.refusal.Refusal.TheVariants.{NoMemory, BadScript}
 use Rattle.model.specs.Members.{Node}
-use Rattle.sqlread.specs.Schemas.{SchemaSays}
+use Rattle.schemaread.specs.Schemas.{SchemaSays}
 use Rattle.shell.specs.declared.player.Player.{Player}
 use Rattle.shell.specs.declared.run_fault.RunFault.{RunFault}
 use Rattle.shell.specs.declared.run_fault.RunFault.TheVariants.{Refused, Output}
