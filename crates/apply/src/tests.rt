@@ -7,8 +7,8 @@ use model::request::{Client, RequestNumber};
 use model::stamp::Stamp;
 use retry::Outcome;
 use schema::Schema;
+use schemaread::schemas::read_schema;
 use sqlread::query::read_query;
-use sqlread::schemas::read_schema;
 use std::alloc::{AllocError, Global};
 use std::test::Fail;
 

@@ -13,7 +13,7 @@ mod tables;
 
 use anyhow::Result;
 use schema::Schema;
-use sqlread::schemas::read_schema;
+use schemaread::schemas::read_schema;
 use sqlread::transaction::read_transaction;
 use std::alloc::{AllocError, Global};
 use std::env;

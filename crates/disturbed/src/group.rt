@@ -7,7 +7,7 @@ use crate::staff::STAFF;
 use lines::line::{Line, read_line};
 use schema::Schema;
 use shell::player::Player;
-use sqlread::schemas::read_schema;
+use schemaread::schemas::read_schema;
 use std::alloc::Global;
 use std::process::Abort;
 use std::test::Fail;

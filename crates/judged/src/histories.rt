@@ -13,7 +13,7 @@ use current::{Current, Touched};
 use model::stamp::Stamp;
 use plain::{Judge, Tables};
 use schema::Schema;
-use sqlread::schemas::read_schema;
+use schemaread::schemas::read_schema;
 use std::alloc::Global;
 use std::process::Abort;
 use std::test::Fail;

@@ -7,7 +7,7 @@ use model::stamp::Stamp;
 use plain::{Judge, Outcome};
 use retry::{Judged, Requests};
 use schema::Schema;
-use sqlread::schemas::read_schema;
+use schemaread::schemas::read_schema;
 use std::alloc::{AllocError, Global};
 use std::process::Abort;
 use std::test::Fail;

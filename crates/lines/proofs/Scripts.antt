@@ -9,7 +9,7 @@ use Rattle.std.proofs.lemmas.List.Elements.{filter-append, All-push}
 use Rattle.fault.specs.declared.refusal.Refusal.{Refusal}
 use Rattle.fault.specs.declared.refusal.Refusal.TheVariants.{NoMemory, BadScript}
 use Rattle.sqlchecks.specs.Columns.{Tables}
-use Rattle.sqlread.specs.Schemas.{SchemaSays}
+use Rattle.schemaread.specs.Schemas.{SchemaSays}
 use Rattle.lines.specs.Script.{is_skipped, counted, pieces, members_text, text_of_lines, IsMemberCount, HasParts, HasLines, HasBadSchema, Stage, IsBegun, IsWrong, IsMissing, IsBadAt, IsScriptFault}
 use Rattle.lines.specs.Script.Stage.{Opening, Named, Within, After}
 use Rattle.lines.specs.Reading.{IsTaken, IsCutAfter, IsCounted, IsNoneCounted, IsOpening, IsBlock, IsEndless, IsSaid, IsUnsaid}

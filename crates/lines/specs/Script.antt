@@ -4,7 +4,7 @@ use Rattle.std.specs.List.{slice_split, flat_map}
 use Rattle.fault.specs.declared.refusal.Refusal.{Refusal}
 use Rattle.fault.specs.declared.refusal.Refusal.TheVariants.{NoMemory, BadScript}
 use Rattle.sqlchecks.specs.Columns.{Tables}
-use Rattle.sqlread.specs.Schemas.{SchemaSays}
+use Rattle.schemaread.specs.Schemas.{SchemaSays}
 use Rattle.lines.specs.declared.line.Line.{Line}
 use Rattle.lines.specs.Line.{line_text, IsInRange, IsNoLine}
 

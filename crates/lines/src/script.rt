@@ -8,7 +8,7 @@ use crate::line::{Line, read_line};
 use crate::number::read_number;
 use fault::Refusal;
 use schema::Schema;
-use sqlread::schemas::read_schema;
+use schemaread::schemas::read_schema;
 use std::alloc::Global;
 
 /// A whole script.

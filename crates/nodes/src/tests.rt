@@ -11,7 +11,7 @@ use model::member::Member;
 use model::message::{Body, Input, Message};
 use model::request::{Client, RequestNumber};
 use node::node::Fault;
-use sqlread::schemas::read_schema;
+use schemaread::schemas::read_schema;
 use std::alloc::{AllocError, Global};
 use std::collections::VecDeque;
 use std::process::Abort;

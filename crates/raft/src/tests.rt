@@ -4,7 +4,7 @@ use crate::{Core, Effect, Taken, Work};
 use fault::Refusal;
 use model::member::Member;
 use model::message::{Input, Message};
-use sqlread::schemas::read_schema;
+use schemaread::schemas::read_schema;
 use std::alloc::{AllocError, Global};
 use std::process::Abort;
 use std::test::Fail;

@@ -1,7 +1,7 @@
 use crate::texts::{SHOPS, STAFF, schema_accepted, schema_refused};
 use fault::Refusal;
 use schema::{Kind, Schema, Table};
-use sqlread::schemas::read_schema;
+use schemaread::schemas::read_schema;
 use std::alloc::{AllocError, Global};
 use std::process::Abort;
 use std::test::Fail;

@@ -2,7 +2,7 @@ use crate::texts::{SHOPS, STAFF, accepted, refused};
 use fault::Refusal;
 use model::value::Value;
 use schema::Schema;
-use sqlread::schemas::read_schema;
+use schemaread::schemas::read_schema;
 use sqlread::statement::{Insert, NewValue, Statement, Update};
 use sqlread::transaction::read_transaction;
 use std::alloc::{AllocError, Global};

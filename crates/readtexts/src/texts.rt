@@ -1,7 +1,7 @@
 use fault::Refusal;
 use schema::Schema;
+use schemaread::schemas::read_schema;
 use sqlread::query::read_query;
-use sqlread::schemas::read_schema;
 use sqlread::transaction::read_transaction;
 use std::alloc::Global;
 use std::process::Abort;

@@ -3,7 +3,7 @@ use crate::playing::{AS_OF, ASKED, DEPT_3, DEPT_4, ELECTED, SCHEMA, prints, sett
 use lines::line::Line;
 use shell::player::Player;
 use shell::sim::run_sim;
-use sqlread::schemas::read_schema;
+use schemaread::schemas::read_schema;
 use std::io;
 use std::test::Fail;
 

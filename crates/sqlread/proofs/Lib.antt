@@ -4,8 +4,5 @@ pub mod Lists
 pub mod Numbers
 pub mod Days
 pub mod Periods
-pub mod Declared
 pub mod Refusals
 pub mod Saying
-pub mod OneSchema
-pub mod SayingSchemas

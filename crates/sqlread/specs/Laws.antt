@@ -7,11 +7,9 @@ use Rattle.sqltokens.specs.What.{What}
 use Rattle.sqltokens.specs.Syntax.{Spells, IsWrongAt}
 use Rattle.sqlsyntax.specs.Transactions.{statements}
 use Rattle.sqlsyntax.specs.Queries.{query}
-use Rattle.schemasyntax.specs.Schemas.{TableForm, tables}
 use Rattle.sqlchecks.specs.Columns.{Tables}
 use Rattle.sqlread.specs.Changes.{statements_in}
 use Rattle.sqlread.specs.Questions.{question_in}
-use Rattle.sqlread.specs.Schemas.{MakesSaid, SchemaSays}
 use Rattle.sqlread.specs.Texts.{transaction_in, query_in}
 
 -- A text of at most 4096 bytes says a value just where it spells some form that the checks let through to that value. It is a
@@ -32,20 +30,3 @@ SaysTransaction = (schema : Tables) → Says statements (statements_in schema) (
 
 abbrev pub SaysQuery : Type 0
 SaysQuery = (schema : Tables) → Says query (question_in schema) (query_in schema)
-
--- A text of at most 65536 bytes says a schema just where it spells some statements that make that schema. It is a syntax error
--- at a place just where the grammar goes wrong there. Each other refusal is that of the checks on the statements that it spells.
-abbrev pub SaysSchema : Type 0
-SaysSchema =
-    (text : List ℕ) → length text ≤ 65536 →
-    ((made : Tables) → SchemaSays text (Ok made) ↔ ((forms : List TableForm) × Spells tables text forms × MakesSaid (Ok forms) (Ok made)))
-    × ((at : ℕ) → SchemaSays text (Err (Syntax at)) ↔ IsWrongAt tables text at)
-    × ((forms : List TableForm) (r : Refusal) → Spells tables text forms → MakesSaid (Ok forms) (Err r) → SchemaSays text (Err r))
-
--- A longer text is too large, and that alone.
-abbrev pub IsBoundedSchema : Type 0
-IsBoundedSchema = (text : List ℕ) (answer : Result Tables Refusal) → 65536 < length text → SchemaSays text answer ↔ (answer ≡ Err TooLarge)
-
--- A text says one thing.
-abbrev pub SaysOneSchema : Type 0
-SaysOneSchema = (text : List ℕ) (a b : Result Tables Refusal) → SchemaSays text a → SchemaSays text b → a ≡ b

@@ -2,7 +2,6 @@ pub mod Shapes
 pub mod Calendar
 pub mod Changes
 pub mod Questions
-pub mod Schemas
 pub mod Meaning
 pub mod Texts
 pub mod Laws

@@ -1,7 +1,7 @@
 //! Laws of what texts say.
 ghost use Rattle.sqlchecks.specs.Columns.{Tables};
 ghost use Rattle.sqlread.specs.Calendar.{LiteralsInCalendar};
-ghost use Rattle.sqlread.specs.Laws.{SaysTransaction, SaysQuery, SaysSchema, SaysOneSchema, IsBounded, IsBoundedSchema};
+ghost use Rattle.sqlread.specs.Laws.{SaysTransaction, SaysQuery, IsBounded};
 ghost use Rattle.sqlread.specs.Texts.{transaction_in, query_in};
 
 /// `read_transaction` answers by the grammar of transactions and the checks of statements.
@@ -18,16 +18,6 @@ pub fn query_says()
     ensures bounded { (schema : Tables) → IsBounded (query_in schema) }
 {
     sqlsyntax::laws::forms_told();
-}
-
-/// `read_schema` answers by the grammar of schemas and the checks of CREATE TABLE statements, and two answers to one
-/// text, memory aside, are the same.
-pub fn schema_says()
-    ensures says { SaysSchema }
-    ensures bounded { IsBoundedSchema }
-    ensures one { SaysOneSchema }
-{
-    schemasyntax::laws::forms_told();
 }
 
 /// What a literal is read as is a day of the calendar, where it is a day.

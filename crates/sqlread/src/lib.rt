@@ -1,4 +1,4 @@
-//! Reading schemas, transactions and queries.
+//! Reading transactions and queries.
 #![tactic(auto)]
 
 mod assignment;
@@ -7,7 +7,6 @@ mod given;
 mod insert;
 pub mod laws;
 pub mod query;
-pub mod schemas;
 pub mod statement;
 pub mod term;
 pub mod token;

@@ -2,7 +2,7 @@ use super::run;
 use crate::Current;
 use fault::Refusal;
 use schema::Schema;
-use sqlread::schemas::read_schema;
+use schemaread::schemas::read_schema;
 use sqlread::transaction::read_transaction;
 use std::alloc::Global;
 use std::process::Abort;

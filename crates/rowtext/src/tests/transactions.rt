@@ -1,7 +1,7 @@
 use crate::tests::weak::Weak;
 use crate::{Written, write_transaction};
 use schema::Schema;
-use sqlread::schemas::read_schema;
+use schemaread::schemas::read_schema;
 use sqlread::statement::Transaction;
 use sqlread::transaction::read_transaction;
 use std::alloc::Global;

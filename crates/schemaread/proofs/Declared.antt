@@ -3,7 +3,7 @@ use Rattle.std.proofs.Common.{◌≡◌, ℕ, ◌+◌, ◌<◌, List, [], ◌∷
 use Rattle.std.proofs.lemmas.List.{map-append, take_more}
 use Rattle.schema.specs.declared.syntax.CreateTable.{CreateTable}
 use Rattle.schemasyntax.specs.Schemas.{TableForm}
-use Rattle.sqlread.specs.Schemas.{IsSaid, AreSaid}
+use Rattle.schemaread.specs.Schemas.{IsSaid, AreSaid}
 
 one_more : (forms : List TableForm) (tables : List CreateTable) (form : TableForm) (table : CreateTable) → AreSaid forms tables → IsSaid form table → AreSaid (forms ++ form ∷ []) (tables ++ table ∷ [])
 one_more [] [] form table are is = (is, tt)

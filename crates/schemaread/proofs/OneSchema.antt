@@ -20,7 +20,7 @@ use Rattle.schema.specs.Tables as made
 use Rattle.namesyntax.specs.Names.{Bytes}
 use Rattle.schemasyntax.specs.Schemas.{ApplicationForm, SystemForm, TableForm}
 use Rattle.sqlchecks.specs.Columns.{Tables}
-use Rattle.sqlread.specs.Schemas.{column_of, application_of, system_of, key_of, reference_of, IsSaid, AreSaid, Makes, MakesSaid}
+use Rattle.schemaread.specs.Schemas.{column_of, application_of, system_of, key_of, reference_of, IsSaid, AreSaid, Makes, MakesSaid}
 
 -- ---- lists of which each element stands so to the other's at its place
 

@@ -1,5 +1,5 @@
-use Rattle.sqlread.proofs.SayingSchemas.{schema_says, schema_bounded, schema_one}
-use Rattle.sqlread.proofs.laws.schema_says.Goals as goal
+use Rattle.schemaread.proofs.SayingSchemas.{schema_says, schema_bounded, schema_one}
+use Rattle.schemaread.proofs.laws.schema_says.Goals as goal
 
 pub returns-clause-says : goal.returns-clause-says
 returns-clause-says c = schema_says c.forms_told.ensures

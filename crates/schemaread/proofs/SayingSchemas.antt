@@ -14,9 +14,9 @@ use Rattle.sqltokens.specs.Syntax.{IsTold, spelled_in}
 use Rattle.namesyntax.specs.Parsing.{or_syntax, parsed}
 use Rattle.schemasyntax.specs.Schemas.{TableForm, tables}
 use Rattle.sqlchecks.specs.Columns.{Tables}
-use Rattle.sqlread.specs.Schemas.{MakesSaid, SchemaSays}
-use Rattle.sqlread.specs.Laws.{SaysSchema, IsBoundedSchema, SaysOneSchema}
-use Rattle.sqlread.proofs.OneSchema.{one_answer}
+use Rattle.schemaread.specs.Schemas.{MakesSaid, SchemaSays}
+use Rattle.schemaread.specs.Laws.{SaysSchema, IsBoundedSchema, SaysOneSchema}
+use Rattle.schemaread.proofs.OneSchema.{one_answer}
 
 -- ---- no check answers a syntax error
 

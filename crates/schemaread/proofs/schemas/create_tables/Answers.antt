@@ -1,6 +1,6 @@
 use Rattle.schemasyntax.specs.Schemas.{table_form}
-use Rattle.sqlread.proofs.Declared.{said_more}
-use Rattle.sqlread.proofs.schemas.create_tables.Goals as goal
+use Rattle.schemaread.proofs.Declared.{said_more}
+use Rattle.schemaread.proofs.schemas.create_tables.Goals as goal
 
 pub loop-next-preserved : goal.loop-next-preserved
 loop-next-preserved c =

@@ -1,9 +1,9 @@
-//! Reading schemas.
+//! The text of a schema, read and checked.
 ghost use Rattle.std.specs.Prelude.{◌≡◌, ◌⊎◌, map, IfOk, IfErr, Ok, Err};
 ghost use Rattle.fault.specs.declared.refusal.Refusal.TheVariants.{NoMemory};
 ghost use Rattle.namesyntax.specs.Names.{name_of, names_of};
 ghost use Rattle.schemasyntax.specs.Schemas.{type_form, column_form, application_form, system_form, key_names_form, reference_form, table_form};
-ghost use Rattle.sqlread.specs.Schemas.{type_said, column_of, column_said, application_of, system_of, key_of, reference_of, IsSaid, AreSaid, SchemaSays};
+ghost use Rattle.schemaread.specs.Schemas.{type_said, column_of, column_said, application_of, system_of, key_of, reference_of, IsSaid, AreSaid, SchemaSays};
 
 use fault::Refusal;
 use schema::syntax::{

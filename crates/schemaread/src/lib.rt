@@ -1,0 +1,5 @@
+//! Reading schemas.
+#![tactic(auto)]
+
+pub mod laws;
+pub mod schemas;
