@@ -4,3 +4,4 @@ pub mod Sinks
 pub mod Spacing
 pub mod Transactions
 pub mod Again
+pub mod Named

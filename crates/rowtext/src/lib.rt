@@ -4,10 +4,12 @@
 mod answers;
 mod cell;
 pub mod laws;
+mod named;
 mod sink;
 #[cfg(test)]
 mod tests;
 pub mod transactions;
 
 pub use answers::{Lines, write_answer};
+pub use named::has_named;
 pub use transactions::{SqlLiteral, Written, write_transaction};

@@ -1,5 +1,5 @@
 //! Transactions written as SQL.
-ghost use Rattle.std.specs.Prelude.{◌≡◌, ◌<◌, ◌++◌, ◌∷◌, [], Some, IfSome, MatchResult, length, map, flat_map, option_map, option_and_then, codes};
+ghost use Rattle.std.specs.Prelude.{◌≡◌, ◌<◌, ◌++◌, ◌∷◌, [], Some, IfSome, OnOk, MatchResult, true, false, is_some, length, map, flat_map, option_map, option_and_then, codes};
 ghost use Rattle.std.specs.Option.{option_copied};
 ghost use Rattle.sqlchecks.specs.Columns.{field_at, kept_at};
 ghost use Rattle.sqltokens.specs.declared.token.Sign.TheVariants as sign;
@@ -11,10 +11,13 @@ ghost use Rattle.sqlsyntax.specs.Transactions.{literals, portion as portion_phra
 ghost use Rattle.sqlread.specs.Changes.{is_system};
 ghost use Rattle.model.specs.Periods.{period_of};
 ghost use Rattle.sqlread.specs.Shapes.{statement_of, insert_of, update_of, delete_of};
+ghost use Rattle.std.specs.List.{list_all};
+ghost use Rattle.rowtext.specs.Named.{has_field, has_named as names};
 ghost use Rattle.rowtext.specs.Sinks.{Puts, WritesOrBegins};
 ghost use Rattle.rowtext.specs.Spacing.{Start, Sign, Word, token_text, line};
 ghost use Rattle.rowtext.specs.Transactions.{literal_of, cell_of, column_name, field_name, portion_of, value_of, assignment_of, comparison_of, conditions_of, insert_form, update_form, delete_form, given_columns, statement_text, transaction_text};
 
+use crate::named::has_named;
 use crate::sink::{Pen, Sink};
 use literals::Literal;
 use model::value::Value;
@@ -64,17 +67,22 @@ impl fmt::Display for Written<'_> {
     }
 }
 
-/// Writes a transaction over the tables of the schema, as `Written` prints it. Where the writer fails, its error is
-/// returned; it fails too where the schema lacks what a statement names, as `Written` does. In each case a beginning of
-/// the text was written. A value whose literal takes more than 900 bytes, which none of a transaction that was read
-/// does, may be an error too.
+/// Writes a transaction over the tables of the schema, as `Written` prints it. Where the schema lacks what a statement
+/// names, which `has_named` tells, it fails and writes nothing. Where the writer fails, its error is returned, and a
+/// beginning of the text was written. A value whose literal takes more than 900 bytes, which none of a transaction that
+/// was read does, may be an error too.
 pub fn write_transaction<W: io::Write>(
     schema: &Schema,
     transaction: &Transaction,
     writer: &mut W,
 ) -> io::Result<()>
-    ensures { WritesOrBegins (W.contents writer.old) (W.contents writer.new) result (transaction_text schema.now (map statement_of transaction.now.statements.items)) }
+    ensures text { WritesOrBegins (W.contents writer.old) (W.contents writer.new) result (transaction_text schema.now (map statement_of transaction.now.statements.items)) }
+    ensures named { OnOk result (list_all (λ s. names schema.now (statement_of s)) transaction.now.statements.items ≡ true) }
+    ensures nothing { list_all (λ s. names schema.now (statement_of s)) transaction.now.statements.items ≡ false → writer.new ≡ writer.old }
 {
+    if !has_named(schema, transaction) {
+        return Err(io::Error::from(fmt::Error));
+    }
     let mut pen = Pen { writer };
     let written = put_statements(schema, &transaction.statements, &mut pen);
     let Pen { writer } = pen;
@@ -132,7 +140,7 @@ fn put_insert<S: Sink>(
     sink.put(");\n")
 }
 
-fn is_system(table: &Table, column: usize) -> bool
+pub(crate) fn is_system(table: &Table, column: usize) -> bool
     ensures { result ≡ is_system table.now column }
 {
     column == table.system_start() || column == table.system_end()
@@ -202,7 +210,7 @@ fn put_cell<S: Sink>(
 }
 
 // The value that the row keeps for a column.
-fn value_at<'a>(table: &Table, insert: &'a Insert, column: usize) -> Option<&'a Value>
+pub(crate) fn value_at<'a>(table: &Table, insert: &'a Insert, column: usize) -> Option<&'a Value>
     ensures { option_copied result ≡ option_and_then (kept_at insert.now.key.items insert.now.values.items) (field_at table.now column) }
 {
     match field_of(table, column) {
@@ -318,8 +326,9 @@ fn put_assignment<S: Sink>(
 }
 
 // The name of the column that a row keeps there.
-fn field_name(table: &Table, field: Field) -> Option<&Name>
-    ensures { IfSome result (λ name. name.now ≡ field_name table.now field) }
+pub(crate) fn field_name(table: &Table, field: Field) -> Option<&Name>
+    ensures name { IfSome result (λ name. name.now ≡ field_name table.now field) }
+    ensures there { is_some result ≡ has_field table.now field }
 {
     let column = match field {
         Field::Key(place) => *table.key().get(place)?,
