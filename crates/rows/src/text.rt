@@ -1,5 +1,5 @@
 //! The texts of cases, as they stand in a line.
-use anyhow::{Result, anyhow};
+use anyhow::{Result, bail};
 use std::alloc::Global;
 
 /// The text that a line means: `\0a` is the byte of these two hexadecimal digits, and `\{16 X}` is X 16 times.
@@ -19,19 +19,21 @@ pub fn text_of(alloc: Global, line: &str) -> Result<String> {
 
 // Adds the byte of two digits, and gives what follows them.
 fn add_byte<'a>(piece: &'a str, bytes: &mut Vec<u8>) -> Result<&'a str> {
-    let (digits, after) = piece
-        .split_at_checked(2)
-        .ok_or(anyhow!("a byte has two digits"))?;
+    let Some((digits, after)) = piece.split_at_checked(2) else {
+        bail!("a byte has two digits");
+    };
     bytes.push(u8::from_str_radix(digits, 16)?)?;
     Ok(after)
 }
 
 // Adds a text as many times as it says, and gives what follows the brace.
 fn add_repeated<'a>(repeated: &'a str, bytes: &mut Vec<u8>) -> Result<&'a str> {
-    let (repeated, after) = repeated.split_once('}').ok_or(anyhow!("a brace is open"))?;
-    let (count, text) = repeated
-        .split_once(' ')
-        .ok_or(anyhow!("there is no text to repeat"))?;
+    let Some((repeated, after)) = repeated.split_once('}') else {
+        bail!("a brace is open");
+    };
+    let Some((count, text)) = repeated.split_once(' ') else {
+        bail!("there is nothing to repeat");
+    };
     for _ in 0..count.parse::<usize>()? {
         bytes.extend_from_slice(text.as_bytes())?;
     }
@@ -45,7 +47,7 @@ pub fn changed(alloc: Global, text: &str, changes: &str) -> Result<String> {
     while let (Some(old), Some(new)) = (parts.next(), parts.next()) {
         let (old, new) = (text_of(alloc, old)?, text_of(alloc, new)?);
         if !text.contains(old.as_str()) {
-            return Err(anyhow!("there is no {old}"));
+            bail!("there is no {old}");
         }
         text = text.replace(alloc, old.as_str(), new.as_str())?;
     }
