@@ -1,0 +1,127 @@
+//! What texts say, and why they are refused.
+use crate::text::{changed, text_of};
+use anyhow::Result;
+use fault::Refusal;
+use period::{Day, Instant};
+use rowtext::Written;
+use shell::sim::run_sim;
+use sqlread::query::read_query;
+use schemaread::schemas::read_schema;
+use sqlread::transaction::read_transaction;
+use std::alloc::{AllocError, Global};
+
+/// How an input is tried.
+#[derive(Clone, Copy)]
+pub enum Kind {
+    Script,
+    Scripts,
+    Schemas,
+    Changes,
+    Transactions,
+    Queries,
+    Days,
+    Instants,
+}
+
+impl Kind {
+    /// As the ending of a file's name says; none where the file is no input.
+    pub fn of(file: &str) -> Option<Kind> {
+        let (_, ending) = file.rsplit_once('.')?;
+        match ending {
+            "script" => Some(Kind::Script),
+            "scripts" => Some(Kind::Scripts),
+            "schemas" => Some(Kind::Schemas),
+            "changes" => Some(Kind::Changes),
+            "transactions" => Some(Kind::Transactions),
+            "queries" => Some(Kind::Queries),
+            "days" => Some(Kind::Days),
+            "instants" => Some(Kind::Instants),
+            _ => None,
+        }
+    }
+
+    /// Whether its first line names the file that the texts go with.
+    pub fn has_base(self) -> bool {
+        match self {
+            Kind::Scripts | Kind::Changes | Kind::Transactions | Kind::Queries => true,
+            Kind::Script | Kind::Schemas | Kind::Days | Kind::Instants => false,
+        }
+    }
+}
+
+/// What is printed of the text in a line.
+pub fn tell(alloc: Global, kind: Kind, base: &str, line: &str) -> Result<String> {
+    let text = match kind {
+        Kind::Changes => changed(alloc, base, line)?,
+        _ => text_of(alloc, line)?,
+    };
+    let text = text.as_str();
+    match kind {
+        Kind::Script => play(alloc, text.as_bytes()),
+        Kind::Scripts => play(alloc, format!(in alloc; "{base}{text}")?.as_bytes()),
+        Kind::Schemas | Kind::Changes => Ok(tell_schema(alloc, text)?),
+        Kind::Transactions => tell_transaction(alloc, base, text),
+        Kind::Queries => tell_query(alloc, base, text),
+        Kind::Days => Ok(tell_day(alloc, text)?),
+        Kind::Instants => Ok(tell_instant(alloc, text)?),
+    }
+}
+
+/// What a script prints, and why it ended where it did not end well.
+pub fn play(alloc: Global, script: &[u8]) -> Result<String> {
+    let mut reader = script;
+    let mut writer = Vec::new(alloc);
+    let ended = run_sim(alloc, &mut reader, &mut writer);
+    let mut printed = String::from_utf8(writer)?;
+    if let Err(fault) = ended {
+        printed.push_str(format!(in alloc; "ended: {fault}\n")?.as_str())?;
+    }
+    Ok(printed)
+}
+
+fn tell_refusal(alloc: Global, refusal: &Refusal) -> Result<String, AllocError> {
+    format!(in alloc; "{refusal}\n")
+}
+
+fn tell_schema(alloc: Global, text: &str) -> Result<String, AllocError> {
+    match read_schema(alloc, text) {
+        Ok(_) => String::from_str(alloc, "read\n"),
+        Err(refusal) => tell_refusal(alloc, &refusal),
+    }
+}
+
+fn tell_transaction(alloc: Global, schema: &str, text: &str) -> Result<String> {
+    let schema = read_schema(alloc, schema)?;
+    match read_transaction(alloc, &schema, text) {
+        Ok(transaction) => {
+            let written = Written {
+                schema: &schema,
+                transaction: &transaction,
+            };
+            Ok(format!(in alloc; "{written}")?)
+        }
+        Err(refusal) => Ok(tell_refusal(alloc, &refusal)?),
+    }
+}
+
+fn tell_query(alloc: Global, schema: &str, text: &str) -> Result<String> {
+    let schema = read_schema(alloc, schema)?;
+    match read_query(alloc, &schema, text) {
+        Ok(_) => Ok(String::from_str(alloc, "read\n")?),
+        Err(refusal) => Ok(tell_refusal(alloc, &refusal)?),
+    }
+}
+
+fn tell_day(alloc: Global, text: &str) -> Result<String, AllocError> {
+    match Day::read(text, 0) {
+        Ok(day) => format!(in alloc; "{} {day}\n", day.number),
+        Err(refusal) => tell_refusal(alloc, &refusal),
+    }
+}
+
+fn tell_instant(alloc: Global, text: &str) -> Result<String, AllocError> {
+    match Instant::read(text, 0) {
+        Ok(instant) => format!(in alloc; "{} {instant}\n", instant.microseconds),
+        Err(refusal) => tell_refusal(alloc, &refusal),
+    }
+}
