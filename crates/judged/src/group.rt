@@ -4,13 +4,12 @@ ghost use Rattle.std.specs.Prelude.{◌≤◌};
 use crate::known::{Known, is_same};
 use crate::printed::{Told, hear, read_told};
 use crate::staff::STAFF;
+use anyhow::{Result, bail, ensure};
 use schema::Schema;
 use shell::line::{Line, read_line};
 use shell::player::Player;
 use sqlread::schemas::read_schema;
 use std::alloc::Global;
-use std::process::Abort;
-use std::test::Fail;
 
 /// A question, and what was printed of it.
 #[derive(Drop)]
@@ -38,7 +37,7 @@ pub(crate) struct Group {
 }
 
 impl Group {
-    pub(crate) fn new(alloc: Global, members: usize) -> Result<Group, Fail>
+    pub(crate) fn new(alloc: Global, members: usize) -> Result<Group>
         requires least { 3 ≤ members }
         requires most { members ≤ 7 }
     {
@@ -57,7 +56,7 @@ impl Group {
     }
 
     /// Plays a line that is read, and gives what it prints.
-    fn print(&mut self, line: &Line) -> Result<String, Fail> {
+    fn print(&mut self, line: &Line) -> Result<String> {
         let mut printed = Vec::new(self.alloc);
         self.player.play(line, &mut printed)?;
         Ok(String::from_utf8(printed)?)
@@ -65,14 +64,13 @@ impl Group {
 
     /// Reads the entries that a member has applied and that are not known yet, and the first that it has stored past
     /// these.
-    fn read_entries(&mut self, rt: &impl Abort, node: usize, applied: usize) -> Result<(), Fail> {
+    fn read_entries(&mut self, node: usize, applied: usize) -> Result<()> {
         for place in self.known.decided.len()..applied {
             let Some(entry) = self.player.entry(node, place.wrapping_add(1))? else {
-                return Err(Fail::from("an applied entry is not there"));
+                bail!("an applied entry is not there");
             };
             self.known.decided.push(entry)?;
-            let script = self.script.as_str();
-            assert!(rt; self.known.is_stamped(), "{script}");
+            ensure!(self.known.is_stamped(), "a stamp does not rise");
         }
         let next = self.known.decided.len();
         if let Some(entry) = self.player.entry(node, next.wrapping_add(1))? {
@@ -82,37 +80,20 @@ impl Group {
     }
 
     /// Compares what a member has applied with what is known.
-    fn compare_entries(
-        &mut self,
-        rt: &impl Abort,
-        node: usize,
-        from: usize,
-        to: usize,
-    ) -> Result<(), Fail> {
+    fn compare_entries(&mut self, node: usize, from: usize, to: usize) -> Result<()> {
         for place in from..to {
             let stored = self.player.entry(node, place.wrapping_add(1))?;
             let is_known = match (&stored, self.known.decided.get(place)) {
                 (Some(entry), Some(other)) => is_same(entry, other),
                 _ => false,
             };
-            let script = self.script.as_str();
-            assert!(rt;
-                is_known,
-                "node {node} has {stored:?} in place {place} after\n{script}"
-            );
+            ensure!(is_known, "node {node} has {stored:?} in place {place}");
         }
         Ok(())
     }
 
     /// Checks that a member told of just the requests that it applied.
-    fn check_told(
-        &self,
-        rt: &impl Abort,
-        told: &[Told],
-        node: usize,
-        from: usize,
-        to: usize,
-    ) -> Result<(), Fail> {
+    fn check_told(&self, told: &[Told], node: usize, from: usize, to: usize) -> Result<()> {
         let wanted = self.known.requests(self.alloc, from, to)?;
         let mut given = Vec::new(self.alloc);
         for told in told.iter() {
@@ -120,23 +101,21 @@ impl Group {
                 given.push(told.place)?;
             }
         }
-        let script = self.script.as_str();
-        assert_eq!(rt;
-            given.as_slice(),
-            wanted.as_slice(),
-            "node {node} after\n{script}"
+        ensure!(
+            given == wanted,
+            "node {node} told of {given:?}, not of {wanted:?}"
         );
         Ok(())
     }
 
     /// Looks at a member after a line.
-    fn look(&mut self, rt: &impl Abort, told: &[Told], place: usize) -> Result<(), Fail> {
+    fn look(&mut self, told: &[Told], place: usize) -> Result<()> {
         let node = place.wrapping_add(1);
         let before = self.applied.get(place).copied().unwrap_or(0);
         let after = self.player.commit(node).unwrap_or(0);
-        self.read_entries(rt, node, after)?;
-        self.compare_entries(rt, node, after.saturating_sub(1), after)?;
-        self.check_told(rt, told, node, before, after)?;
+        self.read_entries(node, after)?;
+        self.compare_entries(node, after.saturating_sub(1), after)?;
+        self.check_told(told, node, before, after)?;
         if let Some(applied) = self.applied.get_mut(place) {
             *applied = after;
         }
@@ -146,7 +125,7 @@ impl Group {
 
 impl Group {
     /// Notes a question and what was printed of it.
-    fn note_asked(&mut self, node: usize, question: &str, printed: String) -> Result<(), Fail> {
+    fn note_asked(&mut self, node: usize, question: &str, printed: String) -> Result<()> {
         self.asked.push(Asked {
             node,
             question: String::from_str(self.alloc, question)?,
@@ -157,12 +136,12 @@ impl Group {
     }
 
     /// Plays a line, looks at each member after it, and notes what was told or answered.
-    fn play_line(&mut self, rt: &impl Abort, line: &Line) -> Result<(), Fail> {
+    fn play_line(&mut self, line: &Line) -> Result<()> {
         let printed = self.print(line)?;
         hear(&mut self.known, printed.as_str());
         let mut told = read_told(self.alloc, printed.as_str())?;
         for place in 0..self.known.members {
-            self.look(rt, told.as_slice(), place)?;
+            self.look(told.as_slice(), place)?;
         }
         self.told.append(&mut told)?;
         if let Line::Ask { node, text } = line {
@@ -172,25 +151,25 @@ impl Group {
     }
 
     /// Plays lines of a script.
-    pub(crate) fn play(&mut self, rt: &impl Abort, lines: &str) -> Result<(), Fail> {
+    pub(crate) fn play(&mut self, lines: &str) -> Result<()> {
         for text in lines.lines() {
             self.script.push_str(text)?;
             self.script.push('\n')?;
             let line = read_line(self.alloc, self.known.members, text)?;
-            assert!(rt; line.is_some(), "{text}");
-            if let Some(line) = line {
-                self.play_line(rt, &line)?;
+            match line {
+                Some(line) => self.play_line(&line)?,
+                None => bail!("{text}"),
             }
         }
         Ok(())
     }
 
     /// Compares all that each member has applied with what is known.
-    pub(crate) fn compare_all(&mut self, rt: &impl Abort) -> Result<(), Fail> {
+    pub(crate) fn compare_all(&mut self) -> Result<()> {
         for place in 0..self.known.members {
             let node = place.wrapping_add(1);
             let applied = self.player.commit(node).unwrap_or(0);
-            self.compare_entries(rt, node, 0, applied)?;
+            self.compare_entries(node, 0, applied)?;
         }
         Ok(())
     }

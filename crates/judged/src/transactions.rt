@@ -17,7 +17,7 @@ impl Draws {
             return format!(in self.alloc; "Skill {operator} {skill}");
         }
         if self.chance(60) {
-            let (number, value) = (names.number, self.below(3));
+            let (number, value) = (names.number, self.key());
             return format!(in self.alloc; "{number} {operator} {value}");
         }
         let column = if self.chance(50) {
@@ -57,7 +57,7 @@ impl Draws {
 
     /// An INSERT of a department.
     fn insert_dept(&mut self) -> Result<String, AllocError> {
-        let number = self.below(3);
+        let number = self.key();
         let days = self.days();
         let (start, end) = (days.start, days.end);
         let size = self.below(3);
@@ -70,7 +70,7 @@ impl Draws {
     /// A transaction that makes each department, on some days.
     pub(crate) fn departments(&mut self) -> Result<String, AllocError> {
         let mut text = String::new(self.alloc);
-        for number in 0..3 {
+        for number in -1..=1 {
             let days = self.days();
             let (start, end) = (days.start, days.end);
             write!(
@@ -83,11 +83,11 @@ impl Draws {
 
     /// An INSERT of an employee, with the columns in another order.
     fn insert_emp(&mut self) -> Result<String, AllocError> {
-        let number = self.below(3);
+        let number = self.key();
         let skill = self.skill();
         let days = self.days();
         let (start, end) = (days.start, days.end);
-        let dept = self.below(3);
+        let dept = self.key();
         let pay = self.number();
         format!(in self.alloc;
             "INSERT INTO Emp (Pay, EDept, EStart, EEnd, Skill, ENo) VALUES ({pay}, {dept}, DATE '2020-01-{start}', DATE '2020-01-{end}', {skill}, {number});"
@@ -99,7 +99,7 @@ impl Draws {
         let (small, pay) = (names.small, names.pay);
         match self.below(8) {
             0 => {
-                let value = self.below(3);
+                let value = self.key();
                 format!(in self.alloc; "{small} = {value}")
             }
             1 => {
@@ -109,6 +109,11 @@ impl Draws {
             2 => format!(in self.alloc; "{pay} = {pay} - 1, {small} = 1"),
             3 => format!(in self.alloc; "{pay} = {pay} + 9223372036854775807"),
             4 => format!(in self.alloc; "{pay} = {pay} - 9223372036854775807"),
+            5 => {
+                let amount = 9_223_372_036_854_775_805 + u64::from(self.below(3));
+                format!(in self.alloc; "{pay} = {pay} - {amount}")
+            }
+            6 => format!(in self.alloc; "{pay} = {pay} + 0"),
             _ => format!(in self.alloc; "{pay} = {pay} + 1"),
         }
     }
@@ -134,7 +139,7 @@ impl Draws {
     }
 
     /// A statement on one of the two tables.
-    fn statement(&mut self) -> Result<String, AllocError> {
+    pub(crate) fn statement(&mut self) -> Result<String, AllocError> {
         match self.below(12) {
             0 | 1 => self.insert_dept(),
             2..=5 => self.insert_emp(),
@@ -145,11 +150,8 @@ impl Draws {
         }
     }
 
-    /// A transaction of one to three statements; now and then a text that is none.
+    /// A transaction of one to four statements.
     pub(crate) fn transaction(&mut self) -> Result<String, AllocError> {
-        if self.chance(3) {
-            return String::from_str(self.alloc, "DROP TABLE Dept;");
-        }
         let mut text = self.statement()?;
         for _ in 0..self.few() {
             let statement = self.statement()?;

@@ -14,11 +14,15 @@ impl Draws {
         }
     }
 
-    /// Client, number and text.
+    /// Client, number and text, which now and then is no transaction.
     fn request(&mut self, known: &Known) -> Result<String, AllocError> {
         let client = if self.chance(60) { 7u16 } else { 65_535 };
         let number = self.request_number(known.executed(client));
-        let text = self.transaction()?;
+        let text = if self.chance(3) {
+            String::from_str(self.alloc, "DROP TABLE Dept;")?
+        } else {
+            self.transaction()?
+        };
         format!(in self.alloc; "{client} {number} {text}")
     }
 
@@ -171,9 +175,35 @@ impl Draws {
         format!(in self.alloc; "settle {rounds}\n")
     }
 
+    /// Microseconds at, before or after one of the stamps.
+    fn micros(&mut self, known: &Known) -> u64 {
+        let place = self.place(known.decided.len());
+        let stamp = known
+            .decided
+            .get(place)
+            .map_or(0, |entry| entry.stamp.micros());
+        match self.below(20) {
+            0..=11 => stamp,
+            12..=14 => stamp.saturating_add(1),
+            15..=18 => stamp.saturating_sub(1),
+            _ => stamp.saturating_add(1_000_000),
+        }
+    }
+
+    /// A question at or between instants near the stamps, now and then from the first one on.
+    pub(crate) fn asking(&mut self, known: &Known) -> Result<String, AllocError> {
+        let one = if self.chance(40) {
+            0
+        } else {
+            self.micros(known)
+        };
+        let other = self.micros(known);
+        self.question(one, other)
+    }
+
     fn ask(&mut self, known: &Known) -> Result<String, AllocError> {
         let node = self.one_of(known.members);
-        let question = self.question(known)?;
+        let question = self.asking(known)?;
         format!(in self.alloc; "ask {node} {question}\n")
     }
 

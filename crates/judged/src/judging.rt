@@ -3,6 +3,7 @@ use crate::group::{Asked, Group};
 use crate::shown::answer_text;
 use crate::staff::all_days;
 use crate::tally::Tally;
+use anyhow::{Result, ensure};
 use fault::{Refusal, Text};
 use model::entry::Entry;
 use model::stamp::Stamp;
@@ -11,8 +12,6 @@ use schema::Schema;
 use sqlread::query::{Query, Time, read_query};
 use sqlread::transaction::read_transaction;
 use std::alloc::{AllocError, Global};
-use std::process::Abort;
-use std::test::Fail;
 
 /// What is told of an entry: of its request and the outcome, or nothing.
 fn outcome_text(
@@ -21,7 +20,7 @@ fn outcome_text(
     judge: &mut Judge,
     entry: &Entry,
     tally: &mut Tally,
-) -> Result<String, Fail> {
+) -> Result<String> {
     let Some(request) = &entry.request else {
         judge.close(entry.stamp);
         return Ok(String::new(alloc));
@@ -46,7 +45,7 @@ fn outcomes(
     judge: &mut Judge,
     decided: &[Entry],
     tally: &mut Tally,
-) -> Result<Vec<String>, Fail> {
+) -> Result<Vec<String>> {
     let mut texts = Vec::new(alloc);
     for entry in decided.iter() {
         texts.push(outcome_text(alloc, schema, judge, entry, tally)?)?;
@@ -113,7 +112,7 @@ fn judged_query(
 }
 
 /// What had to be printed of a question.
-fn wanted(group: &Group, judge: &Judge, asked: &Asked, tally: &mut Tally) -> Result<String, Fail> {
+fn wanted(group: &Group, judge: &Judge, asked: &Asked, tally: &mut Tally) -> Result<String> {
     let alloc = group.alloc;
     let node = asked.node;
     match judged_query(alloc, &group.schema, group.known.decided.as_slice(), asked)? {
@@ -123,55 +122,46 @@ fn wanted(group: &Group, judge: &Judge, asked: &Asked, tally: &mut Tally) -> Res
             Ok(answer_text(alloc, node, query.table, &answer)?)
         }
         Err(refusal) => {
-            tally.refuse(&refusal);
+            tally.not_answered(&refusal);
             Ok(format!(in alloc; "node {node} refused {refusal}\n")?)
         }
     }
 }
 
 /// Checks each answer, or refusal of a question.
-fn check_answers(
-    rt: &impl Abort,
-    group: &Group,
-    judge: &Judge,
-    tally: &mut Tally,
-) -> Result<(), Fail> {
-    let script = group.script.as_str();
+fn check_answers(group: &Group, judge: &Judge, tally: &mut Tally) -> Result<()> {
     for asked in group.asked.iter() {
         let wanted = wanted(group, judge, asked, tally)?;
         let (node, question) = (asked.node, asked.question.as_str());
-        assert_eq!(rt;
-            asked.printed.as_str(),
-            wanted.as_str(),
-            "node {node}, {question}, in\n{script}"
+        ensure!(
+            asked.printed == wanted,
+            "node {node}, {question}: wanted {wanted}"
         );
     }
     Ok(())
 }
 
 /// Checks each outcome that a member told.
-fn check_outcomes(rt: &impl Abort, group: &Group, texts: &[String]) -> Result<(), Fail> {
-    let script = group.script.as_str();
+fn check_outcomes(group: &Group, texts: &[String]) -> Result<()> {
     for told in group.told.iter() {
         let (node, place) = (told.node, told.place);
         let wanted = texts.get(place).map_or("", |text| text.as_str());
-        assert_eq!(rt;
-            told.text.as_str(),
-            wanted,
-            "node {node}, place {place}, in\n{script}"
+        ensure!(
+            told.text.as_str() == wanted,
+            "node {node}, place {place}: wanted {wanted}"
         );
     }
     Ok(())
 }
 
 /// Checks all that a group told and answered.
-pub(crate) fn check(rt: &impl Abort, group: &Group, tally: &mut Tally) -> Result<(), Fail> {
+pub(crate) fn check(group: &Group, tally: &mut Tally) -> Result<()> {
     let alloc = group.alloc;
     let decided = group.known.decided.as_slice();
     let mut judge = Judge::new(alloc, all_days()?);
     let texts = outcomes(alloc, &group.schema, &mut judge, decided, tally)?;
-    check_outcomes(rt, group, texts.as_slice())?;
-    check_answers(rt, group, &judge, tally)?;
+    check_outcomes(group, texts.as_slice())?;
+    check_answers(group, &judge, tally)?;
     let requests = group.known.requests(alloc, 0, decided.len())?;
     tally.script(requests.len(), group.known.terms(), group.told.len());
     tally.overruled = tally.overruled.saturating_add(group.known.overruled());
