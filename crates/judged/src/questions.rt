@@ -1,115 +1,89 @@
-//! Random questions, answered from versions and by `plain`.
-ghost use Rattle.std.specs.Prelude.{◌≤◌};
-
+//! Random questions, as texts.
 use crate::draws::Draws;
-use answer::{Answer, Shown};
-use asof::Ask;
-use fault::Refusal;
+use crate::staff::Names;
 use period::Instant;
-use plain::Judge;
-use schema::Schema;
-use sqlread::query::{Query, Term, Time};
-use sqlsyntax::Relation;
-use std::alloc::AllocError;
-use std::process::Abort;
-use std::test::Fail;
-use sysversion::Versions;
+use std::alloc::{AllocError, Global};
 
-/// An instant from the first up to the last.
-fn instant(draws: &mut Draws, last: u32) -> Result<Instant, Refusal> {
-    let micros = u64::from(draws.below(last.saturating_add(1)));
-    Instant::new(micros).ok_or(Refusal::OutOfRange)
-}
+impl Draws {
+    /// An instant, as a literal; now and then one that is none.
+    fn timestamp(&mut self, micros: u64) -> Result<String, AllocError> {
+        if self.chance(1) {
+            return String::from_str(self.alloc, "TIMESTAMP '9999-12-31 00:00:00.000000'");
+        }
+        match Instant::new(micros) {
+            Some(instant) => format!(in self.alloc; "TIMESTAMP '{instant}'"),
+            None => String::from_str(self.alloc, "TIMESTAMP '9999-12-30 23:59:59.999999'"),
+        }
+    }
 
-/// A system time that ends at the last instant or before.
-fn time(draws: &mut Draws, last: u32) -> Result<Time, Refusal> {
-    let one = instant(draws, last)?;
-    let other = instant(draws, last)?;
-    let (from, to) = if one < other {
-        (one, other)
-    } else {
-        (other, one)
-    };
-    match draws.below(3) {
-        0 if from < to => Ok(Time::FromTo(from, to)),
-        1 => Ok(Time::Between(from, to)),
-        _ => Ok(Time::AsOf(one)),
+    /// FOR SYSTEM_TIME from one of two instants to the other, or nothing.
+    fn system_time(&mut self, one: u64, other: u64) -> Result<String, AllocError> {
+        let from = self.timestamp(one.min(other))?;
+        let to = self.timestamp(one.max(other))?;
+        match self.below(7) {
+            0 => Ok(String::new(self.alloc)),
+            1 | 2 if one != other => format!(in self.alloc; " FOR SYSTEM_TIME FROM {from} TO {to}"),
+            1..=4 => format!(in self.alloc; " FOR SYSTEM_TIME BETWEEN {from} AND {to}"),
+            _ => format!(in self.alloc; " FOR SYSTEM_TIME AS OF {to}"),
+        }
+    }
+
+    fn relation(&mut self) -> &'static str {
+        match self.below(7) {
+            0 => "OVERLAPS",
+            1 => "EQUALS",
+            2 => "PRECEDES",
+            3 => "SUCCEEDS",
+            4 => "IMMEDIATELY PRECEDES",
+            5 => "IMMEDIATELY SUCCEEDS",
+            _ => "CONTAINS",
+        }
+    }
+
+    fn term(&mut self, names: Names) -> Result<String, AllocError> {
+        let period = names.period;
+        let days = self.days();
+        let (start, end) = (days.start, days.end);
+        match self.below(5) {
+            0 => format!(in self.alloc; "{period} CONTAINS DATE '2020-01-{start}'"),
+            1 | 2 => self.comparison(names),
+            _ => {
+                let relation = self.relation();
+                format!(in self.alloc;
+                    "{period} {relation} PERIOD (DATE '2020-01-{start}', DATE '2020-01-{end}')"
+                )
+            }
+        }
+    }
+
+    /// A question about one of the two tables, at or between two instants; now and then a text that is none.
+    pub(crate) fn question(&mut self, one: u64, other: u64) -> Result<String, AllocError> {
+        if self.chance(2) {
+            return String::from_str(self.alloc, "SELECT DNo FROM Dept;");
+        }
+        let names = self.names();
+        let table = names.table;
+        let time = self.system_time(one, other)?;
+        let mut text = format!(in self.alloc; "SELECT * FROM {table}{time}")?;
+        let mut word = "WHERE";
+        for _ in 0..self.few() {
+            let term = self.term(names)?;
+            write!(text, " {word} {term}")?;
+            word = "AND";
+        }
+        text.push(';')?;
+        Ok(text)
     }
 }
 
-fn relation(draws: &mut Draws) -> Relation {
-    match draws.below(6) {
-        0 => Relation::Overlaps,
-        1 => Relation::Equals,
-        2 => Relation::Precedes,
-        3 => Relation::Succeeds,
-        4 => Relation::ImmediatelyPrecedes,
-        _ => Relation::ImmediatelySucceeds,
-    }
-}
-
-fn term(draws: &mut Draws, table: usize) -> Result<Term, Refusal> {
-    let period = draws.period()?;
-    match draws.below(6) {
-        0 => Ok(Term::ContainsDay(period.start)),
-        1 => Ok(Term::Contains(period)),
-        2 | 3 => Ok(Term::Relates(relation(draws), period)),
-        _ => Ok(Term::Compares(draws.comparison(table)?)),
-    }
-}
-
-fn terms(draws: &mut Draws, table: usize) -> Result<Vec<Term>, Refusal> {
-    let mut terms = Vec::new(draws.alloc);
-    for _ in 0..draws.below(3) {
-        terms.push(term(draws, table)?)?;
-    }
-    Ok(terms)
-}
-
-/// Whether both show the same row with the same end.
-fn is_same(shown: &Shown, wanted: &plain::Shown) -> bool {
-    let row = &wanted.row;
-    shown.key.as_slice() == row.key.as_slice()
-        && shown.values.as_slice() == row.values.as_slice()
-        && shown.period.start.number == row.start
-        && shown.period.end.number == row.end
-        && shown.birth.micros() == row.birth
-        && shown.end.map(|end| end.micros()) == wanted.end
-}
-
-/// Whether both have the same last instant, and the same rows in the same order.
-fn is_same_answer(given: &Answer, wanted: &plain::Answer) -> bool {
-    given.last.micros() == wanted.last
-        && given.rows.len() == wanted.rows.len()
-        && given
-            .rows
-            .iter()
-            .zip(wanted.rows.iter())
-            .all(|(shown, wanted)| is_same(shown, wanted))
-}
-
-/// Asks both one random question about instants up to the last, and gives the answer.
-pub(crate) fn ask_both(
-    rt: &impl Abort,
-    draws: &mut Draws,
-    schema: &Schema,
-    versions: &Versions,
-    judge: &Judge,
-    last: u32,
-) -> Result<plain::Answer, Fail> {
-    let table = if draws.chance(50) { 0 } else { 1 };
-    let time = time(draws, last)?;
-    let terms = terms(draws, table)?;
-    let query = Query {
-        table,
-        time: Some(time),
-        terms,
-    };
-    let given = versions.ask(draws.alloc, schema, &query)?;
-    let wanted = judge.ask(schema, &query)?;
-    assert!(rt;
-        is_same_answer(&given, &wanted),
-        "{query:?}: {given:?}, and wanted {wanted:?}"
-    );
-    Ok(wanted)
+/// A question about all that was ever believed of a table up to an instant.
+pub(crate) fn whole_history(
+    alloc: Global,
+    names: Names,
+    last: Instant,
+) -> Result<String, AllocError> {
+    let table = names.table;
+    format!(in alloc;
+        "SELECT * FROM {table} FOR SYSTEM_TIME BETWEEN TIMESTAMP '1970-01-01 00:00:00.000000' AND TIMESTAMP '{last}';"
+    )
 }

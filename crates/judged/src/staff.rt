@@ -1,8 +1,6 @@
-//! Two tables, and the days that their rows may have.
-use fault::{Refusal, Text};
-use model::value::Value;
+//! Two tables, what they are called, and the days that their rows have.
+use fault::Refusal;
 use period::{Day, Period};
-use std::alloc::{AllocError, Global};
 
 /// Departments, and employees by their skills, who refer to them.
 pub(crate) const STAFF: &str = "
@@ -12,7 +10,7 @@ CREATE TABLE Dept (DNo INTEGER, DStart DATE, DEnd DATE, DSize INTEGER, DPay INTE
  PERIOD FOR DPeriod (DStart, DEnd),
  PERIOD FOR SYSTEM_TIME (SysStart, SysEnd),
  PRIMARY KEY (DNo, DPeriod WITHOUT OVERLAPS)) WITH SYSTEM VERSIONING;
-CREATE TABLE Emp (ENo INTEGER, Skill VARCHAR(3), EStart DATE, EEnd DATE, EDept INTEGER, Pay INTEGER,
+CREATE TABLE Emp (ENo INTEGER, Skill VARCHAR(4), EStart DATE, EEnd DATE, EDept INTEGER, Pay INTEGER,
  SysStart TIMESTAMP(6) GENERATED ALWAYS AS ROW START,
  SysEnd TIMESTAMP(6) GENERATED ALWAYS AS ROW END,
  PERIOD FOR EPeriod (EStart, EEnd),
@@ -22,27 +20,58 @@ CREATE TABLE Emp (ENo INTEGER, Skill VARCHAR(3), EStart DATE, EEnd DATE, EDept I
  WITH SYSTEM VERSIONING;
 ";
 
-/// The place of Dept among the tables.
-pub(crate) const DEPT: usize = 0;
-
-/// The place of Emp among the tables.
-pub(crate) const EMP: usize = 1;
-
-/// The first day that a row may have.
-pub(crate) const FIRST_DAY: u32 = 737_000;
-
-/// How many days there are.
-pub(crate) const DAYS: u32 = 30;
-
-/// All of the days.
-pub(crate) fn all_days() -> Result<Period, Refusal> {
-    let start = Day { number: FIRST_DAY };
-    let end = Day {
-        number: FIRST_DAY + DAYS,
-    };
-    Period::new(start, end)
+/// What a table and its columns are called.
+#[derive(Clone, Copy)]
+pub(crate) struct Names {
+    /// The table's place in the schema.
+    pub place: usize,
+    pub table: &'static str,
+    pub period: &'static str,
+    /// The first column of the key.
+    pub number: &'static str,
+    /// The two value columns.
+    pub small: &'static str,
+    pub pay: &'static str,
+    /// Whether a skill is of the key.
+    pub has_skill: bool,
 }
 
-pub(crate) fn text(alloc: Global, text: &str) -> Result<Value, AllocError> {
-    Ok(Value::Text(Text::new(String::from_str(alloc, text)?)))
+pub(crate) const DEPT: Names = Names {
+    place: 0,
+    table: "Dept",
+    period: "DPeriod",
+    number: "DNo",
+    small: "DSize",
+    pay: "DPay",
+    has_skill: false,
+};
+
+pub(crate) const EMP: Names = Names {
+    place: 1,
+    table: "Emp",
+    period: "EPeriod",
+    number: "ENo",
+    small: "EDept",
+    pay: "Pay",
+    has_skill: true,
+};
+
+/// The columns of a table, by its place, as an answer names them.
+pub(crate) fn columns(table: usize) -> &'static str {
+    match table {
+        0 => "DNo,DStart,DEnd,DSize,DPay,SysStart,SysEnd",
+        _ => "ENo,Skill,EStart,EEnd,EDept,Pay,SysStart,SysEnd",
+    }
+}
+
+/// The 10th of January 2020.
+const DAY_10: u32 = 737_433;
+
+/// All days that a row may have: from the 10th of January 2020 to the 29th.
+pub(crate) fn all_days() -> Result<Period, Refusal> {
+    let start = Day { number: DAY_10 };
+    let end = Day {
+        number: DAY_10 + 20,
+    };
+    Period::new(start, end)
 }

@@ -1,88 +1,118 @@
-//! Random statements.
+//! Statements, one after another, run on current rows and by `plain`.
 use crate::draws::Draws;
-use crate::executing::run;
-use crate::staff::{DEPT, EMP, all_days};
+use crate::staff::{DEPT, EMP, STAFF, all_days};
 use crate::tally::Tally;
 use crate::touching::{are_same, delete_all, is_touched};
-use current::Current;
+use anyhow::{Result, bail, ensure};
+use current::{Current, Touched};
+use fault::Refusal;
 use model::stamp::Stamp;
 use plain::Tables;
+use schema::Schema;
+use schemaread::schemas::read_schema;
+use sqlread::statement::Statement;
+use sqlread::transaction::read_transaction;
 use std::alloc::Global;
-use std::process::Abort;
-use std::test::Fail;
 
-/// Runs one random statement by both, and gives what `plain` makes of the tables.
-fn run_both(
-    rt: &impl Abort,
-    draws: &mut Draws,
-    current: &mut Current,
-    tables: Tables,
-    t: Stamp,
-    tally: &mut Tally,
-) -> Result<Tables, Fail> {
-    let statement = draws.statement()?;
-    let wanted = tables.run(draws.alloc, &statement, t.micros());
-    match (run(current, &statement, t), wanted) {
-        (Ok(touched), Ok(next)) => {
-            for table in [DEPT, EMP] {
-                let is_right = is_touched(draws.alloc, &tables, &next, table, &touched)?;
-                assert!(rt;
-                    is_right,
-                    "at {t:?}: {statement:?} touched {touched:?} of {tables:?}"
-                );
-            }
-            tally.accept();
-            Ok(next)
-        }
-        (given, Err(refusal)) => {
-            tally.refuse(&refusal);
-            assert_eq!(rt; given.err(), Some(refusal), "at {t:?}: {statement:?}");
-            Ok(tables)
-        }
-        (given, Ok(next)) => {
-            assert_eq!(rt; given.err(), None, "at {t:?}: {statement:?}");
-            Ok(next)
-        }
-    }
-}
-
-/// Takes all rows out, which shows what rows there were.
-fn has_same_rows(
+/// The rows that both have, and the text of all statements so far.
+#[derive(Drop)]
+struct Both {
     alloc: Global,
-    current: &mut Current,
-    tables: &Tables,
-    table: usize,
-) -> Result<bool, Fail> {
-    let touched = run(current, &delete_all(alloc, table), Stamp::new(1000))?;
-    let rows = tables.rows(alloc, table)?;
-    Ok(are_same(&rows, touched.gone(table)))
+    schema: Schema,
+    current: Current,
+    tables: Tables,
+    text: String,
 }
 
-/// Random statements, one after another, from empty tables.
-fn runs(rt: &impl Abort, alloc: Global, seed: u64, tally: &mut Tally) -> Result<(), Fail> {
+/// Runs a statement; `UnknownTable` where its table is not there.
+fn run(current: &mut Current, statement: &Statement, t: Stamp) -> Result<Touched, Refusal> {
+    if statement.table() >= current.table_count() {
+        return Err(Refusal::UnknownTable);
+    }
+    current.run(statement, t)
+}
+
+impl Both {
+    fn new(alloc: Global) -> Result<Both> {
+        Ok(Both {
+            alloc,
+            schema: read_schema(alloc, STAFF)?,
+            current: Current::new(alloc, 2)?,
+            tables: Tables::empty(alloc, 2, all_days()?)?,
+            text: String::new(alloc),
+        })
+    }
+
+    /// Looks at what a statement touched, where `plain` makes these tables of it.
+    fn compare(&mut self, next: Tables, touched: &Touched) -> Result<()> {
+        for names in [DEPT, EMP] {
+            let is_right = is_touched(self.alloc, &self.tables, &next, names.place, touched)?;
+            ensure!(is_right, "touched {touched:?}");
+        }
+        self.tables = next;
+        Ok(())
+    }
+
+    /// Runs a statement by both.
+    fn run(&mut self, statement: &Statement, t: Stamp, tally: &mut Tally) -> Result<()> {
+        let wanted = self.tables.run(self.alloc, statement, t.micros());
+        match (run(&mut self.current, statement, t), wanted) {
+            (Ok(touched), Ok(next)) => {
+                tally.accept();
+                self.compare(next, &touched)
+            }
+            (Err(given), Err(wanted)) => {
+                ensure!(given == wanted, "refused by {given}, and not by {wanted}");
+                tally.refuse(&wanted);
+                Ok(())
+            }
+            (Ok(_), Err(wanted)) => bail!("accepted, and not refused by {wanted}"),
+            (Err(given), Ok(_)) => bail!("refused by {given}"),
+        }
+    }
+
+    /// Runs a random statement by both.
+    fn step(&mut self, draws: &mut Draws, t: Stamp, tally: &mut Tally) -> Result<()> {
+        let text = draws.statement()?;
+        self.text.push_str(text.as_str())?;
+        self.text.push('\n')?;
+        let transaction = read_transaction(self.alloc, &self.schema, text.as_str())?;
+        for statement in transaction.statements.iter() {
+            self.run(statement, t, tally)?;
+        }
+        Ok(())
+    }
+
+    /// Takes all rows out, which shows what rows there were.
+    fn compare_rows(&mut self) -> Result<()> {
+        for names in [DEPT, EMP] {
+            let all = delete_all(self.alloc, names.place);
+            let touched = run(&mut self.current, &all, Stamp::new(1000))?;
+            let rows = self.tables.rows(self.alloc, names.place)?;
+            let is_right = are_same(&rows, touched.gone(names.place));
+            ensure!(is_right, "other rows of {}", names.table);
+        }
+        Ok(())
+    }
+
+    /// Runs twenty random statements by both.
+    fn steps(&mut self, draws: &mut Draws, tally: &mut Tally) -> Result<()> {
+        for micros in 1..=20u32 {
+            self.step(draws, Stamp::new(u64::from(micros)), tally)?;
+        }
+        self.compare_rows()
+    }
+}
+
+/// Twenty random statements, from empty tables: their text and why, where both make something else of them.
+pub(crate) fn judge(alloc: Global, seed: u64, tally: &mut Tally) -> Result<Option<String>> {
     let mut draws = Draws::new(alloc, seed);
-    let mut current = Current::new(alloc, 2)?;
-    let mut tables = Tables::empty(alloc, 2, all_days()?)?;
-    for micros in 1..=20u32 {
-        let t = Stamp::new(u64::from(micros));
-        tables = run_both(rt, &mut draws, &mut current, tables, t, tally)?;
+    let mut both = Both::new(alloc)?;
+    match both.steps(&mut draws, tally) {
+        Ok(()) => Ok(None),
+        Err(error) => {
+            let text = both.text.as_str();
+            Ok(Some(format!(in alloc; "{error}, after\n{text}")?))
+        }
     }
-    for table in [DEPT, EMP] {
-        assert!(rt;
-            has_same_rows(alloc, &mut current, &tables, table)?,
-            "seed {seed}"
-        );
-    }
-    Ok(())
-}
-
-#[test]
-fn statements(rt: HostRuntime) -> Result<(), Fail> {
-    let mut tally = Tally::default();
-    for seed in 1..=100 {
-        runs(&rt, rt.alloc(), seed, &mut tally)?;
-    }
-    let is_varied = tally.accepted > 1000 && tally.overlaps > 100 && tally.out_of_range > 20;
-    assert!(rt; is_varied, "{tally:?}");
-    Ok(())
 }

@@ -1,40 +1,89 @@
-//! What came of random statements, transactions and questions.
+//! What came of what was judged.
 use fault::Refusal;
+use plain::{Answer, Outcome};
 
-/// How many were accepted, and refused by 20, 21 and 23; how many rows answers showed, and how many of these with an
-/// end.
+/// What came of statements, transactions, requests and questions so far.
 #[derive(Clone, Copy, Debug, Default)]
 pub(crate) struct Tally {
+    /// Those accepted, and those refused by 20, by 21, by 23, and by another number.
     pub accepted: u32,
     pub overlaps: u32,
     pub orphans: u32,
     pub out_of_range: u32,
+    pub skipped: u32,
+    /// Answers, their rows, and those of the rows that have an end.
+    pub answers: u32,
     pub shown: u32,
     pub ended: u32,
+    /// Questions that were refused by 33, by 41, and for their text.
+    pub open: u32,
+    pub down: u32,
+    pub unread: u32,
+    /// Scripts that decided a request, and scripts that decided requests of more than one term.
+    pub decided: u32,
+    pub terms: u32,
+    /// Entries that a member had stored and that gave way to others.
+    pub overruled: usize,
+    /// Outcomes that members told.
+    pub told: usize,
+}
+
+fn add_one(counter: &mut u32) {
+    *counter = counter.saturating_add(1);
 }
 
 impl Tally {
     /// Counts one that was accepted.
     pub(crate) fn accept(&mut self) {
-        self.accepted = self.accepted.saturating_add(1);
+        add_one(&mut self.accepted);
     }
 
     /// Counts one that was refused.
     pub(crate) fn refuse(&mut self, refusal: &Refusal) {
-        let counter = match refusal {
+        add_one(match refusal {
             Refusal::KeyOverlap => &mut self.overlaps,
             Refusal::NoParent { .. } => &mut self.orphans,
             Refusal::NumberRange => &mut self.out_of_range,
-            _ => return,
-        };
-        *counter = counter.saturating_add(1);
+            _ => &mut self.skipped,
+        });
     }
 
-    /// Counts a row that an answer shows.
-    pub(crate) fn show(&mut self, has_end: bool) {
-        self.shown = self.shown.saturating_add(1);
-        if has_end {
-            self.ended = self.ended.saturating_add(1);
+    /// Counts a decided request.
+    pub(crate) fn decide(&mut self, outcome: &Outcome) {
+        match outcome {
+            Ok(_) => self.accept(),
+            Err(refusal) => self.refuse(refusal),
         }
+    }
+
+    /// Counts an answer.
+    pub(crate) fn answer(&mut self, answer: &Answer) {
+        add_one(&mut self.answers);
+        for shown in answer.rows.iter() {
+            add_one(&mut self.shown);
+            if shown.end.is_some() {
+                add_one(&mut self.ended);
+            }
+        }
+    }
+
+    /// Counts a question that is refused.
+    pub(crate) fn not_answered(&mut self, refusal: &Refusal) {
+        add_one(match refusal {
+            Refusal::NotClosed(_) => &mut self.open,
+            Refusal::NodeDown => &mut self.down,
+            _ => &mut self.unread,
+        });
+    }
+
+    /// Counts a script with so many decided requests, of so many terms, and so many outcomes told.
+    pub(crate) fn script(&mut self, requests: usize, terms: usize, told: usize) {
+        if requests > 0 {
+            add_one(&mut self.decided);
+        }
+        if terms > 1 {
+            add_one(&mut self.terms);
+        }
+        self.told = self.told.saturating_add(told);
     }
 }

@@ -1,0 +1,217 @@
+//! The lives of cells.
+use crate::stored::{SCHEMA, stored};
+use fault::Refusal;
+use keep::{MemImage, MemKeeper, StoreError};
+use model::member::Member;
+use model::message::{Body, Input, Message};
+use node::Fault;
+use nodes::cell::Cell;
+use nodes::life::{Ending, LIFE_STEPS, Life, Packet};
+use nodes::mark::{LAST_MARK, Mark};
+use schemaread::schemas::read_schema;
+use std::alloc::Global;
+use std::process::Abort;
+use std::test::Fail;
+
+// A life of a member of three.
+fn start(
+    alloc: Global,
+    image: MemImage,
+    me: Member,
+    last: Option<Mark>,
+) -> Result<Cell<MemKeeper>, (Refusal, MemImage)> {
+    match read_schema(alloc, SCHEMA) {
+        Ok(schema) => Cell::start(alloc, image, schema, 3, me, last),
+        Err(refusal) => Err((refusal, image)),
+    }
+}
+
+fn timeout() -> Packet {
+    Packet::Local(Input::Timeout)
+}
+
+fn beat() -> Packet {
+    Packet::Local(Input::Beat)
+}
+
+// Member 2 gives member 1 its vote in term 1, in a step of this mark.
+fn vote(mark: Mark) -> Packet {
+    Packet::Delivered {
+        mark,
+        reading: 100,
+        message: Message {
+            sender: 2,
+            addressee: 1,
+            term: 1,
+            body: Body::Vote { given: true },
+        },
+    }
+}
+
+// A life's last mark, and how many steps it has.
+fn steps_of(life: &Life) -> (u64, usize) {
+    (life.last_mark().number(), life.steps.len())
+}
+
+// Stands for election and is given a vote.
+fn lead(cell: &mut Cell<MemKeeper>) -> Result<(), Fault> {
+    let _ = cell.feed(timeout())?;
+    let _ = cell.feed(vote(Mark::new(5)))?;
+    Ok(())
+}
+
+// The first life of member 1, of whose store this call fails, a save. How it goes down, and what it leaves.
+fn first_life(
+    rt: &impl Abort,
+    mut cell: Cell<MemKeeper>,
+    call: u64,
+) -> (MemImage, Life) {
+    let down = lead(&mut cell);
+    let late = cell.feed(beat());
+    assert!(rt; matches!(late, Err(Fault::Kept(Refusal::NodeDown))));
+    assert!(rt; matches!(down, Err(Fault::Down(StoreError::StoreFault))));
+    assert_eq!(rt; cell.node.commit(), None);
+    let (image, life) = cell.stop();
+    assert!(rt; matches!(life.ending, Ending::Torn(_)));
+    let wanted = if call == 3 { (2, 0) } else { (6, 1) };
+    assert_eq!(rt; steps_of(&life), wanted);
+    (image, life)
+}
+
+// Open and state are the first two calls of the store, the saves of the timeout and of the first entry are the third
+// and the fourth. A later life goes on after the torn step's mark.
+#[test]
+fn goes_down_with_its_store(rt: HostRuntime) -> Result<(), Fail> {
+    let alloc = rt.alloc();
+    for call in 1..5 {
+        let mut image = MemImage::new(alloc);
+        image.fail_at(call);
+        let image = match start(alloc, image, 1, None) {
+            Ok(cell) => {
+                let (image, life) = first_life(&rt, cell, call);
+                let Ok(cell) = start(alloc, image, 1, Some(life.last_mark())) else {
+                    return Err(Fail::from("it does not start again"));
+                };
+                let (image, next) = cell.stop();
+                assert_eq!(rt; next.last_mark().number(), life.last_mark().number() + 1);
+                image
+            }
+            Err((refusal, image)) => {
+                assert_eq!(rt; (call < 3, refusal), (true, Refusal::StoreFault));
+                image
+            }
+        };
+        let wanted = if call == 4 {
+            (1, Some(1), 0)
+        } else {
+            (0, None, 0)
+        };
+        assert_eq!(rt; stored(alloc, image)?, wanted, "call {call}");
+    }
+    Ok(())
+}
+
+// It follows, with the term, the vote and the log that it had. What it refuses, and what has no effect, is recorded.
+fn second_life(rt: &impl Abort, mut cell: Cell<MemKeeper>) -> Life {
+    let refused = cell.feed(Packet::Local(Input::Close { reading: 200 }));
+    assert!(rt; matches!(refused, Err(Fault::Kept(Refusal::NotLeader(None)))));
+    let Ok(ignored) = cell.feed(beat()) else {
+        panic!(rt; "a beat is refused");
+    };
+    assert!(rt; ignored.given.is_none());
+    let (_image, life) = cell.stop();
+    life
+}
+
+// Marks are one more than the greater of the last mark and the packet's.
+#[test]
+fn stops_and_starts_again(rt: HostRuntime) -> Result<(), Fail> {
+    let alloc = rt.alloc();
+    let Ok(mut cell) = start(alloc, MemImage::new(alloc), 1, None) else {
+        return Err(Fail::from("it does not start"));
+    };
+    assert_eq!(rt; steps_of(&cell.life), (1, 0));
+    lead(&mut cell)?;
+    let (image, life) = cell.stop();
+    assert!(rt; matches!(life.ending, Ending::Stopped));
+    assert_eq!(rt; steps_of(&life), (6, 2));
+    assert_eq!(rt; life.steps[0].mark.number(), 2);
+    let Ok(cell) = start(alloc, image, 1, Some(life.last_mark())) else {
+        return Err(Fail::from("it does not start again"));
+    };
+    let life = second_life(&rt, cell);
+    let opening = &life.opening;
+    assert_eq!(rt; (opening.mark.number(), opening.term, opening.vote), (7, 1, Some(1)));
+    assert_eq!(rt; opening.entries.len(), 1);
+    assert_eq!(rt; opening.entries[0].stamp.micros(), 100);
+    assert_eq!(rt; steps_of(&life), (9, 2));
+    Ok(())
+}
+
+// Feeds it as many beats, and one that is refused since its life is full.
+fn fill(rt: &impl Abort, mut cell: Cell<MemKeeper>, beats: usize) -> Result<(MemImage, Life), Fail> {
+    for _ in 0..beats {
+        let _ = cell.feed(beat())?;
+    }
+    assert!(rt; matches!(cell.feed(beat()), Err(Fault::Kept(Refusal::LifeFull))));
+    let (image, life) = cell.stop();
+    assert_eq!(rt; life.steps.len(), beats);
+    Ok((image, life))
+}
+
+// A life has its last step, or no mark is left; then no life opens, and the image comes back.
+#[test]
+fn fills_a_life(rt: HostRuntime) -> Result<(), Fail> {
+    let alloc = rt.alloc();
+    for (last, beats, mark) in [
+        (None, LIFE_STEPS, 200_001),
+        (Mark::after(LAST_MARK - 3), 1, LAST_MARK),
+    ] {
+        let Ok(cell) = start(alloc, MemImage::new(alloc), 2, last) else {
+            return Err(Fail::from("it does not start"));
+        };
+        let (image, life) = fill(&rt, cell, beats)?;
+        assert_eq!(rt; life.last_mark().number(), mark);
+        match start(alloc, image, 2, Some(life.last_mark())) {
+            Ok(cell) => {
+                assert_eq!(rt; cell.life.last_mark().number(), 200_002);
+                let _ = cell.stop();
+            }
+            Err((refusal, image)) => {
+                assert_eq!(rt; (mark, refusal), (LAST_MARK, Refusal::LifeFull));
+                assert_eq!(rt; stored(alloc, image)?, (0, None, 0));
+            }
+        }
+    }
+    Ok(())
+}
+
+// Each answer is that of a step that was made, or of want of memory: before the step, which changes nothing, or within
+// it, which tears the life.
+fn try_timeout(rt: &impl Abort, cell: &mut Cell<MemKeeper>) {
+    let before = cell.life.steps.len();
+    let was_up = cell.node.is_up();
+    let answer = cell.feed(timeout());
+    let is_torn = matches!(cell.life.ending, Ending::Torn(_));
+    let is_right = match answer {
+        Ok(_out) => was_up && !is_torn && before < cell.life.steps.len(),
+        Err(Fault::Kept(refusal)) if was_up => refusal == Refusal::NoMemory && !is_torn,
+        Err(Fault::Kept(refusal)) => refusal == Refusal::NodeDown && is_torn,
+        Err(Fault::Down(error)) => error == StoreError::NoMemory && was_up && is_torn,
+    };
+    assert!(rt; is_right);
+}
+
+// With an allocation refused.
+#[test]
+fn lacks_memory(rt: HostRuntime) {
+    let alloc = rt.alloc();
+    match start(alloc, MemImage::new(alloc), 1, None) {
+        Ok(mut cell) => {
+            for _ in 0..4 {
+                try_timeout(&rt, &mut cell);
+            }
+        }
+        Err((refusal, _image)) => assert_eq!(rt; refusal, Refusal::NoMemory),
+    }
+}

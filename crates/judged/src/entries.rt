@@ -1,0 +1,217 @@
+//! Requests, one after another, taken as entries by tables and by `plain`, and questions about them.
+use crate::draws::Draws;
+use crate::questions::whole_history;
+use crate::staff::{DEPT, EMP, STAFF, all_days};
+use crate::tally::Tally;
+use answer::{Answer, Shown};
+use anyhow::{Result, bail, ensure};
+use apply::Tables;
+use fault::Text;
+use model::entry::{Entry, Request};
+use model::request::{Client, RequestNumber};
+use model::stamp::Stamp;
+use plain::Judge;
+use schema::Schema;
+use sqlread::query::read_query;
+use schemaread::schemas::read_schema;
+use sqlread::transaction::read_transaction;
+use std::alloc::{AllocError, Global};
+
+/// What both make of the requests so far, and the texts of all requests and questions.
+#[derive(Drop)]
+struct Both {
+    alloc: Global,
+    schema: Schema,
+    tables: Tables,
+    judge: Judge,
+    /// The last stamp.
+    last: u32,
+    text: String,
+}
+
+/// Whether both show the same row with the same end.
+fn is_same(shown: &Shown, wanted: &plain::Shown) -> bool {
+    let row = &wanted.row;
+    shown.key.as_slice() == row.key.as_slice()
+        && shown.values.as_slice() == row.values.as_slice()
+        && shown.period.start.number == row.start
+        && shown.period.end.number == row.end
+        && shown.birth.micros() == row.birth
+        && shown.end.map(|end| end.micros()) == wanted.end
+}
+
+/// Whether both have the same last instant, and the same rows in the same order.
+fn is_same_answer(given: &Answer, wanted: &plain::Answer) -> bool {
+    given.last.micros() == wanted.last
+        && given.rows.len() == wanted.rows.len()
+        && given
+            .rows
+            .iter()
+            .zip(wanted.rows.iter())
+            .all(|(shown, wanted)| is_same(shown, wanted))
+}
+
+/// An entry of a request.
+fn entry_of(stamp: Stamp, client: u16, number: u64, text: String) -> Result<Entry> {
+    let Some(client) = Client::new(client) else {
+        bail!("no client")
+    };
+    let Some(number) = RequestNumber::new(number) else {
+        bail!("no number")
+    };
+    let text = Text::new(text);
+    Ok(Entry {
+        term: 1,
+        stamp,
+        request: Some(Request {
+            client,
+            number,
+            text,
+        }),
+    })
+}
+
+impl Both {
+    fn new(alloc: Global) -> Result<Both> {
+        let schema = read_schema(alloc, STAFF)?;
+        Ok(Both {
+            alloc,
+            tables: Tables::new(alloc, &schema)?,
+            judge: Judge::new(alloc, all_days()?),
+            schema,
+            last: 0,
+            text: String::new(alloc),
+        })
+    }
+
+    fn note(&mut self, text: &str) -> Result<(), AllocError> {
+        self.text.push_str(text)?;
+        self.text.push('\n')?;
+        Ok(())
+    }
+
+    /// Takes a request by both.
+    fn take(&mut self, client: u16, number: u64, text: String, tally: &mut Tally) -> Result<()> {
+        self.note(text.as_str())?;
+        let stamp = Stamp::new(u64::from(self.last));
+        let transaction = read_transaction(self.alloc, &self.schema, text.as_str())?;
+        let entry = entry_of(stamp, client, number, text)?;
+        let given = self.tables.apply(&self.schema, &entry)?;
+        let wanted = self
+            .judge
+            .take(&self.schema, stamp, client, number, transaction)?;
+        tally.decide(&wanted);
+        let is_right = given.is_some_and(|given| given == wanted);
+        ensure!(is_right, "request {client} {number}: wanted {wanted:?}");
+        Ok(())
+    }
+
+    /// Asks both the same.
+    fn ask(&mut self, question: &str, tally: &mut Tally) -> Result<()> {
+        self.note(question)?;
+        let query = match read_query(self.alloc, &self.schema, question) {
+            Ok(query) => query,
+            Err(refusal) => {
+                tally.not_answered(&refusal);
+                return Ok(());
+            }
+        };
+        let given = self.tables.ask(&self.schema, &query);
+        match (given, self.judge.ask(&self.schema, &query)) {
+            (Ok(given), Ok(wanted)) => {
+                tally.answer(&wanted);
+                ensure!(is_same_answer(&given, &wanted), "wanted {wanted:?}");
+                Ok(())
+            }
+            (Err(given), Err(wanted)) => {
+                tally.not_answered(&wanted);
+                ensure!(given == wanted, "refused by {given}, and not by {wanted}");
+                Ok(())
+            }
+            (Ok(_), Err(wanted)) => bail!("answered, and not refused by {wanted}"),
+            (Err(given), Ok(_)) => bail!("refused by {given}"),
+        }
+    }
+
+    /// Asks both some random questions.
+    fn ask_some(&mut self, draws: &mut Draws, tally: &mut Tally) -> Result<()> {
+        for _ in 0..8 {
+            let bound = self.last.saturating_add(2);
+            let one = u64::from(draws.below(bound));
+            let other = u64::from(draws.below(bound));
+            let question = draws.question(one, other)?;
+            self.ask(question.as_str(), tally)?;
+        }
+        Ok(())
+    }
+
+    /// Asks both what was ever believed.
+    fn ask_all(&mut self, tally: &mut Tally) -> Result<()> {
+        for names in [DEPT, EMP] {
+            let last = Stamp::new(u64::from(self.last)).instant();
+            let question = whole_history(self.alloc, names, last)?;
+            self.ask(question.as_str(), tally)?;
+        }
+        Ok(())
+    }
+
+    /// Thirty transactions, with questions after each tenth.
+    fn transactions(&mut self, draws: &mut Draws, tally: &mut Tally) -> Result<()> {
+        for number in 1..=30u32 {
+            self.last = self.last.saturating_add(1 + draws.below(3));
+            let text = draws.transaction()?;
+            self.take(1, u64::from(number), text, tally)?;
+            if number % 10 == 0 {
+                self.ask_some(draws, tally)?;
+            }
+        }
+        self.ask_all(tally)
+    }
+
+    /// Two hundred requests of two clients that come once, again, too late and too early.
+    fn requests(&mut self, draws: &mut Draws, tally: &mut Tally) -> Result<()> {
+        for micros in 1..=200u32 {
+            self.last = micros;
+            let client = if draws.chance(50) { 1 } else { 2 };
+            let number = 1 + u64::from(draws.below(11));
+            let text = draws.transaction()?;
+            self.take(client, number, text, tally)?;
+        }
+        self.ask_all(tally)
+    }
+
+    /// All texts and why, where both made something else of them.
+    fn story(&self, outcome: Result<()>) -> Result<Option<String>> {
+        match outcome {
+            Ok(()) => Ok(None),
+            Err(error) => {
+                let text = self.text.as_str();
+                Ok(Some(format!(in self.alloc; "{error}, after\n{text}")?))
+            }
+        }
+    }
+}
+
+/// Thirty random transactions and questions: their texts and why, where both make something else of them.
+pub(crate) fn judge_transactions(
+    alloc: Global,
+    seed: u64,
+    tally: &mut Tally,
+) -> Result<Option<String>> {
+    let mut draws = Draws::new(alloc, seed);
+    let mut both = Both::new(alloc)?;
+    let outcome = both.transactions(&mut draws, tally);
+    both.story(outcome)
+}
+
+/// Two hundred random requests: their texts and why, where both make something else of them.
+pub(crate) fn judge_requests(
+    alloc: Global,
+    seed: u64,
+    tally: &mut Tally,
+) -> Result<Option<String>> {
+    let mut draws = Draws::new(alloc, seed);
+    let mut both = Both::new(alloc)?;
+    let outcome = both.requests(&mut draws, tally);
+    both.story(outcome)
+}
