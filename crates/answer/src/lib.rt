@@ -55,5 +55,3 @@ pub struct Answer {
     pub rows: Vec<Shown>,
 }
 
-#[cfg(test)]
-mod tests;

@@ -5,7 +5,5 @@ mod asking;
 mod executing;
 pub mod laws;
 pub mod tables;
-#[cfg(test)]
-mod tests;
 
 pub use tables::Tables;

@@ -13,5 +13,3 @@ pub use keeper::Keeper;
 pub use memory::{MemImage, MemKeeper};
 pub use state::State;
 
-#[cfg(test)]
-mod tests;

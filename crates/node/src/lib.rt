@@ -7,5 +7,3 @@ mod telling;
 
 pub use node::{Fault, Node, Out};
 
-#[cfg(test)]
-mod tests;

@@ -15,5 +15,3 @@ mod voting;
 
 pub use state::{Core, Effect, Taken, Work};
 
-#[cfg(test)]
-mod tests;

@@ -6,8 +6,6 @@ mod cell;
 pub mod laws;
 mod named;
 mod sink;
-#[cfg(test)]
-mod tests;
 pub mod transactions;
 
 pub use answers::{Lines, write_answer};

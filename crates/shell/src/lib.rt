@@ -6,5 +6,3 @@ pub mod player;
 pub mod printing;
 pub mod run_fault;
 pub mod sim;
-#[cfg(test)]
-mod tests;
