@@ -1,3 +1,5 @@
+ghost use Rattle.std.specs.Prelude.{◌≤◌};
+
 use crate::{Fault, Node};
 use fault::{Refusal, Text};
 use keep::error::StoreError;
@@ -127,7 +129,9 @@ fn follows(rt: &impl Abort, node: &mut Node<MemKeeper>, me: usize) -> Result<(),
     Ok(())
 }
 
-fn with_vote(alloc: Global, me: usize) -> Result<Node<MemKeeper>, Fail> {
+fn with_vote(alloc: Global, me: usize) -> Result<Node<MemKeeper>, Fail>
+    requires { (1 ≤ me) × (me ≤ 3) }
+{
     let schema = read_schema(alloc, SCHEMA)?;
     let image = MemImage::with_vote(alloc, 5, Some(me));
     let Ok(node) = Node::<MemKeeper>::start(alloc, image, schema, 3, me) else {

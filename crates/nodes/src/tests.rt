@@ -1,3 +1,5 @@
+ghost use Rattle.std.specs.Prelude.{◌≤◌};
+
 use crate::cell::Cell;
 use crate::life::{Ending, LIFE_STEPS, Packet};
 use crate::mark::{LAST_MARK, Mark};
@@ -46,7 +48,9 @@ fn start(
     image: MemImage,
     me: Member,
     last: Option<Mark>,
-) -> Result<Cell<MemKeeper>, Refusal> {
+) -> Result<Cell<MemKeeper>, Refusal>
+    requires { (1 ≤ me) × (me ≤ 3) }
+{
     let schema = read_schema(alloc, SCHEMA)?;
     Cell::start(alloc, image, schema, 3, me, last).map_err(|(refusal, _)| refusal)
 }
