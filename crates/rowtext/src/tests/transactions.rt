@@ -145,6 +145,6 @@ fn a_table_that_is_not_there(rt: HostRuntime) -> Result<(), Fail> {
     let fewer = read_schema(rt.alloc(), DEPARTMENTS)?;
     let mut writer = Weak::new(rt.alloc(), 100);
     assert!(rt; write_transaction(&fewer, &transaction, &mut writer).is_err());
-    assert_eq!(rt; writer.taken.as_slice(), b"DELETE FROM Dept;\n".as_slice());
+    assert!(rt; writer.taken.as_slice().is_empty());
     Ok(())
 }
