@@ -100,7 +100,8 @@ pub enum Line {
     },
 }
 
-/// The line that a text spells in a script of so many members, if it spells one.
+/// The line that a text spells in a script of so many members. None where it is the text of no line whose
+/// numbers are in range.
 pub fn read_line(alloc: Global, members: usize, text: &str) -> Result<Option<Line>, AllocError>
     ensures some { IfOk result (λ read. IfSome read (λ line. IsInRange members line × (text.now ≡ line_text line))) }
     ensures none { IfOk result (λ read. IfNone read (IsNoLine members text.now)) }
