@@ -7,8 +7,6 @@ pub mod name;
 pub mod schema;
 pub mod syntax;
 pub mod table;
-#[cfg(test)]
-mod tests;
 
 pub use name::{Name, is_word};
 pub use schema::Schema;

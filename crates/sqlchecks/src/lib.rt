@@ -5,5 +5,3 @@ pub mod column;
 pub mod comparison;
 pub mod field;
 pub mod literal;
-#[cfg(test)]
-mod tests;

@@ -1,5 +1,5 @@
 use crate::tests::weak::Weak;
-use crate::{Lines, write_answer};
+use crate::write_answer;
 use answer::{Answer, Column, Shown, Shows};
 use fault::Text;
 use model::stamp::Stamp;
@@ -69,57 +69,6 @@ fn two_rows(alloc: Global) -> Result<Answer, Fail> {
         columns: columns(alloc)?,
         rows,
     })
-}
-
-#[test]
-fn prints_and_writes(rt: HostRuntime) -> Result<(), Fail> {
-    let answer = two_rows(rt.alloc())?;
-    let lines = Lines(&answer);
-    let printed = format!(in rt.alloc(); "{lines}")?;
-    assert_eq!(rt; printed.as_str(), WANTED);
-    let mut written = Vec::new(rt.alloc());
-    write_answer(&answer, &mut written)?;
-    assert_eq!(rt; written.as_slice(), WANTED.as_bytes());
-    Ok(())
-}
-
-#[test]
-fn no_rows(rt: HostRuntime) -> Result<(), Fail> {
-    let answer = Answer {
-        last: Stamp::new(0),
-        columns: columns(rt.alloc())?,
-        rows: Vec::new(rt.alloc()),
-    };
-    let lines = Lines(&answer);
-    let printed = format!(in rt.alloc(); "{lines}")?;
-    let wanted = "last 1970-01-01 00:00:00.000000
-columns DName,DStart,DNo,DEnd,SysStart,SysEnd
-rows 0
-";
-    assert_eq!(rt; printed.as_str(), wanted);
-    Ok(())
-}
-
-#[test]
-fn places_that_a_row_does_not_have(rt: HostRuntime) -> Result<(), Fail> {
-    let alloc = rt.alloc();
-    let mut columns = Vec::new(alloc);
-    columns.push(column(alloc, "A", Shows::Key(1))?)?;
-    columns.push(column(alloc, "B", Shows::Key(0))?)?;
-    columns.push(column(alloc, "C", Shows::Value(9))?)?;
-    let mut rows = Vec::new(alloc);
-    rows.push(row(alloc, 7, "x", ("2000-01-01", "2000-01-02"), None)?)?;
-    let last = Stamp::new(0);
-    let answer = Answer {
-        last,
-        columns,
-        rows,
-    };
-    let lines = Lines(&answer);
-    let printed = format!(in alloc; "{lines}")?;
-    let wanted = "last 1970-01-01 00:00:00.000000\ncolumns A,B,C\nrow ,7,\nrows 1\n";
-    assert_eq!(rt; printed.as_str(), wanted);
-    Ok(())
 }
 
 #[test]
