@@ -61,11 +61,7 @@ fn lead(cell: &mut Cell<MemKeeper>) -> Result<(), Fault> {
 }
 
 // The first life of member 1, of whose store this call fails, a save. How it goes down, and what it leaves.
-fn first_life(
-    rt: &impl Abort,
-    mut cell: Cell<MemKeeper>,
-    call: u64,
-) -> (MemImage, Life) {
+fn first_life(rt: &impl Abort, mut cell: Cell<MemKeeper>, call: u64) -> (MemImage, Life) {
     let down = lead(&mut cell);
     let late = cell.feed(beat());
     assert!(rt; matches!(late, Err(Fault::Kept(Refusal::NodeDown))));
@@ -135,21 +131,30 @@ fn stops_and_starts_again(rt: HostRuntime) -> Result<(), Fail> {
     let (image, life) = cell.stop();
     assert!(rt; matches!(life.ending, Ending::Stopped));
     assert_eq!(rt; steps_of(&life), (6, 2));
-    assert_eq!(rt; life.steps[0].mark.number(), 2);
+    let first = life.steps.first().map(|step| step.mark.number());
+    assert_eq!(rt; first, Some(2));
     let Ok(cell) = start(alloc, image, 1, Some(life.last_mark())) else {
         return Err(Fail::from("it does not start again"));
     };
     let life = second_life(&rt, cell);
     let opening = &life.opening;
-    assert_eq!(rt; (opening.mark.number(), opening.term, opening.vote), (7, 1, Some(1)));
+    assert_eq!(rt;
+        (opening.mark.number(), opening.term, opening.vote),
+        (7, 1, Some(1))
+    );
     assert_eq!(rt; opening.entries.len(), 1);
-    assert_eq!(rt; opening.entries[0].stamp.micros(), 100);
+    let stamp = opening.entries.first().map(|entry| entry.stamp.micros());
+    assert_eq!(rt; stamp, Some(100));
     assert_eq!(rt; steps_of(&life), (9, 2));
     Ok(())
 }
 
 // Feeds it as many beats, and one that is refused since its life is full.
-fn fill(rt: &impl Abort, mut cell: Cell<MemKeeper>, beats: usize) -> Result<(MemImage, Life), Fail> {
+fn fill(
+    rt: &impl Abort,
+    mut cell: Cell<MemKeeper>,
+    beats: usize,
+) -> Result<(MemImage, Life), Fail> {
     for _ in 0..beats {
         let _ = cell.feed(beat())?;
     }

@@ -1,11 +1,9 @@
-//! Tests of calls that no script reaches: of a keeper that fails, of the lives of cells, of events that cannot be, of an
-//! index of periods, and of want of memory (`rt try --test --fail-alloc N`).
+//! Tests of calls that no script reaches: of a keeper that fails, of the lives of cells, of an index of periods, and of
+//! want of memory (`rt try --test --fail-alloc N`).
 #![tactic(auto)]
 
 #[cfg(test)]
 mod cells;
-#[cfg(test)]
-mod groups;
 #[cfg(test)]
 mod indexes;
 #[cfg(test)]
