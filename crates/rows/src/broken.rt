@@ -53,8 +53,23 @@ impl io::Write for BrokenWriter {
     }
 }
 
-/// Whether a script that can't be read to its end is bad at line 0, and prints nothing.
-pub fn ends_with_its_reader(alloc: Global, script: &[u8]) -> Result<bool, AllocError> {
+/// How a script that ends well fares otherwise than it should where its reader or its writer fails, or none.
+pub fn fault_where_broken(
+    alloc: Global,
+    script: &[u8],
+    printed: &str,
+) -> Result<Option<String>, AllocError> {
+    if !ends_with_its_reader(alloc, script)? {
+        return Ok(Some(String::from_str(alloc, "is not bad where its reader fails")?));
+    }
+    if !ends_with_its_writer(alloc, script, printed)? {
+        return Ok(Some(String::from_str(alloc, "goes on where its writer fails")?));
+    }
+    Ok(None)
+}
+
+// Whether a script that can't be read to its end is bad at line 0, and prints nothing.
+fn ends_with_its_reader(alloc: Global, script: &[u8]) -> Result<bool, AllocError> {
     let left = script.len() / 2;
     let mut writer = Vec::new(alloc);
     let ended = run_sim(alloc, &mut BrokenReader { script, left }, &mut writer);
@@ -62,8 +77,8 @@ pub fn ends_with_its_reader(alloc: Global, script: &[u8]) -> Result<bool, AllocE
     Ok(ended.as_str() == "60 bad script at line 0" && writer.is_empty())
 }
 
-/// Whether a script whose output can't be written to its end leaves a beginning of it, and ends with the writer's fault.
-pub fn ends_with_its_writer(
+// Whether a script whose output can't be written to its end leaves a beginning of it, and ends with the writer's fault.
+fn ends_with_its_writer(
     alloc: Global,
     script: &[u8],
     printed: &str,
@@ -81,9 +96,9 @@ pub fn ends_with_its_writer(
 }
 
 // How a run ended.
-fn told(alloc: Global, ended: Result<(), RunFault>) -> Result<String, AllocError> {
+fn told(alloc: Global, ended: Result<u8, RunFault>) -> Result<String, AllocError> {
     match ended {
-        Ok(()) => String::from_str(alloc, "well"),
+        Ok(_) => String::from_str(alloc, "well"),
         Err(fault) => format!(in alloc; "{fault}"),
     }
 }

@@ -3,7 +3,8 @@
 //! A case is an input, whose ending says how it is tried, and beside it NAME.output, which is what it prints. For a
 //! script NAME.told may stand in its place, which leaves out the messages that were sent.
 //!
-//! - `.script`: a script, which is played. Where it does not end well, a last line says why.
+//! - `.script`: a script, which is played. Where it does not end well, a last line says why. One that does is played
+//!   again with a reader and with a writer that fail midway.
 //! - `.scripts`: each text is the end of a script, which is played.
 //! - `.schemas`: each text is a schema, which is read or refused.
 //! - `.changes`: each text says what is changed in a schema before it is read, as OLD | NEW | OLD | NEW and so on.
@@ -16,14 +17,19 @@
 //! `\0a` is the byte of these two hexadecimal digits, and `\{16 X}` is X 16 times.
 #![tactic(auto)]
 
+mod broken;
 mod text;
 mod trial;
 
 use anyhow::Result;
+use broken::fault_where_broken;
 use std::alloc::{AllocError, Global};
 use std::fs;
 use std::rt::Files;
 use trial::{Kind, play, tell};
+
+// How many bytes a short script has at most.
+const SHORT: usize = 20000;
 
 fn main(rt: HostRuntime) -> Result<()> {
     let alloc = rt.alloc();
@@ -62,6 +68,9 @@ fn names_of_inputs<R: AllocGlobal + Files + Clone + Drop>(
 // How an input prints something else than it should, or none.
 fn fault_of<R: AllocGlobal + Files>(rt: &R, alloc: Global, input: &str) -> Result<Option<String>> {
     let printed = try_input(rt, alloc, input)?;
+    if let Some(fault) = fault_of_script(rt, alloc, input, printed.as_str())? {
+        return Ok(Some(fault));
+    }
     let (name, _) = input.rsplit_once('.').unwrap_or((input, ""));
     let output = format!(in alloc; "{name}.output")?;
     if let Ok(wanted) = fs::read_to_string(rt, output.as_str()) {
@@ -71,6 +80,23 @@ fn fault_of<R: AllocGlobal + Files>(rt: &R, alloc: Global, input: &str) -> Resul
     let wanted = fs::read_to_string(rt, told.as_str())?;
     let printed = without_messages(alloc, printed.as_str())?;
     Ok(difference(alloc, printed.as_str(), wanted.as_str())?)
+}
+
+// How a short script that ends well fares otherwise than it should where its reader or its writer fails, or none.
+fn fault_of_script<R: AllocGlobal + Files>(
+    rt: &R,
+    alloc: Global,
+    input: &str,
+    printed: &str,
+) -> Result<Option<String>> {
+    if !matches!(Kind::of(input), Some(Kind::Script)) || printed.contains("ended: ") {
+        return Ok(None);
+    }
+    let script = fs::read(rt, input)?;
+    if script.len() > SHORT {
+        return Ok(None);
+    }
+    Ok(fault_where_broken(alloc, script.as_slice(), printed)?)
 }
 
 // What an input prints.
