@@ -78,11 +78,7 @@ fn ends_with_its_reader(alloc: Global, script: &[u8]) -> Result<bool, AllocError
 }
 
 // Whether a script whose output can't be written to its end leaves a beginning of it, and ends with the writer's fault.
-fn ends_with_its_writer(
-    alloc: Global,
-    script: &[u8],
-    printed: &str,
-) -> Result<bool, AllocError> {
+fn ends_with_its_writer(alloc: Global, script: &[u8], printed: &str) -> Result<bool, AllocError> {
     let mut writer = BrokenWriter {
         taken: Vec::new(alloc),
         calls: 0,

@@ -4,9 +4,9 @@ use anyhow::Result;
 use fault::Refusal;
 use period::{Day, Instant};
 use rowtext::Written;
+use schemaread::schemas::read_schema;
 use shell::sim::run_sim;
 use sqlread::query::read_query;
-use schemaread::schemas::read_schema;
 use sqlread::transaction::read_transaction;
 use std::alloc::{AllocError, Global};
 
