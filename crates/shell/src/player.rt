@@ -3,7 +3,6 @@ ghost use Rattle.std.specs.Prelude.{◌≡◌, ◌≤◌, ◌<◌, pos, [], leng
 ghost use Rattle.fault.specs.declared.refusal.Refusal.TheVariants.{NoMemory};
 ghost use Rattle.lines.specs.declared.line.Left.TheVariants.{Old, New};
 ghost use Rattle.model.specs.Worlds.{new_world};
-ghost use Rattle.sqlread.specs.Meaning.{schema_of};
 ghost use Rattle.world.specs.declared.event.Left.TheVariants as events;
 ghost use Rattle.world.specs.View.{entry_in};
 
@@ -50,7 +49,7 @@ struct Sent {
 
 impl Player {
     ghost use Rattle.shell.specs.Player.{clocks_of, commit_of, group_of, has_failed, member_in, sent_count, IsPlayFault};
-    ghost use Rattle.world.specs.Run.{events_of, members_in, now_of, schema_in};
+    ghost use Rattle.world.specs.Run.{events_of, members_in, now_of, tables_in};
 
     /// A group of 3 to 7 members with tables of this schema, at its opening, where all clocks show 0.
     pub fn new(alloc: Global, members: usize, schema: Schema) -> Result<Player, AllocError>
@@ -58,7 +57,7 @@ impl Player {
         requires most { members ≤ 7 }
         ensures goes_on { IfOk result (λ player. has_failed player ≡ false) }
         ensures members { IfOk result (λ player. members_in (group_of player) ≡ members) }
-        ensures schema { IfOk result (λ player. schema_in (group_of player) ≡ schema_of schema) }
+        ensures schema { IfOk result (λ player. tables_in (group_of player) ≡ schema) }
         ensures group { IfOk result (λ player. now_of (group_of player) ≡ new_world members) }
         ensures nothing { IfOk result (λ player. events_of (group_of player) ≡ []) }
         ensures clocks { IfOk result (λ player. clocks_of player ≡ replicate members (pos 0)) }
