@@ -54,6 +54,3 @@ pub struct Answer {
     pub columns: Vec<Column>,
     pub rows: Vec<Shown>,
 }
-
-#[cfg(test)]
-mod tests;

@@ -4,7 +4,5 @@
 mod asking;
 mod executing;
 pub mod tables;
-#[cfg(test)]
-mod tests;
 
 pub use tables::Tables;

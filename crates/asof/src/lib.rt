@@ -5,7 +5,5 @@ pub mod ask;
 mod found;
 mod instants;
 mod shown;
-#[cfg(test)]
-mod tests;
 
 pub use ask::Ask;

@@ -12,8 +12,6 @@ pub use model::entry::Entry;
 use model::stamp::{LAST_MICROS, Stamp};
 use sqlread::query::{Query, Time};
 
-#[cfg(test)]
-mod tests;
 
 /// The stamp of an entry that is made when the clock shows `reading`, in microseconds since 1970, after an entry with
 /// the last stamp, or as the first: the greater of the reading and one more than the last stamp. A reading that is no

@@ -12,8 +12,6 @@ mod plan;
 mod references;
 pub mod row;
 mod table;
-#[cfg(test)]
-mod tests;
 pub mod touched;
 
 pub use current::Current;

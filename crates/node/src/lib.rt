@@ -6,6 +6,3 @@ pub mod node;
 mod telling;
 
 pub use node::{Fault, Node, Out};
-
-#[cfg(test)]
-mod tests;

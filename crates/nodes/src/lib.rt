@@ -5,5 +5,3 @@ pub mod cell;
 pub mod copies;
 pub mod life;
 pub mod mark;
-#[cfg(test)]
-mod tests;

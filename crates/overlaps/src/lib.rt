@@ -6,8 +6,6 @@ pub mod index;
 pub mod key;
 pub mod laws;
 mod order;
-#[cfg(test)]
-mod tests;
 
 pub use index::{Found, KeyIndex};
 pub use key::Key;

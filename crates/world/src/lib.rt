@@ -7,5 +7,3 @@ pub mod history;
 mod opening;
 pub mod output;
 mod seat;
-#[cfg(test)]
-mod tests;

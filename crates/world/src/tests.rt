@@ -1,3 +1,0 @@
-mod events;
-mod play;
-mod rows;
