@@ -54,4 +54,3 @@ pub struct Answer {
     pub columns: Vec<Column>,
     pub rows: Vec<Shown>,
 }
-

@@ -12,7 +12,6 @@ pub use model::entry::Entry;
 use model::stamp::{LAST_MICROS, Stamp};
 use sqlread::query::{Query, Time};
 
-
 /// The stamp of an entry that is made when the clock shows `reading`, in microseconds since 1970, after an entry with
 /// the last stamp, or as the first: the greater of the reading and one more than the last stamp. A reading that is no
 /// instant counts as none. None where the last stamp is the last instant. Takes no memory.

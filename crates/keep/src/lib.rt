@@ -12,4 +12,3 @@ pub use error::StoreError;
 pub use keeper::Keeper;
 pub use memory::{MemImage, MemKeeper};
 pub use state::State;
-

@@ -6,4 +6,3 @@ pub mod node;
 mod telling;
 
 pub use node::{Fault, Node, Out};
-

@@ -7,7 +7,6 @@ ghost use Rattle.model.specs.Periods.{period_of, has_day};
 
 use period::{Day, Period};
 
-
 /// The days of `x` before the portion, those within it and those after it, each part as a period, or
 /// none where it has no day. Each day of `x` is in one part. Takes no memory.
 pub fn pieces(x: Period, portion: Period) -> (Option<Period>, Option<Period>, Option<Period>)

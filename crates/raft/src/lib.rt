@@ -14,4 +14,3 @@ mod step;
 mod voting;
 
 pub use state::{Core, Effect, Taken, Work};
-

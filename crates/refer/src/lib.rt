@@ -9,7 +9,6 @@ ghost use Rattle.model.specs.Periods.{period_of, is_free, StartInOrder};
 
 use period::{Day, Period};
 
-
 /// Whether each day of the child is a day of a parent. The error is the least day that is not. The
 /// parents stand in the order of their starts; they may touch, and there may be none. Takes no memory.
 pub fn covered(child: Period, parents: &[Period]) -> Result<(), Day>

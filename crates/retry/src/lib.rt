@@ -10,7 +10,6 @@ use model::request::{Client, RequestNumber};
 use model::stamp::Stamp;
 use std::alloc::{AllocError, Global};
 
-
 /// The instant at which a transaction was accepted, or its refusal.
 pub type Outcome = Result<Stamp, Refusal>;
 
