@@ -1,4 +1,6 @@
 //! The lives of cells.
+ghost use Rattle.std.specs.Prelude.{◌≤◌};
+
 use crate::stored::{SCHEMA, stored};
 use fault::Refusal;
 use keep::{MemImage, MemKeeper, StoreError};
@@ -19,7 +21,9 @@ fn start(
     image: MemImage,
     me: Member,
     last: Option<Mark>,
-) -> Result<Cell<MemKeeper>, (Refusal, MemImage)> {
+) -> Result<Cell<MemKeeper>, (Refusal, MemImage)>
+    requires { (1 ≤ me) × (me ≤ 3) }
+{
     match read_schema(alloc, SCHEMA) {
         Ok(schema) => Cell::start(alloc, image, schema, 3, me, last),
         Err(refusal) => Err((refusal, image)),

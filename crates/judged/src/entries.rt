@@ -12,8 +12,8 @@ use model::request::{Client, RequestNumber};
 use model::stamp::Stamp;
 use plain::Judge;
 use schema::Schema;
-use sqlread::query::read_query;
 use schemaread::schemas::read_schema;
+use sqlread::query::read_query;
 use sqlread::transaction::read_transaction;
 use std::alloc::{AllocError, Global};
 

@@ -5,10 +5,10 @@ use crate::known::{Known, is_same};
 use crate::printed::{Told, hear, read_told};
 use crate::staff::STAFF;
 use anyhow::{Result, bail, ensure};
-use schema::Schema;
 use lines::line::{Line, read_line};
-use shell::player::Player;
+use schema::Schema;
 use schemaread::schemas::read_schema;
+use shell::player::Player;
 use std::alloc::Global;
 
 /// A question, and what was printed of it.

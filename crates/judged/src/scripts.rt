@@ -2,8 +2,8 @@
 use crate::draws::Draws;
 use crate::group::Group;
 use crate::judging::check;
-use crate::random_lines::round;
 use crate::questions::whole_history;
+use crate::random_lines::round;
 use crate::staff::{DEPT, EMP};
 use crate::tally::Tally;
 use anyhow::Result;

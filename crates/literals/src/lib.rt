@@ -14,7 +14,6 @@ use model::value::Value;
 use period::Day;
 use std::alloc::{AllocError, Global};
 
-
 /// The text of a key: the texts of its values, as `Literal` shows them, with commas between them.
 pub fn key_text(alloc: Global, key: &[Value]) -> Result<Text, AllocError>
     ensures { IfOk result (λ text. text ≡ key_text key.now) }
