@@ -62,7 +62,7 @@ pub fn fault_where_broken(
     if !ends_with_its_reader(alloc, script)? {
         return Ok(Some(String::from_str(alloc, "is not bad where its reader fails")?));
     }
-    if !ends_with_its_writer(alloc, script, printed)? {
+    if !printed.is_empty() && !ends_with_its_writer(alloc, script, printed)? {
         return Ok(Some(String::from_str(alloc, "goes on where its writer fails")?));
     }
     Ok(None)
