@@ -27,7 +27,7 @@ fn table_columns(alloc: Global, table: &Table) -> Result<Vec<Column>, AllocError
     for place in 0..table.column_count() {
         if let Some(shows) = shows_at(table, place) {
             let (name, _) = table.column(place);
-            let name = Text::new(String::from_str(alloc, name.as_str())?);
+            let name = Text::new(alloc, name.as_str())?;
             columns.push(Column { name, shows })?;
         }
     }

@@ -36,7 +36,7 @@ fn text_of(alloc: Global, instant: Option<Stamp>) -> Result<Option<Text>, AllocE
     };
     let instant = stamp.instant();
     let text = format!(in alloc; "{instant}")?;
-    Ok(Some(Text::new(text)))
+    Ok(Some(Text::from_string(text)?))
 }
 
 // Whether the question's system time has an instant: as it is read from a text, it has.

@@ -257,7 +257,7 @@ fn no_parent(alloc: Global, schema: &Schema, place: &Place) -> Result<Refusal, A
     ensures { IfOk result (λ refusal. refusal ≡ NoParent (name_of schema.now place.now.table) (key_text place.now.key.now) (day_text place.now.day.number)) }
 {
     let (name, _) = schema.table(place.table);
-    let table = Text::new(String::from_str(alloc, name.as_str())?);
+    let table = Text::new(alloc, name.as_str())?;
     let key = key_text(alloc, place.key.as_slice())?;
     let day = day_text(alloc, place.day)?;
     Ok(Refusal::NoParent { table, key, day })

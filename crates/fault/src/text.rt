@@ -1,41 +1,53 @@
-//! A text inside a refusal, which contracts see as its bytes.
-ghost use Rattle.std.specs.Prelude.{◌≡◌, Some, bytes_eq};
+//! A text that is stored once and shared by its copies, and which contracts see as its bytes.
+ghost use Rattle.std.specs.Prelude.{◌≡◌, Some, IfOk, bytes_eq};
 ghost use Rattle.std.specs.Cmp.{partial_equiv_from_equiv};
 ghost use Rattle.std.specs.Cmp.Lexicographic.{nat_list_eq_equiv};
 
-use std::alloc::AllocError;
+use std::alloc::{AllocError, Global};
 use std::fmt;
 use std::marker::Model;
+use std::sync::ArcStr;
 
-/// A text that was printed before, as the name of a table.
+/// A text, as a request's or the name of a table in a refusal. Its bytes are stored once: a copy shares them, takes no
+/// memory, and is the same text.
 #[derive(Debug, Drop)]
 pub struct Text {
-    string: String,
+    shared: ArcStr,
 }
 
 impl Model for Text {
-    ghost use Rattle.std.specs.Prelude.{List, ℕ, string_bytes};
+    ghost use Rattle.std.specs.Prelude.{List, ℕ};
+    ghost use Rattle.std.specs.Arc.{arc_str_bytes};
 
     ghost Value = { List ℕ };
 
-    ghost view = { λ t. string_bytes t.string };
+    ghost view = { λ t. arc_str_bytes t.shared };
 }
 
 impl Text {
     ghost use Rattle.std.specs.Prelude.{string_bytes};
 
-    /// The text that was printed into this string. Takes no memory.
-    pub fn new(string: String) -> Text
-        ensures { result ≡ string_bytes string }
+    /// A text with these bytes. Takes memory for them once; the error is want of memory.
+    pub fn new(alloc: Global, text: &str) -> Result<Text, AllocError>
+        ensures { IfOk result (λ made. made ≡ text.now) }
     {
-        Text { string }
+        let shared = ArcStr::from_str(alloc, text)?;
+        Ok(Text { shared })
+    }
+
+    /// The text that was printed into this string, which it keeps. The error is want of memory.
+    pub fn from_string(string: String) -> Result<Text, AllocError>
+        ensures { IfOk result (λ made. made ≡ string_bytes string) }
+    {
+        let shared = ArcStr::from_string(string)?;
+        Ok(Text { shared })
     }
 
     /// The text.
     pub fn as_str(&self) -> &str
         ensures { result.now ≡ self.now }
     {
-        self.string.as_str()
+        self.shared.as_str()
     }
 }
 
@@ -43,8 +55,8 @@ impl Clone for Text {
     ghost is_clone = { λ t copy. copy ≡ t };
 
     fn clone(&self) -> Result<Text, AllocError> {
-        let string = self.string.clone()?;
-        Ok(Text { string })
+        let shared = self.shared.clone()?;
+        Ok(Text { shared })
     }
 }
 
@@ -66,6 +78,6 @@ impl fmt::Display for Text {
     ghost output = { λ t. Some t };
 
     fn fmt<W: fmt::Write>(&self, f: &mut fmt::Formatter<W>) -> fmt::Result {
-        f.write_str(self.string.as_str())
+        f.write_str(self.as_str())
     }
 }

@@ -59,7 +59,7 @@ fn entry_of(stamp: Stamp, client: u16, number: u64, text: String) -> Result<Entr
     let Some(number) = RequestNumber::new(number) else {
         bail!("no number")
     };
-    let text = Text::new(text);
+    let text = Text::from_string(text)?;
     Ok(Entry {
         term: 1,
         stamp,

@@ -66,7 +66,8 @@ fn last_of(time: Time) -> u64 {
 fn not_closed(alloc: Global, closed: Stamp) -> Result<Refusal, AllocError> {
     let at = closed.instant();
     let text = format!(in alloc; "{at}")?;
-    Ok(Refusal::NotClosed(Some(Text::new(text))))
+    let text = Text::from_string(text)?;
+    Ok(Refusal::NotClosed(Some(text)))
 }
 
 /// The question as a member answers it that has applied entries up to this stamp, or why it refuses it.

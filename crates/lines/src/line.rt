@@ -197,7 +197,7 @@ fn read_submit(alloc: Global, members: usize, rest: &str) -> Result<Option<Line>
     let Some((client, number, text)) = split_request(request) else {
         return Ok(None);
     };
-    let text = Text::new(String::from_str(alloc, text)?);
+    let text = Text::new(alloc, text)?;
     Ok(Some(Line::Submit {
         node,
         client,
@@ -273,7 +273,7 @@ fn read_torn_submit(alloc: Global, rest: &str) -> Result<Option<Job>, AllocError
     let Some((client, number, text)) = split_request(rest) else {
         return Ok(None);
     };
-    let text = Text::new(String::from_str(alloc, text)?);
+    let text = Text::new(alloc, text)?;
     Ok(Some(Job::Submit {
         client,
         number,
@@ -300,7 +300,7 @@ fn read_ask(alloc: Global, members: usize, rest: &str) -> Result<Option<Line>, A
     let Some(node) = read_node(members, node) else {
         return Ok(None);
     };
-    let text = Text::new(String::from_str(alloc, text)?);
+    let text = Text::new(alloc, text)?;
     Ok(Some(Line::Ask { node, text }))
 }
 

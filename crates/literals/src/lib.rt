@@ -19,12 +19,12 @@ pub fn key_text(alloc: Global, key: &[Value]) -> Result<Text, AllocError>
     ensures { IfOk result (λ text. text ≡ key_text key.now) }
 {
     let key = Joined(key);
-    Ok(Text::new(format!(in alloc; "{key}")?))
+    Text::from_string(format!(in alloc; "{key}")?)
 }
 
 /// The text of a day, YYYY-MM-DD.
 pub fn day_text(alloc: Global, day: Day) -> Result<Text, AllocError>
     ensures { IfOk result (λ text. text ≡ day_text day.number) }
 {
-    Ok(Text::new(format!(in alloc; "{day}")?))
+    Text::from_string(format!(in alloc; "{day}")?)
 }

@@ -46,7 +46,7 @@ pub struct Judge {
 
 fn stamp_text(alloc: Global, stamp: Stamp) -> Result<Text, AllocError> {
     let instant = stamp.instant();
-    Ok(Text::new(format!(in alloc; "{instant}")?))
+    Text::from_string(format!(in alloc; "{instant}")?)
 }
 
 fn outcome_copy(outcome: &Outcome) -> Result<Outcome, AllocError> {

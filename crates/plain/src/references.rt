@@ -106,9 +106,9 @@ pub(crate) fn check(alloc: Global, schema: &Schema, tables: &[Table]) -> Result<
         let (name, child) = schema.table(place);
         if let Some(orphan) = orphan_of_table(alloc, tables, child, table)? {
             return Err(Refusal::NoParent {
-                table: Text::new(String::from_str(alloc, name.as_str())?),
+                table: Text::new(alloc, name.as_str())?,
                 key: key_text(alloc, orphan.key)?,
-                day: Text::new(day_text(alloc, orphan.day)?),
+                day: Text::from_string(day_text(alloc, orphan.day)?)?,
             });
         }
     }

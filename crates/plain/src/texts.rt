@@ -36,5 +36,5 @@ pub(crate) fn key_text(alloc: Global, key: &[Value]) -> Result<Text, AllocError>
         }
         text.push_str(&value_text(alloc, value)?)?;
     }
-    Ok(Text::new(text))
+    Text::from_string(text)
 }

@@ -67,7 +67,7 @@ fn text_within(alloc: Global, most: u8, text: Quoted) -> Result<Text, Refusal>
     if plain.len() > most as usize {
         return Err(Refusal::OutOfRange);
     }
-    Ok(Text::new(plain))
+    Ok(Text::from_string(plain)?)
 }
 
 /// A text with one quote for each two.
