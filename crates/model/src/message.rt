@@ -1,7 +1,10 @@
 //! The messages between members, and what else is brought to one: the remote calls and timers of
 //! Figure 2 of "In search of an understandable consensus algorithm".
+ghost use Rattle.std.specs.Prelude.{◌≡◌};
+
 use crate::entry::{Entries, Request};
 use crate::member::Member;
+use std::alloc::AllocError;
 
 /// The last term. The first one is 1, and 0 is before it.
 pub const LAST_TERM: u64 = 9223372036854775807;
@@ -48,6 +51,38 @@ pub enum Body {
     },
 }
 
+impl Clone for Body {
+    ghost is_clone = { λ b copy. copy ≡ b };
+
+    fn clone(&self) -> Result<Body, AllocError> {
+        match self {
+            Body::RequestVote {
+                last_index,
+                last_term,
+            } => Ok(Body::RequestVote {
+                last_index: *last_index,
+                last_term: *last_term,
+            }),
+            Body::Vote { given } => Ok(Body::Vote { given: *given }),
+            Body::Append {
+                prev_index,
+                prev_term,
+                entries,
+                commit,
+            } => Ok(Body::Append {
+                prev_index: *prev_index,
+                prev_term: *prev_term,
+                entries: entries.clone()?,
+                commit: *commit,
+            }),
+            Body::Reply { ok, matched } => Ok(Body::Reply {
+                ok: *ok,
+                matched: *matched,
+            }),
+        }
+    }
+}
+
 /// A message from one member to another.
 #[derive(Debug, Drop)]
 pub struct Message {
@@ -70,4 +105,33 @@ pub enum Input {
     Close { reading: i64 },
     /// A leader is to append an entry with this request.
     Submit { reading: i64, request: Request },
+}
+
+impl Clone for Message {
+    ghost is_clone = { λ m copy. copy ≡ m };
+
+    fn clone(&self) -> Result<Message, AllocError> {
+        Ok(Message {
+            sender: self.sender,
+            addressee: self.addressee,
+            term: self.term,
+            body: self.body.clone()?,
+        })
+    }
+}
+
+impl Clone for Input {
+    ghost is_clone = { λ i copy. copy ≡ i };
+
+    fn clone(&self) -> Result<Input, AllocError> {
+        match self {
+            Input::Timeout => Ok(Input::Timeout),
+            Input::Beat => Ok(Input::Beat),
+            Input::Close { reading } => Ok(Input::Close { reading: *reading }),
+            Input::Submit { reading, request } => Ok(Input::Submit {
+                reading: *reading,
+                request: request.clone()?,
+            }),
+        }
+    }
 }

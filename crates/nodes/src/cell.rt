@@ -110,7 +110,7 @@ impl<K: Keeper> Cell<K> {
         let Some(mark) = self.life.mark_for(&packet) else {
             return Err(Fault::Kept(Refusal::LifeFull));
         };
-        let Ok(work) = work_of(self.alloc, &packet) else {
+        let Ok(work) = work_of(&packet) else {
             return Err(Fault::Kept(Refusal::NoMemory));
         };
         if self.life.steps.reserve(1).is_err() {

@@ -1,7 +1,6 @@
 //! What happens to a group.
-ghost use Rattle.std.specs.Prelude.{◌≡◌, IfOk};
+ghost use Rattle.std.specs.Prelude.{◌≡◌};
 
-use model::entry::Request;
 use model::member::Member;
 use model::message::Input;
 use sqlread::query::Query;
@@ -58,7 +57,7 @@ impl Clone for Job {
 
     fn clone(&self) -> Result<Job, AllocError> {
         match self {
-            Job::Local(input) => Ok(Job::Local(copy_of_input(input)?)),
+            Job::Local(input) => Ok(Job::Local(input.clone()?)),
             Job::Delivery { message, reading } => Ok(Job::Delivery {
                 message: *message,
                 reading: *reading,
@@ -74,41 +73,15 @@ impl Clone for Event {
 
     fn clone(&self) -> Result<Event, AllocError> {
         match self {
-            Event::Hand(member, input) => Ok(Event::Hand(*member, copy_of_input(input)?)),
+            Event::Hand(member, input) => Ok(Event::Hand(*member, input.clone()?)),
             Event::Deliver { message, reading } => Ok(Event::Deliver {
                 message: *message,
                 reading: *reading,
             }),
             Event::Stop(member) => Ok(Event::Stop(*member)),
             Event::Start(member) => Ok(Event::Start(*member)),
-            Event::Torn(member, job, left) => Ok(Event::Torn(*member, copy_of_job(job)?, *left)),
+            Event::Torn(member, job, left) => Ok(Event::Torn(*member, job.clone()?, *left)),
             Event::Ask(member, query) => Ok(Event::Ask(*member, query.clone()?)),
         }
     }
-}
-
-fn copy_of_job(job: &Job) -> Result<Job, AllocError>
-    ensures { IfOk result (λ j. j ≡ job.now) }
-{
-    job.clone()
-}
-
-pub(crate) fn copy_of_input(input: &Input) -> Result<Input, AllocError>
-    ensures { IfOk result (λ i. i ≡ input.now) }
-{
-    match input {
-        Input::Timeout => Ok(Input::Timeout),
-        Input::Beat => Ok(Input::Beat),
-        Input::Close { reading } => Ok(Input::Close { reading: *reading }),
-        Input::Submit { reading, request } => Ok(Input::Submit {
-            reading: *reading,
-            request: copy_of_request(request)?,
-        }),
-    }
-}
-
-fn copy_of_request(request: &Request) -> Result<Request, AllocError>
-    ensures { IfOk result (λ r. r ≡ request.now) }
-{
-    request.clone()
 }

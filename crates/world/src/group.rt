@@ -12,8 +12,8 @@ ghost use Rattle.sqlread.specs.Meaning.{schema_of, select_of};
 ghost use Rattle.sqlread.specs.Shapes.{query_of};
 ghost use Rattle.world.specs.View.{brings, brought, commit_in, durable_in, entry_in, event_of, if_up, job_of, left_of, outputs_of, world_of, AllStamped, HasColumns, IsGroup, ShowsColumns};
 
-use crate::event::{Event, Job, Left, copy_of_input};
-use crate::output::{Output, announce, apply_all, copy_of, refused, single};
+use crate::event::{Event, Job, Left};
+use crate::output::{Output, announce, apply_all, refused, single};
 use crate::seat::{Seat, Step};
 use model::entry::Entry;
 use model::member::Member;
@@ -88,8 +88,7 @@ impl Group {
         ensures gives { IfOk result (λ outs. Gives (schema_of self.old.schema) self.old.members (world_of self.old) (Hand member input.now) (outputs_of outs.items)) }
         ensures same { (self.new.schema ≡ self.old.schema) × (self.new.members ≡ self.old.members) }
     {
-        let input = copy_of_input(input)?;
-        self.bring(member, Work::Local(input))
+        self.bring(member, Work::Local(input.clone()?))
     }
 
     /// A copy of the message that was sent as this one, counted from 1.
@@ -100,7 +99,7 @@ impl Group {
             return Ok(None);
         }
         match self.sent.get(number - 1) {
-            Some(message) => Ok(Some(copy_of(self.alloc, message)?)),
+            Some(message) => Ok(Some(message.clone()?)),
             None => Ok(None),
         }
     }
@@ -153,7 +152,7 @@ impl Group {
             × ((t : Tables) (n : ℕ) (x : TheNode) → works t n member work x ≡ effect (schema_of t) n (world_of self.now) member (job_of job.now) x))) }
     {
         match job {
-            Job::Local(input) => Ok(Some(Work::Local(copy_of_input(input)?))),
+            Job::Local(input) => Ok(Some(Work::Local(input.clone()?))),
             Job::Delivery { message, reading } => match self.message(*message)? {
                 Some(message) => {
                     if message.addressee != member {

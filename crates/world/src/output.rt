@@ -6,9 +6,9 @@ ghost use Rattle.world.specs.View.{output_of, outputs_of};
 
 use answer::Answer;
 use fault::Refusal;
-use model::entry::{Entries, Told};
+use model::entry::Told;
 use model::member::Member;
-use model::message::{Body, Message};
+use model::message::Message;
 use std::alloc::{AllocError, Global};
 
 /// What an event gives.
@@ -22,50 +22,6 @@ pub enum Output {
     Refused(Member, Refusal),
     /// A member answered a question.
     Answered(Member, Answer),
-}
-
-fn copy_of_body(alloc: Global, body: &Body) -> Result<Body, AllocError>
-    ensures { IfOk result (λ b. b ≡ body.now) }
-{
-    match body {
-        Body::RequestVote {
-            last_index,
-            last_term,
-        } => Ok(Body::RequestVote {
-            last_index: *last_index,
-            last_term: *last_term,
-        }),
-        Body::Vote { given } => Ok(Body::Vote { given: *given }),
-        Body::Append {
-            prev_index,
-            prev_term,
-            entries,
-            commit,
-        } => {
-            let copies = entries.as_slice().to_vec(alloc)?;
-            Ok(Body::Append {
-                prev_index: *prev_index,
-                prev_term: *prev_term,
-                entries: Entries::new(copies),
-                commit: *commit,
-            })
-        }
-        Body::Reply { ok, matched } => Ok(Body::Reply {
-            ok: *ok,
-            matched: *matched,
-        }),
-    }
-}
-
-pub(crate) fn copy_of(alloc: Global, message: &Message) -> Result<Message, AllocError>
-    ensures { IfOk result (λ m. m ≡ message.now) }
-{
-    Ok(Message {
-        sender: message.sender,
-        addressee: message.addressee,
-        term: message.term,
-        body: copy_of_body(alloc, &message.body)?,
-    })
 }
 
 /// Messages with their numbers, after so many.
@@ -84,7 +40,7 @@ pub(crate) fn announce(
             Some(number) => number,
             None => return Err(AllocError),
         };
-        outs.push(Output::Sent(number, copy_of(alloc, message)?))?;
+        outs.push(Output::Sent(number, message.clone()?))?;
     }
     Ok(outs)
 }

@@ -11,7 +11,7 @@ returns-clause-world c =
     let old = c.args.self.now in
     let w = world_of old in
     let m = c.args.member in
-    let same : c.in_ok-input.input ≡ c.args.input.now = search rules in
+    let same : c.in_ok-clone.field-0 ≡ c.args.input.now = search rules in
     IfOk-weaker c.bring.result _ _ (λ _ e. e ∙ ap (λ i. brings old.schema old.members w m (Local i) (nth w.nodes m)) same ∙ hands old.schema old.members m w c.args.input.now (nth w.nodes m)) c.bring.ensures.world
 
 pub returns-clause-gives : goal.returns-clause-gives
@@ -19,5 +19,5 @@ returns-clause-gives c =
     let old = c.args.self.now in
     let w = world_of old in
     let m = c.args.member in
-    let same : c.in_ok-input.input ≡ c.args.input.now = search rules in
+    let same : c.in_ok-clone.field-0 ≡ c.args.input.now = search rules in
     IfOk-weaker c.bring.result _ _ (λ outs e. (e ∙ ap (λ i. brought old.schema old.members w m (Local i) (nth w.nodes m)) same ∙ hand_gives old.schema old.members m w c.args.input.now (nth w.nodes m))) c.bring.ensures.gives
