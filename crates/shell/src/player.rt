@@ -36,6 +36,8 @@ pub struct Player {
     sent: Vec<Sent>,
     /// How many of the first messages rounds of `settle` have gone through: none of them is left.
     settled: usize,
+    /// How many of the first messages were lost by a `lose all`.
+    all_lost: usize,
     has_failed: bool,
 }
 
@@ -69,6 +71,7 @@ impl Player {
             clocks: vec![in alloc; 0; members]?,
             sent: Vec::new(alloc),
             settled: 0,
+            all_lost: 0,
             has_failed: false,
         })
     }
@@ -156,7 +159,7 @@ impl Player {
             Line::Clock { node, reading } => self.set_clock(*node, *reading),
             Line::ClockAll { reading } => self.clocks.fill(*reading),
             Line::Lose { message } => self.lose(*message),
-            Line::LoseAll => self.lose_all(),
+            Line::LoseAll => self.all_lost = self.sent.len(),
             _ => {}
         }
     }
@@ -194,12 +197,6 @@ impl Player {
     fn lose(&mut self, number: u64) {
         if let Some(place) = self.place_of(number) {
             self.sent[place].is_lost = true;
-        }
-    }
-
-    fn lose_all(&mut self) {
-        for sent in &mut self.sent {
-            sent.is_lost = true;
         }
     }
 
@@ -363,7 +360,7 @@ impl Player {
     // Whether the message at this place was never delivered, and is not lost.
     fn is_left(&self, place: usize) -> bool {
         match self.sent.get(place) {
-            Some(sent) => !sent.is_delivered && !sent.is_lost,
+            Some(sent) => self.all_lost <= place && !sent.is_delivered && !sent.is_lost,
             None => false,
         }
     }
