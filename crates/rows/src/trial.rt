@@ -1,9 +1,9 @@
 //! What texts say, and why they are refused.
 use crate::text::{changed, text_of};
-use anyhow::Result;
+use anyhow::{Result, bail};
 use fault::Refusal;
 use period::{Day, Instant};
-use rowtext::Written;
+use rowtext::{Written, write_transaction};
 use schemaread::schemas::read_schema;
 use shell::sim::run_sim;
 use sqlread::query::read_query;
@@ -94,11 +94,17 @@ fn tell_transaction(alloc: Global, schema: &str, text: &str) -> Result<String> {
     let schema = read_schema(alloc, schema)?;
     match read_transaction(alloc, &schema, text) {
         Ok(transaction) => {
-            let written = Written {
+            let shown = Written {
                 schema: &schema,
                 transaction: &transaction,
             };
-            Ok(format!(in alloc; "{written}")?)
+            let shown = format!(in alloc; "{shown}")?;
+            let mut written = Vec::new(alloc);
+            write_transaction(&schema, &transaction, &mut written)?;
+            if written.as_slice() != shown.as_bytes() {
+                bail!("it is written otherwise than it prints");
+            }
+            Ok(shown)
         }
         Err(refusal) => Ok(tell_refusal(alloc, &refusal)?),
     }
