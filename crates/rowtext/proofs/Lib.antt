@@ -1,6 +1,3 @@
-pub mod Inline
-pub mod Joining
-pub mod Putting
 pub mod Spaced
 pub mod Values
 pub mod Statements

@@ -27,7 +27,7 @@ use Rattle.model.specs.Periods.{period_of}
 use Rattle.sqlread.specs.Shapes.{InsertShape, insert_of, update_of, delete_of, statement_of}
 use Rattle.rowtext.specs.Spacing.{Start, Word, line}
 use Rattle.rowtext.specs.Transactions.{column_name, cell_of, portion_of, comparison_of, conditions_of, assignment_of, given_columns, insert_form, update_form, delete_form, statement_text}
-use Rattle.rowtext.proofs.Joining.{flat_of_map}
+use Rattle.answertext.proofs.Joining.{flat_of_map}
 use Rattle.rowtext.proofs.Spaced.{portion_line, insert_line, update_line, delete_line, names_line, literals_line, condition_line, assignments_line, commas, separator, commas_more, literal_text, comparison_text, assignment_text}
 
 pub portion_written : (table : TableShape) (p : Option Declared) (period : Declared) (name : Bytes) → p ≡ Some period → name ≡ table.period

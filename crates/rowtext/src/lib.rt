@@ -1,13 +1,10 @@
-//! The texts of answers and of transactions.
+//! The text of a transaction; that of an answer is handed on.
 #![tactic(auto)]
 
-mod answers;
-mod cell;
 pub mod laws;
 mod named;
-mod sink;
 pub mod transactions;
 
-pub use answers::{Lines, write_answer};
+pub use answertext::{Lines, write_answer};
 pub use named::has_named;
 pub use transactions::{SqlLiteral, Written, write_transaction};

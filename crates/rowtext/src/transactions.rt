@@ -13,12 +13,12 @@ ghost use Rattle.model.specs.Periods.{period_of};
 ghost use Rattle.sqlread.specs.Shapes.{statement_of, insert_of, update_of, delete_of};
 ghost use Rattle.std.specs.List.{list_all};
 ghost use Rattle.rowtext.specs.Named.{has_field, has_named as names};
-ghost use Rattle.rowtext.specs.Sinks.{Puts, WritesOrBegins};
+ghost use Rattle.answertext.specs.Sinks.{Puts, WritesOrBegins};
 ghost use Rattle.rowtext.specs.Spacing.{Start, Sign, Word, token_text, line};
 ghost use Rattle.rowtext.specs.Transactions.{literal_of, cell_of, column_name, field_name, portion_of, value_of, assignment_of, comparison_of, conditions_of, insert_form, update_form, delete_form, given_columns, statement_text, transaction_text};
 
 use crate::named::has_named;
-use crate::sink::{Pen, Sink};
+use answertext::sink::{Pen, Sink};
 use literals::Literal;
 use model::value::Value;
 use period::Period;

@@ -1,5 +1,5 @@
 use Rattle.rowtext.proofs.Values.{set_written, plus_written, less_written}
-use Rattle.rowtext.proofs.Putting.{puts_same}
+use Rattle.answertext.proofs.Putting.{puts_same}
 use Rattle.rowtext.proofs.transactions.put_assignment.Goals as goal
 
 pub returns-in-Literal : goal.returns-in-Literal

@@ -4,7 +4,7 @@ use Rattle.sqlsyntax.specs.Transactions.{assignment as assignment_phrase}
 use Rattle.rowtext.specs.Spacing.{Start, line}
 use Rattle.rowtext.specs.Transactions.{assignment_of}
 use Rattle.rowtext.proofs.Statements.{assignments_written}
-use Rattle.rowtext.proofs.Putting.{after, puts_same, fault_in}
+use Rattle.answertext.proofs.Putting.{after, puts_same, fault_in}
 use Rattle.rowtext.proofs.transactions.put_assignments.Goals as goal
 
 pub returns-in_err-put_assignment : goal.returns-in_err-put_assignment

@@ -1,6 +1,6 @@
 use Rattle.std.proofs.Common.{◌∙◌}
 use Rattle.rowtext.proofs.Values.{start_written, end_written}
-use Rattle.rowtext.proofs.Putting.{puts_same}
+use Rattle.answertext.proofs.Putting.{puts_same}
 use Rattle.sqlread.specs.Shapes.{insert_of}
 use Rattle.rowtext.proofs.transactions.put_cell.Goals as goal
 

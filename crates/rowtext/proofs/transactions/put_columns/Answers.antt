@@ -2,7 +2,7 @@ use Rattle.std.proofs.Common.{◌≡◌, ◌∙◌, ◌<◌, List, ℕ, sym, sub
 use Rattle.namesyntax.specs.Names.{name_list}
 use Rattle.rowtext.specs.Spacing.{Start, line}
 use Rattle.rowtext.specs.Transactions.{column_name, given_columns}
-use Rattle.rowtext.proofs.Putting.{at_err, fault_in}
+use Rattle.answertext.proofs.Putting.{at_err, fault_in}
 use Rattle.rowtext.proofs.Statements.{given_within, none_there, system_left, next_separator, next_written, some_given, after_column, around_column, columns_line, columns_written, column_named}
 use Rattle.rowtext.proofs.transactions.put_columns.Goals.{then-not-is_system+in_ok-put, else-not-is_system}
 use Rattle.rowtext.proofs.transactions.put_columns.Goals as goal

@@ -1,5 +1,5 @@
 use Rattle.rowtext.proofs.Values.{comparison_written}
-use Rattle.rowtext.proofs.Putting.{puts_same}
+use Rattle.answertext.proofs.Putting.{puts_same}
 use Rattle.rowtext.proofs.transactions.put_comparison.Goals as goal
 
 pub returns : goal.returns

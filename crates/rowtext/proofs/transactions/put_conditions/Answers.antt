@@ -4,7 +4,7 @@ use Rattle.sqlsyntax.specs.Shared.{comparison as comparison_phrase}
 use Rattle.rowtext.specs.Spacing.{Start, line}
 use Rattle.rowtext.specs.Transactions.{comparison_of}
 use Rattle.rowtext.proofs.Statements.{conditions_written}
-use Rattle.rowtext.proofs.Putting.{after, puts_same, fault_in}
+use Rattle.answertext.proofs.Putting.{after, puts_same, fault_in}
 use Rattle.rowtext.proofs.transactions.put_conditions.Goals as goal
 
 pub returns-in_err-put : goal.returns-in_err-put

@@ -7,7 +7,7 @@ use Rattle.sqlread.specs.Shapes.{delete_of}
 use Rattle.rowtext.specs.Spacing.{Word, line}
 use Rattle.rowtext.specs.Transactions.{portion_of, conditions_of}
 use Rattle.rowtext.proofs.Statements.{delete_written}
-use Rattle.rowtext.proofs.Putting.{after, puts_same, fault_in}
+use Rattle.answertext.proofs.Putting.{after, puts_same, fault_in}
 use Rattle.rowtext.proofs.transactions.put_delete.Goals as goal
 
 pub returns-in_err-put : goal.returns-in_err-put

@@ -5,7 +5,7 @@ use Rattle.sqlread.specs.Shapes.{insert_of}
 use Rattle.rowtext.specs.Spacing.{Start, line}
 use Rattle.rowtext.specs.Transactions.{column_name, cell_of, given_columns}
 use Rattle.rowtext.proofs.Statements.{insert_written}
-use Rattle.rowtext.proofs.Putting.{after, puts_same, fault_in}
+use Rattle.answertext.proofs.Putting.{after, puts_same, fault_in}
 use Rattle.rowtext.proofs.transactions.put_insert.Goals as goal
 
 pub returns-in_err-put : goal.returns-in_err-put

@@ -4,8 +4,8 @@ use Rattle.sqlsyntax.specs.Transactions.{assignment as assignment_phrase}
 use Rattle.sqlread.specs.declared.statement.Assignment.{Assignment}
 use Rattle.rowtext.specs.Spacing.{Start, line}
 use Rattle.rowtext.specs.Transactions.{assignment_of}
-use Rattle.rowtext.proofs.Joining.{flat-next, flat-all, flat_after}
-use Rattle.rowtext.proofs.Putting.{fault_in}
+use Rattle.answertext.proofs.Joining.{flat-next, flat-all, flat_after}
+use Rattle.answertext.proofs.Putting.{fault_in}
 use Rattle.rowtext.proofs.transactions.put_more_assignments.Goals as goal
 
 abbrev own : TableShape → Assignment → List ℕ

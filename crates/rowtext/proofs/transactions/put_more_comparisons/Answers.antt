@@ -4,8 +4,8 @@ use Rattle.sqlsyntax.specs.Shared.{comparison as comparison_phrase}
 use Rattle.sqlchecks.specs.declared.comparison.Comparison.{Comparison}
 use Rattle.rowtext.specs.Spacing.{Start, line}
 use Rattle.rowtext.specs.Transactions.{comparison_of}
-use Rattle.rowtext.proofs.Joining.{flat-next, flat-all, flat_after}
-use Rattle.rowtext.proofs.Putting.{fault_in}
+use Rattle.answertext.proofs.Joining.{flat-next, flat-all, flat_after}
+use Rattle.answertext.proofs.Putting.{fault_in}
 use Rattle.rowtext.proofs.transactions.put_more_comparisons.Goals as goal
 
 abbrev own : TableShape → Comparison → List ℕ

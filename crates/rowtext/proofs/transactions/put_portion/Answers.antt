@@ -1,5 +1,5 @@
 use Rattle.rowtext.proofs.Statements.{portion_written}
-use Rattle.rowtext.proofs.Putting.{puts_same}
+use Rattle.answertext.proofs.Putting.{puts_same}
 use Rattle.rowtext.proofs.transactions.put_portion.Goals as goal
 
 pub returns-in-Some : goal.returns-in-Some

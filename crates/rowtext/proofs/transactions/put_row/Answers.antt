@@ -3,7 +3,7 @@ use Rattle.sqlsyntax.specs.Transactions.{literals}
 use Rattle.sqlread.specs.Shapes.{insert_of}
 use Rattle.rowtext.specs.Spacing.{Start, line}
 use Rattle.rowtext.specs.Transactions.{cell_of, given_columns}
-use Rattle.rowtext.proofs.Putting.{at_err, fault_in}
+use Rattle.answertext.proofs.Putting.{at_err, fault_in}
 use Rattle.rowtext.proofs.Statements.{given_within, cell_text, none_there, system_left, next_separator, next_written, some_given, after_column, around_column, row_line, row_written}
 use Rattle.rowtext.proofs.transactions.put_row.Goals.{then-not-is_system+in_ok-put+in_ok-put_cell, else-not-is_system}
 use Rattle.rowtext.proofs.transactions.put_row.Goals as goal

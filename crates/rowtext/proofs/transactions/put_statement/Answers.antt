@@ -1,5 +1,5 @@
 use Rattle.rowtext.proofs.Statements.{insert_statement, update_statement, delete_statement}
-use Rattle.rowtext.proofs.Putting.{puts_same}
+use Rattle.answertext.proofs.Putting.{puts_same}
 use Rattle.rowtext.proofs.transactions.put_statement.Goals as goal
 
 pub returns-in-Insert : goal.returns-in-Insert

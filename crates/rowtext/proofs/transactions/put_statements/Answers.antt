@@ -1,8 +1,8 @@
 use Rattle.std.proofs.Common.{◌<◌, List, ℕ, length, subst, arith}
 use Rattle.sqlread.specs.Shapes.{statement_of}
 use Rattle.rowtext.specs.Transactions.{statement_text}
-use Rattle.rowtext.proofs.Joining.{mapped-next, mapped-all, flat_after}
-use Rattle.rowtext.proofs.Putting.{fault_in}
+use Rattle.answertext.proofs.Joining.{mapped-next, mapped-all, flat_after}
+use Rattle.answertext.proofs.Putting.{fault_in}
 use Rattle.rowtext.proofs.transactions.put_statements.Goals as goal
 
 pub returns-in_err-put_statement : goal.returns-in_err-put_statement

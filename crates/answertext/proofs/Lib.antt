@@ -1,0 +1,3 @@
+pub mod Inline
+pub mod Joining
+pub mod Putting
