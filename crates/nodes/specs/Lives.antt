@@ -72,7 +72,7 @@ abbrev pub sent_at : Packet → ℕ
 sent_at (Local input) = 0
 sent_at (Delivered mark reading message) = mark
 
--- each step's mark is above the one before it, and above that of its envelope
+-- each step's mark is above the one before it, and above that of the message that it brings
 unfoldable pub marks_rise : ℕ → List Step → Bool
 marks_rise mark [] = true
 marks_rise mark (s ∷ steps) = nat_lt mark s.mark && nat_lt (sent_at s.packet) s.mark && marks_rise s.mark steps

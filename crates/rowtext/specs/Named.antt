@@ -9,7 +9,7 @@ use Rattle.sqlchecks.specs.declared.comparison.Comparison.{Comparison}
 use Rattle.sqlchecks.specs.Columns.{Tables, field_at, kept_at}
 use Rattle.sqlread.specs.declared.statement.Assignment.{Assignment}
 use Rattle.sqlread.specs.Changes.{is_system}
-use Rattle.sqlread.specs.Shapes.{InsertShape, UpdateShape, DeleteShape, StatementShape, Insert, Update, Delete}
+use Rattle.sqlread.specs.Shapes.{InsertShape, StatementShape, Insert, Update, Delete}
 use Rattle.sqlread.specs.Meaning.{table_of}
 use Rattle.rowtext.specs.Transactions.{column_of}
 
