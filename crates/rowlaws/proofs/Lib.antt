@@ -7,6 +7,7 @@ pub mod Sorted
 pub mod RowFacts
 pub mod Contents
 pub mod SameRow
+pub mod Least
 mod Inserted
 mod Listed
 mod Recut
@@ -16,7 +17,6 @@ mod Tests
 mod Runs
 mod Differences
 mod Touches
-mod Least
 mod Orphaned
 mod Referring
 mod Transacted

@@ -1,7 +1,7 @@
 use Rattle.std.proofs.Common.{◌≤◌, map, arith}
 use Rattle.std.proofs.lemmas.Grind.{common_steps}
 use Rattle.model.specs.Periods.{period_of}
-use Rattle.refer.proofs.Uncovered.{uncovered_is}
+use Rattle.rowlaws.proofs.Least.{uncovered_is}
 use Rattle.refer.proofs.covered.Goals as goal
 
 pub loop-parent-init : goal.loop-parent-init

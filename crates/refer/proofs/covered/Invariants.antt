@@ -1,7 +1,7 @@
 use Rattle.std.proofs.Common.{◌≡◌, drop, find, map}
 use Rattle.model.specs.Statements.{days_of}
 use Rattle.model.specs.Periods.{period_of, is_free}
-use Rattle.refer.proofs.Uncovered.{uncovered}
+use Rattle.rowlaws.specs.Covering.{uncovered}
 use Rattle.refer.proofs.covered.Given as goal
 
 abbrev pub invariant-loop-parent : goal.invariant-loop-parent
