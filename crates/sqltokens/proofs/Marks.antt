@@ -1,5 +1,5 @@
 -- Each kind of token is lawful.
-use Rattle.std.proofs.Common.{◌≡◌, ℕ, true, List, [], ◌∷◌, ◌++◌, Option, Some, None, refl, ap, subst, inl, inr}
+use Rattle.std.proofs.Common.{◌≡◌, ℕ, true, List, [], ◌∷◌, Option, Some, None, refl, ap, subst, inl, inr}
 use Rattle.std.specs.Prelude.{codes}
 use denote.Enum.Bare.{same_true, true_same}
 use Rattle.sqltokens.specs.contracts.token.Keyword as keywords
@@ -7,9 +7,9 @@ use Rattle.sqltokens.specs.contracts.token.Sign as signs
 use Rattle.sqltokens.specs.declared.token.Keyword.{Keyword}
 use Rattle.sqltokens.specs.declared.token.Sign.{Sign}
 use Rattle.sqltokens.specs.What.{What, Word, Mark, Name, Digits, Text, Stray, is_word, is_mark, word, sign}
-use Rattle.phrase.specs.Grammar.{Phrase, nothing, one, ◌▸◌}
-use Rattle.sqltokens.specs.Classes.{name_in, digits_in, text_in, has_shape, shaped, names, digits, texts, dates, stamps}
-use Rattle.phrase.proofs.Laws.{chosen, stops, IsFixed, IsClass, IsLawful, one_token, in_turn}
+use Rattle.phrase.specs.Grammar.{nothing, one}
+use Rattle.sqltokens.specs.Classes.{name_in, digits_in, text_in, has_shape, shaped, digits, texts, dates, stamps}
+use Rattle.phrase.proofs.Laws.{chosen, stops, IsFixed, IsClass, IsLawful, one_token}
 
 -- ---- tokens
 
@@ -62,13 +62,6 @@ text_only (Digits d) a e = absurd cc
 text_only (Text t) a e = ap Text (some_is t a e)
 text_only Stray a e = absurd cc
 
-pub names_class : IsClass names
-unfolding names
-names_class = record { again = λ a fits. refl; only = λ t a e. (tt, name_only t a e); example_fits = tt }
-
-pub names_lawful : IsLawful (one names)
-names_lawful = one_token names names_class
-
 pub digits_class : IsClass digits
 unfolding digits
 digits_class = record { again = λ a fits. refl; only = λ t a e. (tt, digits_only t a e); example_fits = tt }
@@ -118,7 +111,3 @@ dates_lawful = one_token dates dates_class
 
 pub stamps_lawful : IsLawful (one stamps)
 stamps_lawful = one_token stamps stamps_class
-
--- a name, and then what follows it
-pub name_then : {B : Type 0} (q : Phrase What B) → IsLawful q → IsLawful (one names ▸ q)
-name_then q Q = in_turn (one names) q (λ b rest f s t. stops_nothing (q.spell b ++ rest)) names_lawful Q

@@ -4,7 +4,7 @@ ghost use Rattle.std.specs.Prelude.{◌≡◌, Ok};
 ghost use Rattle.sqltokens.specs.What.{what_of, whats, is_word, is_mark};
 ghost use Rattle.phrase.specs.Grammar.{expect, next, one};
 ghost use Rattle.phrase.specs.Reading.{Gives};
-ghost use Rattle.sqltokens.specs.Classes.{names, digits, texts, dates, stamps, has_shape, is_text};
+ghost use Rattle.sqltokens.specs.Classes.{digits, texts, dates, stamps, has_shape, is_text};
 
 use crate::token::{Digits, Keyword, Kind, Quoted, Sign, Token};
 use phrase::ReadError;
@@ -33,7 +33,7 @@ fn is_sign(kind: Kind, sign: Sign) -> bool
     }
 }
 
-/// Passes a keyword. Another token is wrong, and stays.
+/// Passes a keyword. Another token is wrong.
 pub fn word(cursor: &mut Cursor, keyword: Keyword) -> Result<(), ReadError>
     ensures { Gives (λ _. whats cursor.new.rest.now) result (expect (is_word keyword) (whats cursor.old.rest.now)) }
 {
@@ -46,7 +46,7 @@ pub fn word(cursor: &mut Cursor, keyword: Keyword) -> Result<(), ReadError>
     Err(ReadError::Wrong(cursor.rest.len()))
 }
 
-/// Passes a sign. Another token is wrong, and stays.
+/// Passes a sign. Another token is wrong.
 pub fn sign(cursor: &mut Cursor, sign: Sign) -> Result<(), ReadError>
     ensures { Gives (λ _. whats cursor.new.rest.now) result (expect (is_mark sign) (whats cursor.old.rest.now)) }
 {
@@ -89,21 +89,7 @@ pub fn next_is_text(cursor: &Cursor) -> bool
     }
 }
 
-/// Takes a name. Another token is wrong, and stays.
-#[tactic(auto, unfolding(crate::specs::Classes::names))]
-pub fn name<'a>(cursor: &mut Cursor<'_, 'a>) -> Result<&'a [u8], ReadError>
-    ensures { Gives (λ x. (x.now, whats cursor.new.rest.now)) result ((one names).read (whats cursor.old.rest.now)) }
-{
-    if let [first, rest @ ..] = cursor.rest {
-        if let Kind::Name(name) = first.kind {
-            cursor.rest = rest;
-            return Ok(name);
-        }
-    }
-    Err(ReadError::Wrong(cursor.rest.len()))
-}
-
-/// Takes digits. Another token is wrong, and stays.
+/// Takes digits. Another token is wrong.
 #[tactic(auto, unfolding(crate::specs::Classes::digits))]
 pub fn digits<'a>(cursor: &mut Cursor<'_, 'a>) -> Result<Digits<'a>, ReadError>
     ensures { Gives (λ x. (x.digits.now, whats cursor.new.rest.now)) result ((one digits).read (whats cursor.old.rest.now)) }
@@ -117,7 +103,7 @@ pub fn digits<'a>(cursor: &mut Cursor<'_, 'a>) -> Result<Digits<'a>, ReadError>
     Err(ReadError::Wrong(cursor.rest.len()))
 }
 
-/// Takes a text. Another token is wrong, and stays.
+/// Takes a text. Another token is wrong.
 #[tactic(auto, unfolding(crate::specs::Classes::texts))]
 pub fn text<'a>(cursor: &mut Cursor<'_, 'a>) -> Result<Quoted<'a>, ReadError>
     ensures { Gives (λ x. (x.source.now, whats cursor.new.rest.now)) result ((one texts).read (whats cursor.old.rest.now)) }
@@ -153,7 +139,7 @@ pub fn has_shape(shape: &[u8], text: &[u8]) -> bool
     rest.is_empty()
 }
 
-/// Takes a text of the shape dddd-dd-dd. Another token is wrong, and stays.
+/// Takes a text of the shape dddd-dd-dd. Another token is wrong.
 #[tactic(auto, unfolding(crate::specs::Classes::dates))]
 pub fn date_text<'a>(cursor: &mut Cursor<'_, 'a>) -> Result<Quoted<'a>, ReadError>
     ensures { Gives (λ x. (x.source.now, whats cursor.new.rest.now)) result ((one dates).read (whats cursor.old.rest.now)) }
@@ -169,7 +155,7 @@ pub fn date_text<'a>(cursor: &mut Cursor<'_, 'a>) -> Result<Quoted<'a>, ReadErro
     Err(ReadError::Wrong(cursor.rest.len()))
 }
 
-/// Takes a text of the shape dddd-dd-dd dd:dd:dd.dddddd. Another token is wrong, and stays.
+/// Takes a text of the shape dddd-dd-dd dd:dd:dd.dddddd. Another token is wrong.
 #[tactic(auto, unfolding(crate::specs::Classes::stamps))]
 pub fn stamp_text<'a>(cursor: &mut Cursor<'_, 'a>) -> Result<Quoted<'a>, ReadError>
     ensures { Gives (λ x. (x.source.now, whats cursor.new.rest.now)) result ((one stamps).read (whats cursor.old.rest.now)) }

@@ -8,7 +8,7 @@ mod token;
 
 pub use answer::place;
 pub use cursor::{
-    Cursor, date_text, digits, has_shape, name, next_is, next_is_sign, next_is_text, sign,
+    Cursor, date_text, digits, has_shape, next_is, next_is_sign, next_is_text, sign,
     stamp_text, text, word,
 };
 pub use lexing::tokens;
