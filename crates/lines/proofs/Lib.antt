@@ -1,3 +1,5 @@
 pub mod Numbers
 pub mod Scripts
 pub mod Lines
+pub mod Parts
+pub mod Ways

@@ -54,13 +54,13 @@ module _ (before number : ℕ) (text rest : List ℕ) (lines : List (List ℕ)) 
 
 -- ---- lines that are skipped
 
-counted_append : (xs ys : List (List ℕ)) → counted (xs ++ ys) ≡ counted xs ++ counted ys
+pub counted_append : (xs ys : List (List ℕ)) → counted (xs ++ ys) ≡ counted xs ++ counted ys
 counted_append xs ys = filter-append _ xs ys
 
 counted_skipped : (line : List ℕ) (lines : List (List ℕ)) → is_skipped line ≡ true → counted (line ∷ lines) ≡ counted lines
 counted_skipped line lines skipped = rw skipped refl
 
-counted_first : (line : List ℕ) (lines : List (List ℕ)) → is_skipped line ≡ false → counted (line ∷ lines) ≡ line ∷ counted lines
+pub counted_first : (line : List ℕ) (lines : List (List ℕ)) → is_skipped line ≡ false → counted (line ∷ lines) ≡ line ∷ counted lines
 counted_first line lines counts = rw counts refl
 
 counted_one : (xs : List (List ℕ)) (line : List ℕ) → counted xs ≡ [] → is_skipped line ≡ false → counted (xs ++ line ∷ []) ≡ line ∷ []

@@ -2,3 +2,4 @@ pub mod Script
 pub mod Reading
 pub mod Line
 pub mod Number
+pub mod Laws
