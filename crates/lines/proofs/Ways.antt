@@ -1,11 +1,14 @@
 -- No script begins with a line that may not stand there, so the ways in which a script is answered exclude one another.
-use Rattle.std.proofs.Common.{◌≡◌, ◌≢◌, ◌∙◌, ◌⊎◌, inl, inr, true, false, sym, refl, ap, subst, ℕ, List, [], ◌∷◌, ◌++◌, map, length, length-append, arith}
+use Rattle.std.proofs.Common.{◌≡◌, ◌≢◌, ◌∙◌, ◌⊎◌, inl, inr, Ok, Err, true, false, sym, refl, ap, subst, ℕ, List, [], ◌∷◌, ◌++◌, map, length, length-append, arith}
 use Rattle.std.specs.Prelude.{All, codes}
 use Rattle.std.proofs.lemmas.List.Elements.{All-head, All-tail}
+use Rattle.fault.specs.declared.refusal.Refusal.{Refusal}
 use Rattle.sqlchecks.specs.Columns.{Tables}
+use Rattle.schemaread.specs.Schemas.{SchemaSays}
+use Rattle.schemaread.specs.Laws.{SaysOneSchema}
 use Rattle.lines.specs.declared.line.Line.{Line}
 use Rattle.lines.specs.Line.{line_text, IsInRange}
-use Rattle.lines.specs.Script.{is_skipped, counted, pieces, members_text, IsMemberCount, HasParts, HasLines, Stage, IsBegun, IsWrong, IsMissing, IsBadAt}
+use Rattle.lines.specs.Script.{is_skipped, counted, pieces, members_text, IsMemberCount, HasParts, HasLines, HasBadSchema, Stage, IsBegun, IsWrong, IsMissing, IsBadAt}
 use Rattle.lines.specs.Script.Stage.{Opening, Named, Within, After}
 use Rattle.lines.proofs.Parts.{Places, places, counted_at, opening_counted, same_opening, no_end_within, same_parts, parts_counted, parts_more, parts_less}
 use Rattle.lines.proofs.Parts.Places.{Same, Earlier, Later}
@@ -110,3 +113,14 @@ pub read_is_not_bad : (text : List ℕ) (members : ℕ) (schema : Tables) (lines
 read_is_not_bad text members schema lines k r b =
     let front = parts_less (pieces text) members r.block r.rest ([] ∷ []) r.parts in
     bad_nowhere front.0 members (r.block, r.rest, schema, lines, front.1, r.says, r.counts, r.range) b.stage b.before b.line b.after b.begun b.bad (places b.before b.line b.after front.0 [] [] (sym b.whole ∙ front.2))
+
+-- ---- schemas that are refused
+
+module _ (one_schema : SaysOneSchema) where
+  not_both : (block : List ℕ) (schema : Tables) (refusal : Refusal) → SchemaSays block (Ok schema) → ¬ SchemaSays block (Err refusal)
+  not_both block schema refusal says refused = let same : Ok schema ≡ Err refusal = one_schema block (Ok schema) (Err refusal) says refused in cc
+
+  pub read_is_not_refused : (text : List ℕ) (members : ℕ) (schema : Tables) (lines : List Line) (refusal : Refusal) → HasLines text members schema lines → ¬ HasBadSchema text refusal
+  read_is_not_refused text members schema lines refusal r (n, block, rest, p, refused) =
+      let same = same_parts (pieces text) members n r.block block (r.rest ++ [] ∷ []) rest r.parts p in
+      not_both block schema refusal (subst (λ b. SchemaSays b (Ok schema)) same.1 r.says) refused

@@ -1,9 +1,14 @@
 -- Laws of scripts: the ways in which a text is answered exclude one another.
 use Rattle.std.specs.Prelude.{ℕ, List}
+use Rattle.fault.specs.declared.refusal.Refusal.{Refusal}
 use Rattle.sqlchecks.specs.Columns.{Tables}
 use Rattle.lines.specs.declared.line.Line.{Line}
-use Rattle.lines.specs.Script.{HasLines, IsBadAt}
+use Rattle.lines.specs.Script.{HasLines, HasBadSchema, IsBadAt}
 
 -- no script that is read is bad at a line
 abbrev pub ReadIsNotBad : Type 0
 ReadIsNotBad = (text : List ℕ) (members : ℕ) (schema : Tables) (lines : List Line) (k : ℕ) → HasLines text members schema lines → ¬ IsBadAt text k
+
+-- nor is its schema refused
+abbrev pub ReadIsNotRefused : Type 0
+ReadIsNotRefused = (text : List ℕ) (members : ℕ) (schema : Tables) (lines : List Line) (refusal : Refusal) → HasLines text members schema lines → ¬ HasBadSchema text refusal
