@@ -90,6 +90,14 @@ module _ (stage later : Stage) (before : List (List ℕ)) (line : List ℕ) (aft
   bad_within goes (inl (counts, wrong)) = wrong_ends before between line counts stage later begun wrong (subst (IsBegun later) longer goes)
   bad_within goes (inr (last, missing)) = not_nothing between next rest (sym then ∙ last)
 
+bad_alike : (text : List ℕ) (k j : ℕ) (b : IsBadAt text k) (c : IsBadAt text j) → Places b.before b.line b.after c.before c.line c.after → k ≡ j
+bad_alike text k j b c (Same e l a) = omega (arith, b.number, c.number, ap length e)
+bad_alike text k j b c (Earlier between e a) = absurd (bad_within b.stage c.stage b.before b.line b.after c.before between c.line c.after b.begun e a c.begun b.bad)
+bad_alike text k j b c (Later between e a) = absurd (bad_within c.stage b.stage c.before c.line c.after b.before between b.line b.after c.begun e a b.begun c.bad)
+
+pub one_bad_line : (text : List ℕ) (k j : ℕ) → IsBadAt text k → IsBadAt text j → k ≡ j
+one_bad_line text k j b c = bad_alike text k j b c (places b.before b.line b.after c.before c.line c.after (sym b.whole ∙ c.whole))
+
 -- ---- scripts that are read
 
 -- after the schema a script may end

@@ -1,5 +1,5 @@
 -- Laws of scripts: the ways in which a text is answered exclude one another.
-use Rattle.std.specs.Prelude.{ℕ, List}
+use Rattle.std.specs.Prelude.{◌≡◌, ℕ, List}
 use Rattle.fault.specs.declared.refusal.Refusal.{Refusal}
 use Rattle.sqlchecks.specs.Columns.{Tables}
 use Rattle.lines.specs.declared.line.Line.{Line}
@@ -12,3 +12,7 @@ ReadIsNotBad = (text : List ℕ) (members : ℕ) (schema : Tables) (lines : List
 -- nor is its schema refused
 abbrev pub ReadIsNotRefused : Type 0
 ReadIsNotRefused = (text : List ℕ) (members : ℕ) (schema : Tables) (lines : List Line) (refusal : Refusal) → HasLines text members schema lines → ¬ HasBadSchema text refusal
+
+-- a script is bad at one line at most
+abbrev pub OneBadLine : Type 0
+OneBadLine = (text : List ℕ) (k j : ℕ) → IsBadAt text k → IsBadAt text j → k ≡ j
