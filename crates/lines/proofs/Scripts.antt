@@ -3,7 +3,7 @@ use Rattle.std.proofs.Common.{◌≡◌, ◌≢◌, ◌∙◌, ◌<◌, true, fa
 use Rattle.std.specs.Prelude.{◌==◌, All, IfSome, IfNone, MatchOption, codes}
 use Rattle.std.specs.List.{position_or_len, before_first, after_first}
 use Rattle.std.proofs.lemmas.List.{map-append, flat_map_more}
-use Rattle.std.proofs.lemmas.List.Splits.{slice_split_first, slice_split_none}
+use Rattle.std.proofs.lemmas.List.Splits.{slice_split_first, slice_split_none, length-slice_split}
 use Rattle.std.proofs.lemmas.List.Sums.{fails_before_first}
 use Rattle.std.proofs.lemmas.List.Elements.{filter-append, All-push}
 use Rattle.fault.specs.declared.refusal.Refusal.{Refusal}
@@ -29,6 +29,9 @@ pub pieces_last : (text : List ℕ) (r : Option (Bor (List ℕ) × Bor (List ℕ
     → IfNone r (pieces text ≡ text ∷ [])
 pieces_last text None h = slice_split_none (λ b. b == 10) text (λ k d lt. fails_before_first (λ b. b == 10) text k d (omega (arith, lt, h)))
 pieces_last text (Some x) h = tt
+
+some_piece : (text : List ℕ) → pieces text ≢ []
+some_piece text e = omega (arith, ap length e, length-slice_split (λ c. c == 10) text)
 
 -- ---- lines that were taken off
 
@@ -275,7 +278,7 @@ module _ (members number number' : ℕ) (text rest after block : List ℕ) (open
   }
 
   bad_schema_of : (refusal : Refusal) → SchemaSays block (Err refusal) → HasBadSchema text refusal
-  bad_schema_of refusal says = (members, block, pieces after, rw through_taken.0 (parts_of (pieces after)), says)
+  bad_schema_of refusal says = (members, block, pieces after, rw through_taken.0 (parts_of (pieces after)), some_piece after, says)
 
   -- the schema's refusal
   pub schema_fault : (refusal : Refusal) → (refusal ≡ NoMemory) ⊎ SchemaSays block (Err refusal) → IsScriptFault text refusal

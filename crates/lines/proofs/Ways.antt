@@ -129,6 +129,51 @@ module _ (one_schema : SaysOneSchema) where
   not_both block schema refusal says refused = let same : Ok schema ≡ Err refusal = one_schema block (Ok schema) (Err refusal) says refused in cc
 
   pub read_is_not_refused : (text : List ℕ) (members : ℕ) (schema : Tables) (lines : List Line) (refusal : Refusal) → HasLines text members schema lines → ¬ HasBadSchema text refusal
-  read_is_not_refused text members schema lines refusal r (n, block, rest, p, refused) =
+  read_is_not_refused text members schema lines refusal r (n, block, rest, p, some, refused) =
       let same = same_parts (pieces text) members n r.block block (r.rest ++ [] ∷ []) rest r.parts p in
       not_both block schema refusal (subst (λ b. SchemaSays b (Ok schema)) same.1 r.says) refused
+
+  module _ (m : ℕ) (block : List ℕ) (refusal : Refusal) (refused : SchemaSays block (Err refusal)) where
+    -- past a schema that is refused no script goes
+    unread : (lines : List (List ℕ)) (rest : List (List ℕ)) → HasParts lines m block rest → (stage : Stage) → ¬ IsBegun stage lines
+    unread lines rest p Opening begun = past_opening lines m block rest p begun
+    unread lines rest p (Named n) begun = past_named lines m block rest p n begun.0
+    unread lines rest p Within begun = past_block lines m block rest p begun
+    unread lines rest p (After n) (schema, rest', tables, said, p', says, counts, range) =
+        let same = same_parts lines n m schema block rest' rest p' p in
+        not_both block tables refusal (subst (λ b. SchemaSays b (Ok tables)) same.1 says) refused
+
+    -- nor is a line before it bad
+    module _ (before more rest : List (List ℕ)) (line : List ℕ) (counts : is_skipped line ≡ false) (p : HasParts (before ++ line ∷ more) m block rest) where
+      unread_line : (stage : Stage) → IsBegun stage before → ¬ IsWrong stage line
+      unread_line Opening begun wrong = no_opening before more line counts begun wrong m (codes "schema" ∷ counted (p.block ++ codes "end" ∷ rest)) p.group (parts_counted (before ++ line ∷ more) m block rest p)
+      unread_line (Named n) begun wrong = no_schema before more line counts n m (counted (p.block ++ codes "end" ∷ rest)) begun.0 wrong (parts_counted (before ++ line ∷ more) m block rest p)
+      unread_line Within begun wrong = wrong
+      unread_line (After n) (schema, rest', tables, said, p', says, counts', range) wrong =
+          let same = same_parts (before ++ line ∷ more) n m schema block (rest' ++ line ∷ more) rest (parts_more before n schema rest' (line ∷ more) p') p in
+          not_both block tables refusal (subst (λ b. SchemaSays b (Ok tables)) same.1 says) refused
+
+    module _ (front : List (List ℕ)) (p : HasParts front m block []) (next : List ℕ) (rest : List (List ℕ)) (stage : Stage) (before : List (List ℕ)) (line : List ℕ) (after : List (List ℕ)) (begun : IsBegun stage before) where
+      unread_within : (between : List (List ℕ)) → front ≡ before ++ line ∷ between → after ≡ between ++ next ∷ rest → ¬ (((is_skipped line ≡ false) × IsWrong stage line) ⊎ ((after ≡ []) × IsMissing stage line))
+      unread_within between e then (inl (counts, wrong)) = unread_line before between [] line counts (subst (λ ls. HasParts ls m block []) e p) stage begun wrong
+      unread_within between e then (inr (last, missing)) = not_nothing between next rest (sym then ∙ last)
+
+      unread_nowhere : ((is_skipped line ≡ false) × IsWrong stage line) ⊎ ((after ≡ []) × IsMissing stage line) → ¬ Places before line after front next rest
+      unread_nowhere bad (Same b l a) = unread front [] p stage (subst (IsBegun stage) b begun)
+      unread_nowhere bad (Earlier between b a) = unread_within between b a bad
+      unread_nowhere bad (Later between b a) = unread (front ++ next ∷ between) (next ∷ between) (parts_more front m block [] (next ∷ between) p) stage (subst (IsBegun stage) b begun)
+
+    bad_not_refused : (text : List ℕ) (k : ℕ) (rest : List (List ℕ)) → IsBadAt text k → HasParts (pieces text) m block rest → ¬ (rest ≢ [])
+    bad_not_refused text k [] b p some = some refl
+    bad_not_refused text k (next ∷ rest) b p some =
+        let front = parts_less (pieces text) m block [] (next ∷ rest) p in
+        unread_nowhere front.0 front.1 next rest b.stage b.before b.line b.after b.begun b.bad (places b.before b.line b.after front.0 next rest (sym b.whole ∙ front.2))
+
+  pub bad_is_not_refused : (text : List ℕ) (k : ℕ) (refusal : Refusal) → IsBadAt text k → ¬ HasBadSchema text refusal
+  bad_is_not_refused text k refusal b (m, block, rest, p, some, refused) = bad_not_refused m block refusal refused text k rest b p some
+
+  pub one_refusal : (text : List ℕ) (q r : Refusal) → HasBadSchema text q → HasBadSchema text r → q ≡ r
+  one_refusal text q r (m, block, rest, p, some, refused) (n, block', rest', p', some', refused') =
+      let same = same_parts (pieces text) m n block block' rest rest' p p' in
+      let one : Err q ≡ Err r = one_schema block' (Err q) (Err r) (subst (λ b. SchemaSays b (Err q)) same.1 refused) refused' in
+      cc

@@ -13,6 +13,14 @@ ReadIsNotBad = (text : List ℕ) (members : ℕ) (schema : Tables) (lines : List
 abbrev pub ReadIsNotRefused : Type 0
 ReadIsNotRefused = (text : List ℕ) (members : ℕ) (schema : Tables) (lines : List Line) (refusal : Refusal) → HasLines text members schema lines → ¬ HasBadSchema text refusal
 
+-- no script that is bad at a line has a schema that is refused
+abbrev pub BadIsNotRefused : Type 0
+BadIsNotRefused = (text : List ℕ) (k : ℕ) (refusal : Refusal) → IsBadAt text k → ¬ HasBadSchema text refusal
+
 -- a script is bad at one line at most
 abbrev pub OneBadLine : Type 0
 OneBadLine = (text : List ℕ) (k j : ℕ) → IsBadAt text k → IsBadAt text j → k ≡ j
+
+-- a schema is refused in one way
+abbrev pub OneRefusal : Type 0
+OneRefusal = (text : List ℕ) (q r : Refusal) → HasBadSchema text q → HasBadSchema text r → q ≡ r

@@ -54,9 +54,9 @@ pub record HasLines (text : List ℕ) (members : ℕ) (schema : Tables) (lines :
   pub counts : counted rest ≡ map line_text lines
   pub range : All (IsInRange members) lines
 
--- the script is for so many members, and its schema is refused so
+-- the script is for so many members, LF ends the line `end` of its schema, and the schema is refused so
 abbrev pub HasBadSchema : List ℕ → Refusal → Type 0
-HasBadSchema text refusal = (members : ℕ) × (block : List ℕ) × (rest : List (List ℕ)) × HasParts (pieces text) members block rest × SchemaSays block (Err refusal)
+HasBadSchema text refusal = (members : ℕ) × (block : List ℕ) × (rest : List (List ℕ)) × HasParts (pieces text) members block rest × (rest ≢ []) × SchemaSays block (Err refusal)
 
 -- ---- faults
 

@@ -1,17 +1,21 @@
 //! Laws of scripts. No function here does anything, save to call upon another law: what it is for is
 //! its contract, which a caller has as a fact.
-ghost use Rattle.lines.specs.Laws.{ReadIsNotBad, ReadIsNotRefused, OneBadLine};
+ghost use Rattle.lines.specs.Laws.{ReadIsNotBad, ReadIsNotRefused, BadIsNotRefused, OneBadLine, OneRefusal};
 
 /// The ways in which a text is answered exclude one another: no script that is read is bad at a line,
-/// nor is its schema refused.
+/// or has a schema that is refused, and none that is bad at a line has a schema that is refused.
 pub fn ways_apart()
     ensures bad { ReadIsNotBad }
     ensures refused { ReadIsNotRefused }
+    ensures bad_or_refused { BadIsNotRefused }
 {
     schemaread::laws::schema_says();
 }
 
-/// A script is bad at one line at most.
+/// A script is bad at one line at most, and its schema is refused in one way.
 pub fn one_answer()
-    ensures { OneBadLine }
-{}
+    ensures line { OneBadLine }
+    ensures refusal { OneRefusal }
+{
+    schemaread::laws::schema_says();
+}

@@ -1,5 +1,8 @@
-use Rattle.lines.proofs.Ways.{one_bad_line}
+use Rattle.lines.proofs.Ways.{one_bad_line, one_refusal}
 use Rattle.lines.proofs.laws.one_answer.Goals as goal
 
-pub returns : goal.returns
-returns c = one_bad_line
+pub returns-clause-line : goal.returns-clause-line
+returns-clause-line c = one_bad_line
+
+pub returns-clause-refusal : goal.returns-clause-refusal
+returns-clause-refusal c = one_refusal c.schema_says.ensures.one
