@@ -3,3 +3,4 @@ pub mod Scripts
 pub mod Lines
 pub mod Parts
 pub mod Ways
+pub mod Texts

@@ -49,7 +49,7 @@ not_spaced : (text v x : List ℕ) → HasNoSpace text → text ≢ v ++ 32 ∷ 
 not_spaced text v x h e = spaced v x (subst HasNoSpace e h)
 
 -- the first space divides a text in one way
-same_split : (v w x y : List ℕ) → HasNoSpace v → HasNoSpace w → v ++ 32 ∷ x ≡ w ++ 32 ∷ y → (v ≡ w) × (x ≡ y)
+pub same_split : (v w x y : List ℕ) → HasNoSpace v → HasNoSpace w → v ++ 32 ∷ x ≡ w ++ 32 ∷ y → (v ≡ w) × (x ≡ y)
 same_split [] [] x y hv hw e = (refl, ap (drop 1) e)
 same_split [] (d ∷ w) x y hv hw e = absurd (hw 0 (omega arith) (ap (λ l. get_or l 0 0) (sym e)))
 same_split (c ∷ v) [] x y hv hw e = absurd (hv 0 (omega arith) (ap (λ l. get_or l 0 0) e))
@@ -58,13 +58,17 @@ same_split (c ∷ v) (d ∷ w) x y hv hw e =
     let first : c ≡ d = ap (λ l. get_or l 0 0) e in
     ((λ i. first i ∷ rest.0 i), rest.1)
 
-decimal_no_space : (n : ℕ) → n < 2 ^ 64 → HasNoSpace (decimal n)
+pub decimal_no_space : (n : ℕ) → n < 2 ^ 64 → HasNoSpace (decimal n)
 decimal_no_space n small = not_in_digits own (decimal n) 32 (digits_decimal own n small) (outside 32 (omega arith))
 
-left_no_space : (left : Left) → HasNoSpace (left_text left)
+pub left_no_space : (left : Left) → HasNoSpace (left_text left)
 unfolding has_space
 left_no_space Old = no_space_test (codes "old") refl
 left_no_space New = no_space_test (codes "new") refl
+
+pub all_no_space : HasNoSpace (codes "all")
+unfolding has_space
+all_no_space = no_space_test (codes "all") refl
 
 -- a number stands before the first space
 same_number : (n : ℕ) (rest word after text : List ℕ) → n < 2 ^ 64 → rest ≡ word ++ 32 ∷ after → HasNoSpace word → rest ≡ decimal n ++ 32 ∷ text → (word ≡ decimal n) × (after ≡ text)
@@ -128,7 +132,7 @@ job_word text word rest is first submit deliver (jobs.Deliver m) range e = deliv
 -- ---- which line a text is
 
 -- the first four bytes of a text, as a number
-abbrev kind : List ℕ → ℕ
+abbrev pub kind : List ℕ → ℕ
 kind text = get_or text 0 0 + 256 * (get_or text 1 0 + 256 * (get_or text 2 0 + 256 * get_or text 3 0))
 
 module _ (members : ℕ) (rest : List ℕ) where

@@ -1,8 +1,9 @@
 -- Laws of scripts: the ways in which a text is answered exclude one another.
-use Rattle.std.specs.Prelude.{◌≡◌, ℕ, List}
+use Rattle.std.specs.Prelude.{◌≡◌, ℕ, ◌<◌, ◌^◌, List}
 use Rattle.fault.specs.declared.refusal.Refusal.{Refusal}
 use Rattle.sqlchecks.specs.Columns.{Tables}
 use Rattle.lines.specs.declared.line.Line.{Line}
+use Rattle.lines.specs.Line.{line_text, IsInRange}
 use Rattle.lines.specs.Script.{HasLines, HasBadSchema, IsBadAt}
 
 -- no script that is read is bad at a line
@@ -24,3 +25,7 @@ OneBadLine = (text : List ℕ) (k j : ℕ) → IsBadAt text k → IsBadAt text j
 -- a schema is refused in one way
 abbrev pub OneRefusal : Type 0
 OneRefusal = (text : List ℕ) (q r : Refusal) → HasBadSchema text q → HasBadSchema text r → q ≡ r
+
+-- a line in range has a text of its own
+abbrev pub OneLine : Type 0
+OneLine = (members : ℕ) (a b : Line) → members < 2 ^ 64 → IsInRange members a → IsInRange members b → line_text a ≡ line_text b → a ≡ b

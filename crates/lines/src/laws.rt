@@ -1,6 +1,6 @@
 //! Laws of scripts. No function here does anything, save to call upon another law: what it is for is
 //! its contract, which a caller has as a fact.
-ghost use Rattle.lines.specs.Laws.{ReadIsNotBad, ReadIsNotRefused, BadIsNotRefused, OneBadLine, OneRefusal};
+ghost use Rattle.lines.specs.Laws.{ReadIsNotBad, ReadIsNotRefused, BadIsNotRefused, OneBadLine, OneRefusal, OneLine};
 
 /// The ways in which a text is answered exclude one another: no script that is read is bad at a line,
 /// or has a schema that is refused, and none that is bad at a line has a schema that is refused.
@@ -19,3 +19,8 @@ pub fn one_answer()
 {
     schemaread::laws::schema_says();
 }
+
+/// A line in range has a text of its own.
+pub fn line_texts()
+    ensures { OneLine }
+{}
