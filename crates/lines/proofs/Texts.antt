@@ -1,8 +1,9 @@
 -- Each line in range has a text of its own.
 use Rattle.std.proofs.Common.{◌≡◌, ◌≢◌, ◌∙◌, ◌^◌, ◌<◌, ℕ, ℤ, pos, negsuc, true, false, List, [], ◌∷◌, ◌++◌, get_or, drop, refl, sym, ap, arith, eq-eqb, Some, None}
-use Rattle.std.specs.Prelude.{◌==◌, codes, decimal}
+use Rattle.std.specs.Prelude.{All, map, ◌==◌, codes, decimal}
 use Rattle.std.specs.Fmt.{signed_decimal}
 use Rattle.std.specs.Int.{IsInRange as IsBetween}
+use Rattle.std.proofs.lemmas.List.Elements.{All-head, All-tail}
 use Rattle.std.proofs.lemmas.Str.Parse.{not_in_digits}
 use Rattle.std.proofs.lemmas.Fmt.{digits_decimal, decimal_injective, decimal_nonempty, signed_decimal_injective}
 use lib.Signed.{mag}
@@ -139,3 +140,15 @@ module _ (members : ℕ) (few : members < 2 ^ 64) where
 
 pub line_texts : (members : ℕ) (a b : Line) → members < 2 ^ 64 → IsInRange members a → IsInRange members b → line_text a ≡ line_text b → a ≡ b
 line_texts members a b few h k e = same_line members few a b h k e
+
+-- lines in range with the same texts are the same
+pub same_said : (members : ℕ) → members < 2 ^ 64 → (lines lines' : List Line) → All (IsInRange members) lines → All (IsInRange members) lines' → map line_text lines ≡ map line_text lines' → lines ≡ lines'
+same_said members few [] [] h k e = refl
+same_said members few [] (b ∷ bs) h k e = absurd cc
+same_said members few (l ∷ ls) [] h k e = absurd cc
+same_said members few (l ∷ ls) (b ∷ bs) h k e =
+    let first : line_text l ≡ line_text b = cc in
+    let rest : map line_text ls ≡ map line_text bs = cc in
+    let one = same_line members few l b (All-head (IsInRange members) l ls h) (All-head (IsInRange members) b bs k) first in
+    let more = same_said members few ls bs (All-tail (IsInRange members) l ls h) (All-tail (IsInRange members) b bs k) rest in
+    λ i. one i ∷ more i

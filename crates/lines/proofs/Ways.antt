@@ -1,6 +1,7 @@
 -- No script begins with a line that may not stand there, so the ways in which a script is answered exclude one another.
-use Rattle.std.proofs.Common.{◌≡◌, ◌≢◌, ◌∙◌, ◌⊎◌, inl, inr, Ok, Err, true, false, sym, refl, ap, subst, ℕ, List, [], ◌∷◌, ◌++◌, map, length, length-append, arith}
+use Rattle.std.proofs.Common.{◌<◌, ◌^◌, ◌≡◌, ◌≢◌, ◌∙◌, ◌⊎◌, inl, inr, Ok, Err, true, false, sym, refl, ap, subst, ℕ, List, [], ◌∷◌, ◌++◌, map, length, length-append, arith}
 use Rattle.std.specs.Prelude.{All, codes}
+use Rattle.std.proofs.lemmas.List.{same_from_push}
 use Rattle.std.proofs.lemmas.List.Elements.{All-head, All-tail}
 use Rattle.fault.specs.declared.refusal.Refusal.{Refusal}
 use Rattle.sqlchecks.specs.Columns.{Tables}
@@ -11,6 +12,7 @@ use Rattle.lines.specs.Line.{line_text, IsInRange}
 use Rattle.lines.specs.Script.{is_skipped, counted, pieces, members_text, IsMemberCount, HasParts, HasLines, HasBadSchema, Stage, IsBegun, IsWrong, IsMissing, IsBadAt}
 use Rattle.lines.specs.Script.Stage.{Opening, Named, Within, After}
 use Rattle.lines.proofs.Parts.{Places, places, counted_at, opening_counted, same_opening, no_end_within, same_parts, parts_counted, parts_more, parts_less}
+use Rattle.lines.proofs.Texts.{same_said}
 use Rattle.lines.proofs.Parts.Places.{Same, Earlier, Later}
 
 -- ---- what lines up to `end` are not
@@ -177,3 +179,12 @@ module _ (one_schema : SaysOneSchema) where
       let same = same_parts (pieces text) m n block block' rest rest' p p' in
       let one : Err q ≡ Err r = one_schema block' (Err q) (Err r) (subst (λ b. SchemaSays b (Err q)) same.1 refused) refused' in
       cc
+
+  pub one_reading : (text : List ℕ) (m n : ℕ) (schema schema' : Tables) (lines lines' : List Line) → HasLines text m schema lines → HasLines text n schema' lines' → (m ≡ n) × (schema ≡ schema') × (lines ≡ lines')
+  one_reading text m n schema schema' lines lines' r q =
+      let same = same_parts (pieces text) m n r.block q.block (r.rest ++ [] ∷ []) (q.rest ++ [] ∷ []) r.parts q.parts in
+      let tables : Ok schema ≡ Ok schema' = one_schema q.block (Ok schema) (Ok schema') (subst (λ b. SchemaSays b (Ok schema)) same.1 r.says) q.says in
+      let rest = same_from_push r.rest q.rest [] [] same.2 in
+      let few : n < 2 ^ 64 = omega (arith, q.parts.group) in
+      let range : All (IsInRange n) lines = subst (λ k. All (IsInRange k) lines) same.0 r.range in
+      (same.0, cc, same_said n few lines lines' range q.range (sym r.counts ∙ ap counted rest.0 ∙ q.counts))

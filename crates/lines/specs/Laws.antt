@@ -29,3 +29,7 @@ OneRefusal = (text : List ℕ) (q r : Refusal) → HasBadSchema text q → HasBa
 -- a line in range has a text of its own
 abbrev pub OneLine : Type 0
 OneLine = (members : ℕ) (a b : Line) → members < 2 ^ 64 → IsInRange members a → IsInRange members b → line_text a ≡ line_text b → a ≡ b
+
+-- a script is read in one way
+abbrev pub OneReading : Type 0
+OneReading = (text : List ℕ) (m n : ℕ) (schema schema' : Tables) (lines lines' : List Line) → HasLines text m schema lines → HasLines text n schema' lines' → (m ≡ n) × (schema ≡ schema') × (lines ≡ lines')

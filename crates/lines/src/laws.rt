@@ -1,6 +1,6 @@
 //! Laws of scripts. No function here does anything, save to call upon another law: what it is for is
 //! its contract, which a caller has as a fact.
-ghost use Rattle.lines.specs.Laws.{ReadIsNotBad, ReadIsNotRefused, BadIsNotRefused, OneBadLine, OneRefusal, OneLine};
+ghost use Rattle.lines.specs.Laws.{ReadIsNotBad, ReadIsNotRefused, BadIsNotRefused, OneBadLine, OneRefusal, OneReading, OneLine};
 
 /// The ways in which a text is answered exclude one another: no script that is read is bad at a line,
 /// or has a schema that is refused, and none that is bad at a line has a schema that is refused.
@@ -12,10 +12,11 @@ pub fn ways_apart()
     schemaread::laws::schema_says();
 }
 
-/// A script is bad at one line at most, and its schema is refused in one way.
+/// A script is bad at one line at most, its schema is refused in one way, and it is read in one way.
 pub fn one_answer()
     ensures line { OneBadLine }
     ensures refusal { OneRefusal }
+    ensures reading { OneReading }
 {
     schemaread::laws::schema_says();
 }
