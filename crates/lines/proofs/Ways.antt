@@ -4,12 +4,13 @@ use Rattle.std.specs.Prelude.{All, codes}
 use Rattle.std.proofs.lemmas.List.{same_from_push}
 use Rattle.std.proofs.lemmas.List.Elements.{All-head, All-tail}
 use Rattle.fault.specs.declared.refusal.Refusal.{Refusal}
+use Rattle.fault.specs.declared.refusal.Refusal.TheVariants.{NoMemory, BadScript}
 use Rattle.sqlchecks.specs.Columns.{Tables}
 use Rattle.schemaread.specs.Schemas.{SchemaSays}
 use Rattle.schemaread.specs.Laws.{SaysOneSchema}
 use Rattle.lines.specs.declared.line.Line.{Line}
 use Rattle.lines.specs.Line.{line_text, IsInRange}
-use Rattle.lines.specs.Script.{is_skipped, counted, pieces, members_text, IsMemberCount, HasParts, HasLines, HasBadSchema, Stage, IsBegun, IsWrong, IsMissing, IsBadAt}
+use Rattle.lines.specs.Script.{is_skipped, counted, pieces, members_text, IsMemberCount, HasParts, HasLines, HasBadSchema, Stage, IsBegun, IsWrong, IsMissing, IsBadAt, IsScriptFault}
 use Rattle.lines.specs.Script.Stage.{Opening, Named, Within, After}
 use Rattle.lines.proofs.Parts.{Places, places, counted_at, opening_counted, same_opening, no_end_within, same_parts, parts_counted, parts_more, parts_less}
 use Rattle.lines.proofs.Texts.{same_said}
@@ -188,3 +189,18 @@ module _ (one_schema : SaysOneSchema) where
       let few : n < 2 ^ 64 = omega (arith, q.parts.group) in
       let range : All (IsInRange n) lines = subst (λ k. All (IsInRange k) lines) same.0 r.range in
       (same.0, cc, same_said n few lines lines' range q.range (sym r.counts ∙ ap counted rest.0 ∙ q.counts))
+
+  -- ---- faults
+
+  pub read_has_no_fault : (text : List ℕ) (members : ℕ) (schema : Tables) (lines : List Line) (refusal : Refusal) → HasLines text members schema lines → IsScriptFault text refusal → refusal ≡ NoMemory
+  read_has_no_fault text members schema lines refusal r (inl memory) = memory
+  read_has_no_fault text members schema lines refusal r (inr (inl (k, e, b))) = absurd (read_is_not_bad text members schema lines k r b)
+  read_has_no_fault text members schema lines refusal r (inr (inr refused)) = absurd (read_is_not_refused text members schema lines refusal r refused)
+
+  pub one_fault : (text : List ℕ) (q r : Refusal) → IsScriptFault text q → IsScriptFault text r → (q ≡ r) ⊎ (q ≡ NoMemory) ⊎ (r ≡ NoMemory)
+  one_fault text q r (inl memory) f = inr (inl memory)
+  one_fault text q r (inr f) (inl memory) = inr (inr memory)
+  one_fault text q r (inr (inl (k, e, b))) (inr (inl (j, d, c))) = inl (e ∙ ap BadScript (one_bad_line text k j b c) ∙ sym d)
+  one_fault text q r (inr (inl (k, e, b))) (inr (inr refused)) = absurd (bad_is_not_refused text k r b refused)
+  one_fault text q r (inr (inr refused)) (inr (inl (k, e, b))) = absurd (bad_is_not_refused text k q b refused)
+  one_fault text q r (inr (inr refused)) (inr (inr refused')) = inl (one_refusal text q r refused refused')

@@ -1,10 +1,11 @@
 -- Laws of scripts: the ways in which a text is answered exclude one another.
-use Rattle.std.specs.Prelude.{◌≡◌, ℕ, ◌<◌, ◌^◌, List}
+use Rattle.std.specs.Prelude.{◌≡◌, ◌⊎◌, ℕ, ◌<◌, ◌^◌, List}
 use Rattle.fault.specs.declared.refusal.Refusal.{Refusal}
+use Rattle.fault.specs.declared.refusal.Refusal.TheVariants.{NoMemory}
 use Rattle.sqlchecks.specs.Columns.{Tables}
 use Rattle.lines.specs.declared.line.Line.{Line}
 use Rattle.lines.specs.Line.{line_text, IsInRange}
-use Rattle.lines.specs.Script.{HasLines, HasBadSchema, IsBadAt}
+use Rattle.lines.specs.Script.{HasLines, HasBadSchema, IsBadAt, IsScriptFault}
 
 -- no script that is read is bad at a line
 abbrev pub ReadIsNotBad : Type 0
@@ -33,3 +34,11 @@ OneLine = (members : ℕ) (a b : Line) → members < 2 ^ 64 → IsInRange member
 -- a script is read in one way
 abbrev pub OneReading : Type 0
 OneReading = (text : List ℕ) (m n : ℕ) (schema schema' : Tables) (lines lines' : List Line) → HasLines text m schema lines → HasLines text n schema' lines' → (m ≡ n) × (schema ≡ schema') × (lines ≡ lines')
+
+-- so a script that is read is refused for want of memory alone
+abbrev pub ReadHasNoFault : Type 0
+ReadHasNoFault = (text : List ℕ) (members : ℕ) (schema : Tables) (lines : List Line) (refusal : Refusal) → HasLines text members schema lines → IsScriptFault text refusal → refusal ≡ NoMemory
+
+-- and two refusals of one text, memory aside, are the same
+abbrev pub OneFault : Type 0
+OneFault = (text : List ℕ) (q r : Refusal) → IsScriptFault text q → IsScriptFault text r → (q ≡ r) ⊎ (q ≡ NoMemory) ⊎ (r ≡ NoMemory)
