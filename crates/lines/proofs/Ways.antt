@@ -32,7 +32,8 @@ module _ (lines : List (List ℕ)) (m : ℕ) (schema : List ℕ) (rest : List (L
 -- ---- a line that counts and may not stand there
 
 -- a line among those that say lines is the text of one
-line_among : (front : List (List ℕ)) (line : List ℕ) (back : List (List ℕ)) (m : ℕ) (lines : List Line) → All (IsInRange m) lines → front ++ line ∷ back ≡ map line_text lines → (said : Line) × IsInRange m said × (line ≡ line_text said)
+line_among : (front : List (List ℕ)) (line : List ℕ) (back : List (List ℕ)) (m : ℕ) (lines : List Line) → All (IsInRange m) lines → front ++ line ∷ back ≡ map line_text lines
+    → (said : Line) × IsInRange m said × (line ≡ line_text said)
 line_among [] line back m [] range e = absurd cc
 line_among [] line back m (l ∷ ls) range e = (l, All-head (IsInRange m) l ls range, cc)
 line_among (f ∷ fs) line back m [] range e = absurd cc
@@ -87,11 +88,15 @@ module _ (before more : List (List ℕ)) (line : List ℕ) (counts : is_skipped 
 not_nothing : (between : List (List ℕ)) (line : List ℕ) (rest : List (List ℕ)) → between ++ line ∷ rest ≢ []
 not_nothing between line rest e = omega (arith, ap length e, length-append between (line ∷ rest))
 
-module _ (stage later : Stage) (before : List (List ℕ)) (line : List ℕ) (after lines between : List (List ℕ)) (next : List ℕ) (rest : List (List ℕ)) (begun : IsBegun stage before) (longer : lines ≡ before ++ line ∷ between) (then : after ≡ between ++ next ∷ rest) where
-  -- a bad line stands in no longer beginning of a script
-  bad_within : IsBegun later lines → ¬ (((is_skipped line ≡ false) × IsWrong stage line) ⊎ ((after ≡ []) × IsMissing stage line))
-  bad_within goes (inl (counts, wrong)) = wrong_ends before between line counts stage later begun wrong (subst (IsBegun later) longer goes)
-  bad_within goes (inr (last, missing)) = not_nothing between next rest (sym then ∙ last)
+-- it counts and may not stand there, or no LF ends it
+abbrev IsBadThere : Stage → List ℕ → List (List ℕ) → Type 0
+IsBadThere stage line after = ((is_skipped line ≡ false) × IsWrong stage line) ⊎ ((after ≡ []) × IsMissing stage line)
+
+-- a bad line stands in no longer beginning of a script
+module _ (stage later : Stage) (before : List (List ℕ)) (line : List ℕ) (after lines between : List (List ℕ)) (next : List ℕ) (rest : List (List ℕ)) (begun : IsBegun stage before) where
+  bad_within : lines ≡ before ++ line ∷ between → after ≡ between ++ next ∷ rest → IsBegun later lines → ¬ IsBadThere stage line after
+  bad_within longer then goes (inl (counts, wrong)) = wrong_ends before between line counts stage later begun wrong (subst (IsBegun later) longer goes)
+  bad_within longer then goes (inr (last, missing)) = not_nothing between next rest (sym then ∙ last)
 
 bad_alike : (text : List ℕ) (k j : ℕ) (b : IsBadAt text k) (c : IsBadAt text j) → Places b.before b.line b.after c.before c.line c.after → k ≡ j
 bad_alike text k j b c (Same e l a) = omega (arith, b.number, c.number, ap length e)
@@ -110,20 +115,21 @@ may_end lines m schema rest p (Named n) begun missing = past_named lines m schem
 may_end lines m schema rest p Within begun missing = past_block lines m schema rest p begun
 may_end lines m schema rest p (After n) begun missing = missing refl
 
-module _ (front : List (List ℕ)) (m : ℕ) (read : IsBegun (After m) front) (stage : Stage) (before : List (List ℕ)) (line : List ℕ) (after : List (List ℕ)) (begun : IsBegun stage before) (bad : ((is_skipped line ≡ false) × IsWrong stage line) ⊎ ((after ≡ []) × IsMissing stage line)) where
-  bad_last : before ≡ front → line ≡ [] → ¬ (((is_skipped line ≡ false) × IsWrong stage line) ⊎ ((after ≡ []) × IsMissing stage line))
+module _ (front : List (List ℕ)) (m : ℕ) (read : IsBegun (After m) front) (stage : Stage) (before : List (List ℕ)) (line : List ℕ) (after : List (List ℕ)) (begun : IsBegun stage before) where
+  bad_last : before ≡ front → line ≡ [] → ¬ IsBadThere stage line after
   bad_last b l (inl (counts, wrong)) = let skipped : true ≡ false = ap is_skipped (sym l) ∙ counts in cc
   bad_last b l (inr (last, missing)) = may_end front m read.0 read.1 read.4 stage (subst (IsBegun stage) b begun) (subst (IsMissing stage) l missing)
 
-  bad_nowhere : Places before line after front [] [] → ⊥
-  bad_nowhere (Same b l a) = bad_last b l bad
-  bad_nowhere (Earlier between b a) = bad_within stage (After m) before line after front between [] [] begun b a read bad
-  bad_nowhere (Later between b a) = not_nothing between line after (sym a)
+  bad_nowhere : IsBadThere stage line after → ¬ Places before line after front [] []
+  bad_nowhere bad (Same b l a) = bad_last b l bad
+  bad_nowhere bad (Earlier between b a) = bad_within stage (After m) before line after front between [] [] begun b a read bad
+  bad_nowhere bad (Later between b a) = not_nothing between line after (sym a)
 
 pub read_is_not_bad : (text : List ℕ) (members : ℕ) (schema : Tables) (lines : List Line) (k : ℕ) → HasLines text members schema lines → ¬ IsBadAt text k
 read_is_not_bad text members schema lines k r b =
     let front = parts_less (pieces text) members r.block r.rest ([] ∷ []) r.parts in
-    bad_nowhere front.0 members (r.block, r.rest, schema, lines, front.1, r.says, r.counts, r.range) b.stage b.before b.line b.after b.begun b.bad (places b.before b.line b.after front.0 [] [] (sym b.whole ∙ front.2))
+    bad_nowhere front.0 members (r.block, r.rest, schema, lines, front.1, r.says, r.counts, r.range) b.stage b.before b.line b.after b.begun b.bad
+    (places b.before b.line b.after front.0 [] [] (sym b.whole ∙ front.2))
 
 -- ---- schemas that are refused
 
@@ -157,11 +163,11 @@ module _ (one_schema : SaysOneSchema) where
           not_both block tables refusal (subst (λ b. SchemaSays b (Ok tables)) same.1 says) refused
 
     module _ (front : List (List ℕ)) (p : HasParts front m block []) (next : List ℕ) (rest : List (List ℕ)) (stage : Stage) (before : List (List ℕ)) (line : List ℕ) (after : List (List ℕ)) (begun : IsBegun stage before) where
-      unread_within : (between : List (List ℕ)) → front ≡ before ++ line ∷ between → after ≡ between ++ next ∷ rest → ¬ (((is_skipped line ≡ false) × IsWrong stage line) ⊎ ((after ≡ []) × IsMissing stage line))
+      unread_within : (between : List (List ℕ)) → front ≡ before ++ line ∷ between → after ≡ between ++ next ∷ rest → ¬ IsBadThere stage line after
       unread_within between e then (inl (counts, wrong)) = unread_line before between [] line counts (subst (λ ls. HasParts ls m block []) e p) stage begun wrong
       unread_within between e then (inr (last, missing)) = not_nothing between next rest (sym then ∙ last)
 
-      unread_nowhere : ((is_skipped line ≡ false) × IsWrong stage line) ⊎ ((after ≡ []) × IsMissing stage line) → ¬ Places before line after front next rest
+      unread_nowhere : IsBadThere stage line after → ¬ Places before line after front next rest
       unread_nowhere bad (Same b l a) = unread front [] p stage (subst (IsBegun stage) b begun)
       unread_nowhere bad (Earlier between b a) = unread_within between b a bad
       unread_nowhere bad (Later between b a) = unread (front ++ next ∷ between) (next ∷ between) (parts_more front m block [] (next ∷ between) p) stage (subst (IsBegun stage) b begun)
@@ -170,7 +176,8 @@ module _ (one_schema : SaysOneSchema) where
     bad_not_refused text k [] b p some = some refl
     bad_not_refused text k (next ∷ rest) b p some =
         let front = parts_less (pieces text) m block [] (next ∷ rest) p in
-        unread_nowhere front.0 front.1 next rest b.stage b.before b.line b.after b.begun b.bad (places b.before b.line b.after front.0 next rest (sym b.whole ∙ front.2))
+        unread_nowhere front.0 front.1 next rest b.stage b.before b.line b.after b.begun b.bad
+        (places b.before b.line b.after front.0 next rest (sym b.whole ∙ front.2))
 
   pub bad_is_not_refused : (text : List ℕ) (k : ℕ) (refusal : Refusal) → IsBadAt text k → ¬ HasBadSchema text refusal
   bad_is_not_refused text k refusal b (m, block, rest, p, some, refused) = bad_not_refused m block refusal refused text k rest b p some
