@@ -1,7 +1,7 @@
 -- Queries and their answers: FOR SYSTEM_TIME AS OF, FROM .. TO and BETWEEN .. AND over the system-versioned tables of
 -- SQL:2011, instant by instant. Three choices are this product's own: a row's system end is shown only where it is not
 -- after the query's last instant, a query without system time is AS OF the closed time, and rows come in an order.
-use Rattle.std.specs.Prelude.{◌≡◌, ℕ, ◌-◌, ◌<◌, ◌≤◌, ◌↔◌, Bool, nat_le, Option, Some, None, List, map, Contains, IsTrue, All, if◌then◌else◌}
+use Rattle.std.specs.Prelude.{◌≡◌, ℕ, ◌<◌, ◌≤◌, ◌↔◌, Bool, nat_le, Option, Some, None, List, map, Contains, IsTrue, All, if◌then◌else◌}
 use Rattle.std.specs.List.Sorted.{IsStrictlySortedBy}
 use Rattle.std.specs.Ordering.{ordering_then, nat_cmp}
 use Rattle.std.specs.declared.cmp.Ordering.{Ordering}
@@ -11,23 +11,23 @@ use Rattle.model.specs.Transactions.{Schema}
 use Rattle.model.specs.declared.entry.Entry.{Entry}
 use Rattle.model.specs.Logs.{state_at, closed}
 
--- which instants a query asks about, as it is written
-pub data SystemTime : Type 0 where
-  AsOf : ℕ → SystemTime
-  From : ℕ → (to : ℕ) → SystemTime
-  Between : ℕ → (and : ℕ) → SystemTime
+-- which instants a query asks about, all from the first to the last: AS OF t asks about t alone, FROM a TO b about a to
+-- the instant before b, BETWEEN a AND b about a to b
+pub record SystemTime : Type 0 where
+  pub first : ℕ
+  pub last : ℕ
 
 -- the instant is one of the system time's
 abbrev pub IsInstant : SystemTime → ℕ → Type 0
-IsInstant (AsOf t) u = u ≡ t
-IsInstant (From t v) u = (t ≤ u) × (u < v)
-IsInstant (Between t v) u = (t ≤ u) × (u ≤ v)
+IsInstant time u = (time.first ≤ u) × (u ≤ time.last)
 
 -- the greatest of the query's instants
 abbrev pub last_instant : SystemTime → ℕ
-last_instant (AsOf t) = t
-last_instant (From t v) = v - 1
-last_instant (Between t v) = v
+last_instant time = time.last
+
+-- one instant alone
+abbrev pub as_of : ℕ → SystemTime
+as_of t = record { first = t; last = t }
 
 -- a table, its system time, and WHERE
 pub record Query : Type 0 where
@@ -42,7 +42,7 @@ pub record Select : Type 0 where
   pub passes : Row → Bool
 
 abbrev pub time_or : ℕ → Option SystemTime → SystemTime
-time_or t None = AsOf t
+time_or t None = as_of t
 time_or t (Some time) = time
 
 -- a query without system time is read AS OF the instant

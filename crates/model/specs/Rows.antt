@@ -10,7 +10,7 @@ use Rattle.model.specs.declared.entry.Told.{Told}
 use Rattle.model.specs.Logs.{outcome, closed, before_index}
 use Rattle.model.specs.Stamps.{stamp}
 use Rattle.model.specs.Texts.{instant_text}
-use Rattle.model.specs.Answers.{Select, SystemTime, AsOf, IsAnswer}
+use Rattle.model.specs.Answers.{Select, SystemTime, as_of, IsAnswer}
 use Rattle.model.specs.declared.message.Message.{Message}
 use Rattle.model.specs.declared.message.Body.{Body}
 use Rattle.model.specs.Members.{Node, applied}
@@ -59,7 +59,7 @@ FirstClose =
 
 -- the table is empty AS OF 100
 abbrev pub FirstAnswer : Type 0
-FirstAnswer = IsAnswer dept (record { table = 0; time = AsOf 100; passes = λ row. true }) (close_entry 1 100 ∷ []) (record { last = 100; rows = [] })
+FirstAnswer = IsAnswer dept (record { table = 0; time = as_of 100; passes = λ row. true }) (close_entry 1 100 ∷ []) (record { last = 100; rows = [] })
 
 abbrev pub vote : ℕ → ℕ → ℕ → Bool → Message
 vote from to term given = record { sender = from; addressee = to; term = term; body = Vote given }
@@ -187,8 +187,8 @@ from_dept time = record { table = 0; time = time; passes = λ row. true }
 
 abbrev pub Asks : Type 0
 Asks =
-    Gives dept 3 (new_world 3) (Ask 1 (from_dept (Some (AsOf 0)))) (Refused 1 (NotClosed None) ∷ [])
-    × Gives dept 3 (after base) (Ask 2 (from_dept (Some (AsOf 101)))) (Refused 2 (NotClosed (Some (instant_text 100))) ∷ [])
+    Gives dept 3 (new_world 3) (Ask 1 (from_dept (Some (as_of 0)))) (Refused 1 (NotClosed None) ∷ [])
+    × Gives dept 3 (after base) (Ask 2 (from_dept (Some (as_of 101)))) (Refused 2 (NotClosed (Some (instant_text 100))) ∷ [])
     × Gives dept 3 (after base) (Ask 3 (from_dept None)) (Answered 3 (record { last = 100; rows = [] }) ∷ [])
     × Gives dept 3 (after (base ++ (Stop 3 ∷ []))) (Ask 3 (from_dept None)) (Refused 3 NodeDown ∷ [])
 

@@ -6,7 +6,7 @@ use Rattle.model.specs.Tables.{Table, Row, IsRow}
 use Rattle.model.specs.Transactions.{Schema, State}
 use Rattle.model.specs.declared.entry.Entry.{Entry}
 use Rattle.model.specs.Logs.{state_at, accepted, run_all, closed, IsStamped}
-use Rattle.model.specs.Answers.{SystemTime, AsOf, From, Between, IsInstant, last_instant, Query, Answer, Shown, IsAnswer, IsAnswerOver, IsAsked, IsShownEnd}
+use Rattle.model.specs.Answers.{last_instant, Query, Answer, Shown, IsAnswer, IsAnswerOver, IsAsked, IsShownEnd}
 use Rattle.safety.proofs.Lists.{get_append_right, Rising}
 use Rattle.safety.proofs.Accepted.{Later, later_from, later_reverse, some_up_to, accepted_later}
 use Rattle.safety.proofs.Runs.{past_closed, rising_stamped}
@@ -24,14 +24,9 @@ same_state schema w t list rest R c h =
     ap (λ es. run_all schema (some_up_to w (accepted schema es))) (reverse-append list rest)
     ∙ ap (run_all schema) (accepted_later schema w (reverse rest) (reverse list) (later_reverse w rest (later_rest w t list rest R c h)))
 
-up_to_last : (s : SystemTime) (u : ℕ) → IsInstant s u → u ≤ last_instant s
-up_to_last (AsOf t) u h = omega (arith, h)
-up_to_last (From t v) u h = let l = h.1 in omega (arith, l)
-up_to_last (Between t v) u h = h.1
-
 -- two histories that agree up to the last instant of a query have the same answers
 asked_over : (old new : ℕ → Table) (q : Query) (row : Row) → ((w : ℕ) → w ≤ last_instant q.time → old w ≡ new w) → IsAsked old q row → IsAsked new q row
-asked_over old new q row same h = let at = h.1 in (h.0, (at.0, at.1, subst (λ t. IsRow t row) (same at.0 (up_to_last q.time at.0 at.1)) at.2))
+asked_over old new q row same h = let at = h.1 in (h.0, (at.0, at.1, subst (λ t. IsRow t row) (same at.0 at.1.1) at.2))
 
 end_over : (old new : ℕ → Table) (last : ℕ) (row : Row) (end : Option ℕ) → ((w : ℕ) → w ≤ last → old w ≡ new w) → IsShownEnd old last row end → IsShownEnd new last row end
 end_over old new last row (Some end) same h =

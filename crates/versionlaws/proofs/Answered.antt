@@ -21,7 +21,7 @@ use Rattle.rowlaws.proofs.Orders.{then_equal, nat_equal}
 use Rattle.rowlaws.proofs.Sorted.{order_has, has_order, sorted_order}
 use Rattle.versionlaws.specs.Versions.{Version, IsBefore, Keeps}
 use Rattle.versionlaws.specs.Committing.{versions_after, HoldsAfter, KeepsAfter}
-use Rattle.versionlaws.specs.Answering.{HasInstant, first_instant, IsFound, is_before, is_found, version_cmp, show, answer_from, VersionsGive, VersionsAnswer}
+use Rattle.versionlaws.specs.Answering.{HasInstant, IsFound, is_before, is_found, version_cmp, show, answer_from, VersionsGive, VersionsAnswer}
 use Rattle.versionlaws.proofs.Found.{asked_is, end_is}
 
 -- ---- elements
@@ -41,10 +41,10 @@ is_before_of u None h = refl
 is_before_of u (Some e) h = lt-ltb u e h
 
 found : (q : Query) (v : Version) → is_found q v ≡ true → IsFound q v
-found q v h = let p = and_parts _ _ h in let r = and_parts _ _ p.0 in (r.0, leb-true v.row.birth (last_instant q.time) r.1, before_is (first_instant q.time) v.end p.1)
+found q v h = let p = and_parts _ _ h in let r = and_parts _ _ p.0 in (r.0, leb-true v.row.birth (last_instant q.time) r.1, before_is q.time.first v.end p.1)
 
 found_test : (q : Query) (v : Version) → IsFound q v → is_found q v ≡ true
-found_test q v h = and_from _ _ (and_from _ _ h.0 (le-leb v.row.birth (last_instant q.time) h.1)) (is_before_of (first_instant q.time) v.end h.2)
+found_test q v h = and_from _ _ (and_from _ _ h.0 (le-leb v.row.birth (last_instant q.time) h.1)) (is_before_of q.time.first v.end h.2)
 
 -- ---- the order
 

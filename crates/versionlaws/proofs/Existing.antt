@@ -5,7 +5,7 @@ use Rattle.std.proofs.lemmas.Bool.{cases_lt}
 use Rattle.std.proofs.lemmas.List.Elements.{All-from_recursion}
 use Rattle.model.specs.Tables.{Table}
 use Rattle.model.specs.Logs.{state_at}
-use Rattle.model.specs.Answers.{SystemTime, AsOf, From, Between, last_instant, Query, read_at, IsAnswer, IsAnswerOver, IsShownEnd}
+use Rattle.model.specs.Answers.{SystemTime, last_instant, Query, read_at, IsAnswer, IsAnswerOver, IsShownEnd}
 use Rattle.rowlaws.proofs.Contents.{contains_has}
 use Rattle.safety.specs.Answers.{HoweverLate, OneAnswer}
 use Rattle.versionlaws.specs.Committing.{versions_after}
@@ -14,9 +14,10 @@ use Rattle.versionlaws.specs.Answering.{HasInstant, answer_from, VersionsAnswer,
 -- ---- a query that has no instant
 
 has_or_not : (time : SystemTime) → HasInstant time ⊎ (HasInstant time → ⊥)
-has_or_not (AsOf t) = inl (t, refl)
-has_or_not (From t v) = elim (cases_lt t v) [ inl less ↦ inl (t, (omega arith, less)) | inr more ↦ inr (λ h. let a = h.1.0 in let b = h.1.1 in omega arith) ]
-has_or_not (Between t v) = elim (cases_lt v t) [ inl less ↦ inr (λ h. let a = h.1.0 in let b = h.1.1 in omega arith) | inr more ↦ inl (t, (omega arith, more)) ]
+has_or_not time = elim (cases_lt time.last time.first) [
+  | inl less ↦ inr (λ h. let a = h.1.0 in let b = h.1.1 in omega arith)
+  | inr more ↦ inl (time.first, (omega arith, more))
+]
 
 no_rows : (history : ℕ → Table) (q : Query) → (HasInstant q.time → ⊥) → IsAnswerOver history q (record { last = last_instant q.time; rows = [] })
 unfolding IsStrictlySortedBy

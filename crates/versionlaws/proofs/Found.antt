@@ -2,10 +2,10 @@
 use Rattle.std.proofs.Common.{◌≡◌, ℕ, ◌<◌, ◌≤◌, inl, inr, ◌↔◌, true, Option, Some, None, List, refl, sym, subst, arith, max}
 use Rattle.std.proofs.lemmas.Bool.{cases_lt, le-leb, lt-leb}
 use Rattle.model.specs.Tables.{Table, Row, IsRow}
-use Rattle.model.specs.Answers.{SystemTime, AsOf, From, Between, IsInstant, last_instant, Query, IsAsked, IsShownEnd}
+use Rattle.model.specs.Answers.{last_instant, Query, IsAsked, IsShownEnd}
 use Rattle.rowlaws.specs.Rows.{Has}
 use Rattle.versionlaws.specs.Versions.{Version, IsBefore, IsAlive, Keeps}
-use Rattle.versionlaws.specs.Answering.{HasInstant, first_instant, IsFound, shown_end, VersionsRows, VersionsEnds}
+use Rattle.versionlaws.specs.Answering.{HasInstant, IsFound, shown_end, VersionsRows, VersionsEnds}
 
 before_less : (u w : ℕ) (end : Option ℕ) → u ≤ w → IsBefore w end → IsBefore u end
 before_less u w None h b = tt
@@ -15,27 +15,15 @@ before_both : (u w : ℕ) (end : Option ℕ) → IsBefore u end → IsBefore w e
 before_both u w None a b = tt
 before_both u w (Some end) a b = omega arith
 
--- ---- the instants of a system time are those from the first to the last
-
-in_bounds : (time : SystemTime) (u : ℕ) → IsInstant time u → (first_instant time ≤ u) × (u ≤ last_instant time)
-in_bounds (AsOf t) u h = (omega (arith, h), omega (arith, h))
-in_bounds (From t v) u h = let a = h.0 in let b = h.1 in (a, omega arith)
-in_bounds (Between t v) u h = h
-
-bounds_in : (time : SystemTime) (u some : ℕ) → IsInstant time some → first_instant time ≤ u → u ≤ last_instant time → IsInstant time u
-bounds_in (AsOf t) u some h a b = omega arith
-bounds_in (From t v) u some h a b = let x = h.0 in let y = h.1 in (a, omega arith)
-bounds_in (Between t v) u some h a b = (a, b)
-
 module _ (versions : List Version) (history : ℕ → Table) (now : ℕ) (keeps : Keeps versions history now) where
   pub asked_is : (q : Query) (row : Row) → HasInstant q.time → last_instant q.time ≤ now → IsAsked history q row ↔ ((v : Version) × Has versions v × (v.row ≡ row) × IsFound q v)
   asked_is q row some closed =
-      let some_at = in_bounds q.time some.0 some.1 in
-      let first : ℕ = first_instant q.time in
+      let some_at = some.1 in
+      let first : ℕ = q.time.first in
       let last : ℕ = last_instant q.time in (
         (λ h.
             let u = h.1 in
-            let at = in_bounds q.time u.0 u.1 in
+            let at = u.1 in
             let a = at.0 in
             let b = at.1 in
             let v = (keeps.rows u.0 (omega arith) row).0 u.2 in
@@ -47,7 +35,7 @@ module _ (versions : List Version) (history : ℕ → Table) (now : ℕ) (keeps 
             let s0 = some_at.0 in
             let s1 = some_at.1 in
             let u : ℕ = max first v.0.row.birth in
-            (subst (λ r. q.passes r ≡ true) v.2 f.0, (u, bounds_in q.time u some.0 some.1 (omega arith) (omega arith), (keeps.rows u (omega arith) row).1 (v.0, v.1, v.2, (omega arith, before_both first v.0.row.birth v.0.end f.2 (keeps.lasts v.0 v.1)))))),
+            (subst (λ r. q.passes r ≡ true) v.2 f.0, (u, (omega arith, omega arith), (keeps.rows u (omega arith) row).1 (v.0, v.1, v.2, (omega arith, before_both first v.0.row.birth v.0.end f.2 (keeps.lasts v.0 v.1)))))),
       )
 
   alive_row : (v : Version) (u : ℕ) → Has versions v → u ≤ now → IsAlive v u → IsRow (history u) v.row

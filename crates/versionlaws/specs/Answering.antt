@@ -5,7 +5,7 @@ use Rattle.model.specs.declared.entry.Entry.{Entry}
 use Rattle.model.specs.Tables.{Table, Row}
 use Rattle.model.specs.Transactions.{Schema}
 use Rattle.model.specs.Logs.{IsStamped, closed}
-use Rattle.model.specs.Answers.{SystemTime, AsOf, From, Between, IsInstant, last_instant, Query, Select, read_at, Shown, Answer, row_cmp, IsAsked, IsShownEnd, IsAnswerOver, IsAnswer, IsClosed}
+use Rattle.model.specs.Answers.{SystemTime, IsInstant, last_instant, Query, Select, read_at, Shown, Answer, row_cmp, IsAsked, IsShownEnd, IsAnswerOver, IsAnswer, IsClosed}
 use Rattle.rowlaws.specs.Rows.{Has, Apart}
 use Rattle.rowlaws.specs.Sorting.{in_order}
 use Rattle.rowlaws.specs.Logs.{AllFine}
@@ -16,15 +16,9 @@ use Rattle.versionlaws.specs.Committing.{versions_after}
 abbrev pub HasInstant : SystemTime → Type 0
 HasInstant time = (u : ℕ) × IsInstant time u
 
--- the least of the system time's instants
-abbrev pub first_instant : SystemTime → ℕ
-first_instant (AsOf t) = t
-first_instant (From t v) = t
-first_instant (Between t v) = t
-
 -- the version's row passes, and its system period has one of the query's instants
 abbrev pub IsFound : Query → Version → Type 0
-IsFound q v = IsTrue (q.passes v.row) × (v.row.birth ≤ last_instant q.time) × IsBefore (first_instant q.time) v.end
+IsFound q v = IsTrue (q.passes v.row) × (v.row.birth ≤ last_instant q.time) × IsBefore q.time.first v.end
 
 -- the same as tests
 abbrev pub is_before : ℕ → Option ℕ → Bool
@@ -32,7 +26,7 @@ is_before u None = true
 is_before u (Some end) = nat_lt u end
 
 abbrev pub is_found : Query → Version → Bool
-is_found q v = q.passes v.row && nat_le v.row.birth (last_instant q.time) && is_before (first_instant q.time) v.end
+is_found q v = q.passes v.row && nat_le v.row.birth (last_instant q.time) && is_before q.time.first v.end
 
 -- the end is shown where it is at or before the last instant
 abbrev pub shown_end : (last : ℕ) → Option ℕ → Option ℕ

@@ -8,7 +8,7 @@ use Rattle.model.specs.declared.entry.Entry.{Entry}
 use Rattle.model.specs.Tables.{Period}
 use Rattle.model.specs.Transactions.{Schema, Insert}
 use Rattle.model.specs.Logs.{IsStamped}
-use Rattle.model.specs.Answers.{Between, Select, Answer, IsAnswer, IsClosed, read_at}
+use Rattle.model.specs.Answers.{Select, Answer, IsAnswer, IsClosed, read_at}
 
 abbrev pub key : List Value
 key = Number (pos 3) ∷ []
@@ -34,7 +34,7 @@ abbrev pub log : List Entry
 log = said 1 (84 ∷ []) ∷ said 2 [] ∷ []
 
 abbrev pub question : Select
-question = record { table = 0; time = Some (Between 1 2); passes = λ row. true }
+question = record { table = 0; time = Some (record { first = 1; last = 2 }); passes = λ row. true }
 
 -- the question is closed, and nothing is its answer
 abbrev pub NoAnswer : Type 0

@@ -2,7 +2,7 @@
 use Rattle.std.specs.Prelude.{◌≡◌, ℕ, pos, true, Option, Some, None, List, [], ◌∷◌}
 use Rattle.model.specs.declared.value.Value.TheVariants.{Number}
 use Rattle.model.specs.Tables.{Row}
-use Rattle.model.specs.Answers.{SystemTime, AsOf, From, Between, Query, Answer}
+use Rattle.model.specs.Answers.{Query, Answer}
 use Rattle.versionlaws.specs.Versions.{Version}
 use Rattle.versionlaws.specs.Committing.{committed}
 use Rattle.versionlaws.specs.Answering.{answer_from}
@@ -14,8 +14,9 @@ dept start end t = record { key = Number (pos 3) ∷ []; period = record { start
 abbrev pub version : Row → Option ℕ → Version
 version r end = record { row = r; end = end }
 
-abbrev pub asked : SystemTime → Query
-asked time = record { table = 0; time = time; passes = λ r. true }
+-- a query for all rows at the instants from the first to the last
+abbrev pub asked : (first last : ℕ) → Query
+asked first last = record { table = 0; time = record { first = first; last = last }; passes = λ r. true }
 
 abbrev pub answer : ℕ → Row → Option ℕ → Answer
 answer last r end = record { last = last; rows = record { row = r; end = end } ∷ [] }
@@ -29,11 +30,9 @@ deleted = committed 102 (dept 730119 737424 101 ∷ []) [] (committed 101 [] (de
 abbrev pub DeletedVersion : Type 0
 DeletedVersion =
     (deleted ≡ version (dept 730119 737424 101) (Some 102) ∷ [])
-    × (answer_from (asked (Between 101 102)) deleted ≡ answer 102 (dept 730119 737424 101) (Some 102))
-    × (answer_from (asked (From 102 103)) deleted ≡ record { last = 102; rows = [] })
-    × (answer_from (asked (From 101 102)) deleted ≡ answer 101 (dept 730119 737424 101) None)
-    × (answer_from (asked (AsOf 101)) deleted ≡ answer 101 (dept 730119 737424 101) None)
-    × (answer_from (asked (AsOf 102)) deleted ≡ record { last = 102; rows = [] })
+    × (answer_from (asked 101 102) deleted ≡ answer 102 (dept 730119 737424 101) (Some 102))
+    × (answer_from (asked 101 101) deleted ≡ answer 101 (dept 730119 737424 101) None)
+    × (answer_from (asked 102 102) deleted ≡ record { last = 102; rows = [] })
 
 -- ---- a row that is cut
 
@@ -44,6 +43,6 @@ cut = committed 103 (dept 730119 737424 101 ∷ []) (dept 733772 737424 103 ∷ 
 abbrev pub CutVersion : Type 0
 CutVersion =
     (cut ≡ version (dept 730119 737424 101) (Some 103) ∷ version (dept 733772 737424 103) None ∷ [])
-    × (answer_from (asked (AsOf 102)) cut ≡ answer_from (asked (AsOf 102)) (committed 101 [] (dept 730119 737424 101 ∷ []) []))
-    × (answer_from (asked (AsOf 103)) cut ≡ answer 103 (dept 733772 737424 103) None)
-    × (answer_from (asked (Between 0 103)) cut ≡ record { last = 103; rows = record { row = dept 730119 737424 101; end = Some 103 } ∷ record { row = dept 733772 737424 103; end = None } ∷ [] })
+    × (answer_from (asked 102 102) cut ≡ answer_from (asked 102 102) (committed 101 [] (dept 730119 737424 101 ∷ []) []))
+    × (answer_from (asked 103 103) cut ≡ answer 103 (dept 733772 737424 103) None)
+    × (answer_from (asked 0 103) cut ≡ record { last = 103; rows = record { row = dept 730119 737424 101; end = Some 103 } ∷ record { row = dept 733772 737424 103; end = None } ∷ [] })

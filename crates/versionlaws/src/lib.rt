@@ -130,8 +130,8 @@ pub fn no_answer()
     safety::state_up_to();
 }
 
-/// Rows by computation: the versions of a row that is deleted, and of one that is cut, and what the
-/// three kinds of system time answer of them.
+/// Rows by computation: the versions of a row that is deleted, and of one that is cut, and what
+/// they answer.
 pub fn rows_of_versions()
     ensures deleted_version { DeletedVersion }
     ensures cut_version { CutVersion }

@@ -7,7 +7,7 @@ use Rattle.versionlaws.proofs.rows_of_versions.Goals as goal
 
 pub returns-clause-deleted_version : goal.returns-clause-deleted_version
 unfolding same_key key_cmp in_order committed answer_from
-returns-clause-deleted_version c = (refl, refl, refl, refl, refl, refl)
+returns-clause-deleted_version c = (refl, refl, refl, refl)
 
 pub returns-clause-cut_version : goal.returns-clause-cut_version
 unfolding same_key key_cmp in_order committed answer_from
