@@ -1,9 +1,9 @@
 -- What queries are checked for, in the order of the text, and the queries that they then are.
-use Rattle.std.specs.Prelude.{not, nat_lt, nat_le, Result, Ok}
+use Rattle.std.specs.Prelude.{◌-◌, not, nat_lt, nat_le, Result, Ok}
 use mathlib.Core.Logic.{inl, inr}
 use Rattle.fault.specs.declared.refusal.Refusal.{Refusal}
 use Rattle.fault.specs.declared.refusal.Refusal.TheVariants.{UnknownColumn, EmptyPeriod}
-use Rattle.model.specs.Answers.{SystemTime, AsOf, From, Between}
+use Rattle.model.specs.Answers.{SystemTime, as_of}
 use Rattle.schema.specs.Name.{same_name}
 use Rattle.schema.specs.Shape.{TableShape}
 use Rattle.sqlsyntax.specs.declared.forms.Relation.{Relation}
@@ -17,20 +17,20 @@ use Rattle.sqlchecks.specs.Comparisons.{comparison_in}
 use Rattle.sqlread.specs.Shapes.{TermShape, Compares, ContainsDay, Contains, Relates, QueryShape}
 use Rattle.sqlread.specs.Changes.{in_table, if_given, all_given}
 
--- ---- FOR SYSTEM_TIME: 16 for each instant, then 15 where there is none between
+-- ---- FOR SYSTEM_TIME: 16 for each instant, then 15 where there is none between. FROM leaves out the instant behind TO
 
 unfoldable pub time_in : TimeForm → Result SystemTime Refusal
-time_in (inl at) = instant_named at >>= λ t. Ok (AsOf t)
+time_in (inl at) = instant_named at >>= λ t. Ok (as_of t)
 time_in (inr (inl (from, to))) = do
   start ← instant_named from
   end ← instant_named to
   refuse_if (not (nat_lt start end)) EmptyPeriod
-  Ok (From start end)
+  Ok (record { first = start; last = end - 1 })
 time_in (inr (inr (from, to))) = do
   start ← instant_named from
   end ← instant_named to
   refuse_if (not (nat_le start end)) EmptyPeriod
-  Ok (Between start end)
+  Ok (record { first = start; last = end })
 
 -- ---- WHERE
 

@@ -5,7 +5,7 @@ use Rattle.period.specs.declared.period.Period.{Period as Declared}
 use Rattle.model.specs.declared.value.Value.{Value as RowValue}
 use Rattle.model.specs.Tables.{Period, Row}
 use Rattle.model.specs.Periods.{period_of}
-use Rattle.model.specs.Answers.{SystemTime, AsOf, From, Between}
+use Rattle.model.specs.Answers.{SystemTime}
 use Rattle.sqlsyntax.specs.declared.forms.Relation.{Relation}
 use Rattle.sqlchecks.specs.declared.comparison.Comparison.{Comparison}
 use Rattle.sqlread.specs.declared.statement.Assignment.{Assignment}
@@ -15,8 +15,7 @@ use Rattle.sqlread.specs.declared.statement.Delete.{Delete as DeleteRead}
 use Rattle.sqlread.specs.declared.statement.Statement.{Statement as StatementRead}
 use Rattle.sqlread.specs.declared.statement.Statement.TheVariants as statements
 use Rattle.sqlread.specs.declared.query.Query.{Query as QueryRead}
-use Rattle.sqlread.specs.declared.query.Time as times'
-use Rattle.sqlread.specs.declared.query.Time.TheVariants as times
+use Rattle.sqlread.specs.declared.time.SystemTime.{SystemTime as TimeRead}
 use Rattle.sqlread.specs.declared.term.Term as terms'
 use Rattle.sqlread.specs.declared.term.Term.TheVariants as terms
 
@@ -82,10 +81,8 @@ term_of (terms.ContainsDay d) = ContainsDay d.number
 term_of (terms.Contains p) = Contains (period_of p)
 term_of (terms.Relates r p) = Relates r (period_of p)
 
-abbrev pub time_of : times'.Time → SystemTime
-time_of (times.AsOf t) = AsOf t.microseconds
-time_of (times.FromTo from to) = From from.microseconds to.microseconds
-time_of (times.Between from to) = Between from.microseconds to.microseconds
+abbrev pub time_of : TimeRead → SystemTime
+time_of time = record { first = time.first; last = time.last }
 
 abbrev pub query_of : QueryRead → QueryShape
 query_of q = record { table = q.table; time = option_map time_of q.time; terms = map term_of q.terms.items }

@@ -9,5 +9,6 @@ pub mod laws;
 pub mod query;
 pub mod statement;
 pub mod term;
+pub mod time;
 pub mod token;
 pub mod transaction;

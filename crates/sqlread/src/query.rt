@@ -2,6 +2,7 @@
 ghost use Rattle.std.specs.Prelude.{◌≡◌, map, option_map};
 ghost use Rattle.sqlsyntax.specs.Queries.{time_form, term_form, query_form};
 ghost use Rattle.sqlchecks.specs.Answering.{Gives, each_of};
+ghost use Rattle.sqlchecks.specs.Literals.{instant_named};
 ghost use Rattle.namesyntax.specs.Parsing.{GivesInMemory};
 ghost use Rattle.sqlread.specs.Shapes.{time_of, term_of, query_of};
 ghost use Rattle.sqlread.specs.Changes.{if_given, all_given};
@@ -9,26 +10,17 @@ ghost use Rattle.sqlread.specs.Questions.{time_in, term_in, question_in};
 ghost use Rattle.sqlread.specs.Texts.{query_in};
 
 pub use crate::term::Term;
+pub use crate::time::SystemTime;
 use crate::term::read_terms;
 use crate::transaction::MAX_TEXT;
 use fault::Refusal;
-use period::Instant;
+use model::stamp::Stamp;
 use schema::{Schema, Table};
 use sqlchecks::column::find_table;
 use sqlchecks::literal::read_instant;
-use sqlsyntax::{Query as QueryText, SystemTime, Term as TermText, read_query_form};
+use sqlsyntax::{Query as QueryText, SystemTime as TimeText, Term as TermText, read_query_form};
+use sqltokens::Quoted;
 use std::alloc::{AllocError, Global};
-
-/// Which instants a query asks about.
-#[derive(Clone, Copy, Debug, PartialEq, Eq)]
-pub enum Time {
-    /// This one alone.
-    AsOf(Instant),
-    /// From the first, up to the second and without it, which is later.
-    FromTo(Instant, Instant),
-    /// Both and all between; the second is not earlier.
-    Between(Instant, Instant),
-}
 
 /// A question about one table. Without a time it asks about the instant that is closed where it is answered.
 #[derive(Debug, Drop)]
@@ -36,7 +28,7 @@ pub struct Query {
     /// The table's place in the schema, from 0.
     pub table: usize,
     /// The instants of FOR SYSTEM_TIME, none where the text has none.
-    pub time: Option<Time>,
+    pub time: Option<SystemTime>,
     /// A row passes where each of these holds: one or more, none where the text has no WHERE.
     pub terms: Vec<Term>,
 }
@@ -53,34 +45,42 @@ impl Clone for Query {
     }
 }
 
+/// The instant that a timestamp names, or `OutOfRange`.
+fn read_stamp(text: Quoted) -> Result<Stamp, Refusal>
+    ensures { Gives (λ at. at) result (instant_named text.entry.source.now) }
+{
+    Ok(Stamp::new(read_instant(text)?.microseconds))
+}
+
 /// The instants of FOR SYSTEM_TIME: `OutOfRange` for each that is none, then `EmptyPeriod` where none lies between.
 #[tactic(auto, unfolding(crate::specs::Questions::time_in))]
-fn read_time(time: SystemTime) -> Result<Time, Refusal>
+fn read_time(time: TimeText) -> Result<SystemTime, Refusal>
     ensures { Gives time_of result (time_in (time_form time.entry)) }
 {
     match time {
-        SystemTime::AsOf(at) => Ok(Time::AsOf(read_instant(at)?)),
-        SystemTime::FromTo { from, to } => {
-            let start = read_instant(from)?;
-            let end = read_instant(to)?;
-            if start >= end {
+        TimeText::AsOf(at) => Ok(SystemTime::as_of(read_stamp(at)?)),
+        TimeText::FromTo { from, to } => {
+            let first = read_stamp(from)?;
+            let end = read_stamp(to)?.micros();
+            if first.micros() >= end {
                 return Err(Refusal::EmptyPeriod);
             }
-            Ok(Time::FromTo(start, end))
+            let last = Stamp::new(end - 1);
+            Ok(SystemTime { first, last })
         }
-        SystemTime::Between { from, to } => {
-            let start = read_instant(from)?;
-            let end = read_instant(to)?;
-            if start > end {
+        TimeText::Between { from, to } => {
+            let first = read_stamp(from)?;
+            let last = read_stamp(to)?;
+            if first.micros() > last.micros() {
                 return Err(Refusal::EmptyPeriod);
             }
-            Ok(Time::Between(start, end))
+            Ok(SystemTime { first, last })
         }
     }
 }
 
 /// FOR SYSTEM_TIME, where the query has it.
-fn read_optional_time(time: Option<SystemTime>) -> Result<Option<Time>, Refusal>
+fn read_optional_time(time: Option<TimeText>) -> Result<Option<SystemTime>, Refusal>
     ensures { Gives (option_map time_of) result (if_given time_in (option_map time_form time.entry)) }
 {
     match time {
