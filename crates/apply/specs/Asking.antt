@@ -1,22 +1,16 @@
 -- Questions to versions.
-use Rattle.std.specs.Prelude.{◌≡◌, ◌⊎◌, ◌≤◌, ℕ, Bool, true, nat_lt, nat_le, Option, Some, None, List, option_map}
+use Rattle.std.specs.Prelude.{◌≡◌, ◌⊎◌, ◌≤◌, ℕ, Option, Some, None, List, option_map}
 use Rattle.fault.specs.declared.refusal.Refusal.{Refusal}
 use Rattle.fault.specs.declared.refusal.Refusal.TheVariants.{NoMemory, NotClosed}
 use Rattle.model.specs.Tables.{Table}
 use Rattle.model.specs.Texts.{instant_text}
-use Rattle.model.specs.Answers.{SystemTime, AsOf, From, Between, last_instant, time_or, closed_query, read_at, IsAnswerOver}
+use Rattle.model.specs.Answers.{last_instant, time_or, closed_query, read_at, IsAnswerOver}
 use Rattle.rowlaws.specs.Rows.{Apart}
 use Rattle.versionlaws.specs.Versions.{Version, Keeps}
 use Rattle.sqlread.specs.Shapes.{QueryShape}
 use Rattle.sqlread.specs.Meaning.{select_of}
 use Rattle.answer.specs.declared.Answer.{Answer}
 use Rattle.answer.specs.Answers.{answer_of}
-
--- some instant is one of the system time's
-abbrev pub has_instant : SystemTime → Bool
-has_instant (AsOf t) = true
-has_instant (From t v) = nat_lt t v
-has_instant (Between t v) = nat_le t v
 
 -- the question is closed at the last stamp, and whatever history the versions keep up to then, it is answered over that
 abbrev pub IsAnswered : QueryShape → Option ℕ → List Version → Answer → Type 0

@@ -5,14 +5,18 @@ use Rattle.sqlread.specs.declared.term.Term.{Term}
 use Rattle.sqlread.specs.Shapes.{term_of}
 use Rattle.sqlread.specs.Meaning.{term_passes}
 use Rattle.model.specs.Tables.{Table}
-use Rattle.model.specs.Answers.{last_instant, Query, Shown, Answer, IsAnswerOver}
+use Rattle.model.specs.Answers.{SystemTime, last_instant, Query, Select, Shown, Answer, IsAnswerOver}
 use Rattle.rowlaws.specs.Rows.{Apart}
 use Rattle.versionlaws.specs.Versions.{Version, Keeps}
-use Rattle.versionlaws.specs.Answering.{HasInstant, is_before, shown_end}
+use Rattle.versionlaws.specs.Answering.{is_before, shown_end}
 
--- the version's row passes each term, and its system period has one of the instants from the first to the last
-abbrev pub is_found_by : (first last : ℕ) → List Term → Version → Bool
-is_found_by first last terms v = list_all (λ t. term_passes t v.row) (map term_of terms) && nat_le v.row.birth last && is_before first v.end
+-- the query is read with this system time, whatever its own is
+abbrev pub read_with : SystemTime → Select → Query
+read_with time q = record { table = q.table; time = time; passes = q.passes }
+
+-- the version's row passes each term, and its system period has one of the instants
+abbrev pub is_found_by : SystemTime → List Term → Version → Bool
+is_found_by time terms v = list_all (λ t. term_passes t v.row) (map term_of terms) && nat_le v.row.birth time.last && is_before time.first v.end
 
 -- the version as an answer up to the last instant shows it
 abbrev pub show_by : (last : ℕ) → Version → Shown
@@ -21,4 +25,4 @@ show_by last v = record { row = v.row; end = shown_end last v.end }
 -- where the versions, each once, say what a table was at each instant up to now, and the query asks about none that is
 -- later, this is the answer over those instants
 abbrev pub IsKept : Query → List Version → Answer → Type 0
-IsKept q versions a = (history : ℕ → Table) (now : ℕ) → Keeps versions history now → Apart versions → HasInstant q.time → last_instant q.time ≤ now → IsAnswerOver history q a
+IsKept q versions a = (history : ℕ → Table) (now : ℕ) → Keeps versions history now → Apart versions → last_instant q.time ≤ now → IsAnswerOver history q a

@@ -1,35 +1,32 @@
-//! Questions that have a system time.
-ghost use Rattle.std.specs.Prelude.{◌≡◌, true, Err, IfOk, IfErr, IsSome};
+//! Questions about the instants of a system time.
+ghost use Rattle.std.specs.Prelude.{◌≡◌, true, Err, IfOk, IfErr};
 ghost use Rattle.fault.specs.declared.refusal.Refusal.TheVariants.{NoMemory};
-ghost use Rattle.sqlread.specs.Shapes.{query_of};
+ghost use Rattle.sqlread.specs.Shapes.{query_of, time_of};
 ghost use Rattle.sqlread.specs.Meaning.{select_of};
-ghost use Rattle.model.specs.Answers.{read_at};
 ghost use Rattle.versionlaws.specs.Answering.{answer_from};
 ghost use Rattle.answer.specs.Answers.{answer_of, columns_in};
 ghost use Rattle.sysversion.specs.Versions.{versions_of};
-ghost use Rattle.asof.specs.Asking.{IsKept};
+ghost use Rattle.asof.specs.Asking.{read_with, IsKept};
 
 use crate::found::{found, in_order};
-use crate::instants::Instants;
 use crate::shown::show_all;
 use answer::{Answer, columns_of};
 use fault::Refusal;
 use schema::Schema;
-use sqlread::query::Query;
+use sqlread::query::{Query, SystemTime};
 use std::alloc::Global;
 use sysversion::Versions;
 
-/// What answers questions that have a system time.
+/// What answers questions about the instants of a system time.
 pub trait Ask {
-    ghost use Rattle.std.specs.Prelude.{◌≡◌, true, Err, IfOk, IfErr, IsSome, ℕ, Bool, List};
+    ghost use Rattle.std.specs.Prelude.{◌≡◌, true, Err, IfOk, IfErr, ℕ, Bool, List};
     ghost use Rattle.fault.specs.declared.refusal.Refusal.TheVariants.{NoMemory};
-    ghost use Rattle.sqlread.specs.Shapes.{query_of};
+    ghost use Rattle.sqlread.specs.Shapes.{query_of, time_of};
     ghost use Rattle.sqlread.specs.Meaning.{select_of};
-    ghost use Rattle.model.specs.Answers.{read_at};
     ghost use Rattle.versionlaws.specs.Answering.{answer_from};
     ghost use Rattle.versionlaws.specs.Versions.{Version};
     ghost use Rattle.answer.specs.Answers.{answer_of, columns_in};
-    ghost use Rattle.asof.specs.Asking.{IsKept};
+    ghost use Rattle.asof.specs.Asking.{read_with, IsKept};
 
     /// The versions of each table, by its number, that the answers come from.
     ghost versions_in: { Self → ℕ → List Version };
@@ -37,13 +34,18 @@ pub trait Ask {
     /// It has found no memory, and answers no more.
     ghost failed_in: { Self → Bool };
 
-    /// The answer to a question that has a system time.
+    /// The answer to a question that is read with this system time, whatever its own is.
     ///
     /// Refused for want of memory alone, always once it has failed.
-    fn ask(&self, alloc: Global, schema: &Schema, query: &Query) -> Result<Answer, Refusal>
-        requires { IsSome query.now.time }
-        ensures ok { IfOk result (λ a. answer_of a ≡ answer_from (read_at 0 (select_of (query_of query.now))) (versions_in self.now query.now.table)) }
-        ensures kept { IfOk result (λ a. IsKept (read_at 0 (select_of (query_of query.now))) (versions_in self.now query.now.table) (answer_of a)) }
+    fn ask(
+        &self,
+        alloc: Global,
+        schema: &Schema,
+        query: &Query,
+        time: SystemTime,
+    ) -> Result<Answer, Refusal>
+        ensures ok { IfOk result (λ a. answer_of a ≡ answer_from (read_with (time_of time) (select_of (query_of query.now))) (versions_in self.now query.now.table)) }
+        ensures kept { IfOk result (λ a. IsKept (read_with (time_of time) (select_of (query_of query.now))) (versions_in self.now query.now.table) (answer_of a)) }
         ensures columns { IfOk result (λ a. a.columns.items ≡ columns_in schema.now query.now.table) }
         ensures err { IfErr result (λ refusal. refusal ≡ NoMemory) }
         ensures once_failed { failed_in self.now ≡ true → result ≡ Err NoMemory };
@@ -56,19 +58,24 @@ impl Ask for Versions {
 
     ghost failed_in = { is_failed };
 
-    fn ask(&self, alloc: Global, schema: &Schema, query: &Query) -> Result<Answer, Refusal> {
+    fn ask(
+        &self,
+        alloc: Global,
+        schema: &Schema,
+        query: &Query,
+        time: SystemTime,
+    ) -> Result<Answer, Refusal> {
         if self.has_failed() {
             return Err(Refusal::NoMemory);
         }
         versionlaws::versions_give();
-        let instants = Instants::of(query.time.unwrap());
         let versions = self.versions(query.table);
-        let found = found(alloc, versions, &instants, query.terms.as_slice())?;
+        let found = found(alloc, versions, &time, query.terms.as_slice())?;
         let sorted = in_order(found)?;
-        let rows = show_all(alloc, sorted.as_slice(), instants.last)?;
+        let rows = show_all(alloc, sorted.as_slice(), time.last)?;
         let columns = columns_of(alloc, schema, query.table)?;
         Ok(Answer {
-            last: instants.last,
+            last: time.last,
             columns,
             rows,
         })

@@ -1,7 +1,7 @@
 //! The versions that a question finds.
 ghost use Rattle.std.specs.Prelude.{◌≡◌, ◌&&◌, nat_le, map, filter, IfOk};
 ghost use Rattle.std.specs.List.{list_all};
-ghost use Rattle.sqlread.specs.Shapes.{term_of};
+ghost use Rattle.sqlread.specs.Shapes.{time_of, term_of};
 ghost use Rattle.sqlread.specs.Meaning.{term_passes};
 ghost use Rattle.current.specs.Rows.{row_of};
 ghost use Rattle.rowlaws.specs.Sorting.{in_order};
@@ -9,8 +9,8 @@ ghost use Rattle.versionlaws.specs.Answering.{is_before, version_cmp};
 ghost use Rattle.sysversion.specs.Versions.{version_of};
 ghost use Rattle.asof.specs.Asking.{is_found_by};
 
-use crate::instants::Instants;
 use model::stamp::Stamp;
+use sqlread::query::SystemTime;
 use sqlread::term::{Term, pass_all_terms};
 use std::alloc::{AllocError, Global};
 use std::cmp::Ordering;
@@ -27,10 +27,10 @@ fn is_before(at: Stamp, end: Option<Stamp>) -> bool
 }
 
 // Whether the version's system period has one of the instants.
-fn is_alive(version: &Version, instants: &Instants) -> bool
-    ensures { result ≡ (nat_le version.now.row.birth instants.now.last && is_before instants.now.first version.now.end) }
+fn is_alive(version: &Version, time: &SystemTime) -> bool
+    ensures { result ≡ (nat_le version.now.row.birth time.now.last && is_before time.now.first version.now.end) }
 {
-    version.row.birth.micros() <= instants.last.micros() && is_before(instants.first, version.end)
+    version.row.birth.micros() <= time.last.micros() && is_before(time.first, version.end)
 }
 
 // Whether the version's row passes each term.
@@ -42,10 +42,10 @@ fn passes(version: &Version, terms: &[Term]) -> bool
 }
 
 // Whether the version's row passes each term, and its system period has one of the instants.
-fn is_found(version: &Version, instants: &Instants, terms: &[Term]) -> bool
-    ensures { result ≡ is_found_by instants.now.first instants.now.last terms.now (version_of version.now) }
+fn is_found(version: &Version, time: &SystemTime, terms: &[Term]) -> bool
+    ensures { result ≡ is_found_by (time_of time.now) terms.now (version_of version.now) }
 {
-    is_alive(version, instants) && passes(version, terms)
+    is_alive(version, time) && passes(version, terms)
 }
 
 /// The versions whose rows pass each term, and whose system periods have one of the instants, in the order in which
@@ -53,14 +53,14 @@ fn is_found(version: &Version, instants: &Instants, terms: &[Term]) -> bool
 pub(crate) fn found<'a>(
     alloc: Global,
     versions: &'a [Version],
-    instants: &Instants,
+    time: &SystemTime,
     terms: &[Term],
 ) -> Result<Vec<&'a Version>, AllocError>
-    ensures { IfOk result (λ found. map (λ v. version_of v.now) found.items ≡ filter (is_found_by instants.now.first instants.now.last terms.now) (map version_of versions.now)) }
+    ensures { IfOk result (λ found. map (λ v. version_of v.now) found.items ≡ filter (is_found_by (time_of time.now) terms.now) (map version_of versions.now)) }
 {
     let mut found = Vec::new(alloc);
     for version in versions {
-        if is_found(version, instants, terms) {
+        if is_found(version, time, terms) {
             found.push(version)?;
         }
     }

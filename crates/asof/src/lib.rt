@@ -3,7 +3,6 @@
 
 pub mod ask;
 mod found;
-mod instants;
 mod shown;
 
 pub use ask::Ask;

@@ -1,16 +1,12 @@
-//! Stamps of entries, the time that a list of them closes, and the last instant that a question asks about.
+//! Stamps of entries, and the time that a list of them closes.
 #![tactic(auto)]
 
 ghost use Rattle.std.specs.Prelude.{◌≡◌, ◌≤◌, ◌<◌, None, IfSome, IfNone};
-ghost use Rattle.std.specs.Option.{option_map};
-ghost use Rattle.model.specs.Answers.{last_instant};
 ghost use Rattle.model.specs.Logs.{closed};
 ghost use Rattle.model.specs.Stamps.{TIME_LAST, above, stamp};
-ghost use Rattle.sqlread.specs.Shapes.{time_of};
 
 pub use model::entry::Entry;
 use model::stamp::{LAST_MICROS, Stamp};
-use sqlread::query::{Query, Time};
 
 /// The stamp of an entry that is made when the clock shows `reading`, in microseconds since 1970, after an entry with
 /// the last stamp, or as the first: the greater of the reading and one more than the last stamp. A reading that is no
@@ -27,19 +23,6 @@ pub fn stamp(reading: i64, last: Option<Stamp>) -> Option<Stamp>
         return None;
     }
     Some(Stamp::at(reading, least))
-}
-
-/// The greatest instant that a question asks about, in microseconds since 1970; none where it has no system time.
-/// Takes no memory.
-pub fn last_point(query: &Query) -> Option<u64>
-    ensures { result ≡ option_map (λ time. last_instant (time_of time)) query.now.time }
-{
-    match query.time {
-        None => None,
-        Some(Time::AsOf(at)) => Some(at.microseconds),
-        Some(Time::FromTo(_, to)) => Some(to.microseconds.saturating_sub(1)),
-        Some(Time::Between(_, to)) => Some(to.microseconds),
-    }
 }
 
 /// The closed time of a list of entries: the stamp of the last, none where there is none. Takes no memory.

@@ -9,7 +9,7 @@ use model::entry::Entry;
 use model::stamp::Stamp;
 use plain::{Answer, Judge};
 use schema::Schema;
-use sqlread::query::{Query, Time, read_query};
+use sqlread::query::{Query, SystemTime, read_query};
 use sqlread::transaction::read_transaction;
 use std::alloc::{AllocError, Global};
 
@@ -53,15 +53,6 @@ fn outcomes(
     Ok(texts)
 }
 
-/// The last instant of a system time.
-fn last_of(time: Time) -> u64 {
-    match time {
-        Time::AsOf(at) => at.microseconds,
-        Time::FromTo(_, to) => to.microseconds.saturating_sub(1),
-        Time::Between(_, to) => to.microseconds,
-    }
-}
-
 /// 33 with what is closed.
 fn not_closed(alloc: Global, closed: Stamp) -> Result<Refusal, AllocError> {
     let at = closed.instant();
@@ -79,8 +70,8 @@ fn closed_query(
     let Some(closed) = closed else {
         return Ok(Err(Refusal::NotClosed(None)));
     };
-    let time = query.time.unwrap_or(Time::AsOf(closed.instant()));
-    if last_of(time) > closed.micros() {
+    let time = query.time.unwrap_or(SystemTime::as_of(closed));
+    if time.last.micros() > closed.micros() {
         return Ok(Err(not_closed(alloc, closed)?));
     }
     Ok(Ok(Query {

@@ -2,7 +2,7 @@
 use crate::judge::Since;
 use crate::meaning::passes_terms;
 use crate::row::Row;
-use sqlread::query::{Query, Time};
+use sqlread::query::{Query, SystemTime};
 use std::alloc::{AllocError, Global};
 use std::cmp::Ordering;
 
@@ -19,24 +19,6 @@ pub struct Shown {
 pub struct Answer {
     pub last: u64,
     pub rows: Vec<Shown>,
-}
-
-/// The least of a question's instants.
-fn first_of(time: Time) -> u64 {
-    match time {
-        Time::AsOf(at) => at.microseconds,
-        Time::FromTo(from, _) => from.microseconds,
-        Time::Between(from, _) => from.microseconds,
-    }
-}
-
-/// The greatest of a question's instants.
-pub(crate) fn last_of(time: Time) -> u64 {
-    match time {
-        Time::AsOf(at) => at.microseconds,
-        Time::FromTo(_, to) => to.microseconds.saturating_sub(1),
-        Time::Between(_, to) => to.microseconds,
-    }
 }
 
 /// The rows of a table at an instant: those from the latest change on that is not after it.
@@ -132,11 +114,11 @@ pub(crate) fn answer_to(
     alloc: Global,
     history: &[Since],
     query: &Query,
-    time: Time,
+    time: SystemTime,
 ) -> Result<Answer, AllocError> {
-    let last = last_of(time);
+    let (first, last) = (time.first.micros(), time.last.micros());
     let mut shown = Vec::new(alloc);
-    for row in asked(alloc, history, query, first_of(time), last)? {
+    for row in asked(alloc, history, query, first, last)? {
         let end = end_of(alloc, history, query.table, &row, last)?;
         shown.push(Shown { row, end })?;
     }

@@ -1,11 +1,11 @@
 //! Requests, each executed once, and the state at each instant.
-use crate::answers::{Answer, answer_to, last_of};
+use crate::answers::{Answer, answer_to};
 use crate::tables::Tables;
 use fault::{Refusal, Text};
 use model::stamp::Stamp;
 use period::Period;
 use schema::Schema;
-use sqlread::query::{Query, Time};
+use sqlread::query::{Query, SystemTime};
 use sqlread::statement::Transaction;
 use std::alloc::{AllocError, Global};
 
@@ -163,8 +163,8 @@ impl Judge {
         let Some(last) = self.last else {
             return Err(Refusal::NotClosed(None));
         };
-        let time = query.time.unwrap_or(Time::AsOf(last.instant()));
-        if last_of(time) > last.micros() {
+        let time = query.time.unwrap_or(SystemTime::as_of(last));
+        if time.last.micros() > last.micros() {
             return Err(Refusal::NotClosed(Some(stamp_text(self.alloc, last)?)));
         }
         let history = self.history(schema)?;
