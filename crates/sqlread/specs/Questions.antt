@@ -17,7 +17,7 @@ use Rattle.sqlchecks.specs.Comparisons.{comparison_in}
 use Rattle.sqlread.specs.Shapes.{TermShape, Compares, ContainsDay, Contains, Relates, QueryShape}
 use Rattle.sqlread.specs.Changes.{in_table, if_given, all_given}
 
--- ---- FOR SYSTEM_TIME: 16 for each instant, then 15 where there is none between. FROM leaves out the instant behind TO
+-- ---- FOR SYSTEM_TIME: 16 for each instant, then 15 where there is none between. FROM .. TO ends before its second instant
 
 unfoldable pub time_in : TimeForm → Result SystemTime Refusal
 time_in (inl at) = instant_named at >>= λ t. Ok (as_of t)

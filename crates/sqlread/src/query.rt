@@ -10,8 +10,8 @@ ghost use Rattle.sqlread.specs.Questions.{time_in, term_in, question_in};
 ghost use Rattle.sqlread.specs.Texts.{query_in};
 
 pub use crate::term::Term;
-pub use crate::time::SystemTime;
 use crate::term::read_terms;
+pub use crate::time::SystemTime;
 use crate::transaction::MAX_TEXT;
 use fault::Refusal;
 use model::stamp::Stamp;
