@@ -16,7 +16,7 @@ use Rattle.answer.specs.declared.Shown.{Shown}
 use Rattle.answer.specs.declared.Answer.{Answer}
 
 abbrev pub row_of : Shown → Row
-row_of s = record { key = s.key.items; period = period_of s.period; values = s.values.items; birth = s.birth }
+row_of s = record { key = s.key.items; period = period_of s.period; values = s.values.items; system_start = s.system_start }
 
 abbrev pub shown_of : Shown → ModelShown
 shown_of s = record { row = row_of s; end = s.end }

@@ -42,7 +42,7 @@ pub struct Shown {
     pub values: Vec<Value>,
     pub period: Period,
     /// The system start.
-    pub birth: Stamp,
+    pub system_start: Stamp,
     /// The system end, none where it is open.
     pub end: Option<Stamp>,
 }

@@ -27,7 +27,7 @@ cell_text row (Key i) = optional_text (slice_get row.key.items i)
 cell_text row (Value i) = optional_text (slice_get row.values.items i)
 cell_text row Start = day_text row.period.start.number
 cell_text row End = day_text row.period.end.number
-cell_text row SystemStart = instant_text row.birth
+cell_text row SystemStart = instant_text row.system_start
 cell_text row SystemEnd = end_text row.end
 
 abbrev pub joined : List (List ℕ) → List ℕ

@@ -36,8 +36,8 @@ impl fmt::Display for Cell<'_> {
                 write!(f, "{end}")
             }
             Shows::SystemStart => {
-                let birth = row.birth.instant();
-                write!(f, "{birth}")
+                let system_start = row.system_start.instant();
+                write!(f, "{system_start}")
             }
             Shows::SystemEnd => {
                 let end = system_end_of(row.end);

@@ -257,7 +257,7 @@ module _ (schema : Schema) (list : List Entry) (e : Entry) where
             by s n (inr turned) =
                 let held = are.held (stamped_before list (e ∷ []) s) n in
                 let bound = bound_less list e s in
-                let born : (row : Row) → IsRow (state_after schema before n) row → row.birth < e.stamp = λ row h. let b = held_before (versions.versions_of old.versions n) (λ u. state_at schema list u n) (least_stamp list) (state_after schema before n) row held h in omega arith in
+                let born : (row : Row) → IsRow (state_after schema before n) row → row.system_start < e.stamp = λ row h. let b = held_before (versions.versions_of old.versions n) (λ u. state_at schema list u n) (least_stamp list) (state_after schema before n) row held h in omega arith in
                 let touched = whole e.stamp (state_after schema before n) (next n) turned.0 turned.1 turned.2 born in
                 let now : IsTouched (state_after schema before n) (state_after schema (reverse all) n) turned.0 turned.1 = subst (λ (x : State). IsTouched (state_after schema before n) (x n) turned.0 turned.1) (sym state) touched in
                 subst (λ (x : List Version). Holds x (λ u. state_at schema all u n) (least_stamp all) (state_after schema (reverse all) n)) (sym turned.3)

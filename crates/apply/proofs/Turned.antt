@@ -41,7 +41,7 @@ module _ (t : ℕ) (a b c : Table) (gone come later_gone later_come : List Row) 
   abbrev came_both : List Row
   came_both = come_both come later_gone later_come
 
-  born : (r : Row) → Has come r → r.birth ≡ t
+  born : (r : Row) → Has come r → r.system_start ≡ t
   born r h = let n = first.came r h in elim (follows r n.0) [ inl o ↦ absurd (n.1 o) | inr e ↦ e ]
 
   -- a row that goes later, and did not come first, was there
@@ -82,7 +82,7 @@ module _ (t : ℕ) (a b c : Table) (gone come later_gone later_come : List Row) 
     | inl m ↦ elim (later.stay r m) [ inl n ↦ inl n | inr g ↦ inr (gone_later r g (not_came r o)) ]
   ]
 
-  came_now : (r : Row) → Has came_both r → IsRow c r × (r.birth ≡ t)
+  came_now : (r : Row) → Has came_both r → IsRow c r × (r.system_start ≡ t)
   came_now r h = elim (come_cases r h) [
     | inr l ↦ later.came r l
     | inl g ↦ elim (later.stay r (first.came r g.0).0) [ inl n ↦ (n, born r g.0) | inr x ↦ absurd (g.1 x) ]
@@ -122,7 +122,7 @@ module _ (t : ℕ) (a b c : Table) (gone come later_gone later_come : List Row) 
   }
 
 -- where each row of the older table was born before, that is what was touched
-pub whole : (t : ℕ) (old new : Table) (gone come : List Row) → IsTurned t old new gone come → ((r : Row) → IsRow old r → r.birth < t) → IsTouched old new gone come
+pub whole : (t : ℕ) (old new : Table) (gone come : List Row) → IsTurned t old new gone come → ((r : Row) → IsRow old r → r.system_start < t) → IsTouched old new gone come
 whole t old new gone come turned before = record {
   went = λ r h. (turned.went r h, λ n. let c = turned.came r (turned.back r h n) in let b = before r (turned.went r h) in let e = c.1 in absurd (omega arith));
   stay = turned.stay;

@@ -17,7 +17,7 @@ pub record IsTurned (t : ℕ) (old new : Table) (gone come : List Row) : Type 0 
   pub went : (row : Row) → Has gone row → IsRow old row
   pub back : (row : Row) → Has gone row → IsRow new row → Has come row
   pub stay : (row : Row) → IsRow old row → IsRow new row ⊎ Has gone row
-  pub came : (row : Row) → Has come row → IsRow new row × (row.birth ≡ t)
+  pub came : (row : Row) → Has come row → IsRow new row × (row.system_start ≡ t)
   pub anew : (row : Row) → Has come row → IsRow old row → Has gone row
   pub comes : (row : Row) → IsRow new row → IsRow old row ⊎ Has come row
   pub gone_once : Apart gone

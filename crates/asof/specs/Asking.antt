@@ -16,7 +16,7 @@ read_with time q = record { table = q.table; time = time; passes = q.passes }
 
 -- the version's row passes each term, and its system period has one of the instants
 abbrev pub is_found_by : SystemTime → List Term → Version → Bool
-is_found_by time terms v = list_all (λ t. term_passes t v.row) (map term_of terms) && nat_le v.row.birth time.last && is_before time.first v.end
+is_found_by time terms v = list_all (λ t. term_passes t v.row) (map term_of terms) && nat_le v.row.system_start time.last && is_before time.first v.end
 
 -- the version as an answer up to the last instant shows it
 abbrev pub show_by : (last : ℕ) → Version → Shown

@@ -28,9 +28,9 @@ fn is_before(at: Stamp, end: Option<Stamp>) -> bool
 
 // Whether the version's system period has one of the instants.
 fn is_alive(version: &Version, time: &SystemTime) -> bool
-    ensures { result ≡ (nat_le version.now.row.birth time.now.last && is_before time.now.first version.now.end) }
+    ensures { result ≡ (nat_le version.now.row.system_start time.now.last && is_before time.now.first version.now.end) }
 {
-    version.row.birth.micros() <= time.last.micros() && is_before(time.first, version.end)
+    version.row.system_start.micros() <= time.last.micros() && is_before(time.first, version.end)
 }
 
 // Whether the version's row passes each term.
@@ -67,7 +67,7 @@ pub(crate) fn found<'a>(
     Ok(found)
 }
 
-// By key, start and birth.
+// By key, start and system start.
 fn compare(version: &Version, other: &Version) -> Ordering
     ensures { result ≡ version_cmp (version_of version.now) (version_of other.now) }
 {
@@ -75,10 +75,10 @@ fn compare(version: &Version, other: &Version) -> Ordering
     row.key
         .cmp(&other.key)
         .then(row.period.start.number.cmp(&other.period.start.number))
-        .then(row.birth.micros().cmp(&other.birth.micros()))
+        .then(row.system_start.micros().cmp(&other.system_start.micros()))
 }
 
-/// The same versions in the order of key, start and birth.
+/// The same versions in the order of key, start and system start.
 pub(crate) fn in_order(versions: Vec<&Version>) -> Result<Vec<&Version>, AllocError>
     ensures { IfOk result (λ sorted. map (λ v. version_of v.now) sorted.items ≡ in_order version_cmp (map (λ v. version_of v.now) versions.entry.items)) }
 {

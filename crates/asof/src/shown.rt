@@ -29,7 +29,7 @@ fn show(alloc: Global, version: &Version, last: Stamp) -> Result<Shown, AllocErr
         key: row.key.as_slice().to_vec(alloc)?,
         values: row.values.clone()?,
         period: row.period,
-        birth: row.birth,
+        system_start: row.system_start,
         end: shown_end(last, version.end),
     })
 }

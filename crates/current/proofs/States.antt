@@ -50,8 +50,8 @@ module _ (insert : InsertOnRows) (overlaps : OverlapsOnRows) (same : SameRows) (
   table_with (r ∷ rs) f =
       let old = table_with rs f.3 in
       let clear : insert_overlaps r.key r.period old.0 ≡ false = overlaps rs old.0 r.key r.period old.1 f.0 ∙ f.2 in
-      let new : Table = inserted r.key r.values r.period r.birth old.0 in
-      let more : Lists (rs ++ r ∷ []) new = insert r.key r.values r.period r.birth old.0 rs (f.0, f.1) clear old.1 in
+      let new : Table = inserted r.key r.values r.period r.system_start old.0 in
+      let more : Lists (rs ++ r ∷ []) new = insert r.key r.values r.period r.system_start old.0 rs (f.0, f.1) clear old.1 in
       let out : Has rs r → ⊥ = λ h. both (has_any (clashes r.key r.period) rs r h (clashes_itself r f.0)) f.2 in (
         new,
         same (rs ++ r ∷ []) (r ∷ rs) new more (out, old.1.once) (λ z. (

@@ -4,4 +4,4 @@ use Rattle.model.specs.Periods.{period_of}
 use Rattle.current.specs.declared.row.Row.{Row as Declared}
 
 abbrev pub row_of : Declared → Row
-row_of r = record { key = r.key; period = period_of r.period; values = r.values.items; birth = r.birth }
+row_of r = record { key = r.key; period = period_of r.period; values = r.values.items; system_start = r.system_start }

@@ -101,8 +101,8 @@ impl Current {
     // Runs an UPDATE or a DELETE.
     fn cut(&mut self, table: usize, cut: &Cut) -> Result<Touched, Refusal>
         requires { table < table_count self.old }
-        ensures ok { IfOk result (λ touched. IsRun cut.now.birth (record { table = table; change = change_of_cut cut.now }) (rows_of self.old) (rows_of self.new) (gone_in touched) (come_in touched)) }
-        ensures err { IfErr result (λ refusal. IsRefused cut.now.birth (record { table = table; change = change_of_cut cut.now }) (rows_of self.old) refusal) }
+        ensures ok { IfOk result (λ touched. IsRun cut.now.system_start (record { table = table; change = change_of_cut cut.now }) (rows_of self.old) (rows_of self.new) (gone_in touched) (come_in touched)) }
+        ensures err { IfErr result (λ refusal. IsRefused cut.now.system_start (record { table = table; change = change_of_cut cut.now }) (rows_of self.old) refusal) }
         ensures unchanged { OnErr result (rows_of self.new ≡ rows_of self.old) }
         ensures count { table_count self.new ≡ table_count self.old }
         ensures tables { IfOk result (λ touched. length touched.tables.items ≤ table_count self.old) }
@@ -131,7 +131,7 @@ impl Current {
             conditions: update.conditions.as_slice(),
             portion: portion_or_all(update.portion),
             assignments: Some(assignments),
-            birth: t,
+            system_start: t,
         };
         self.cut(update.table, &cut)
     }
@@ -151,7 +151,7 @@ impl Current {
             conditions: delete.conditions.as_slice(),
             portion: portion_or_all(delete.portion),
             assignments,
-            birth: t,
+            system_start: t,
         };
         self.cut(delete.table, &cut)
     }
@@ -273,7 +273,7 @@ fn inserted_row(insert: &Insert, t: Stamp) -> Result<Row, AllocError>
         key,
         period: insert.period,
         values,
-        birth: t,
+        system_start: t,
     })
 }
 

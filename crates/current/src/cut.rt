@@ -22,7 +22,7 @@ pub(crate) struct Cut<'a> {
     pub portion: Period,
     /// What UPDATE sets. DELETE has none.
     pub assignments: Option<&'a [Assignment]>,
-    pub birth: Stamp,
+    pub system_start: Stamp,
 }
 
 // Adds the part of the row as a row, if there is a part.
@@ -31,9 +31,9 @@ fn push_part(
     row: &Row,
     part: Option<Period>,
     values: Vec<Value>,
-    birth: Stamp,
+    system_start: Stamp,
 ) -> Result<(), AllocError>
-    ensures { IfOk result (λ u. map row_of parts.new.items ≡ map row_of parts.old.items ++ row_of_part (row_of row.now) part values.items birth) }
+    ensures { IfOk result (λ u. map row_of parts.new.items ≡ map row_of parts.old.items ++ row_of_part (row_of row.now) part values.items system_start) }
 {
     if let Some(period) = part {
         let key = row.key.clone()?;
@@ -41,7 +41,7 @@ fn push_part(
             key,
             period,
             values,
-            birth,
+            system_start,
         })?;
     }
     Ok(())
@@ -53,12 +53,12 @@ fn push_new_part(
     row: &Row,
     part: Option<Period>,
     values: Option<Vec<Value>>,
-    birth: Stamp,
+    system_start: Stamp,
 ) -> Result<(), AllocError>
-    ensures { IfOk result (λ u. map row_of parts.new.items ≡ map row_of parts.old.items ++ new_part (row_of row.now) part values birth) }
+    ensures { IfOk result (λ u. map row_of parts.new.items ≡ map row_of parts.old.items ++ new_part (row_of row.now) part values system_start) }
 {
     match values {
-        Some(values) => push_part(parts, row, part, values, birth),
+        Some(values) => push_part(parts, row, part, values, system_start),
         None => Ok(()),
     }
 }
@@ -97,17 +97,18 @@ impl Cut<'_> {
     /// `NumberRange` where a new value is out of range; `NoMemory`.
     pub(crate) fn parts(&self, alloc: Global, row: &Row) -> Result<Vec<Row>, Refusal>
         requires { IsTrue (is_met (change_of_cut self.now) (row_of row.now)) }
-        ensures ok { IfOk result (λ parts. (map row_of parts.items ≡ made (change_of_cut self.now) self.now.birth (row_of row.now)) × (is_stuck (change_of_cut self.now) (row_of row.now) ≡ false)) }
+        ensures ok { IfOk result (λ parts. (map row_of parts.items ≡ made (change_of_cut self.now) self.now.system_start (row_of row.now)) × (is_stuck (change_of_cut self.now) (row_of row.now) ≡ false)) }
         ensures err { IfErr result (λ refusal. (refusal ≡ NoMemory) ⊎ ((refusal ≡ NumberRange) × (is_stuck (change_of_cut self.now) (row_of row.now) ≡ true))) }
     {
         rowlaws::parts_of_update();
         rowlaws::parts_of_delete();
         let new = self.new_values(alloc, row)?;
         let (before, within, after) = pieces(row.period, self.portion);
+        let at = self.system_start;
         let mut parts = Vec::new(alloc);
-        push_part(&mut parts, row, before, row.clone_values()?, self.birth)?;
-        push_new_part(&mut parts, row, within, new, self.birth)?;
-        push_part(&mut parts, row, after, row.clone_values()?, self.birth)?;
+        push_part(&mut parts, row, before, row.clone_values()?, at)?;
+        push_new_part(&mut parts, row, within, new, at)?;
+        push_part(&mut parts, row, after, row.clone_values()?, at)?;
         Ok(parts)
     }
 }

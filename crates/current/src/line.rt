@@ -43,9 +43,9 @@ fn cut_met(
     changes: &mut Changes,
 ) -> Result<(), Refusal>
     requires { is_met (change_of_cut cut.now) (row_of row.now) ≡ true }
-    ensures rows { IfOk result (λ u. map row_of rows.new.items ≡ map row_of rows.old.items ++ kept (change_of_cut cut.now) cut.now.birth (row_of row.now)) }
-    ensures gone { IfOk result (λ u. map row_of changes.new.gone.items ≡ map row_of changes.old.gone.items ++ gone_at (change_of_cut cut.now) cut.now.birth (row_of row.now)) }
-    ensures come { IfOk result (λ u. map row_of changes.new.come.items ≡ map row_of changes.old.come.items ++ come_at (change_of_cut cut.now) cut.now.birth (row_of row.now)) }
+    ensures rows { IfOk result (λ u. map row_of rows.new.items ≡ map row_of rows.old.items ++ kept (change_of_cut cut.now) cut.now.system_start (row_of row.now)) }
+    ensures gone { IfOk result (λ u. map row_of changes.new.gone.items ≡ map row_of changes.old.gone.items ++ gone_at (change_of_cut cut.now) cut.now.system_start (row_of row.now)) }
+    ensures come { IfOk result (λ u. map row_of changes.new.come.items ≡ map row_of changes.old.come.items ++ come_at (change_of_cut cut.now) cut.now.system_start (row_of row.now)) }
     ensures in_range { IfOk result (λ u. is_stuck (change_of_cut cut.now) (row_of row.now) ≡ false) }
     ensures err { IfErr result (λ refusal. (refusal ≡ NoMemory) ⊎ ((refusal ≡ NumberRange) × (is_stuck (change_of_cut cut.now) (row_of row.now) ≡ true))) }
 {
@@ -68,9 +68,9 @@ fn cut_row(
     rows: &mut Vec<Row>,
     changes: &mut Changes,
 ) -> Result<(), Refusal>
-    ensures rows { IfOk result (λ u. map row_of rows.new.items ≡ map row_of rows.old.items ++ kept (change_of_cut cut.now) cut.now.birth (row_of row.now)) }
-    ensures gone { IfOk result (λ u. map row_of changes.new.gone.items ≡ map row_of changes.old.gone.items ++ gone_at (change_of_cut cut.now) cut.now.birth (row_of row.now)) }
-    ensures come { IfOk result (λ u. map row_of changes.new.come.items ≡ map row_of changes.old.come.items ++ come_at (change_of_cut cut.now) cut.now.birth (row_of row.now)) }
+    ensures rows { IfOk result (λ u. map row_of rows.new.items ≡ map row_of rows.old.items ++ kept (change_of_cut cut.now) cut.now.system_start (row_of row.now)) }
+    ensures gone { IfOk result (λ u. map row_of changes.new.gone.items ≡ map row_of changes.old.gone.items ++ gone_at (change_of_cut cut.now) cut.now.system_start (row_of row.now)) }
+    ensures come { IfOk result (λ u. map row_of changes.new.come.items ≡ map row_of changes.old.come.items ++ come_at (change_of_cut cut.now) cut.now.system_start (row_of row.now)) }
     ensures in_range { IfOk result (λ u. is_stuck (change_of_cut cut.now) (row_of row.now) ≡ false) }
     ensures err { IfErr result (λ refusal. (refusal ≡ NoMemory) ⊎ ((refusal ≡ NumberRange) × (is_stuck (change_of_cut cut.now) (row_of row.now) ≡ true))) }
 {
@@ -90,9 +90,9 @@ pub(crate) fn cut_line(
     line: &[Row],
     changes: &mut Changes,
 ) -> Result<Vec<Row>, Refusal>
-    ensures rows { IfOk result (λ rows. map row_of rows.items ≡ flat_map (kept (change_of_cut cut.now) cut.now.birth) (map row_of line.now)) }
-    ensures gone { IfOk result (λ rows. map row_of changes.new.gone.items ≡ map row_of changes.old.gone.items ++ flat_map (gone_at (change_of_cut cut.now) cut.now.birth) (map row_of line.now)) }
-    ensures come { IfOk result (λ rows. map row_of changes.new.come.items ≡ map row_of changes.old.come.items ++ flat_map (come_at (change_of_cut cut.now) cut.now.birth) (map row_of line.now)) }
+    ensures rows { IfOk result (λ rows. map row_of rows.items ≡ flat_map (kept (change_of_cut cut.now) cut.now.system_start) (map row_of line.now)) }
+    ensures gone { IfOk result (λ rows. map row_of changes.new.gone.items ≡ map row_of changes.old.gone.items ++ flat_map (gone_at (change_of_cut cut.now) cut.now.system_start) (map row_of line.now)) }
+    ensures come { IfOk result (λ rows. map row_of changes.new.come.items ≡ map row_of changes.old.come.items ++ flat_map (come_at (change_of_cut cut.now) cut.now.system_start) (map row_of line.now)) }
     ensures in_range { IfOk result (λ rows. list_any (is_stuck (change_of_cut cut.now)) (map row_of line.now) ≡ false) }
     ensures err { IfErr result (λ refusal. (refusal ≡ NoMemory) ⊎ ((refusal ≡ NumberRange) × (list_any (is_stuck (change_of_cut cut.now)) (map row_of line.now) ≡ true))) }
 {

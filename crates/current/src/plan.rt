@@ -47,10 +47,10 @@ fn meets_some(cut: &Cut, rows: &[Row]) -> bool
 impl Plan {
     // Plans what will become of a key.
     fn add(&mut self, alloc: Global, cut: &Cut, key: &Key, rows: &[Row]) -> Result<(), Refusal>
-        ensures lines { IfOk result (λ u. IsPlanned (change_of_cut cut.now) cut.now.birth key.now (map row_of rows.now) self.old.lines.items self.new.lines.items) }
-        ensures count { IfOk result (λ u. self.new.count ≡ min (self.old.count + length (flat_map (kept (change_of_cut cut.now) cut.now.birth) (map row_of rows.now))) usize.MAX) }
-        ensures gone { IfOk result (λ u. map row_of self.new.changes.gone.items ≡ map row_of self.old.changes.gone.items ++ flat_map (gone_at (change_of_cut cut.now) cut.now.birth) (map row_of rows.now)) }
-        ensures come { IfOk result (λ u. map row_of self.new.changes.come.items ≡ map row_of self.old.changes.come.items ++ flat_map (come_at (change_of_cut cut.now) cut.now.birth) (map row_of rows.now)) }
+        ensures lines { IfOk result (λ u. IsPlanned (change_of_cut cut.now) cut.now.system_start key.now (map row_of rows.now) self.old.lines.items self.new.lines.items) }
+        ensures count { IfOk result (λ u. self.new.count ≡ min (self.old.count + length (flat_map (kept (change_of_cut cut.now) cut.now.system_start) (map row_of rows.now))) usize.MAX) }
+        ensures gone { IfOk result (λ u. map row_of self.new.changes.gone.items ≡ map row_of self.old.changes.gone.items ++ flat_map (gone_at (change_of_cut cut.now) cut.now.system_start) (map row_of rows.now)) }
+        ensures come { IfOk result (λ u. map row_of self.new.changes.come.items ≡ map row_of self.old.changes.come.items ++ flat_map (come_at (change_of_cut cut.now) cut.now.system_start) (map row_of rows.now)) }
         ensures in_range { IfOk result (λ u. list_any (is_stuck (change_of_cut cut.now)) (map row_of rows.now) ≡ false) }
         ensures err { IfErr result (λ refusal. (refusal ≡ NoMemory) ⊎ ((refusal ≡ NumberRange) × (list_any (is_stuck (change_of_cut cut.now)) (map row_of rows.now) ≡ true))) }
     {
@@ -70,10 +70,10 @@ impl Plan {
 ///
 /// `NumberRange` where a new value of a row that is met is out of range; `NoMemory`.
 pub(crate) fn plan_cut(alloc: Global, cut: &Cut, lines: &Lines) -> Result<Plan, Refusal>
-    ensures lines { IfOk result (λ plan. ArePlanned (change_of_cut cut.now) cut.now.birth (lines_of lines.now) plan.lines.items) }
-    ensures count { IfOk result (λ plan. plan.count ≡ min (length (flat_map (kept (change_of_cut cut.now) cut.now.birth) (rows_in lines.now.entries))) usize.MAX) }
-    ensures gone { IfOk result (λ plan. map row_of plan.changes.gone.items ≡ flat_map (gone_at (change_of_cut cut.now) cut.now.birth) (rows_in lines.now.entries)) }
-    ensures come { IfOk result (λ plan. map row_of plan.changes.come.items ≡ flat_map (come_at (change_of_cut cut.now) cut.now.birth) (rows_in lines.now.entries)) }
+    ensures lines { IfOk result (λ plan. ArePlanned (change_of_cut cut.now) cut.now.system_start (lines_of lines.now) plan.lines.items) }
+    ensures count { IfOk result (λ plan. plan.count ≡ min (length (flat_map (kept (change_of_cut cut.now) cut.now.system_start) (rows_in lines.now.entries))) usize.MAX) }
+    ensures gone { IfOk result (λ plan. map row_of plan.changes.gone.items ≡ flat_map (gone_at (change_of_cut cut.now) cut.now.system_start) (rows_in lines.now.entries)) }
+    ensures come { IfOk result (λ plan. map row_of plan.changes.come.items ≡ flat_map (come_at (change_of_cut cut.now) cut.now.system_start) (rows_in lines.now.entries)) }
     ensures in_range { IfOk result (λ plan. list_any (is_stuck (change_of_cut cut.now)) (rows_in lines.now.entries) ≡ false) }
     ensures err { IfErr result (λ refusal. (refusal ≡ NoMemory) ⊎ ((refusal ≡ NumberRange) × (list_any (is_stuck (change_of_cut cut.now)) (rows_in lines.now.entries) ≡ true))) }
 {
@@ -102,10 +102,10 @@ pub(crate) fn plan_key(
     requires in_lines { (k : List Value) → IsTrue (in_line k 0 (lines_of lines.now k)) }
     requires counted { count ≡ length (rows_in lines.now.entries) }
     requires met { (r : TableRow) → Has (rows_in lines.now.entries) r → is_met (change_of_cut cut.now) r ≡ true → r.key ≡ key.now }
-    ensures lines { IfOk result (λ plan. ArePlanned (change_of_cut cut.now) cut.now.birth (lines_of lines.now) plan.lines.items) }
-    ensures count { IfOk result (λ plan. plan.count ≡ min (length (flat_map (kept (change_of_cut cut.now) cut.now.birth) (rows_in lines.now.entries))) usize.MAX) }
-    ensures gone { IfOk result (λ plan. map row_of plan.changes.gone.items ≡ flat_map (gone_at (change_of_cut cut.now) cut.now.birth) (rows_in lines.now.entries)) }
-    ensures come { IfOk result (λ plan. map row_of plan.changes.come.items ≡ flat_map (come_at (change_of_cut cut.now) cut.now.birth) (rows_in lines.now.entries)) }
+    ensures lines { IfOk result (λ plan. ArePlanned (change_of_cut cut.now) cut.now.system_start (lines_of lines.now) plan.lines.items) }
+    ensures count { IfOk result (λ plan. plan.count ≡ min (length (flat_map (kept (change_of_cut cut.now) cut.now.system_start) (rows_in lines.now.entries))) usize.MAX) }
+    ensures gone { IfOk result (λ plan. map row_of plan.changes.gone.items ≡ flat_map (gone_at (change_of_cut cut.now) cut.now.system_start) (rows_in lines.now.entries)) }
+    ensures come { IfOk result (λ plan. map row_of plan.changes.come.items ≡ flat_map (come_at (change_of_cut cut.now) cut.now.system_start) (rows_in lines.now.entries)) }
     ensures in_range { IfOk result (λ plan. list_any (is_stuck (change_of_cut cut.now)) (rows_in lines.now.entries) ≡ false) }
     ensures err { IfErr result (λ refusal. (refusal ≡ NoMemory) ⊎ ((refusal ≡ NumberRange) × (list_any (is_stuck (change_of_cut cut.now)) (rows_in lines.now.entries) ≡ true))) }
 {

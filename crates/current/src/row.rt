@@ -17,7 +17,7 @@ pub struct Row {
     /// Of the table's value columns, in their order.
     pub values: Vec<Value>,
     /// The instant of the transaction that made the row.
-    pub birth: Stamp,
+    pub system_start: Stamp,
 }
 
 impl Clone for Row {
@@ -30,7 +30,7 @@ impl Clone for Row {
             key: self.key.clone()?,
             period: self.period,
             values: self.clone_values()?,
-            birth: self.birth,
+            system_start: self.system_start,
         })
     }
 }
@@ -53,7 +53,7 @@ impl Row {
         self.values.clone()
     }
 
-    /// Whether the two have the same key, period, values and birth. Takes no memory.
+    /// Whether the two have the same key, period, values and system start. Takes no memory.
     pub fn is_same(&self, other: &Row) -> bool
         ensures { result ≡ same_row (row_of self.now) (row_of other.now) }
     {
@@ -61,6 +61,6 @@ impl Row {
             && self.period.start.number == other.period.start.number
             && self.period.end.number == other.period.end.number
             && same_values(self.values.as_slice(), other.values.as_slice())
-            && self.birth.micros() == other.birth.micros()
+            && self.system_start.micros() == other.system_start.micros()
     }
 }

@@ -118,10 +118,10 @@ impl TableRows {
 
     // What will become of the rows. Where WHERE names a key only its rows are looked at.
     fn plan(&self, cut: &Cut) -> Result<Plan, Refusal>
-        ensures lines { IfOk result (λ plan. ArePlanned (change_of_cut cut.now) cut.now.birth (lines_of self.now.lines) plan.lines.items) }
-        ensures count { IfOk result (λ plan. plan.count ≡ min (length (flat_map (kept (change_of_cut cut.now) cut.now.birth) (rows_of_table self.now))) usize.MAX) }
-        ensures gone { IfOk result (λ plan. map row_of plan.changes.gone.items ≡ flat_map (gone_at (change_of_cut cut.now) cut.now.birth) (rows_of_table self.now)) }
-        ensures come { IfOk result (λ plan. map row_of plan.changes.come.items ≡ flat_map (come_at (change_of_cut cut.now) cut.now.birth) (rows_of_table self.now)) }
+        ensures lines { IfOk result (λ plan. ArePlanned (change_of_cut cut.now) cut.now.system_start (lines_of self.now.lines) plan.lines.items) }
+        ensures count { IfOk result (λ plan. plan.count ≡ min (length (flat_map (kept (change_of_cut cut.now) cut.now.system_start) (rows_of_table self.now))) usize.MAX) }
+        ensures gone { IfOk result (λ plan. map row_of plan.changes.gone.items ≡ flat_map (gone_at (change_of_cut cut.now) cut.now.system_start) (rows_of_table self.now)) }
+        ensures come { IfOk result (λ plan. map row_of plan.changes.come.items ≡ flat_map (come_at (change_of_cut cut.now) cut.now.system_start) (rows_of_table self.now)) }
         ensures in_range { IfOk result (λ plan. list_any (is_stuck (change_of_cut cut.now)) (rows_of_table self.now) ≡ false) }
         ensures err { IfErr result (λ refusal. (refusal ≡ NoMemory) ⊎ ((refusal ≡ NumberRange) × (list_any (is_stuck (change_of_cut cut.now)) (rows_of_table self.now) ≡ true))) }
     {
@@ -137,8 +137,8 @@ impl TableRows {
     /// `NumberRange` where a new value of a row that is met is out of range; then `RowLimit` where
     /// more than 20,000 rows would be left; `NoMemory`.
     pub(crate) fn cut(&mut self, cut: &Cut) -> Result<Changes, Refusal>
-        ensures ok { IfOk result (λ changes. IsCut (change_of_cut cut.now) cut.now.birth (rows_of_table self.old) (rows_of_table self.new) (map row_of changes.gone.items) (map row_of changes.come.items)) }
-        ensures err { IfErr result (λ refusal. (rows_of_table self.new ≡ rows_of_table self.old) × IsCutRefused (change_of_cut cut.now) cut.now.birth (rows_of_table self.old) refusal) }
+        ensures ok { IfOk result (λ changes. IsCut (change_of_cut cut.now) cut.now.system_start (rows_of_table self.old) (rows_of_table self.new) (map row_of changes.gone.items) (map row_of changes.come.items)) }
+        ensures err { IfErr result (λ refusal. (rows_of_table self.new ≡ rows_of_table self.old) × IsCutRefused (change_of_cut cut.now) cut.now.system_start (rows_of_table self.old) refusal) }
     {
         let plan = self.plan(cut)?;
         if plan.count > ROWS_MOST {

@@ -36,7 +36,7 @@ fn is_same(shown: &Shown, wanted: &plain::Shown) -> bool {
         && shown.values.as_slice() == row.values.as_slice()
         && shown.period.start.number == row.start
         && shown.period.end.number == row.end
-        && shown.birth.micros() == row.birth
+        && shown.system_start.micros() == row.system_start
         && shown.end.map(|end| end.micros()) == wanted.end
 }
 

@@ -53,9 +53,9 @@ fn row_text(alloc: Global, shown: &Shown) -> Result<String, AllocError> {
     add_value(&mut text, alloc, &Value::Day(row.start))?;
     add_value(&mut text, alloc, &Value::Day(row.end))?;
     add_values(&mut text, alloc, row.values.as_slice())?;
-    let birth = instant_text(alloc, Some(row.birth))?;
+    let system_start = instant_text(alloc, Some(row.system_start))?;
     let end = instant_text(alloc, shown.end)?;
-    write!(text, "{birth},{end}\n")?;
+    write!(text, "{system_start},{end}\n")?;
     Ok(text)
 }
 

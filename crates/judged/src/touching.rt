@@ -10,7 +10,7 @@ fn is_same(row: &Row, other: &CurrentRow) -> bool {
         && row.start == other.period.start.number
         && row.end == other.period.end.number
         && row.values.as_slice() == other.values.as_slice()
-        && row.birth == other.birth.micros()
+        && row.system_start == other.system_start.micros()
 }
 
 fn has(rows: &[Row], row: &Row) -> bool {

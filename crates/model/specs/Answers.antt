@@ -59,9 +59,9 @@ pub record Answer : Type 0 where
   pub last : ℕ
   pub rows : List Shown
 
--- the order of rows: by key, start and birth
+-- the order of rows: by key, start and system start
 abbrev pub row_cmp : Row → Row → Ordering
-row_cmp a b = ordering_then (key_cmp a.key b.key) (ordering_then (nat_cmp a.period.start b.period.start) (nat_cmp a.birth b.birth))
+row_cmp a b = ordering_then (key_cmp a.key b.key) (ordering_then (nat_cmp a.period.start b.period.start) (nat_cmp a.system_start b.system_start))
 
 -- In what follows `history u` is the table at the instant u.
 
@@ -69,10 +69,10 @@ row_cmp a b = ordering_then (key_cmp a.key b.key) (ordering_then (nat_cmp a.peri
 abbrev pub IsAsked : (ℕ → Table) → Query → Row → Type 0
 IsAsked history q row = IsTrue (q.passes row) × ((u : ℕ) × IsInstant q.time u × IsRow (history u) row)
 
--- the shown end is the least instant above the birth, and at most the last, at which the row is gone
+-- the shown end is the least instant above the system start, and at most the last, at which the row is gone
 abbrev pub IsShownEnd : (ℕ → Table) → ℕ → Row → Option ℕ → Type 0
-IsShownEnd history last row (Some end) = (row.birth < end) × (end ≤ last) × (IsRow (history end) row → ⊥) × ((w : ℕ) → row.birth < w → w < end → IsRow (history w) row)
-IsShownEnd history last row None = (w : ℕ) → row.birth < w → w ≤ last → IsRow (history w) row
+IsShownEnd history last row (Some end) = (row.system_start < end) × (end ≤ last) × (IsRow (history end) row → ⊥) × ((w : ℕ) → row.system_start < w → w < end → IsRow (history w) row)
+IsShownEnd history last row None = (w : ℕ) → row.system_start < w → w ≤ last → IsRow (history w) row
 
 -- each row that is asked for, once, in order, with its shown end
 pub record IsAnswerOver (history : ℕ → Table) (q : Query) (a : Answer) : Type 0 where

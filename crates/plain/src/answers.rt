@@ -34,13 +34,13 @@ fn rows_at(
     }
 }
 
-/// The order of an answer's rows: by key, start and birth.
+/// The order of an answer's rows: by key, start and system start.
 fn order(row: &Row, other: &Row) -> Ordering {
     row.key
         .as_slice()
         .cmp(&other.key.as_slice())
         .then(row.start.cmp(&other.start))
-        .then(row.birth.cmp(&other.birth))
+        .then(row.system_start.cmp(&other.system_start))
 }
 
 /// Adds a row in order, unless it is there.
@@ -90,7 +90,7 @@ fn asked(
     Ok(rows)
 }
 
-/// The least instant after the row's birth and at most the last at which it is not there, if there is one.
+/// The least instant after the row's system start and at most the last at which it is not there, if there is one.
 fn end_of(
     alloc: Global,
     history: &[Since],
@@ -99,7 +99,7 @@ fn end_of(
     last: u64,
 ) -> Result<Option<u64>, AllocError> {
     for since in history.iter() {
-        if row.birth < since.stamp && since.stamp <= last {
+        if row.system_start < since.stamp && since.stamp <= last {
             let there = since.tables.rows(alloc, table)?;
             if !there.iter().any(|other| *other == *row) {
                 return Ok(Some(since.stamp));

@@ -20,7 +20,7 @@ fn inserted_day(day: &KeyDay, insert: &Insert, t: u64) -> Result<KeyDay, AllocEr
     if in_portion(Some(period), day.number) {
         new.cell = Some(Cell {
             values: insert.values.clone()?,
-            birth: t,
+            system_start: t,
         });
         new.is_cut = false;
     }
@@ -78,7 +78,10 @@ fn updated_day(
     let is_new_cut = is_edge(update.portion, day.number) && line.is_joined(day);
     Ok(KeyDay {
         number: day.number,
-        cell: Some(Cell { values, birth: t }),
+        cell: Some(Cell {
+            values,
+            system_start: t,
+        }),
         is_cut: day.is_cut || is_new_cut,
     })
 }
@@ -113,7 +116,7 @@ fn deleted_day(day: &KeyDay, delete: &Delete, t: u64) -> Result<KeyDay, AllocErr
     if in_portion(delete.portion, day.number) {
         new.cell = None;
     } else if let Some(cell) = &mut new.cell {
-        cell.birth = t;
+        cell.system_start = t;
     }
     Ok(new)
 }

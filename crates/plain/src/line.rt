@@ -8,7 +8,7 @@ use std::alloc::{AllocError, Global};
 #[derive(Clone, Debug, Drop)]
 pub(crate) struct Cell {
     pub values: Vec<Value>,
-    pub birth: u64,
+    pub system_start: u64,
 }
 
 /// A day of a key.
@@ -73,7 +73,7 @@ impl Line {
                     start: day.number,
                     end,
                     values: cell.values.clone()?,
-                    birth: cell.birth,
+                    system_start: cell.system_start,
                 })?,
             }
         }

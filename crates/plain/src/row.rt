@@ -13,7 +13,7 @@ pub struct Row {
     /// Of the table's value columns, in their order.
     pub values: Vec<Value>,
     /// The instant of the transaction that made the row.
-    pub birth: u64,
+    pub system_start: u64,
 }
 
 impl Row {

@@ -9,10 +9,10 @@ use Rattle.rowlaws.specs.Rows.{Has, Lists}
 use Rattle.rowlaws.specs.Cutting.{part, removed, removed_rows}
 use Rattle.rowlaws.proofs.Recut.{Cuts, Middle, one_cuts, parts_cuts, parts_born, lists_cut, older_cut}
 
-abbrev pub no_birth : ℕ → Cell → Cell
-no_birth t c = record { values = c.values; birth = t }
+abbrev pub no_system_start : ℕ → Cell → Cell
+no_system_start t c = record { values = c.values; system_start = t }
 
-some_or : (m i : Bool) (o : Option Cell) (t : ℕ) → is_some (cond m (cond i None (option_map (no_birth t) o)) o) ≡ (is_some o && not (m && i))
+some_or : (m i : Bool) (o : Option Cell) (t : ℕ) → is_some (cond m (cond i None (option_map (no_system_start t) o)) o) ≡ (is_some o && not (m && i))
 some_or true true None t = refl
 some_or true true (Some c) t = refl
 some_or true false None t = refl
@@ -56,7 +56,7 @@ module _ (passes : Row → Bool) (p : Period) (t : ℕ) (old : Table) where
   unfolding deleted
   unmet_cell k d m = rw m refl
 
-  met_outside : (k : List Value) (d : ℕ) (c : Cell) → is_met passes p old k d ≡ true → inside p d ≡ false → old.cell k d ≡ Some c → new.cell k d ≡ Some (record { values = c.values; birth = t })
+  met_outside : (k : List Value) (d : ℕ) (c : Cell) → is_met passes p old k d ≡ true → inside p d ≡ false → old.cell k d ≡ Some c → new.cell k d ≡ Some (record { values = c.values; system_start = t })
   unfolding deleted
   met_outside k d c m i h = rw (m, i, h) refl
 
@@ -121,7 +121,7 @@ module _ (passes : Row → Bool) (p : Period) (t : ℕ) (old : Table) where
       piece_row : (s e : ℕ) → s < e → r.period.start ≤ s → e ≤ r.period.end → joined new r.key s ≡ false → joined new r.key e ≡ false → ((d : ℕ) → s ≤ d → d < e → inside p d ≡ false) → IsRow new (part r s e r.values t)
       piece_row s e some from to first last out = record {
         some = some;
-        filled = λ d a b. met_outside r.key d (record { values = r.values; birth = r.birth }) (met_at d (omega arith) (omega arith)) (out d a b) (row.filled d (omega arith) (omega arith));
+        filled = λ d a b. met_outside r.key d (record { values = r.values; system_start = r.system_start }) (met_at d (omega arith) (omega arith)) (out d a b) (row.filled d (omega arith) (omega arith));
         whole = λ d a b. still_joined r.key d (out_left (d - 1) (out (d - 1) (omega arith) (omega arith))) (out_left d (out d (omega arith) b)) ∙ row.whole d (omega arith) (omega arith);
         first = first;
         last = last;
@@ -152,7 +152,7 @@ module _ (passes : Row → Bool) (p : Period) (t : ℕ) (old : Table) where
       | inr n ↦ one_cuts (removed passes p t) new r (cond-false _ _ _ n) (unmet_row n)
     ]
 
-    removed_born : (z : Row) → Has (removed passes p t r) z → (z ≡ r) ⊎ (z.birth ≡ t)
+    removed_born : (z : Row) → Has (removed passes p t r) z → (z ≡ r) ⊎ (z.system_start ≡ t)
     removed_born z h = elim (cases_Bool (meets passes p r)) [
       | inl m ↦ let o = overlap m in inr (parts_born (removed passes p t) new p t r [] le row.some o.0 o.1 (middle m) (before_row m) (after_row m) (cond-true _ _ _ m) z h)
       | inr n ↦ elim (subst (λ xs. Has xs z) (cond-false _ _ _ n) h) [ inl e ↦ inl e | inr x ↦ absurd x ]
@@ -162,6 +162,6 @@ module _ (passes : Row → Bool) (p : Period) (t : ℕ) (old : Table) where
   unfolding removed_rows
   lists_deleted le rows l = lists_cut (removed passes p t) old new new_keys from_old rows l (λ r h. removed_cuts le (l.each r h) (l.within r h))
 
-  pub older_deleted : p.start < p.end → (rows : List Row) → Lists rows old → (z : Row) → IsRow new z → IsRow old z ⊎ (z.birth ≡ t)
+  pub older_deleted : p.start < p.end → (rows : List Row) → Lists rows old → (z : Row) → IsRow new z → IsRow old z ⊎ (z.system_start ≡ t)
   unfolding removed_rows
   older_deleted le rows l = older_cut t (removed passes p t) old new rows l (lists_deleted le rows l) (λ r z h g. removed_born le (l.each r h) (l.within r h) z g)

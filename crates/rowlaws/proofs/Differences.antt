@@ -21,8 +21,8 @@ same_row-true a b h =
     let start = eqb-true a.period.start b.period.start h1.1 in
     let end = eqb-true a.period.end b.period.end h2.1 in
     let values = same_key-true a.values b.values h3.1 in
-    let birth = eqb-true a.birth b.birth h4.1 in
-    λ i. record { key = key i; period = record { start = start i; end = end i }; values = values i; birth = birth i }
+    let system_start = eqb-true a.system_start b.system_start h4.1 in
+    λ i. record { key = key i; period = record { start = start i; end = end i }; values = values i; system_start = system_start i }
 
 pub same_row-itself : (a : Row) → same_row a a ≡ true
 same_row-itself a = and_from _ _ (and_from _ _ (and_from _ _ (and_from _ _ (same_key-itself a.key) (eq-eqb _ _ refl)) (eq-eqb _ _ refl)) (same_key-itself a.values)) (eq-eqb _ _ refl)

@@ -29,7 +29,7 @@ module _ (key values : List Value) (p : Period) (t : ℕ) (old : Table) where
   new = inserted key values p t old
 
   abbrev pub fresh : Row
-  fresh = record { key = key; period = p; values = values; birth = t }
+  fresh = record { key = key; period = p; values = values; system_start = t }
 
   pub new_keys : new.keys ≡ with_key key old.keys
   unfolding inserted
@@ -47,7 +47,7 @@ module _ (key values : List Value) (p : Period) (t : ℕ) (old : Table) where
   unfolding inserted
   outside_cell d h = rw (same_key-itself key, h) refl
 
-  inside_cell : (d : ℕ) → p.start ≤ d → d < p.end → new.cell key d ≡ Some (record { values = values; birth = t })
+  inside_cell : (d : ℕ) → p.start ≤ d → d < p.end → new.cell key d ≡ Some (record { values = values; system_start = t })
   unfolding inserted
   inside_cell d h g = rw (same_key-itself key, le-leb p.start d h, lt-ltb d p.end g) refl
 
@@ -72,14 +72,14 @@ module _ (key values : List Value) (p : Period) (t : ℕ) (old : Table) where
 
     -- a row of the old table has no day of the period
     pub apart_from : {r : Row} → IsRow old r → r.key ≡ key → (d : ℕ) → p.start ≤ d → d < p.end → r.period.start ≤ d → d < r.period.end → ⊥
-    apart_from {r} row e d a b x y = both (ap is_some (subst (λ k. old.cell k d ≡ Some (record { values = r.values; birth = r.birth })) e (row.filled d x y))) (empty_in d a b)
+    apart_from {r} row e d a b x y = both (ap is_some (subst (λ k. old.cell k d ≡ Some (record { values = r.values; system_start = r.system_start })) e (row.filled d x y))) (empty_in d a b)
 
     stays_same : {r : Row} → IsRow old r → r.key ≡ key → IsRow new r
     stays_same {r} row e =
         let some = row.some in
         let out : (d : ℕ) → r.period.start ≤ d → d < r.period.end → (d < p.start) ⊎ (p.end ≤ d) = λ d a b. elim (cases_lt d p.start) [ inl l ↦ inl l | inr g ↦ elim (cases_lt d p.end) [ inl m ↦ absurd (apart_from row e d g m a b) | inr m ↦ inr m ] ] in
         let test : (d : ℕ) → (d < p.start) ⊎ (p.end ≤ d) → inside p d ≡ false = λ d o. elim o [ inl l ↦ and_left _ _ (lt-leb p.start d l) | inr l ↦ and_right _ _ (le-ltb d p.end l) ] in
-        let filled : (d : ℕ) → r.period.start ≤ d → d < r.period.end → new.cell key d ≡ Some (record { values = r.values; birth = r.birth }) = λ d a b. outside_cell d (test d (out d a b)) ∙ subst (λ k. old.cell k d ≡ Some (record { values = r.values; birth = r.birth })) e (row.filled d a b) in
+        let filled : (d : ℕ) → r.period.start ≤ d → d < r.period.end → new.cell key d ≡ Some (record { values = r.values; system_start = r.system_start }) = λ d a b. outside_cell d (test d (out d a b)) ∙ subst (λ k. old.cell k d ≡ Some (record { values = r.values; system_start = r.system_start })) e (row.filled d a b) in
         let whole : (d : ℕ) → r.period.start < d → d < r.period.end → joined new key d ≡ true = λ d a b. outside_joined d (elim (out d (omega arith) b) [ inl l ↦ inl l | inr l ↦ elim (out (d - 1) (omega arith) (omega arith)) [ inl m ↦ absurd (omega arith) | inr m ↦ inr (omega arith) ] ]) ∙ subst (λ k. joined old k d ≡ true) e (row.whole d a b) in
         let end : (d : ℕ) → joined old key d ≡ false → (d ≤ p.start) ⊎ (p.end ≤ d) → joined new key d ≡ false = λ d h o. elim o [
           | inl l ↦ elim (cases_lt d p.start) [ inl m ↦ outside_joined d (inl m) ∙ h | inr m ↦ edge_joined (omega arith) d (inl (omega arith)) ]

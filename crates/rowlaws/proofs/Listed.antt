@@ -98,7 +98,7 @@ same_listed rows more table l apart same = record {
 
 module _ (key values : List Value) (p : Period) (t : ℕ) (rows : List Row) (old : Table) (l : Lists rows old) (le : p.start < p.end) (short : p.end ≤ days) where
   abbrev row_new : Row
-  row_new = record { key = key; period = p; values = values; birth = t }
+  row_new = record { key = key; period = p; values = values; system_start = t }
 
   pub lists_inserted : insert_overlaps key p old ≡ false → Lists (rows ++ row_new ∷ []) (inserted key values p t old)
   lists_inserted clear =

@@ -206,7 +206,7 @@ module _ (schema : Schema) (all : Rows) (state : State) (l : AllListed all state
   abbrev row_lacks : ℕ → Row → ℕ → Reference → Bool
   row_lacks n r d f = f.child == n && is_free (periods_of (all f.parent) (f.refers r.key r.values)) d
 
-  lacks_is : (n : ℕ) (r : Row) (d : ℕ) (f : Reference) → (state n).cell r.key d ≡ Some (record { values = r.values; birth = r.birth }) → lacks state (place n r.key d) f ≡ row_lacks n r d f
+  lacks_is : (n : ℕ) (r : Row) (d : ℕ) (f : Reference) → (state n).cell r.key d ≡ Some (record { values = r.values; system_start = r.system_start }) → lacks state (place n r.key d) f ≡ row_lacks n r d f
   lacks_is n r d f h =
       ap (λ (o : Option Cell). elim o [ Some c ↦ f.child == n && not (is_some ((state f.parent).cell (f.refers r.key c.values) d)) | None ↦ false ]) h
       ∙ ap (λ b. f.child == n && not b) (filled_by (all f.parent) (state f.parent) (l f.parent) (f.refers r.key r.values) d)

@@ -78,7 +78,7 @@ one_cuts f new r e row = record {
 
 -- what is made of the days within the portion
 pub record Middle (p : Period) (t : ℕ) (new : Table) (r : Row) (ms : List Row) : Type 0 where
-  pub each : (z : Row) → Has ms z → IsRow new z × (z.key ≡ r.key) × (z.period.start ≡ max r.period.start p.start) × (z.period.end ≡ min r.period.end p.end) × (z.birth ≡ t)
+  pub each : (z : Row) → Has ms z → IsRow new z × (z.key ≡ r.key) × (z.period.start ≡ max r.period.start p.start) × (z.period.end ≡ min r.period.end p.end) × (z.system_start ≡ t)
   pub apart : Apart ms
   pub covers : (d : ℕ) (c : Cell) → r.period.start ≤ d → d < r.period.end → p.start ≤ d → d < p.end → new.cell r.key d ≡ Some c → (z : Row) × Has ms z
 
@@ -132,14 +132,14 @@ module _ (f : Row → List Row) (new : Table) (p : Period) (t : ℕ) (r : Row) (
         ];
   }
 
-  pub parts_born : f r ≡ first ++ (ms ++ last) → (z : Row) → Has (f r) z → z.birth ≡ t
+  pub parts_born : f r ≡ first ++ (ms ++ last) → (z : Row) → Has (f r) z → z.system_start ≡ t
   parts_born e z h = elim (has_cases first (ms ++ last) z (subst (λ xs. Has xs z) e h)) [
-    | inl g ↦ ap (λ x. x.birth) (days_has r.period.start p.start fore z g).1
-    | inr g ↦ elim (has_cases ms last z g) [ inl m ↦ (middle.each z m).4 | inr b ↦ ap (λ x. x.birth) (days_has p.end r.period.end aft z b).1 ]
+    | inl g ↦ ap (λ x. x.system_start) (days_has r.period.start p.start fore z g).1
+    | inr g ↦ elim (has_cases ms last z g) [ inl m ↦ (middle.each z m).4 | inr b ↦ ap (λ x. x.system_start) (days_has p.end r.period.end aft z b).1 ]
   ]
 
 -- a row of the new table is one of the old, or was born now
-pub older_cut : (t : ℕ) (f : Row → List Row) (old new : Table) (rows : List Row) → Lists rows old → Lists (flat_map f rows) new → ((r z : Row) → Has rows r → Has (f r) z → (z ≡ r) ⊎ (z.birth ≡ t)) → (z : Row) → IsRow new z → IsRow old z ⊎ (z.birth ≡ t)
+pub older_cut : (t : ℕ) (f : Row → List Row) (old new : Table) (rows : List Row) → Lists rows old → Lists (flat_map f rows) new → ((r z : Row) → Has rows r → Has (f r) z → (z ≡ r) ⊎ (z.system_start ≡ t)) → (z : Row) → IsRow new z → IsRow old z ⊎ (z.system_start ≡ t)
 older_cut t f old new rows l m g z row =
     let o = flat_has f rows z (row_listed (flat_map f rows) new z m row) in
     elim (g o.0 z o.1 o.2) [ inl e ↦ inl (subst (λ x. IsRow old x) (sym e) (l.each o.0 o.1)) | inr b ↦ inr b ]

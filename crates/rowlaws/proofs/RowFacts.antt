@@ -38,10 +38,10 @@ one_row {table} {r} {s} a b k d x y =
     let key : r.key ≡ s.key = x.key ∙ sym y.key in
     let start = neither r.period.start s.period.start (not_before a b k d x y) (not_before b a k d y x) in
     let end = neither r.period.end s.period.end (not_longer a b k d x y) (not_longer b a k d y x) in
-    let c : Cell = record { values = r.values; birth = r.birth } in
-    let c' : Cell = record { values = s.values; birth = s.birth } in
+    let c : Cell = record { values = r.values; system_start = r.system_start } in
+    let c' : Cell = record { values = s.values; system_start = s.system_start } in
     let cell : c ≡ c' = some_inj c c' (sym (a.filled d x.from x.before) ∙ ap (λ l. table.cell l d) key ∙ b.filled d y.from y.before) in
-    λ i. record { key = key i; period = record { start = start i; end = end i }; values = (cell i).values; birth = (cell i).birth }
+    λ i. record { key = key i; period = record { start = start i; end = end i }; values = (cell i).values; system_start = (cell i).system_start }
 
 -- rows of one table with one key and start are one
 pub one_place : (table : Table) (r s : Row) → IsRow table r → IsRow table s → r.key ≡ s.key → r.period.start ≡ s.period.start → r ≡ s
@@ -73,5 +73,5 @@ row_at_is {table} {r} row short k d x =
     let before = x.before in
     let start = first_day_is (joined table k) r.period.start d (starts_at row k r.period.start x.key refl) x.from (λ y a b. joined_in row k y x.key a (omega arith)) in
     let end = end_day_is (joined table k) r.period.end days d (subst (λ m. joined table m r.period.end ≡ false) x.key row.last) x.before (omega arith) (λ y a b. joined_in row k y x.key (omega arith) b) in
-    let cell : table.cell k d ≡ Some (record { values = r.values; birth = r.birth }) = subst (λ m. table.cell m d ≡ Some (record { values = r.values; birth = r.birth })) x.key (row.filled d x.from x.before) in
-    rw cell (λ i. Some (record { key = sym x.key i; period = record { start = start i; end = end i }; values = r.values; birth = r.birth }))
+    let cell : table.cell k d ≡ Some (record { values = r.values; system_start = r.system_start }) = subst (λ m. table.cell m d ≡ Some (record { values = r.values; system_start = r.system_start })) x.key (row.filled d x.from x.before) in
+    rw cell (λ i. Some (record { key = sym x.key i; period = record { start = start i; end = end i }; values = r.values; system_start = r.system_start }))

@@ -45,10 +45,10 @@ Next t old rows new = Lists rows new × Follows t old new
 
 follows_inserted : (key values : List Value) (p : Period) (t : ℕ) (rows : List Row) (old : Table) → Lists rows old → p.start < p.end → p.end ≤ days → insert_overlaps key p old ≡ false → Follows t old (inserted key values p t old)
 follows_inserted key values p t rows old l le short clear row h =
-    let new : Row = record { key = key; period = p; values = values; birth = t } in
+    let new : Row = record { key = key; period = p; values = values; system_start = t } in
     elim (has_cases rows (new ∷ []) row (row_listed _ _ row (lists_inserted key values p t rows old l le short clear) h)) [
       | inl a ↦ inl (l.each row a)
-      | inr b ↦ elim b [ inl e ↦ inr (ap (λ r. r.birth) e) | inr n ↦ absurd n ]
+      | inr b ↦ elim b [ inl e ↦ inr (ap (λ r. r.system_start) e) | inr n ↦ absurd n ]
     ]
 
 pub change_agrees : (c : Change) (t : ℕ) (rows : List Row) (old : Table) → IsFine c → Lists rows old → SameResult (Next t old) (rows_changed c t rows) (changed c t old)

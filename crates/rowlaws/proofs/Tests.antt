@@ -67,8 +67,8 @@ module _ (rows : List Row) (old : Table) (l : Lists rows old) (p : Period) (le :
     at_row r h k d x =
         let row = l.each r h in
         let met : is_met passes p old k d ≡ meets passes p r = met_by passes p old row (l.within r h) k d x in
-        let cell : old.cell k d ≡ Some (record { values = r.values; birth = r.birth }) = subst (λ m. old.cell m d ≡ Some (record { values = r.values; birth = r.birth })) x.key (row.filled d x.from x.before) in
-        let none : is_none (option_and_then (λ (c : Cell). set c.values) (old.cell k d)) ≡ is_none (set r.values) = none_at set (old.cell k d) (record { values = r.values; birth = r.birth }) cell in
+        let cell : old.cell k d ≡ Some (record { values = r.values; system_start = r.system_start }) = subst (λ m. old.cell m d ≡ Some (record { values = r.values; system_start = r.system_start })) x.key (row.filled d x.from x.before) in
+        let none : is_none (option_and_then (λ (c : Cell). set c.values) (old.cell k d)) ≡ is_none (set r.values) = none_at set (old.cell k d) (record { values = r.values; system_start = r.system_start }) cell in
         λ i. met i && none i
 
     to_row : (k : List Value) (d : ℕ) → at k d ≡ true → list_any (overflows passes p set) rows ≡ true

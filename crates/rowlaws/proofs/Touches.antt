@@ -23,14 +23,14 @@ use Rattle.rowlaws.proofs.Differences.{without_has, has_without, apart_without}
 -- ---- two in turn
 
 module _ (t : ℕ) (a b c : Table) (gone come later_gone later_come : List Row) (first : IsTouched a b gone come) (second : IsTouched b c later_gone later_come)
-    (follows : Follows t a b) (follows_later : Follows t b c) (old : (r : Row) → IsRow a r → r.birth < t) where
-  born : (r : Row) → Has come r → r.birth ≡ t
+    (follows : Follows t a b) (follows_later : Follows t b c) (old : (r : Row) → IsRow a r → r.system_start < t) where
+  born : (r : Row) → Has come r → r.system_start ≡ t
   born r h = let k = first.came r h in elim (follows r k.0) [ inl x ↦ absurd (k.1 x) | inr e ↦ e ]
 
-  born_later : (r : Row) → Has later_come r → r.birth ≡ t
+  born_later : (r : Row) → Has later_come r → r.system_start ≡ t
   born_later r h = let k = second.came r h in elim (follows_later r k.0) [ inl x ↦ absurd (k.1 x) | inr e ↦ e ]
 
-  not_both : (r : Row) → IsRow a r → r.birth ≡ t → ⊥
+  not_both : (r : Row) → IsRow a r → r.system_start ≡ t → ⊥
   not_both r h e = let l = old r h in omega arith
 
   still : (r : Row) → IsRow a r → IsRow b r → IsRow c r ⊎ Has (gone_both gone come later_gone) r
@@ -158,9 +158,9 @@ ok_if true e x y h = cc
 ok_if false e x y h = (refl, cc)
 
 touched_insert : (key values : List Value) (p : Period) (t : ℕ) (rows : List Row) (old : Table) → Lists rows old → p.start < p.end → p.end ≤ days → insert_overlaps key p old ≡ false
-    → IsTouched old (inserted key values p t old) (rows_without [] (record { key = key; period = p; values = values; birth = t } ∷ [])) (rows_without (record { key = key; period = p; values = values; birth = t } ∷ []) [])
+    → IsTouched old (inserted key values p t old) (rows_without [] (record { key = key; period = p; values = values; system_start = t } ∷ [])) (rows_without (record { key = key; period = p; values = values; system_start = t } ∷ []) [])
 touched_insert key values p t rows old l le short clear =
-    let new : Row = record { key = key; period = p; values = values; birth = t } in
+    let new : Row = record { key = key; period = p; values = values; system_start = t } in
     let there = lists_inserted key values p t rows old l le short clear in
     record {
       went = λ r h. absurd (without_has [] (new ∷ []) r h).0;

@@ -37,7 +37,7 @@ module _ (passes : Row → Bool) (p : Period) (set : List Value → Option (List
   unfolding updated
   new_some k d = by (is_met passes p old k d)
     where
-      by : (b : Bool) → is_some (cond b (option_map (λ (c : Cell). let u : Cell = record { values = cond (inside p d) (unwrap_or (set c.values) c.values) c.values; birth = t } in u) (old.cell k d)) (old.cell k d)) ≡ is_some (old.cell k d)
+      by : (b : Bool) → is_some (cond b (option_map (λ (c : Cell). let u : Cell = record { values = cond (inside p d) (unwrap_or (set c.values) c.values) c.values; system_start = t } in u) (old.cell k d)) (old.cell k d)) ≡ is_some (old.cell k d)
       by true = some_map _ (old.cell k d)
       by false = refl
 
@@ -72,11 +72,11 @@ module _ (passes : Row → Bool) (p : Period) (set : List Value → Option (List
   unfolding updated
   unmet_cell k d m = rw m refl
 
-  met_inside : (k : List Value) (d : ℕ) (c : Cell) → is_met passes p old k d ≡ true → inside p d ≡ true → old.cell k d ≡ Some c → new.cell k d ≡ Some (record { values = unwrap_or (set c.values) c.values; birth = t })
+  met_inside : (k : List Value) (d : ℕ) (c : Cell) → is_met passes p old k d ≡ true → inside p d ≡ true → old.cell k d ≡ Some c → new.cell k d ≡ Some (record { values = unwrap_or (set c.values) c.values; system_start = t })
   unfolding updated
   met_inside k d c m i h = rw (m, i, h) refl
 
-  met_outside : (k : List Value) (d : ℕ) (c : Cell) → is_met passes p old k d ≡ true → inside p d ≡ false → old.cell k d ≡ Some c → new.cell k d ≡ Some (record { values = c.values; birth = t })
+  met_outside : (k : List Value) (d : ℕ) (c : Cell) → is_met passes p old k d ≡ true → inside p d ≡ false → old.cell k d ≡ Some c → new.cell k d ≡ Some (record { values = c.values; system_start = t })
   unfolding updated
   met_outside k d c m i h = rw (m, i, h) refl
 
@@ -94,7 +94,7 @@ module _ (passes : Row → Bool) (p : Period) (set : List Value → Option (List
     }
 
     piece_row : meets passes p r ≡ true → (s e : ℕ) (v : List Value) → s < e → r.period.start ≤ s → e ≤ r.period.end → (s ≡ r.period.start) ⊎ (is_edge p s ≡ true) → (e ≡ r.period.end) ⊎ (is_edge p e ≡ true)
-        → ((d : ℕ) → s < d → d < e → is_edge p d ≡ false) → ((d : ℕ) → s ≤ d → d < e → new.cell r.key d ≡ Some (record { values = v; birth = t })) → IsRow new (part r s e v t)
+        → ((d : ℕ) → s < d → d < e → is_edge p d ≡ false) → ((d : ℕ) → s ≤ d → d < e → new.cell r.key d ≡ Some (record { values = v; system_start = t })) → IsRow new (part r s e v t)
     piece_row m s e v some from to left right clean cells = record {
       some = some;
       filled = cells;
@@ -126,8 +126,8 @@ module _ (passes : Row → Bool) (p : Period) (set : List Value → Option (List
       met_at : (d : ℕ) → r.period.start ≤ d → d < r.period.end → is_met passes p old r.key d ≡ true
       met_at d a b = met_is row short r.key d (in_row d a b) ∙ m
 
-      left_out : (d : ℕ) → r.period.start ≤ d → d < r.period.end → (d < p.start) ⊎ (p.end ≤ d) → new.cell r.key d ≡ Some (record { values = r.values; birth = t })
-      left_out d a b o = met_outside r.key d (record { values = r.values; birth = r.birth }) (met_at d a b) (outside d o) (row.filled d a b)
+      left_out : (d : ℕ) → r.period.start ≤ d → d < r.period.end → (d < p.start) ⊎ (p.end ≤ d) → new.cell r.key d ≡ Some (record { values = r.values; system_start = t })
+      left_out d a b o = met_outside r.key d (record { values = r.values; system_start = r.system_start }) (met_at d a b) (outside d o) (row.filled d a b)
 
       overlap : (r.period.start < p.end) × (p.start < r.period.end)
       overlap = let ps = and_parts _ _ m in let qs = and_parts _ _ ps.0 in (ltb-true _ _ qs.1, ltb-true _ _ ps.1)
@@ -147,7 +147,7 @@ module _ (passes : Row → Bool) (p : Period) (set : List Value → Option (List
           (elim (cases_lt r.period.start p.start) [ inl l ↦ let e : max r.period.start p.start ≡ p.start = omega arith in inr (ap (is_edge p) e ∙ edge_start) | inr g ↦ inl (omega arith) ])
           (elim (cases_lt p.end r.period.end) [ inl l ↦ let e : min r.period.end p.end ≡ p.end = omega arith in inr (ap (is_edge p) e ∙ edge_end) | inr g ↦ inl (omega arith) ])
           (λ d a b. plain d (λ x. omega arith) (λ x. omega arith))
-          (λ d a b. met_inside r.key d (record { values = r.values; birth = r.birth }) (met_at d (omega arith) (omega arith)) (and_from _ _ (le-leb p.start d (omega arith)) (lt-ltb d p.end (omega arith))) (row.filled d (omega arith) (omega arith)))
+          (λ d a b. met_inside r.key d (record { values = r.values; system_start = r.system_start }) (met_at d (omega arith) (omega arith)) (and_from _ _ (le-leb p.start d (omega arith)) (lt-ltb d p.end (omega arith))) (row.filled d (omega arith) (omega arith)))
 
   -- ---- the list of rows
 
@@ -158,7 +158,7 @@ module _ (passes : Row → Bool) (p : Period) (set : List Value → Option (List
     middle : meets passes p r ≡ true → Middle p t new r (mid ∷ [])
     unfolding mid
     middle m = record {
-      each = λ z h. elim h [ inl e ↦ subst (λ x. IsRow new x × (x.key ≡ r.key) × (x.period.start ≡ max r.period.start p.start) × (x.period.end ≡ min r.period.end p.end) × (x.birth ≡ t)) (sym e) (within_row row short le m, refl, refl, refl, refl) | inr n ↦ absurd n ];
+      each = λ z h. elim h [ inl e ↦ subst (λ x. IsRow new x × (x.key ≡ r.key) × (x.period.start ≡ max r.period.start p.start) × (x.period.end ≡ min r.period.end p.end) × (x.system_start ≡ t)) (sym e) (within_row row short le m, refl, refl, refl, refl) | inr n ↦ absurd n ];
       apart = ((λ x. x), tt);
       covers = λ d c a b x y h. (mid, inl refl);
     }
@@ -170,7 +170,7 @@ module _ (passes : Row → Bool) (p : Period) (set : List Value → Option (List
       | inr n ↦ one_cuts (cut passes p set t) new r (cond-false _ _ _ n) (unmet_row row short n)
     ]
 
-    cut_born : (z : Row) → Has (cut passes p set t r) z → (z ≡ r) ⊎ (z.birth ≡ t)
+    cut_born : (z : Row) → Has (cut passes p set t r) z → (z ≡ r) ⊎ (z.system_start ≡ t)
     unfolding mid
     cut_born z h = elim (cases_Bool (meets passes p r)) [
       | inl m ↦ let o = overlap row short le m in inr (parts_born (cut passes p set t) new p t r (mid ∷ []) le row.some o.0 o.1 (middle m) (before_row row short le m) (after_row row short le m) (cond-true _ _ _ m) z h)
@@ -185,7 +185,7 @@ module _ (passes : Row → Bool) (p : Period) (set : List Value → Option (List
   unfolding cut_rows
   lists_updated le rows l = lists_cut (cut passes p set t) old new new_keys (λ k d c h. sym (new_some k d) ∙ ap is_some h) rows l (λ r h. cut_cuts le (l.each r h) (l.within r h))
 
-  pub older_updated : p.start < p.end → (rows : List Row) → Lists rows old → (z : Row) → IsRow new z → IsRow old z ⊎ (z.birth ≡ t)
+  pub older_updated : p.start < p.end → (rows : List Row) → Lists rows old → (z : Row) → IsRow new z → IsRow old z ⊎ (z.system_start ≡ t)
   unfolding cut_rows
   older_updated le rows l = older_cut t (cut passes p set t) old new rows l (lists_updated le rows l) (λ r z h g. cut_born le (l.each r h) (l.within r h) z g)
 
@@ -194,7 +194,7 @@ pub outside_stays : (passes : Row → Bool) (p : Period) (set : List Value → O
 unfolding updated
 outside_stays passes p set t old k d o = rw o (by (is_met passes p old k d) (old.cell k d))
   where
-    by : (b : Bool) (c : Option Cell) → option_map (λ (c : Cell). c.values) (cond b (option_map (λ (c : Cell). let u : Cell = record { values = c.values; birth = t } in u) c) c) ≡ option_map (λ (c : Cell). c.values) c
+    by : (b : Bool) (c : Option Cell) → option_map (λ (c : Cell). c.values) (cond b (option_map (λ (c : Cell). let u : Cell = record { values = c.values; system_start = t } in u) c) c) ≡ option_map (λ (c : Cell). c.values) c
     by true None = refl
     by true (Some c) = refl
     by false c = refl

@@ -19,7 +19,7 @@ IsFine (Delete passes p) = p.start < p.end
 
 -- the row that INSERT makes
 abbrev pub new_row : List Value → List Value → Period → ℕ → Row
-new_row key values p t = record { key = key; period = p; values = values; birth = t }
+new_row key values p t = record { key = key; period = p; values = values; system_start = t }
 
 -- 20: the row has the key and a day of the period
 abbrev pub clashes : List Value → Period → Row → Bool
@@ -46,7 +46,7 @@ SameResult tied (Err e) (Err f) = e ≡ f
 
 -- each row of the newer table is one of the older, or was born at t
 abbrev pub Follows : ℕ → Table → Table → Type 0
-Follows t old new = (row : Row) → IsRow new row → IsRow old row ⊎ (row.birth ≡ t)
+Follows t old new = (row : Row) → IsRow new row → IsRow old row ⊎ (row.system_start ≡ t)
 
 -- ---- laws
 

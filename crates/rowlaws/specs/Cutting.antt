@@ -7,7 +7,7 @@ use Rattle.rowlaws.specs.Rows.{Lists}
 
 -- some days of the row's, with these values, born at t
 abbrev pub part : Row → (start end : ℕ) → List Value → (t : ℕ) → Row
-part r start end values t = record { key = r.key; period = record { start = start; end = end }; values = values; birth = t }
+part r start end values t = record { key = r.key; period = record { start = start; end = end }; values = values; system_start = t }
 
 -- the row, if there is a day from start up to end
 abbrev pub if_days : (start end : ℕ) → Row → List Row

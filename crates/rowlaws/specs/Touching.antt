@@ -9,9 +9,9 @@ use Rattle.rowlaws.specs.Rows.{Has, Apart, Lists}
 use Rattle.rowlaws.specs.Cutting.{pieces, rest}
 use Rattle.rowlaws.specs.Changes.{IsFine, Follows, new_row}
 
--- the two are one row: each row is its key, period, values and birth
+-- the two are one row: each row is its key, period, values and system start
 abbrev pub same_row : Row → Row → Bool
-same_row a b = same_key a.key b.key && a.period.start == b.period.start && a.period.end == b.period.end && same_key a.values b.values && a.birth == b.birth
+same_row a b = same_key a.key b.key && a.period.start == b.period.start && a.period.end == b.period.end && same_key a.values b.values && a.system_start == b.system_start
 
 -- the rows of the first list that are not in the second
 unfoldable pub rows_without : List Row → List Row → List Row
@@ -73,10 +73,10 @@ abbrev pub TouchedBy : Type 0
 TouchedBy = (c : Change) (t : ℕ) (rows : List Row) (old new : Table) →
     IsFine c → Lists rows old → changed c t old ≡ Ok new → IsTouched old new (gone_by c t rows) (come_by c t rows)
 
--- what two changes touch in one transaction, at an instant after each birth in the first table
+-- what two changes touch in one transaction, at an instant after each system start in the first table
 abbrev pub TouchedThen : Type 0
 TouchedThen = (t : ℕ) (a b c : Table) (gone come later_gone later_come : List Row) →
-    IsTouched a b gone come → IsTouched b c later_gone later_come → Follows t a b → Follows t b c → ((r : Row) → IsRow a r → r.birth < t) →
+    IsTouched a b gone come → IsTouched b c later_gone later_come → Follows t a b → Follows t b c → ((r : Row) → IsRow a r → r.system_start < t) →
     IsTouched a c (gone_both gone come later_gone) (come_both come later_gone later_come)
 
 -- the rows before a change, from those after it and what it touched

@@ -19,7 +19,7 @@ from_to s e = record { start = s; end = e }
 
 -- a number's row, with another number for its value
 abbrev pub row : ℕ → ℕ → ℕ → ℕ → ℕ → Row
-row n s e v t = record { key = number n; period = from_to s e; values = number v; birth = t }
+row n s e v t = record { key = number n; period = from_to s e; values = number v; system_start = t }
 
 abbrev pub has_number : ℕ → Row → Bool
 has_number n r = same_key r.key (number n)

@@ -19,9 +19,9 @@ use Rattle.sqlread.specs.declared.time.SystemTime.{SystemTime as TimeRead}
 use Rattle.sqlread.specs.declared.term.Term as terms'
 use Rattle.sqlread.specs.declared.term.Term.TheVariants as terms
 
--- a row with this key, these values, this period and this birth
+-- a row with this key, these values, this period and this system start
 abbrev pub row : List RowValue → List RowValue → Declared → ℕ → Row
-row key values period birth = record { key = key; period = period_of period; values = values; birth = birth }
+row key values period system_start = record { key = key; period = period_of period; values = values; system_start = system_start }
 
 -- ---- statements
 

@@ -118,7 +118,7 @@ impl Term {
     /// value that the row does not have does not pass. Takes no memory.
     #[tactic(auto, unfolding(crate::specs::Meaning::term_passes))]
     pub fn passes(&self, key: &[Value], values: &[Value], period: Period) -> bool
-        ensures { (birth : ℕ) → result ≡ term_passes (term_of self.now) (row key.now values.now period birth) }
+        ensures { (system_start : ℕ) → result ≡ term_passes (term_of self.now) (row key.now values.now period system_start) }
     {
         match self {
             Term::Compares(comparison) => comparison.passes(key, values),
@@ -131,7 +131,7 @@ impl Term {
 
 /// Whether a row with this key, these values and this period passes each term, whenever it was born. Takes no memory.
 pub fn pass_all_terms(terms: &[Term], key: &[Value], values: &[Value], period: Period) -> bool
-    ensures { (birth : ℕ) → result ≡ list_all (λ t. term_passes t (row key.now values.now period birth)) (map term_of terms.now) }
+    ensures { (system_start : ℕ) → result ≡ list_all (λ t. term_passes t (row key.now values.now period system_start)) (map term_of terms.now) }
 {
     for term in terms {
         if !term.passes(key, values, period) {

@@ -8,7 +8,7 @@ ghost use Rattle.sysversion.specs.Versions.{version_of};
 use current::Row;
 use model::stamp::Stamp;
 
-/// A row from its birth on, up to its system end, or open. A contract sees what `version_of` gives.
+/// A row from its system start on, up to its system end, or open. A contract sees what `version_of` gives.
 #[derive(Debug, Drop)]
 pub struct Version {
     pub row: Row,

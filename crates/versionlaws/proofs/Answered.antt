@@ -41,29 +41,29 @@ is_before_of u None h = refl
 is_before_of u (Some e) h = lt-ltb u e h
 
 found : (q : Query) (v : Version) → is_found q v ≡ true → IsFound q v
-found q v h = let p = and_parts _ _ h in let r = and_parts _ _ p.0 in (r.0, leb-true v.row.birth (last_instant q.time) r.1, before_is q.time.first v.end p.1)
+found q v h = let p = and_parts _ _ h in let r = and_parts _ _ p.0 in (r.0, leb-true v.row.system_start (last_instant q.time) r.1, before_is q.time.first v.end p.1)
 
 found_test : (q : Query) (v : Version) → IsFound q v → is_found q v ≡ true
-found_test q v h = and_from _ _ (and_from _ _ h.0 (le-leb v.row.birth (last_instant q.time) h.1)) (is_before_of q.time.first v.end h.2)
+found_test q v h = and_from _ _ (and_from _ _ h.0 (le-leb v.row.system_start (last_instant q.time) h.1)) (is_before_of q.time.first v.end h.2)
 
 -- ---- the order
 
 version_total : IsTotalOrder version_cmp
-version_total = then_total (on_total (λ (v : Version). v.row.key) key_total) (then_total (on_total (λ (v : Version). v.row.period.start) nat_cmp_total) (on_total (λ (v : Version). v.row.birth) nat_cmp_total))
+version_total = then_total (on_total (λ (v : Version). v.row.key) key_total) (then_total (on_total (λ (v : Version). v.row.period.start) nat_cmp_total) (on_total (λ (v : Version). v.row.system_start) nat_cmp_total))
 
 module _ (versions : List Version) (history : ℕ → Table) (now : ℕ) (keeps : Keeps versions history now) (apart : Apart versions) (q : Query) (some : HasInstant q.time) (is_closed : last_instant q.time ≤ now) where
-  -- a version's row is there at its birth
-  at_birth : (v : Version) → Has versions v → (u : ℕ) → v.row.birth ≡ u → u ≤ now → IsRow (history u) v.row
-  at_birth v h u e b = (keeps.rows u b v.row).1 (v, h, refl, (omega arith, subst (λ x. IsBefore x v.end) e (keeps.lasts v h)))
+  -- a version's row is there at its system start
+  at_system_start : (v : Version) → Has versions v → (u : ℕ) → v.row.system_start ≡ u → u ≤ now → IsRow (history u) v.row
+  at_system_start v h u e b = (keeps.rows u b v.row).1 (v, h, refl, (omega arith, subst (λ x. IsBefore x v.end) e (keeps.lasts v h)))
 
-  ties : (v w : Version) → Has versions v → Has versions w → v.row.birth ≤ now → version_cmp v w ≡ Equal → v ≡ w
+  ties : (v w : Version) → Has versions v → Has versions w → v.row.system_start ≤ now → version_cmp v w ≡ Equal → v ≡ w
   ties v w h g b e =
-      let p = then_equal (key_cmp v.row.key w.row.key) (ordering_then (nat_cmp v.row.period.start w.row.period.start) (nat_cmp v.row.birth w.row.birth)) e in
-      let r = then_equal (nat_cmp v.row.period.start w.row.period.start) (nat_cmp v.row.birth w.row.birth) p.1 in
+      let p = then_equal (key_cmp v.row.key w.row.key) (ordering_then (nat_cmp v.row.period.start w.row.period.start) (nat_cmp v.row.system_start w.row.system_start)) e in
+      let r = then_equal (nat_cmp v.row.period.start w.row.period.start) (nat_cmp v.row.system_start w.row.system_start) p.1 in
       let key = key_same v.row.key w.row.key p.0 in
       let start = nat_equal v.row.period.start w.row.period.start r.0 in
-      let birth = nat_equal v.row.birth w.row.birth r.1 in
-      keeps.once v w h g (one_place (history v.row.birth) v.row w.row (at_birth v h v.row.birth refl b) (at_birth w g v.row.birth (sym birth) b) key start)
+      let system_start = nat_equal v.row.system_start w.row.system_start r.1 in
+      keeps.once v w h g (one_place (history v.row.system_start) v.row w.row (at_system_start v h v.row.system_start refl b) (at_system_start w g v.row.system_start (sym system_start) b) key start)
 
   abbrev hits : List Version
   hits = filter (is_found q) versions

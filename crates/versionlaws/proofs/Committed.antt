@@ -45,7 +45,7 @@ pub held_kept : HeldKept
 held_kept versions history bound now current holds stays = kept_until versions history bound current holds now stays
 
 pub held_before : HeldBefore
-held_before versions history bound current row holds h = let v = (holds.open_rows row).0 h in subst (λ r. r.birth < bound) v.2 (holds.born v.0 v.1)
+held_before versions history bound current row holds h = let v = (holds.open_rows row).0 h in subst (λ r. r.system_start < bound) v.2 (holds.born v.0 v.1)
 
 pub held_on : HeldOn
 held_on versions history later bound next current holds le before between = record {
@@ -76,8 +76,8 @@ module _ (versions : List Version) (history later : ℕ → Table) (bound t : �
   abbrev next : List Version
   next = committed t gone come versions
 
-  new_birth : (r : Row) → Has come r → r.birth ≡ t
-  new_birth r h = let c = touch.came r h in elim (follows r c.0) [ inl o ↦ absurd (c.1 o) | inr e ↦ e ]
+  new_system_start : (r : Row) → Has come r → r.system_start ≡ t
+  new_system_start r h = let c = touch.came r h in elim (follows r c.0) [ inl o ↦ absurd (c.1 o) | inr e ↦ e ]
 
   -- a version of the new list was one of the old, or is a row that came
   split : (w : Version) → Has next w → ((v : Version) × Has versions v × (w ≡ ended t gone v)) ⊎ ((r : Row) × Has come r × (w ≡ opened r))
@@ -165,7 +165,7 @@ module _ (versions : List Version) (history later : ℕ → Table) (bound t : �
     (λ v. (ended t gone v.0, has_ended v.0 v.1, row_same v.0 v.1 ∙ v.2, alive_then u l v.0 v.1 v.3)),
     (λ w. elim (split w.0 w.1) [
       | inl a ↦ (a.0, a.1, sym (row_same a.0 a.1) ∙ ap (λ x. x.row) (sym a.2) ∙ w.2, alive_back u l a.0 a.1 (subst (λ x. IsAlive x u) a.2 w.3))
-      | inr c ↦ let b : c.0.birth ≡ t = new_birth c.0 c.1 in let f = (subst (λ x. IsAlive x u) c.2 w.3).0 in absurd (omega arith)
+      | inr c ↦ let b : c.0.system_start ≡ t = new_system_start c.0 c.1 in let f = (subst (λ x. IsAlive x u) c.2 w.3).0 in absurd (omega arith)
     ]),
   )
 
@@ -180,10 +180,10 @@ module _ (versions : List Version) (history later : ℕ → Table) (bound t : �
     ]
   ]
 
-  born_next : (w : Version) → Has next w → w.row.birth ≤ t
+  born_next : (w : Version) → Has next w → w.row.system_start ≤ t
   born_next w h = elim (split w h) [
-    | inr c ↦ let b : c.0.birth ≡ t = new_birth c.0 c.1 in let r : w.row.birth ≡ c.0.birth = ap (λ x. x.row.birth) c.2 in omega arith
-    | inl a ↦ let b = holds.born a.0 a.1 in let r : w.row.birth ≡ a.0.row.birth = ap (λ x. x.row.birth) a.2 ∙ ap (λ x. x.birth) (row_same a.0 a.1) in omega arith
+    | inr c ↦ let b : c.0.system_start ≡ t = new_system_start c.0 c.1 in let r : w.row.system_start ≡ c.0.system_start = ap (λ x. x.row.system_start) c.2 in omega arith
+    | inl a ↦ let b = holds.born a.0 a.1 in let r : w.row.system_start ≡ a.0.row.system_start = ap (λ x. x.row.system_start) a.2 ∙ ap (λ x. x.system_start) (row_same a.0 a.1) in omega arith
   ]
 
   at_t : (w : Version) → Has next w → IsAlive w t → w.end ≡ None
@@ -212,7 +212,7 @@ module _ (versions : List Version) (history later : ℕ → Table) (bound t : �
   ]
 
   mixed : (a : Version) → Has versions a → (r : Row) → Has come r → a.row ≡ r → ⊥
-  mixed a h r g e = let b = holds.born a h in let c : r.birth ≡ t = new_birth r g in let d : a.row.birth ≡ r.birth = ap (λ x. x.birth) e in omega arith
+  mixed a h r g e = let b = holds.born a h in let c : r.system_start ≡ t = new_system_start r g in let d : a.row.system_start ≡ r.system_start = ap (λ x. x.system_start) e in omega arith
 
   once_next : (v w : Version) → Has next v → Has next w → v.row ≡ w.row → v ≡ w
   once_next v w h g e = elim (split v h) [
@@ -240,10 +240,10 @@ module _ (versions : List Version) (history later : ℕ → Table) (bound t : �
     apart = apart_next;
     once = once_next;
     lasts = λ w h. elim (split w h) [
-      | inr c ↦ subst (λ x. IsBefore x.row.birth x.end) (sym c.2) tt
+      | inr c ↦ subst (λ x. IsBefore x.row.system_start x.end) (sym c.2) tt
       | inl a ↦ elim (fate a.0 a.1) [
-        | stays e r ↦ subst (λ x. IsBefore x.row.birth x.end) (sym (a.2 ∙ e)) (holds.lasts a.0 a.1)
-        | ends e n r ↦ let b = holds.born a.0 a.1 in let f : a.0.row.birth < t = omega arith in subst (λ x. IsBefore x.row.birth x.end) (sym (a.2 ∙ e)) f
+        | stays e r ↦ subst (λ x. IsBefore x.row.system_start x.end) (sym (a.2 ∙ e)) (holds.lasts a.0 a.1)
+        | ends e n r ↦ let b = holds.born a.0 a.1 in let f : a.0.row.system_start < t = omega arith in subst (λ x. IsBefore x.row.system_start x.end) (sym (a.2 ∙ e)) f
       ]
     ];
     born = λ w h. let b = born_next w h in omega arith;

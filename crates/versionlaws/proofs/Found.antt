@@ -34,8 +34,8 @@ module _ (versions : List Version) (history : ℕ → Table) (now : ℕ) (keeps 
             let born = f.1 in
             let s0 = some_at.0 in
             let s1 = some_at.1 in
-            let u : ℕ = max first v.0.row.birth in
-            (subst (λ r. q.passes r ≡ true) v.2 f.0, (u, (omega arith, omega arith), (keeps.rows u (omega arith) row).1 (v.0, v.1, v.2, (omega arith, before_both first v.0.row.birth v.0.end f.2 (keeps.lasts v.0 v.1)))))),
+            let u : ℕ = max first v.0.row.system_start in
+            (subst (λ r. q.passes r ≡ true) v.2 f.0, (u, (omega arith, omega arith), (keeps.rows u (omega arith) row).1 (v.0, v.1, v.2, (omega arith, before_both first v.0.row.system_start v.0.end f.2 (keeps.lasts v.0 v.1)))))),
       )
 
   alive_row : (v : Version) (u : ℕ) → Has versions v → u ≤ now → IsAlive v u → IsRow (history u) v.row
@@ -50,8 +50,8 @@ module _ (versions : List Version) (history : ℕ → Table) (now : ℕ) (keeps 
       by : (end : Option ℕ) → v.end ≡ end → IsShownEnd history last v.row (shown_end last end)
       by None e = λ w a b. alive_row v w h (omega arith) (omega arith, subst (λ x. IsBefore w x) (sym e) tt)
       by (Some end) e =
-          let born : v.row.birth < end = subst (λ x. IsBefore v.row.birth x) e (keeps.lasts v h) in
-          let alive : (w : ℕ) → v.row.birth < w → w < end → w ≤ now → IsRow (history w) v.row = λ w a b c. alive_row v w h c (omega arith, subst (λ x. IsBefore w x) (sym e) b) in
+          let born : v.row.system_start < end = subst (λ x. IsBefore v.row.system_start x) e (keeps.lasts v h) in
+          let alive : (w : ℕ) → v.row.system_start < w → w < end → w ≤ now → IsRow (history w) v.row = λ w a b c. alive_row v w h c (omega arith, subst (λ x. IsBefore w x) (sym e) b) in
           elim (cases_lt last end) [
             | inl l ↦ rw (lt-leb end last l) (λ w a b. alive w a (omega arith) (omega arith))
             | inr g ↦ rw (le-leb end last g) (born, g, gone_row v end h (omega arith) (λ a. let bad : end < end = subst (λ x. IsBefore end x) e a.1 in omega arith), (λ w a b. alive w a b (omega arith)))

@@ -1,4 +1,4 @@
--- Stamps of a list, and rows that are there at each instant from their birth on.
+-- Stamps of a list, and rows that are there at each instant from their system start on.
 use Rattle.std.proofs.Common.{◌≡◌, ◌∙◌, ℕ, zero, suc, ◌<◌, ◌≤◌, ◌⊎◌, inl, inr, Bool, true, false, cond, List, [], ◌∷◌, ◌++◌, reverse, Some, refl, sym, ap, subst, arith, filter, slice_get, append-nil}
 use Rattle.std.proofs.lemmas.Bool.{cases_lt, le-leb, lt-leb, cond-false}
 use Rattle.std.proofs.lemmas.List.{reverse-append}
@@ -77,10 +77,10 @@ none_later u e before l = cond-false _ _ _ (lt-leb e.stamp u l)
 -- each row of the newer table is one of the older, or was born just now
 abbrev pub AreOlder : (List Entry → Table) → List Entry → Type 0
 AreOlder table [] = Unit {0}
-AreOlder table (e ∷ before) = ((row : Row) → IsRow (table (e ∷ before)) row → IsRow (table before) row ⊎ (row.birth ≡ e.stamp)) × AreOlder table before
+AreOlder table (e ∷ before) = ((row : Row) → IsRow (table (e ∷ before)) row → IsRow (table before) row ⊎ (row.system_start ≡ e.stamp)) × AreOlder table before
 
 -- a row that is there at t is there at w, which is not after t
-pub lasts : (table : List Entry → Table) (w t : ℕ) (before : List Entry) (row : Row) → AreOlder table before → Falling before → w ≤ t → row.birth ≤ w → IsRow (table (up_to t before)) row → IsRow (table (up_to w before)) row
+pub lasts : (table : List Entry → Table) (w t : ℕ) (before : List Entry) (row : Row) → AreOlder table before → Falling before → w ≤ t → row.system_start ≤ w → IsRow (table (up_to t before)) row → IsRow (table (up_to w before)) row
 lasts table w t [] row older f le b h = h
 lasts table w t (e ∷ before) row older f le b h = elim (cases_lt t e.stamp) [
   | inl l ↦ subst (λ es. IsRow (table es) row) (sym (none_later w e before (omega arith))) (lasts table w t before row older.1 f.1 le b (subst (λ es. IsRow (table es) row) (none_later t e before l) h))

@@ -115,13 +115,13 @@ after_second =
 -- ---- the rows
 
 abbrev row : ℕ → Row
-row end = record { key = key; period = record { start = 0; end = end }; values = []; birth = 1 }
+row end = record { key = key; period = record { start = 0; end = end }; values = []; system_start = 1 }
 
 first_row : IsRow first (row 2)
 unfolding inserted same_key key_cmp empty_table
 first_row = record { some = omega arith; filled = filled; whole = goes; first = refl; last = refl }
   where
-    filled : (d : ℕ) → 0 ≤ d → d < 2 → first.cell key d ≡ Some (record { values = []; birth = 1 })
+    filled : (d : ℕ) → 0 ≤ d → d < 2 → first.cell key d ≡ Some (record { values = []; system_start = 1 })
     filled zero a b = refl
     filled (suc zero) a b = refl
     filled (suc (suc d)) a b = absurd (omega arith)
@@ -135,7 +135,7 @@ second_row : IsRow second (row 1)
 unfolding inserted same_key key_cmp empty_table
 second_row = record { some = omega arith; filled = filled; whole = λ d a b. absurd (omega arith); first = refl; last = refl }
   where
-    filled : (d : ℕ) → 0 ≤ d → d < 1 → second.cell key d ≡ Some (record { values = []; birth = 1 })
+    filled : (d : ℕ) → 0 ≤ d → d < 1 → second.cell key d ≡ Some (record { values = []; system_start = 1 })
     filled zero a b = refl
     filled (suc d) a b = absurd (omega arith)
 

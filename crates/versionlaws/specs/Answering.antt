@@ -18,7 +18,7 @@ HasInstant time = (u : ℕ) × IsInstant time u
 
 -- the version's row passes, and its system period has one of the query's instants
 abbrev pub IsFound : Query → Version → Type 0
-IsFound q v = IsTrue (q.passes v.row) × (v.row.birth ≤ last_instant q.time) × IsBefore q.time.first v.end
+IsFound q v = IsTrue (q.passes v.row) × (v.row.system_start ≤ last_instant q.time) × IsBefore q.time.first v.end
 
 -- the same as tests
 abbrev pub is_before : ℕ → Option ℕ → Bool
@@ -26,7 +26,7 @@ is_before u None = true
 is_before u (Some end) = nat_lt u end
 
 abbrev pub is_found : Query → Version → Bool
-is_found q v = q.passes v.row && nat_le v.row.birth (last_instant q.time) && is_before q.time.first v.end
+is_found q v = q.passes v.row && nat_le v.row.system_start (last_instant q.time) && is_before q.time.first v.end
 
 -- the end is shown where it is at or before the last instant
 abbrev pub shown_end : (last : ℕ) → Option ℕ → Option ℕ
@@ -37,7 +37,7 @@ shown_end last (Some end) = if nat_le end last then Some end else None
 abbrev pub show : Query → Version → Shown
 show q v = record { row = v.row; end = shown_end (last_instant q.time) v.end }
 
--- by key, start and birth
+-- by key, start and system start
 abbrev pub version_cmp : Version → Version → Ordering
 version_cmp v w = row_cmp v.row w.row
 

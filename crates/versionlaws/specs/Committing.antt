@@ -60,10 +60,10 @@ EntryStays = (schema : Schema) (n : ℕ) (list : List Entry) (e : Entry) (versio
     state_after schema (reverse (list ++ e ∷ [])) n ≡ state_after schema (reverse list) n →
     Holds versions (λ u. state_at schema (list ++ e ∷ []) u n) (least_stamp (list ++ e ∷ [])) (state_after schema (reverse (list ++ e ∷ [])) n)
 
--- a row is there at each instant from its birth on, as long as it is there at all
+-- a row is there at each instant from its system start on, as long as it is there at all
 abbrev pub Lasts : Type 0
 Lasts = (schema : Schema) (list : List Entry) (n t w : ℕ) (row : Row) → IsStamped list → AllFine schema list →
-    w ≤ t → row.birth ≤ w → IsRow (state_at schema list t n) row → IsRow (state_at schema list w n) row
+    w ≤ t → row.system_start ≤ w → IsRow (state_at schema list t n) row → IsRow (state_at schema list w n) row
 
 -- the versions that a log leaves hold what its tables are
 abbrev pub HoldsAfter : Type 0

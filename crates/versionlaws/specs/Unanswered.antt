@@ -1,6 +1,6 @@
 -- A schema by which a text says what is not well formed, and a question that has no answer. Two days of a key are filled at
 -- instant 1, and at instant 2 an INSERT over no days cuts them into two rows that were not born anew. So the row of both
--- days and the row of the first have one key, one start and one birth, and no order tells the two apart.
+-- days and the row of the first have one key, one start and one system start, and no order tells the two apart.
 use Rattle.std.specs.Prelude.{ℕ, pos, true, Some, List, [], ◌∷◌, Ok}
 use Rattle.model.specs.declared.value.Value.{Value}
 use Rattle.model.specs.declared.value.Value.TheVariants.{Number}

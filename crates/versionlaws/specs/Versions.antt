@@ -3,7 +3,7 @@ use Rattle.std.specs.Prelude.{◌≡◌, ℕ, ◌<◌, ◌≤◌, ◌↔◌, Opt
 use Rattle.model.specs.Tables.{Table, Row, IsRow, empty_table}
 use Rattle.rowlaws.specs.Rows.{Has, Apart}
 
--- a row from its birth up to its end, or for good
+-- a row from its system start up to its end, or for good
 pub record Version : Type 0 where
   pub row : Row
   pub end : Option ℕ
@@ -15,7 +15,7 @@ IsBefore u (Some end) = u < end
 
 -- the version's system period has the instant
 abbrev pub IsAlive : Version → ℕ → Type 0
-IsAlive v u = (v.row.birth ≤ u) × IsBefore u v.end
+IsAlive v u = (v.row.system_start ≤ u) × IsBefore u v.end
 
 -- In what follows `history u` is the table at the instant u.
 
@@ -23,7 +23,7 @@ IsAlive v u = (v.row.birth ≤ u) × IsBefore u v.end
 pub record Keeps (versions : List Version) (history : ℕ → Table) (now : ℕ) : Type 0 where
   pub rows : (u : ℕ) → u ≤ now → (row : Row) → IsRow (history u) row ↔ ((v : Version) × Has versions v × (v.row ≡ row) × IsAlive v u)
   pub once : (v w : Version) → Has versions v → Has versions w → v.row ≡ w.row → v ≡ w
-  pub lasts : (v : Version) → Has versions v → IsBefore v.row.birth v.end
+  pub lasts : (v : Version) → Has versions v → IsBefore v.row.system_start v.end
 
 -- The versions say what the rows of the table are at each instant before the bound, and those that have no end are the
 -- current rows.
@@ -32,8 +32,8 @@ pub record Holds (versions : List Version) (history : ℕ → Table) (bound : �
   pub open_rows : (row : Row) → IsRow current row ↔ ((v : Version) × Has versions v × (v.row ≡ row) × (v.end ≡ None))
   pub apart : Apart versions
   pub once : (v w : Version) → Has versions v → Has versions w → v.row ≡ w.row → v ≡ w
-  pub lasts : (v : Version) → Has versions v → IsBefore v.row.birth v.end
-  pub born : (v : Version) → Has versions v → v.row.birth < bound
+  pub lasts : (v : Version) → Has versions v → IsBefore v.row.system_start v.end
+  pub born : (v : Version) → Has versions v → v.row.system_start < bound
   pub over : (v : Version) (e : ℕ) → Has versions v → v.end ≡ Some e → e < bound
 
 -- ---- laws
@@ -44,7 +44,7 @@ NoVersions = (history : ℕ → Table) → Holds [] history 0 empty_table
 
 -- the current rows are born before the bound
 abbrev pub HeldBefore : Type 0
-HeldBefore = (versions : List Version) (history : ℕ → Table) (bound : ℕ) (current : Table) (row : Row) → Holds versions history bound current → IsRow current row → row.birth < bound
+HeldBefore = (versions : List Version) (history : ℕ → Table) (bound : ℕ) (current : Table) (row : Row) → Holds versions history bound current → IsRow current row → row.system_start < bound
 
 -- where the current rows stay, the same versions hold on
 abbrev pub HeldOn : Type 0

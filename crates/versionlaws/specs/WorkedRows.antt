@@ -9,7 +9,7 @@ use Rattle.versionlaws.specs.Answering.{answer_from}
 
 -- department 3 in these days, born at the instant
 abbrev pub dept : ℕ → ℕ → ℕ → Row
-dept start end t = record { key = Number (pos 3) ∷ []; period = record { start = start; end = end }; values = []; birth = t }
+dept start end t = record { key = Number (pos 3) ∷ []; period = record { start = start; end = end }; values = []; system_start = t }
 
 abbrev pub version : Row → Option ℕ → Version
 version r end = record { row = r; end = end }

@@ -51,7 +51,7 @@ pub fn entry_stays()
     safety::state_up_to();
 }
 
-/// A row is there at each instant from its birth on, as long as it is there at all.
+/// A row is there at each instant from its system start on, as long as it is there at all.
 pub fn lasts()
     ensures { Lasts }
 {
@@ -89,13 +89,13 @@ pub fn versions_ends()
     ensures { VersionsEnds }
 {}
 
-/// Of versions that keep what a table was, those that are found, by key, start and birth, are the
+/// Of versions that keep what a table was, those that are found, by key, start and system start, are the
 /// answer.
 pub fn versions_give()
     ensures { VersionsGive }
 {}
 
-/// Of the versions that a log leaves, those that are found, by key, start and birth, are the answer
+/// Of the versions that a log leaves, those that are found, by key, start and system start, are the answer
 /// in the log.
 pub fn versions_answer()
     ensures { VersionsAnswer }

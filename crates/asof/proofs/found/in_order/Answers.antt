@@ -14,7 +14,7 @@ use Rattle.asof.proofs.found.in_order.Goals as goal
 use denote.Ref.{Bor}
 
 version_total : KeysOrdered → IsTotalOrder version_cmp
-version_total keys = then_total (on_total (λ (v : Version). v.row.key) keys) (then_total (on_total (λ (v : Version). v.row.period.start) nat_cmp_total) (on_total (λ (v : Version). v.row.birth) nat_cmp_total))
+version_total keys = then_total (on_total (λ (v : Version). v.row.key) keys) (then_total (on_total (λ (v : Version). v.row.period.start) nat_cmp_total) (on_total (λ (v : Version). v.row.system_start) nat_cmp_total))
 
 abbrev seen : Bor Declared → Version
 seen v = version_of v.now

@@ -7,7 +7,7 @@ use Rattle.current.proofs.line.cut_line.Given as goal
 abbrev pub invariant-loop-row : goal.invariant-loop-row
 invariant-loop-row l =
     let change = change_of_cut l.cut in
-    let t = l.cut.birth in
+    let t = l.cut.system_start in
     let left = map row_of (drop l.row-index l.line) in
     let all = map row_of l.line in
     record {

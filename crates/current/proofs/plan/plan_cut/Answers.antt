@@ -13,7 +13,7 @@ use Rattle.current.proofs.plan.plan_cut.Goals as goal
 pub loop-key-init : goal.loop-key-init
 loop-key-init c =
     let change = change_of_cut c.args.cut.now in
-    let t = c.args.cut.now.birth in
+    let t = c.args.cut.now.system_start in
     let m = c.args.lines.now in
     let it = c.into_iter-key-iterator.result in
     let whole : it ≡ m.entries = c.into_iter-key-iterator.ensures.into_iter_gives.0 in
@@ -31,7 +31,7 @@ loop-key-init c =
 pub loop-key-preserved : goal.loop-key-preserved
 loop-key-preserved c =
     let change = change_of_cut c.args.cut.now in
-    let t = c.args.cut.now.birth in
+    let t = c.args.cut.now.system_start in
     let m = c.args.lines.now in
     let e : Entry = (c.in-Some.key.now, c.in-Some.rows.now) in
     let rest = c.next.new.self in
@@ -61,7 +61,7 @@ loop-key-preserved c =
 pub returns-clause-count : goal.returns-clause-count
 returns-clause-count c =
     let change = change_of_cut c.args.cut.now in
-    let t = c.args.cut.now.birth in
+    let t = c.args.cut.now.system_start in
     let inv = c.loop-key.invariant in
     let none = rest_all deref_pair _ _ _ c.in-None.is c.next.ensures.steps in
     let all = subst (λ es. min (c.loop-key.plan.count + length (flat_map (kept change t) (rows_in es))) 18446744073709551615 ≡ min (length (flat_map (kept change t) (rows_in c.args.lines.now.entries))) 18446744073709551615) none inv.count in
@@ -71,7 +71,7 @@ returns-clause-count c =
 pub returns-clause-lines : goal.returns-clause-lines
 returns-clause-lines c =
     let change = change_of_cut c.args.cut.now in
-    let t = c.args.cut.now.birth in
+    let t = c.args.cut.now.system_start in
     let m = c.args.lines.now in
     let inv = c.loop-key.invariant in
     let none = rest_all deref_pair _ _ _ c.in-None.is c.next.ensures.steps in

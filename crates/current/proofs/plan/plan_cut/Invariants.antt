@@ -11,7 +11,7 @@ use Rattle.current.proofs.plan.plan_cut.Given as goal
 abbrev pub invariant-loop-key : goal.invariant-loop-key
 invariant-loop-key l =
     let change = change_of_cut l.cut in
-    let t = l.cut.birth in
+    let t = l.cut.system_start in
     let left = rows_in l.key-iterator in
     let all = rows_in l.lines.entries in
     record {

@@ -14,7 +14,7 @@ pub overflow_sub-plan : goal.overflow_sub-plan
 overflow_sub-plan c =
     let change = change_of_cut c.args.cut.now in
     let m = c.args.lines.now in
-    let short : length (lines_of m c.args.key.now) ≤ length (rows_in m.entries) = short_line change c.args.cut.now.birth m c.requires.ordered c.requires.in_lines c.args.key.now c.requires.met in
+    let short : length (lines_of m c.args.key.now) ≤ length (rows_in m.entries) = short_line change c.args.cut.now.system_start m c.requires.ordered c.requires.in_lines c.args.key.now c.requires.met in
     let long : length (lines_of m c.args.key.now) ≡ length c.line-rows.result.now = ap length (sym c.line-rows.ensures) ∙ length-map c.line-rows.result.now row_of in
     omega (arith, short, long, c.requires.counted)
 
@@ -23,7 +23,7 @@ returns-in_err-add-clause-err c =
     let cut = c.args.cut.now in
     let change = change_of_cut cut in
     let m = c.args.lines.now in
-    let stuck = ap (list_any (is_stuck change)) c.line-rows.ensures ∙ stuck_line change cut.birth m c.requires.ordered c.requires.in_lines c.args.key.now c.requires.met in
+    let stuck = ap (list_any (is_stuck change)) c.line-rows.ensures ∙ stuck_line change cut.system_start m c.requires.ordered c.requires.in_lines c.args.key.now c.requires.met in
     subst (λ b. IfErr c.from_residual.result (λ refusal. (refusal ≡ NoMemory) ⊎ ((refusal ≡ NumberRange) × (b ≡ true)))) stuck (search rules)
 
 pub returns-clause-lines : goal.returns-clause-lines
@@ -31,8 +31,8 @@ returns-clause-lines c =
     let cut = c.args.cut.now in
     let change = change_of_cut cut in
     let m = c.args.lines.now in
-    one_planned change cut.birth m c.requires.ordered c.requires.in_lines c.args.key.now c.requires.met _ c.add.new.self.lines.items c.new.ensures.items
-    (subst (λ rows. IsPlanned change cut.birth c.args.key.now rows c.new.result.items c.add.new.self.lines.items) c.line-rows.ensures c.in_ok-add.ensures.lines)
+    one_planned change cut.system_start m c.requires.ordered c.requires.in_lines c.args.key.now c.requires.met _ c.add.new.self.lines.items c.new.ensures.items
+    (subst (λ rows. IsPlanned change cut.system_start c.args.key.now rows c.new.result.items c.add.new.self.lines.items) c.line-rows.ensures c.in_ok-add.ensures.lines)
 
 pub returns-clause-count : goal.returns-clause-count
 returns-clause-count c =
@@ -41,9 +41,9 @@ returns-clause-count c =
     let m = c.args.lines.now in
     let k = c.args.key.now in
     let before : length (lines_of m k) ≡ length c.line-rows.result.now = ap length (sym c.line-rows.ensures) ∙ length-map c.line-rows.result.now row_of in
-    let short : length (lines_of m k) ≤ length (rows_in m.entries) = short_line change cut.birth m c.requires.ordered c.requires.in_lines k c.requires.met in
-    let long : length (flat_map (kept change cut.birth) (rows_in m.entries)) + length (lines_of m k) ≡ length (rows_in m.entries) + length (flat_map (kept change cut.birth) (lines_of m k)) = long_line change cut.birth m c.requires.ordered c.requires.in_lines k c.requires.met in
-    let added : c.add.new.self.count ≡ min ((c.args.count - length c.line-rows.result.now) + length (flat_map (kept change cut.birth) (lines_of m k))) 18446744073709551615 = c.in_ok-add.ensures.count ∙ ap (λ rows. min ((c.args.count - length c.line-rows.result.now) + length (flat_map (kept change cut.birth) rows)) 18446744073709551615) c.line-rows.ensures in
+    let short : length (lines_of m k) ≤ length (rows_in m.entries) = short_line change cut.system_start m c.requires.ordered c.requires.in_lines k c.requires.met in
+    let long : length (flat_map (kept change cut.system_start) (rows_in m.entries)) + length (lines_of m k) ≡ length (rows_in m.entries) + length (flat_map (kept change cut.system_start) (lines_of m k)) = long_line change cut.system_start m c.requires.ordered c.requires.in_lines k c.requires.met in
+    let added : c.add.new.self.count ≡ min ((c.args.count - length c.line-rows.result.now) + length (flat_map (kept change cut.system_start) (lines_of m k))) 18446744073709551615 = c.in_ok-add.ensures.count ∙ ap (λ rows. min ((c.args.count - length c.line-rows.result.now) + length (flat_map (kept change cut.system_start) rows)) 18446744073709551615) c.line-rows.ensures in
     let counted = c.requires.counted in
     omega (arith, before, short, long, added, counted)
 
@@ -52,20 +52,20 @@ returns-clause-gone c =
     let cut = c.args.cut.now in
     let change = change_of_cut cut in
     let m = c.args.lines.now in
-    c.in_ok-add.ensures.gone ∙ ap (λ rows. rows ++ flat_map (gone_at change cut.birth) (map row_of c.line-rows.result.now)) c.none-changes.ensures.gone ∙ ap (flat_map (gone_at change cut.birth)) c.line-rows.ensures
-    ∙ gone_line change cut.birth m c.requires.ordered c.requires.in_lines c.args.key.now c.requires.met
+    c.in_ok-add.ensures.gone ∙ ap (λ rows. rows ++ flat_map (gone_at change cut.system_start) (map row_of c.line-rows.result.now)) c.none-changes.ensures.gone ∙ ap (flat_map (gone_at change cut.system_start)) c.line-rows.ensures
+    ∙ gone_line change cut.system_start m c.requires.ordered c.requires.in_lines c.args.key.now c.requires.met
 
 pub returns-clause-come : goal.returns-clause-come
 returns-clause-come c =
     let cut = c.args.cut.now in
     let change = change_of_cut cut in
     let m = c.args.lines.now in
-    c.in_ok-add.ensures.come ∙ ap (λ rows. rows ++ flat_map (come_at change cut.birth) (map row_of c.line-rows.result.now)) c.none-changes.ensures.come ∙ ap (flat_map (come_at change cut.birth)) c.line-rows.ensures
-    ∙ come_line change cut.birth m c.requires.ordered c.requires.in_lines c.args.key.now c.requires.met
+    c.in_ok-add.ensures.come ∙ ap (λ rows. rows ++ flat_map (come_at change cut.system_start) (map row_of c.line-rows.result.now)) c.none-changes.ensures.come ∙ ap (flat_map (come_at change cut.system_start)) c.line-rows.ensures
+    ∙ come_line change cut.system_start m c.requires.ordered c.requires.in_lines c.args.key.now c.requires.met
 
 pub returns-clause-in_range : goal.returns-clause-in_range
 returns-clause-in_range c =
     let cut = c.args.cut.now in
     let change = change_of_cut cut in
     let m = c.args.lines.now in
-    sym (stuck_line change cut.birth m c.requires.ordered c.requires.in_lines c.args.key.now c.requires.met) ∙ ap (list_any (is_stuck change)) (sym c.line-rows.ensures) ∙ c.in_ok-add.ensures.in_range
+    sym (stuck_line change cut.system_start m c.requires.ordered c.requires.in_lines c.args.key.now c.requires.met) ∙ ap (list_any (is_stuck change)) (sym c.line-rows.ensures) ∙ c.in_ok-add.ensures.in_range

@@ -5,10 +5,10 @@ use Rattle.sqlread.proofs.Each.{pass_next, pass_failed, pass_end}
 use Rattle.sqlread.proofs.term.pass_all_terms.Goals as goal
 
 pub returns-then-not-passes : goal.returns-then-not-passes
-returns-then-not-passes c = λ birth. sym (pass_failed (λ t. term_passes t (row c.args.key.now c.args.values.now c.args.period birth)) term_of c.args.terms.now c.loop-term.term-index c.term-item.result c.loop-term-test.true (c.loop-term.invariant birth) c.term-item.is (sym (c.passes.ensures birth) ∙ c.if-not-passes.true))
+returns-then-not-passes c = λ system_start. sym (pass_failed (λ t. term_passes t (row c.args.key.now c.args.values.now c.args.period system_start)) term_of c.args.terms.now c.loop-term.term-index c.term-item.result c.loop-term-test.true (c.loop-term.invariant system_start) c.term-item.is (sym (c.passes.ensures system_start) ∙ c.if-not-passes.true))
 
 pub loop-term-preserved : goal.loop-term-preserved
-loop-term-preserved c = λ birth. pass_next (λ t. term_passes t (row c.args.key.now c.args.values.now c.args.period birth)) term_of c.args.terms.now c.loop-term.term-index c.term-item.result c.loop-term-test.true (c.loop-term.invariant birth) c.term-item.is (sym (c.passes.ensures birth) ∙ c.if-not-passes.false)
+loop-term-preserved c = λ system_start. pass_next (λ t. term_passes t (row c.args.key.now c.args.values.now c.args.period system_start)) term_of c.args.terms.now c.loop-term.term-index c.term-item.result c.loop-term-test.true (c.loop-term.invariant system_start) c.term-item.is (sym (c.passes.ensures system_start) ∙ c.if-not-passes.false)
 
 pub returns : goal.returns
-returns c = λ birth. sym (pass_end (λ t. term_passes t (row c.args.key.now c.args.values.now c.args.period birth)) term_of c.args.terms.now c.loop-term.term-index c.loop-term-test.false (c.loop-term.invariant birth))
+returns c = λ system_start. sym (pass_end (λ t. term_passes t (row c.args.key.now c.args.values.now c.args.period system_start)) term_of c.args.terms.now c.loop-term.term-index c.loop-term-test.false (c.loop-term.invariant system_start))

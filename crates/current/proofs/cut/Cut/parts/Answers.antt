@@ -10,7 +10,7 @@ pub returns-clause-ok : goal.returns-clause-ok
 returns-clause-ok c =
     let cut = c.args.self.now in
     let row = c.args.row.now in
-    let t = cut.birth in
+    let t = cut.system_start in
     let are = parts_are c.parts_of_update.ensures c.parts_of_delete.ensures cut.conditions.now cut.portion cut.assignments t row c.pieces-before.result.0 c.pieces-before.result.1 c.pieces-before.result.2 c.in_ok-new.new
     c.requires c.in_ok-new.ensures.ok (record { before_days = c.pieces-before.ensures.before; within_days = c.pieces-before.ensures.within; after_days = c.pieces-before.ensures.after }) in
     let before = λ (vs : List Value). row_of_part (row_of row) c.pieces-before.result.0 vs t in

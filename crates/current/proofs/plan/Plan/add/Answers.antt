@@ -7,27 +7,27 @@ use Rattle.current.proofs.plan.Plan.add.Goals as goal
 
 pub returns-then-not-meets_some-clause-lines : goal.returns-then-not-meets_some-clause-lines
 returns-then-not-meets_some-clause-lines c =
-    let u = unmet (change_of_cut c.args.cut.now) c.args.cut.now.birth c.args.rows.now (sym c.meets_some.ensures ∙ c.if-not-meets_some.true) in
+    let u = unmet (change_of_cut c.args.cut.now) c.args.cut.now.system_start c.args.rows.now (sym c.meets_some.ensures ∙ c.if-not-meets_some.true) in
     inl (refl, u.kept_all)
 
 pub returns-then-not-meets_some-clause-in_range : goal.returns-then-not-meets_some-clause-in_range
 returns-then-not-meets_some-clause-in_range c =
-    let u = unmet (change_of_cut c.args.cut.now) c.args.cut.now.birth c.args.rows.now (sym c.meets_some.ensures ∙ c.if-not-meets_some.true) in u.in_range
+    let u = unmet (change_of_cut c.args.cut.now) c.args.cut.now.system_start c.args.rows.now (sym c.meets_some.ensures ∙ c.if-not-meets_some.true) in u.in_range
 
 pub returns-then-not-meets_some-clause-gone : goal.returns-then-not-meets_some-clause-gone
 returns-then-not-meets_some-clause-gone c =
-    let u = unmet (change_of_cut c.args.cut.now) c.args.cut.now.birth c.args.rows.now (sym c.meets_some.ensures ∙ c.if-not-meets_some.true) in
+    let u = unmet (change_of_cut c.args.cut.now) c.args.cut.now.system_start c.args.rows.now (sym c.meets_some.ensures ∙ c.if-not-meets_some.true) in
     rw u.gone_none (sym (append-nil _))
 
 pub returns-then-not-meets_some-clause-come : goal.returns-then-not-meets_some-clause-come
 returns-then-not-meets_some-clause-come c =
-    let u = unmet (change_of_cut c.args.cut.now) c.args.cut.now.birth c.args.rows.now (sym c.meets_some.ensures ∙ c.if-not-meets_some.true) in
+    let u = unmet (change_of_cut c.args.cut.now) c.args.cut.now.system_start c.args.rows.now (sym c.meets_some.ensures ∙ c.if-not-meets_some.true) in
     rw u.come_none (sym (append-nil _))
 
 pub returns-then-not-meets_some-clause-count : goal.returns-then-not-meets_some-clause-count
 returns-then-not-meets_some-clause-count c =
-    let u = unmet (change_of_cut c.args.cut.now) c.args.cut.now.birth c.args.rows.now (sym c.meets_some.ensures ∙ c.if-not-meets_some.true) in
-    let long : length (flat_map (kept (change_of_cut c.args.cut.now) c.args.cut.now.birth) (map row_of c.args.rows.now)) ≡ length c.args.rows.now = ap length u.kept_all ∙ length-map c.args.rows.now row_of in
+    let u = unmet (change_of_cut c.args.cut.now) c.args.cut.now.system_start c.args.rows.now (sym c.meets_some.ensures ∙ c.if-not-meets_some.true) in
+    let long : length (flat_map (kept (change_of_cut c.args.cut.now) c.args.cut.now.system_start) (map row_of c.args.rows.now)) ≡ length c.args.rows.now = ap length u.kept_all ∙ length-map c.args.rows.now row_of in
     omega (arith, long)
 
 pub returns-clause-lines : goal.returns-clause-lines

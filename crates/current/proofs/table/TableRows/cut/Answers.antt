@@ -11,7 +11,7 @@ pub invariant_of-self : goal.invariant_of-self
 invariant_of-self c =
     let cut = c.args.cut.now in
     let change = change_of_cut cut in
-    let t = cut.birth in
+    let t = cut.system_start in
     let s = c.args.self.now in
     let m = s.lines in
     let n = c.replace_lines.new.lines in
@@ -32,7 +32,7 @@ pub returns-clause-ok : goal.returns-clause-ok
 returns-clause-ok c =
     let cut = c.args.cut.now in
     let change = change_of_cut cut in
-    let t = cut.birth in
+    let t = cut.system_start in
     let s = c.args.self.now in
     let m = s.lines in
     let n = c.replace_lines.new.lines in
