@@ -1,0 +1,26 @@
+use Rattle.std.proofs.Common.{rules}
+use Rattle.current.proofs.table.TableRows.insert.Goals as goal
+
+pub returns-then-has_clash-clause-ok : goal.returns-then-has_clash-clause-ok
+returns-then-has_clash-clause-ok c = search rules
+
+pub returns-then-has_clash-clause-err : goal.returns-then-has_clash-clause-err
+returns-then-has_clash-clause-err c = search rules
+
+pub returns-then-self-ge-ROWS_MOST-clause-ok : goal.returns-then-self-ge-ROWS_MOST-clause-ok
+returns-then-self-ge-ROWS_MOST-clause-ok c = search rules
+
+pub returns-then-self-ge-ROWS_MOST-clause-err : goal.returns-then-self-ge-ROWS_MOST-clause-err
+returns-then-self-ge-ROWS_MOST-clause-err c = search rules
+
+pub returns-in_err-put-clause-ok : goal.returns-in_err-put-clause-ok
+returns-in_err-put-clause-ok c = search rules
+
+pub returns-in_err-put-clause-err : goal.returns-in_err-put-clause-err
+returns-in_err-put-clause-err c = search rules
+
+pub returns-clause-ok : goal.returns-clause-ok
+returns-clause-ok c = search rules
+
+pub returns-clause-err : goal.returns-clause-err
+returns-clause-err c = search rules

@@ -1,0 +1,32 @@
+use Rattle.std.proofs.Common.{rules}
+use Rattle.node.proofs.node.store.Goals as goal
+
+pub returns-in-None-clause-ok : goal.returns-in-None-clause-ok
+returns-in-None-clause-ok g c = search rules
+
+pub returns-in-None-clause-up : goal.returns-in-None-clause-up
+returns-in-None-clause-up g c = search rules
+
+pub returns-in-None-clause-honest : goal.returns-in-None-clause-honest
+returns-in-None-clause-honest g c = search rules
+
+pub returns-in-None-clause-torn : goal.returns-in-None-clause-torn
+returns-in-None-clause-torn g c = search rules
+
+pub returns-in-None-clause-cause : goal.returns-in-None-clause-cause
+returns-in-None-clause-cause g c = search rules
+
+pub returns-in-Some-clause-ok : goal.returns-in-Some-clause-ok
+returns-in-Some-clause-ok g c = search rules
+
+pub returns-in-Some-clause-up : goal.returns-in-Some-clause-up
+returns-in-Some-clause-up g c = search rules
+
+pub returns-in-Some-clause-honest : goal.returns-in-Some-clause-honest
+returns-in-Some-clause-honest g c = search rules
+
+pub returns-in-Some-clause-torn : goal.returns-in-Some-clause-torn
+returns-in-Some-clause-torn g c = search rules
+
+pub returns-in-Some-clause-cause : goal.returns-in-Some-clause-cause
+returns-in-Some-clause-cause g c = search rules

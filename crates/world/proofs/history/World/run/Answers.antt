@@ -1,0 +1,110 @@
+use Rattle.std.proofs.Common.{rules}
+use Rattle.world.proofs.history.World.run.Goals as goal
+
+pub returns-in_err-check_live-clause-gives : goal.returns-in_err-check_live-clause-gives
+returns-in_err-check_live-clause-gives c = search rules
+
+pub returns-in_err-check_live-clause-columns : goal.returns-in_err-check_live-clause-columns
+returns-in_err-check_live-clause-columns c = search rules
+
+pub returns-in_err-check_live-clause-kept : goal.returns-in_err-check_live-clause-kept
+returns-in_err-check_live-clause-kept c = search rules
+
+pub returns-in_err-check_live-clause-begun : goal.returns-in_err-check_live-clause-begun
+returns-in_err-check_live-clause-begun c = search rules
+
+pub returns-in_err-check_live-clause-agree : goal.returns-in_err-check_live-clause-agree
+returns-in_err-check_live-clause-agree c = search rules
+
+pub returns-in_err-check_live-clause-tables : goal.returns-in_err-check_live-clause-tables
+returns-in_err-check_live-clause-tables c = search rules
+
+pub returns-in_err-check_live-clause-same : goal.returns-in_err-check_live-clause-same
+returns-in_err-check_live-clause-same c = search rules
+
+pub returns-in_err-check_live-clause-ok : goal.returns-in_err-check_live-clause-ok
+returns-in_err-check_live-clause-ok c = search rules
+
+pub returns-in_err-check_live-clause-err : goal.returns-in_err-check_live-clause-err
+returns-in_err-check_live-clause-err c = search rules
+
+pub returns-in_err-check_live-clause-idle : goal.returns-in_err-check_live-clause-idle
+returns-in_err-check_live-clause-idle c = search rules
+
+pub returns-in_err-check_live-clause-spent : goal.returns-in_err-check_live-clause-spent
+returns-in_err-check_live-clause-spent c = search rules
+
+pub returns-in_err-check_live-clause-stays : goal.returns-in_err-check_live-clause-stays
+returns-in_err-check_live-clause-stays c = search rules
+
+pub returns-in-Ok-clause-gives : goal.returns-in-Ok-clause-gives
+returns-in-Ok-clause-gives c = search rules
+
+pub returns-in-Ok-clause-columns : goal.returns-in-Ok-clause-columns
+returns-in-Ok-clause-columns c = search rules
+
+pub returns-in-Ok-clause-kept : goal.returns-in-Ok-clause-kept
+returns-in-Ok-clause-kept c = search rules
+
+pub returns-in-Ok-clause-begun : goal.returns-in-Ok-clause-begun
+returns-in-Ok-clause-begun c = search rules
+
+pub returns-in-Ok-clause-agree : goal.returns-in-Ok-clause-agree
+returns-in-Ok-clause-agree c = search rules
+
+pub returns-in-Ok-clause-tables : goal.returns-in-Ok-clause-tables
+returns-in-Ok-clause-tables c = search rules
+
+pub returns-in-Ok-clause-same : goal.returns-in-Ok-clause-same
+returns-in-Ok-clause-same c = search rules
+
+pub returns-in-Ok-clause-ok : goal.returns-in-Ok-clause-ok
+returns-in-Ok-clause-ok c = search rules
+
+pub returns-in-Ok-clause-err : goal.returns-in-Ok-clause-err
+returns-in-Ok-clause-err c = search rules
+
+pub returns-in-Ok-clause-idle : goal.returns-in-Ok-clause-idle
+returns-in-Ok-clause-idle c = search rules
+
+pub returns-in-Ok-clause-spent : goal.returns-in-Ok-clause-spent
+returns-in-Ok-clause-spent c = search rules
+
+pub returns-in-Ok-clause-stays : goal.returns-in-Ok-clause-stays
+returns-in-Ok-clause-stays c = search rules
+
+pub returns-in-Err-clause-gives : goal.returns-in-Err-clause-gives
+returns-in-Err-clause-gives c = search rules
+
+pub returns-in-Err-clause-columns : goal.returns-in-Err-clause-columns
+returns-in-Err-clause-columns c = search rules
+
+pub returns-in-Err-clause-kept : goal.returns-in-Err-clause-kept
+returns-in-Err-clause-kept c = search rules
+
+pub returns-in-Err-clause-begun : goal.returns-in-Err-clause-begun
+returns-in-Err-clause-begun c = search rules
+
+pub returns-in-Err-clause-agree : goal.returns-in-Err-clause-agree
+returns-in-Err-clause-agree c = search rules
+
+pub returns-in-Err-clause-tables : goal.returns-in-Err-clause-tables
+returns-in-Err-clause-tables c = search rules
+
+pub returns-in-Err-clause-same : goal.returns-in-Err-clause-same
+returns-in-Err-clause-same c = search rules
+
+pub returns-in-Err-clause-ok : goal.returns-in-Err-clause-ok
+returns-in-Err-clause-ok c = search rules
+
+pub returns-in-Err-clause-err : goal.returns-in-Err-clause-err
+returns-in-Err-clause-err c = search rules
+
+pub returns-in-Err-clause-idle : goal.returns-in-Err-clause-idle
+returns-in-Err-clause-idle c = search rules
+
+pub returns-in-Err-clause-spent : goal.returns-in-Err-clause-spent
+returns-in-Err-clause-spent c = search rules
+
+pub returns-in-Err-clause-stays : goal.returns-in-Err-clause-stays
+returns-in-Err-clause-stays c = search rules

@@ -1,0 +1,20 @@
+use Rattle.std.proofs.Common.{rules}
+use Rattle.world.proofs.seat.Seat.start.Goals as goal
+
+pub returns-in-Up-clause-seat : goal.returns-in-Up-clause-seat
+returns-in-Up-clause-seat c = search rules
+
+pub returns-in-Up-clause-node : goal.returns-in-Up-clause-node
+returns-in-Up-clause-node c = search rules
+
+pub returns-in-Ok-clause-seat : goal.returns-in-Ok-clause-seat
+returns-in-Ok-clause-seat c = search rules
+
+pub returns-in-Ok-clause-node : goal.returns-in-Ok-clause-node
+returns-in-Ok-clause-node c = search rules
+
+pub returns-clause-seat : goal.returns-clause-seat
+returns-clause-seat c = search rules
+
+pub returns-clause-node : goal.returns-clause-node
+returns-clause-node c = search rules
