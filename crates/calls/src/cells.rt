@@ -3,7 +3,7 @@ ghost use Rattle.std.specs.Prelude.{◌≤◌};
 
 use crate::stored::{SCHEMA, stored};
 use fault::Refusal;
-use keep::{MemImage, MemKeeper, StoreError};
+use keep::{HardState, MemImage, MemKeeper, StoreError};
 use model::member::Member;
 use model::message::{Body, Input, Message};
 use node::Fault;
@@ -14,6 +14,11 @@ use schemaread::schemas::read_schema;
 use std::alloc::Global;
 use std::process::Abort;
 use std::test::Fail;
+
+const NOTHING_STORED: HardState = HardState {
+    term: 0,
+    vote: None,
+};
 
 // A life of a member of three.
 fn start(
@@ -101,12 +106,15 @@ fn goes_down_with_its_store(rt: HostRuntime) -> Result<(), Fail> {
                 image
             }
         };
-        let wanted = if call == 4 {
-            (1, Some(1), 0)
+        let hard = if call == 4 {
+            HardState {
+                term: 1,
+                vote: Some(1),
+            }
         } else {
-            (0, None, 0)
+            NOTHING_STORED
         };
-        assert_eq!(rt; stored(alloc, image)?, wanted, "call {call}");
+        assert_eq!(rt; stored(alloc, image)?, (hard, 0), "call {call}");
     }
     Ok(())
 }
@@ -143,7 +151,7 @@ fn stops_and_starts_again(rt: HostRuntime) -> Result<(), Fail> {
     let life = second_life(&rt, cell);
     let opening = &life.opening;
     assert_eq!(rt;
-        (opening.mark.number(), opening.term, opening.vote),
+        (opening.mark.number(), opening.hard.term, opening.hard.vote),
         (7, 1, Some(1))
     );
     assert_eq!(rt; opening.entries.len(), 1);
@@ -188,7 +196,7 @@ fn fills_a_life(rt: HostRuntime) -> Result<(), Fail> {
             }
             Err((refusal, image)) => {
                 assert_eq!(rt; (mark, refusal), (LAST_MARK, Refusal::LifeFull));
-                assert_eq!(rt; stored(alloc, image)?, (0, None, 0));
+                assert_eq!(rt; stored(alloc, image)?, (NOTHING_STORED, 0));
             }
         }
     }

@@ -2,13 +2,25 @@
 ghost use Rattle.std.specs.Prelude.{◌≡◌, length, IfOk};
 
 use crate::stored::{SCHEMA, stored};
-use keep::{Change, Keeper, MemImage, MemKeeper, StoreError};
+use keep::{Change, HardState, Keeper, MemImage, MemKeeper, StoreError};
 use model::entry::Entry;
 use model::stamp::Stamp;
 use schemaread::schemas::read_schema;
 use std::alloc::{AllocError, Global};
 use std::process::Abort;
 use std::test::Fail;
+
+// What is stored first.
+const HARD_BEFORE: HardState = HardState {
+    term: 1,
+    vote: Some(2),
+};
+
+// What is stored then.
+const HARD_AFTER: HardState = HardState {
+    term: 2,
+    vote: None,
+};
 
 // Term 2 without a vote, and one entry of it.
 fn first_change(alloc: Global) -> Result<Change, AllocError>
@@ -20,8 +32,7 @@ fn first_change(alloc: Global) -> Result<Change, AllocError>
         request: None,
     };
     Ok(Change {
-        term: 2,
-        vote: None,
+        hard: HARD_AFTER,
         kept: 0,
         entries: vec![in alloc; entry]?,
     })
@@ -73,7 +84,7 @@ fn use_keeper(
 fn fails_at_each_call(rt: HostRuntime) -> Result<(), Fail> {
     let alloc = rt.alloc();
     for call in 0..6 {
-        let mut image = MemImage::with_vote(alloc, 1, Some(2));
+        let mut image = MemImage::with_hard_state(alloc, HARD_BEFORE);
         image.fail_at(call);
         let image = match MemKeeper::open(alloc, image, 3, &read_schema(alloc, SCHEMA)?) {
             Ok(keeper) => use_keeper(&rt, alloc, keeper, call)?,
@@ -84,9 +95,9 @@ fn fails_at_each_call(rt: HostRuntime) -> Result<(), Fail> {
         };
         let is_saved = call == 0 || call > 3;
         let wanted = if is_saved {
-            (2, None, 1)
+            (HARD_AFTER, 1)
         } else {
-            (1, Some(2), 0)
+            (HARD_BEFORE, 0)
         };
         assert_eq!(rt; stored(alloc, image)?, wanted, "call {call}");
     }

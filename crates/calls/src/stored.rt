@@ -1,6 +1,5 @@
 //! What images hold.
-use keep::{Keeper, MemImage, MemKeeper};
-use model::member::Member;
+use keep::{HardState, Keeper, MemImage, MemKeeper};
 use schemaread::schemas::read_schema;
 use std::alloc::Global;
 use std::test::Fail;
@@ -12,12 +11,12 @@ pub(crate) const SCHEMA: &str =
     PERIOD FOR DPeriod (DStart, DEnd), PERIOD FOR SYSTEM_TIME (SysStart, SysEnd), \
     PRIMARY KEY (DNo, DPeriod WITHOUT OVERLAPS)) WITH SYSTEM VERSIONING;";
 
-/// The term, the vote and the number of entries that an image of a member of three holds.
-pub(crate) fn stored(alloc: Global, image: MemImage) -> Result<(u64, Option<Member>, usize), Fail> {
+/// The hard state and the number of entries that an image of a member of three holds.
+pub(crate) fn stored(alloc: Global, image: MemImage) -> Result<(HardState, usize), Fail> {
     let schema = read_schema(alloc, SCHEMA)?;
     let Ok(mut keeper) = MemKeeper::open(alloc, image, 3, &schema) else {
         return Err(Fail::from("the image does not open"));
     };
     let state = keeper.state(alloc)?;
-    Ok((state.term, state.vote, state.entries.len()))
+    Ok((state.hard, state.entries.len()))
 }

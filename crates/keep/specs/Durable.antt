@@ -1,25 +1,25 @@
 -- What a keeper stores.
-use Rattle.std.specs.Prelude.{◌≡◌, ◌⊎◌, ℕ, Option, None, List, [], ◌++◌, take}
+use Rattle.std.specs.Prelude.{◌≡◌, ◌⊎◌, ℕ, None, List, [], ◌++◌, take}
 use Rattle.model.specs.declared.entry.Entry.{Entry}
 use Rattle.keep.specs.declared.change.Change.{Change}
+use Rattle.keep.specs.declared.hard_state.HardState.{HardState}
 use Rattle.keep.specs.declared.memory.MemImage.{MemImage}
 
 pub record Durable : Type 0 where
-  pub term : ℕ
-  pub vote : Option ℕ
+  pub hard : HardState
   pub log : List Entry
 
--- a term and the vote in it, with an empty log
-abbrev pub beginning : ℕ → Option ℕ → Durable
-beginning term vote = record { term = term; vote = vote; log = [] }
+-- this hard state, with an empty log
+abbrev pub beginning : HardState → Durable
+beginning hard = record { hard = hard; log = [] }
 
 -- before anything was stored
 abbrev pub blank : Durable
-blank = beginning 0 None
+blank = beginning (record { term = 0; vote = None })
 
 -- what a change makes of what is stored
 abbrev pub after : Change → Durable → Durable
-after c d = record { term = c.term; vote = c.vote; log = take c.kept d.log ++ c.entries.items }
+after c d = record { hard = c.hard; log = take c.kept d.log ++ c.entries.items }
 
 -- what was stored before, or what is new, and nothing else
 abbrev pub IsBeforeOrAfter : Durable → Durable → Durable → Type 0
@@ -27,7 +27,7 @@ IsBeforeOrAfter before new d = (d ≡ before) ⊎ (d ≡ new)
 
 -- what an image in memory holds
 abbrev pub stored_in : MemImage → Durable
-stored_in i = record { term = i.term; vote = i.vote; log = i.entries.items }
+stored_in i = record { hard = i.hard; log = i.entries.items }
 
 -- which call of its next keeper is to fail, its open being 1; 0 is none
 abbrev pub failing_call : MemImage → ℕ

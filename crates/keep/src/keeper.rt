@@ -10,7 +10,7 @@ use model::entry::Entry;
 use schema::Schema;
 use std::alloc::Global;
 
-/// Keeps a member's term, vote and log over a restart.
+/// Keeps a member's hard state and log over a restart.
 ///
 /// Once `state`, `entry` or `save` has answered an error the keeper is down: each later call of them
 /// answers `NodeDown`, and only `failures` and `close` go on. Its image, opened again, holds what was
@@ -59,7 +59,7 @@ pub trait Keeper: Drop {
     /// Reads the whole of what is stored, and changes nothing. `NodeDown` where the keeper is down,
     /// `StoreFault` where the store fails, `NoMemory` where memory is refused.
     fn state(&mut self, alloc: Global) -> Result<State, StoreError>
-        ensures ok { IfOk result (λ s. is_honest self.new → (s.term ≡ (stored self.old).term) × (s.vote ≡ (stored self.old).vote) × (s.entries.items ≡ (stored self.old).log)) }
+        ensures ok { IfOk result (λ s. is_honest self.new → (s.hard ≡ (stored self.old).hard) × (s.entries.items ≡ (stored self.old).log)) }
         ensures same { OnOk result (is_honest self.new → stored self.new ≡ stored self.old) }
         ensures answered { IsAnswered (is_up self.old) (is_up self.new) (failed self.old) (failed self.new) result }
         ensures honest { is_honest self.new → is_honest self.old }

@@ -1,14 +1,16 @@
-//! What a node keeps over a restart: its term, its vote and its log.
+//! What a node keeps over a restart: its hard state and its log.
 #![tactic(auto)]
 
 pub mod change;
 pub mod error;
+pub mod hard_state;
 pub mod keeper;
 pub mod memory;
 pub mod state;
 
 pub use change::Change;
 pub use error::StoreError;
+pub use hard_state::HardState;
 pub use keeper::Keeper;
 pub use memory::{MemImage, MemKeeper};
 pub use state::State;

@@ -3,19 +3,18 @@ ghost use Rattle.std.specs.Prelude.{◌≡◌, ◌≢◌, ◌↔◌, ◌-◌, �
 
 use crate::change::Change;
 use crate::error::StoreError;
+use crate::hard_state::HardState;
 use crate::keeper::Keeper;
 use crate::state::State;
 use model::entry::Entry;
-use model::member::Member;
 use schema::Schema;
 use std::alloc::{AllocError, Global};
 
-/// A store in memory: a member's term, vote and log. It can be told which call of the keeper that
+/// A store in memory: a member's hard state and log. It can be told which call of the keeper that
 /// opens it is to fail.
 #[derive(Debug, Drop)]
 pub struct MemImage {
-    term: u64,
-    vote: Option<Member>,
+    hard: HardState,
     entries: Vec<Entry>,
     /// The first call is 1; 0 is none.
     fail_at: u64,
@@ -29,17 +28,20 @@ impl MemImage {
         ensures stored { stored_in result ≡ blank }
         ensures failing { failing_call result ≡ 0 }
     {
-        MemImage::with_vote(alloc, 0, None)
+        let hard = HardState {
+            term: 0,
+            vote: None,
+        };
+        MemImage::with_hard_state(alloc, hard)
     }
 
-    /// A term and the vote in it, with an empty log. No call is to fail.
-    pub fn with_vote(alloc: Global, term: u64, vote: Option<Member>) -> MemImage
-        ensures stored { stored_in result ≡ beginning term vote }
+    /// This hard state, with an empty log. No call is to fail.
+    pub fn with_hard_state(alloc: Global, hard: HardState) -> MemImage
+        ensures stored { stored_in result ≡ beginning hard }
         ensures failing { failing_call result ≡ 0 }
     {
         MemImage {
-            term,
-            vote,
+            hard,
             entries: Vec::new(alloc),
             fail_at: 0,
         }
@@ -64,8 +66,7 @@ impl MemImage {
         ensures failing { failing_call self.new ≡ failing_call self.old }
     {
         replace_tail(&mut self.entries, change.kept, tail)?;
-        self.term = change.term;
-        self.vote = change.vote;
+        self.hard = change.hard;
         Ok(())
     }
 }
@@ -204,7 +205,7 @@ impl Keeper for MemKeeper {
     }
 
     fn state(&mut self, alloc: Global) -> Result<State, StoreError>
-        ensures ok { IfOk result (λ s. (s.term ≡ (stored_by self.old).term) × (s.vote ≡ (stored_by self.old).vote) × (s.entries.items ≡ (stored_by self.old).log)) }
+        ensures ok { IfOk result (λ s. (s.hard ≡ (stored_by self.old).hard) × (s.entries.items ≡ (stored_by self.old).log)) }
         ensures same { stored_by self.new ≡ stored_by self.old }
         ensures answered { IsAnswered self.old.is_up self.new.is_up (failures_of self.old) (failures_of self.new) result }
         ensures counted { IsCounted self.old self.new result }
@@ -214,8 +215,7 @@ impl Keeper for MemKeeper {
             return Err(self.lack_memory());
         };
         Ok(State {
-            term: self.image.term,
-            vote: self.image.vote,
+            hard: self.image.hard,
             entries,
         })
     }

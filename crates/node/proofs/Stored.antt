@@ -25,8 +25,8 @@ pub short : (x y : Node) (c : Change) → IsChange x y c → length y.log ≤ 10
 short = short_change
 
 changed : (x y : Node) (c : Change) → IsChange x y c → after c (durable_of x) ≡ durable_of y
-changed x y c h = rw (h.term, h.vote, h.log) refl
+changed x y c h = rw (h.hard, h.log) refl
 
 pub synced : (x y : Node) (change : Option Change) (d : Durable) → ChangeFits x y change → d ≡ durable_of x → after_change change d ≡ durable_of y
-synced x y None d h e = e ∙ rw (h.term, h.vote, h.log) refl
+synced x y None d h e = e ∙ rw (h.hard, h.log) refl
 synced x y (Some c) d h e = ap (after c) e ∙ changed x y c h

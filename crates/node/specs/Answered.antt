@@ -9,7 +9,7 @@ use Rattle.node.specs.declared.node.Fault.TheVariants.{Kept, Down}
 use Rattle.node.specs.declared.durable.Stored.{Stored}
 
 abbrev pub stored_of : Durable → Stored
-stored_of d = record { term = d.term; vote = d.vote; length = length d.log }
+stored_of d = record { hard = d.hard; length = length d.log }
 
 -- the store failed, or there was no memory
 abbrev pub IsOfStore : StoreError → Type 0

@@ -13,14 +13,14 @@ use Rattle.raft.specs.declared.state.Core.{Core}
 use Rattle.keep.specs.declared.change.Change.{Change}
 use Rattle.keep.specs.declared.error.StoreError.{StoreError}
 use Rattle.keep.specs.declared.error.StoreError.TheVariants.{NoMemory, StoreFault}
-use Rattle.raft.specs.View.{after_of}
+use Rattle.raft.specs.View.{after_of, hard_of}
 use Rattle.node.specs.declared.node.Out.{Out}
 use Rattle.node.specs.declared.node.Fault.{Fault}
 use Rattle.node.specs.declared.node.Fault.TheVariants.{Kept, Down}
 
 -- what of a member is stored
 abbrev pub durable_of : Node → Durable
-durable_of x = record { term = x.term; vote = x.vote; log = x.log }
+durable_of x = record { hard = hard_of x; log = x.log }
 
 abbrev pub after_change : Option Change → Durable → Durable
 after_change None d = d
@@ -37,7 +37,7 @@ told_between schema log before commit = filter_map (told_at schema log) (range_w
 
 -- a member that is started with this stored
 abbrev pub started_from : Durable → Node
-started_from d = started (record (fresh d.term d.vote) { log = d.log })
+started_from d = started (record (fresh d.hard.term d.hard.vote) { log = d.log })
 
 -- the result of a step and the core after it are what the definition of a step says; a node that goes
 -- down says nothing

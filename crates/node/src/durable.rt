@@ -8,15 +8,14 @@ ghost use Rattle.node.specs.Answered.{stored_of, IsFaultOf};
 
 use crate::node::{Fault, Node};
 use fault::Refusal;
+use keep::hard_state::HardState;
 use keep::keeper::Keeper;
 use model::entry::Entry;
-use model::member::Member;
 
-/// What a node has stored: its term, its vote, and the length of its log.
+/// What a node has stored: its hard state, and the length of its log.
 #[derive(Clone, Copy, PartialEq, Eq, Debug)]
 pub struct Stored {
-    pub term: u64,
-    pub vote: Option<Member>,
+    pub hard: HardState,
     pub length: usize,
 }
 
@@ -31,8 +30,7 @@ impl<K: Keeper> Node<K> {
             return Err(Fault::Kept(Refusal::NodeDown));
         }
         Ok(Stored {
-            term: self.core.term(),
-            vote: self.core.vote(),
+            hard: self.core.hard_state(),
             length: self.core.log.len(),
         })
     }

@@ -48,14 +48,14 @@ pub enum Fault {
     Down(StoreError),
 }
 
-/// A member over a keeper: what it knows, where its term, vote and log are stored, and the tables that the applied
+/// A member over a keeper: what it knows, where its hard state and log are stored, and the tables that the applied
 /// entries leave.
 #[derive(Drop)]
 pub struct Node<K: Keeper> {
     pub(crate) alloc: Global,
     /// What the member knows.
     pub core: Core,
-    /// Where its term, vote and log are stored.
+    /// Where its hard state and log are stored.
     pub keeper: K,
     /// The tables of the schema after the applied entries.
     pub(crate) tables: Tables,
@@ -129,7 +129,7 @@ fn finish<K: Keeper>(
 }
 
 impl<K: Keeper> Node<K> {
-    /// Opens what the image holds, as a follower with the term, the vote and the log that are stored,
+    /// Opens what the image holds, as a follower with the hard state and the log that are stored,
     /// which knows of no leader and has applied nothing. `me` is one of the group: from 1 to `members`, of
     /// which there are up to 7; the caller sees to this.
     ///
@@ -159,15 +159,11 @@ impl<K: Keeper> Node<K> {
             Ok(state) => state,
             Err(error) => return Err((error, keeper.close())),
         };
-        let State {
-            term,
-            vote,
-            entries,
-        } = state;
-        if term > LAST_TERM || entries.len() > LOG_ROOM {
+        let State { hard, entries } = state;
+        if hard.term > LAST_TERM || entries.len() > LOG_ROOM {
             return Err((StoreError::BadStore, keeper.close()));
         }
-        let core = Core::start(alloc, schema, members, me, term, vote, entries);
+        let core = Core::start(alloc, schema, members, me, hard, entries);
         Ok(Node {
             alloc,
             core,
@@ -255,7 +251,7 @@ impl<K: Keeper> Node<K> {
         Some(self.core.commit())
     }
 
-    /// Stops it, and gives the image up. Of a node that is up the image holds the term, the vote and
+    /// Stops it, and gives the image up. Of a node that is up the image holds the hard state and
     /// the log that it has.
     pub fn stop(self) -> K::Image
         ensures held { (d : Durable) → K.holds result d → K.may_hold self.keeper d }

@@ -30,7 +30,7 @@ stepped schema n me x s = node_after x (works schema n me (work_of s.packet) x)
 
 -- what was stored as the life began
 abbrev pub opened_with : Opening → Durable
-opened_with o = record { term = o.term; vote = o.vote; log = o.entries.items }
+opened_with o = record { hard = o.hard; log = o.entries.items }
 
 -- member `me` of n, started from what was stored and taken through each step in turn
 abbrev pub replay : Tables → ℕ → ℕ → Life → Node

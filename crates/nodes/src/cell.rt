@@ -73,8 +73,7 @@ impl<K: Keeper> Cell<K> {
         };
         let opening = Opening {
             mark,
-            term: node.core.term(),
-            vote: node.core.vote(),
+            hard: node.core.hard_state(),
             entries,
         };
         let life = Life {

@@ -3,8 +3,8 @@ ghost use Rattle.std.specs.Prelude.{◌≡◌};
 ghost use Rattle.nodes.specs.Lives.{last_mark, sent_at, mark_for};
 
 use crate::mark::Mark;
+use keep::hard_state::HardState;
 use model::entry::Entry;
-use model::member::Member;
 use model::message::{Input, Message};
 
 /// How many steps a life may have.
@@ -32,8 +32,7 @@ pub struct Step {
 #[derive(Debug, Drop)]
 pub struct Opening {
     pub mark: Mark,
-    pub term: u64,
-    pub vote: Option<Member>,
+    pub hard: HardState,
     pub entries: Vec<Entry>,
 }
 

@@ -3,6 +3,7 @@ use Rattle.std.specs.Prelude.{◌≡◌, ℕ, ◌≤◌, true, List, [], ◌∷�
 use Rattle.raft.specs.declared.state.Core.{Core}
 use Rattle.raft.specs.declared.state.Before.{Before}
 use Rattle.keep.specs.declared.change.Change.{Change}
+use Rattle.keep.specs.declared.hard_state.HardState.{HardState}
 use Rattle.raft.specs.declared.state.Work.{Work}
 use Rattle.raft.specs.declared.state.Work.TheVariants.{Local, Delivered}
 use Rattle.raft.specs.declared.state.Effect.{Effect as Given}
@@ -34,14 +35,18 @@ node_of c = record {
   matched = c.matched.items;
 }
 
+-- what of a member is stored besides its log
+abbrev pub hard_of : Node → HardState
+hard_of x = record { term = x.term; vote = x.vote }
+
 -- a node with its parts from before it heard of a term
 abbrev pub forgotten : Option Before → Node → Node
 forgotten None x = x
 forgotten (Some b) x = record x { term = b.term; vote = b.vote; role = b.role; known = b.known; votes = b.votes.items; next = b.next.items; matched = b.matched.items }
 
 -- a member that starts with what is stored
-abbrev pub opening : ℕ → Option ℕ → List Entry → Node
-opening term vote log = record { term = term; vote = vote; log = log; up = true; role = Follower; commit = 0; known = None; votes = []; next = []; matched = [] }
+abbrev pub opening : HardState → List Entry → Node
+opening hard log = record { term = hard.term; vote = hard.vote; log = log; up = true; role = Follower; commit = 0; known = None; votes = []; next = []; matched = [] }
 
 -- its log has one entry more, of its own term
 abbrev pub with_entry : ℕ → Option Request → Node → Node
@@ -88,14 +93,12 @@ effect_of c (Done t) = Moves (after_of c t.messages.items)
 
 -- what is stored is as it was
 pub record IsStoredAlready (x y : Node) : Type 0 where
-  pub term : y.term ≡ x.term
-  pub vote : y.vote ≡ x.vote
+  pub hard : hard_of y ≡ hard_of x
   pub log : y.log ≡ x.log
 
 -- what is stored goes from that of x to that of y by this change, which is needed and no greater than it has to be
 pub record IsChange (x y : Node) (c : Change) : Type 0 where
-  pub term : c.term ≡ y.term
-  pub vote : c.vote ≡ y.vote
+  pub hard : c.hard ≡ hard_of y
   pub within : c.kept ≤ length x.log
   pub log : take c.kept x.log ++ c.entries.items ≡ y.log
   -- it keeps the longest beginning that the two logs have in common

@@ -4,6 +4,7 @@ ghost use Rattle.model.specs.Lists.{nth_or};
 
 use fault::Refusal;
 use keep::change::Change;
+use keep::hard_state::HardState;
 use model::entry::Entry;
 use model::member::Member;
 use model::message::{Input, LAST_TERM, LOG_ROOM, Message, Role};
@@ -68,7 +69,7 @@ pub(crate) struct Before {
 
 /// A member of a group of up to seven, counted from 1, that all have the same tables.
 ///
-/// Its term, vote and log are to be kept over a restart; its role, its commit index, the leader that
+/// Its hard state and its log are to be kept over a restart; its role, its commit index, the leader that
 /// it knows, and what a candidate or a leader knows of the others are not.
 #[derive(Drop)]
 pub struct Core {
@@ -106,7 +107,7 @@ pub struct Core {
 impl Core {
     ghost use Rattle.std.specs.Prelude.{◌≡◌, false, ◌≤◌, vec_len};
     ghost use Rattle.model.specs.Members.{applied};
-    ghost use Rattle.raft.specs.View.{node_of, opening};
+    ghost use Rattle.raft.specs.View.{hard_of, node_of, opening};
 
     /// A member that starts with what was stored, as a follower that knows of no leader and of no
     /// committed entry. `me` is one of the group: from 1 to `members`, of which there are up to 7. The
@@ -116,15 +117,14 @@ impl Core {
         schema: Schema,
         members: usize,
         me: Member,
-        term: u64,
-        vote: Option<Member>,
+        hard: HardState,
         log: Vec<Entry>,
     ) -> Core
         requires few { members ≤ 7 }
         requires member { (1 ≤ me) × (me ≤ members) }
-        requires term { term ≤ LAST_TERM }
+        requires term { hard.term ≤ LAST_TERM }
         requires log { vec_len log ≤ LOG_ROOM }
-        ensures node { node_of result ≡ opening term vote log.items }
+        ensures node { node_of result ≡ opening hard log.items }
         ensures group { (result.members ≡ members) × (result.me ≡ me) × (result.schema ≡ schema) × (result.is_spent ≡ false) }
     {
         Core {
@@ -132,8 +132,8 @@ impl Core {
             schema,
             members,
             me,
-            term,
-            vote,
+            term: hard.term,
+            vote: hard.vote,
             log,
             role: Role::Follower,
             commit: 0,
@@ -145,18 +145,14 @@ impl Core {
         }
     }
 
-    /// The current term.
-    pub fn term(&self) -> u64
-        ensures { result ≡ (node_of self.now).term }
+    /// What it is to keep over a restart besides its log.
+    pub fn hard_state(&self) -> HardState
+        ensures { result ≡ hard_of (node_of self.now) }
     {
-        self.term
-    }
-
-    /// Whom it gave its vote in the current term.
-    pub fn vote(&self) -> Option<Member>
-        ensures { result ≡ (node_of self.now).vote }
-    {
-        self.vote
+        HardState {
+            term: self.term,
+            vote: self.vote,
+        }
     }
 
     /// The whole log.

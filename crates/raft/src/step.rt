@@ -9,11 +9,12 @@ ghost use Rattle.model.specs.Lists.{IsBeginning};
 ghost use Rattle.model.specs.Members.{applied, term_at};
 ghost use Rattle.raft.specs.Memory.{spares_memory};
 ghost use Rattle.raft.specs.declared.state.Work.TheVariants.{Local};
-ghost use Rattle.raft.specs.View.{node_of, after_of, works, kept_of, IsSameSeat, outcome_of, SameIfNotSent, effect_of, EffectFits, Grows};
+ghost use Rattle.raft.specs.View.{hard_of, node_of, after_of, works, kept_of, IsSameSeat, outcome_of, SameIfNotSent, effect_of, EffectFits, Grows};
 
 use crate::logs::{copies_of, go_on, kept_under, term_at};
 use crate::state::{Core, Effect, Outcome, Taken, Work};
 use keep::change::Change;
+use keep::hard_state::HardState;
 use model::entry::{Entry, Request};
 use model::member::Member;
 use model::message::{Body, CARRIED_MOST, Input, LAST_TERM, Message};
@@ -227,27 +228,26 @@ impl Core {
         self.log.len() == len && term_at(&self.log, kept + 1) == next_term
     }
 
-    /// The change to its term and vote, and to a log that keeps so many entries and goes on with these.
+    /// The change to its hard state, and to a log that keeps so many entries and goes on with these.
     fn change_to(&self, kept: usize, entries: Vec<Entry>) -> Change
-        ensures { result ≡ record { term = self.now.term; vote = self.now.vote; kept = kept; entries = entries } }
+        ensures { result ≡ record { hard = hard_of (node_of self.now); kept = kept; entries = entries } }
     {
         Change {
-            term: self.term,
-            vote: self.vote,
+            hard: self.hard_state(),
             kept,
             entries,
         }
     }
 
-    /// What is to be stored, after a step that left the log as it was: none where term and vote are as
-    /// they were, too.
-    fn change_of_vote(&self, term: u64, vote: Option<Member>) -> Option<Change>
+    /// What is to be stored, after a step that left the log as it was: none where the hard state is as
+    /// it was, too.
+    fn change_of_hard_state(&self, before: HardState) -> Option<Change>
         ensures { MatchOption result
-            ((self.now.term ≡ term) × (self.now.vote ≡ vote))
-            (λ c. (c.term ≡ self.now.term) × (c.vote ≡ self.now.vote) × (c.kept ≡ length self.now.log.items) × (c.entries.items ≡ [])
-            × (self.now.term ≡ term → self.now.vote ≡ vote → ⊥)) }
+            (hard_of (node_of self.now) ≡ before)
+            (λ c. (c.hard ≡ hard_of (node_of self.now)) × (c.kept ≡ length self.now.log.items) × (c.entries.items ≡ [])
+            × (hard_of (node_of self.now) ≡ before → ⊥)) }
     {
-        if self.term == term && self.vote == vote {
+        if self.hard_state() == before {
             return None;
         }
         Some(self.change_to(self.log.len(), Vec::new(self.alloc)))
@@ -257,7 +257,7 @@ impl Core {
     #[tactic(auto, using(crate::proofs::Lists::drop_min))]
     fn change_from(&self, kept: usize) -> Result<Change, AllocError>
         ensures { IfOk result
-            (λ c. (c.term ≡ self.now.term) × (c.vote ≡ self.now.vote) × (c.kept ≡ kept) × (c.entries.items ≡ drop kept self.now.log.items)) }
+            (λ c. (c.hard ≡ hard_of (node_of self.now)) × (c.kept ≡ kept) × (c.entries.items ≡ drop kept self.now.log.items)) }
     {
         let (_, tail) = self.log.split_at(kept.min(self.log.len()));
         let entries = copies_of(self.alloc, tail)?;
@@ -275,8 +275,7 @@ impl Core {
         let kept = self.kept_of(&work);
         let next_term = term_at(&self.log, kept + 1);
         let len = self.log.len();
-        let term = self.term;
-        let vote = self.vote;
+        let hard = self.hard_state();
         let committed_before = self.commit;
         let messages = match self.on_work(work)? {
             Outcome::Refused(refusal) => return Ok(Effect::Refused(refusal)),
@@ -284,7 +283,7 @@ impl Core {
             Outcome::Sent(messages) => messages,
         };
         if self.is_log_as_before(len, kept, next_term) {
-            let change = self.change_of_vote(term, vote);
+            let change = self.change_of_hard_state(hard);
             return Ok(Effect::Done(Taken {
                 change,
                 messages,

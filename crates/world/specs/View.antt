@@ -93,7 +93,7 @@ EachShowsColumns tables events outs = (k : ℕ) (e : Given) (out : Vec Out Globa
 
 -- a member that is down, with this stored
 abbrev pub at_rest : Durable → Node
-at_rest d = stopped (record (fresh d.term d.vote) { log = d.log })
+at_rest d = stopped (record (fresh d.hard.term d.hard.vote) { log = d.log })
 
 abbrev pub node_in : Seat → Node
 node_in (Up x) = node_of x.core

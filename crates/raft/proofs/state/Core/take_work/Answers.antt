@@ -16,7 +16,7 @@ returns-then-is_log_as_before-clause-fits c =
     let there : c.term_at-next_term.result ≡ term_at x.log (c.kept_of-kept.result + 1) = rw c.deref.ensures.value at c.term_at-next_term.ensures in
     let at : term_at a.node.log (c.kept_of-kept.result + 1) ≡ term_at x.log (c.kept_of-kept.result + 1) = yes.1 ∙ there in
     let same : a.node.log ≡ x.log = log_stays _ _ _ c.kept_of-kept.result c.args.work x a e c.kept_of-kept.ensures.value within len at in
-    (same_log_fits x a.node c.change_of_vote-change.result same c.change_of_vote-change.ensures, refl)
+    (same_log_fits x a.node c.change_of_hard_state-change.result same (rw c.hard_state-hard.ensures at c.change_of_hard_state-change.ensures), refl)
 
 pub returns-clause-fits : goal.returns-clause-fits
 returns-clause-fits c =
