@@ -26,7 +26,8 @@ use Rattle.raft.specs.declared.state.Core.{Core}
 use Rattle.raft.specs.declared.state.Work.{Work}
 use Rattle.raft.specs.declared.state.Work.TheVariants.{Local, Delivered}
 use Rattle.raft.specs.declared.state.Effect.{Effect as Given}
-use Rattle.raft.specs.declared.state.Effect.TheVariants.{Refused as RefusedGiven, Ignored as IgnoredGiven, Done}
+use Rattle.raft.specs.declared.state.Effect.TheVariants.{Refused, Ignored, Done}
+use Rattle.raft.specs.declared.state.Taken.{Taken}
 use Rattle.raft.specs.View.{node_of, works, effect_of, EffectFits, Grows}
 use Rattle.raft.proofs.Lists.{Between, agreed_between, ltb_tells, is_so, stands_within}
 
@@ -218,9 +219,9 @@ same_grows x y e = let P : Node → Type 0 = Grows x in subst P (sym e) (record 
 moved : (x : Node) (a : After) → Stays x (Moves a) → Grows x a.node
 moved x a h = record { commit = h.commit; log = h.log }
 
-pub step_grows : (old new : Core) (e : Given) (work : Work) → old.commit ≤ length old.log.items → effect_of new e ≡ works old.schema old.members old.me work (node_of old) → EffectFits old new e → Grows (node_of old) (node_of new)
-step_grows old new (RefusedGiven refusal) work h done fits = same_grows (node_of old) (node_of new) fits
-step_grows old new IgnoredGiven work h done fits = same_grows (node_of old) (node_of new) fits
+pub step_grows : (old new : Core) (e : Given Taken) (work : Work) → old.commit ≤ length old.log.items → effect_of new e ≡ works old.schema old.members old.me work (node_of old) → EffectFits old new e → Grows (node_of old) (node_of new)
+step_grows old new (Refused refusal) work h done fits = same_grows (node_of old) (node_of new) fits
+step_grows old new Ignored work h done fits = same_grows (node_of old) (node_of new) fits
 step_grows old new (Done t) work h done fits =
     let P : Effect → Type 0 = Stays (node_of old) in
     moved (node_of old) _ (subst P (sym done) (work_stays old.schema old.members old.me work (node_of old) h))

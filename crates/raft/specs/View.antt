@@ -7,9 +7,10 @@ use Rattle.keep.specs.declared.hard_state.HardState.{HardState}
 use Rattle.raft.specs.declared.state.Work.{Work}
 use Rattle.raft.specs.declared.state.Work.TheVariants.{Local, Delivered}
 use Rattle.raft.specs.declared.state.Effect.{Effect as Given}
-use Rattle.raft.specs.declared.state.Effect.TheVariants.{Refused as RefusedGiven, Ignored as IgnoredGiven, Done}
-use Rattle.raft.specs.declared.state.Outcome.{Outcome}
-use Rattle.raft.specs.declared.state.Outcome.TheVariants.{Refused, Ignored, Sent}
+use Rattle.raft.specs.declared.state.Effect.TheVariants.{Refused, Ignored, Done}
+use Rattle.raft.specs.declared.state.Taken.{Taken}
+use Rattle.std.specs.declared.vec.Vec.{Vec}
+use Rattle.std.specs.declared.alloc.Global.{Global}
 use Rattle.model.specs.declared.message.Message.{Message}
 use Rattle.model.specs.declared.message.Role.TheVariants.{Follower}
 use Rattle.model.specs.declared.entry.Entry.{Entry}
@@ -74,21 +75,21 @@ pub record IsSameSeat (old new : Core) : Type 0 where
   pub is_spent : new.is_spent ≡ old.is_spent
 
 -- what an input or a message came to, in the words of the definitions
-abbrev pub outcome_of : Core → Outcome → Effect
+abbrev pub outcome_of : Core → Given (Vec Message Global) → Effect
 outcome_of c (Refused refusal) = Refuses refusal
 outcome_of c Ignored = Nothing
-outcome_of c (Sent messages) = Moves (after_of c messages.items)
+outcome_of c (Done messages) = Moves (after_of c messages.items)
 
 -- a refusal changes nothing
-abbrev pub SameIfNotSent : Core → Core → Outcome → Type 0
-SameIfNotSent old new (Refused refusal) = node_of new ≡ node_of old
-SameIfNotSent old new Ignored = node_of new ≡ node_of old
-SameIfNotSent old new (Sent messages) = Unit {0}
+abbrev pub SameUnlessDone : Core → Core → Given (Vec Message Global) → Type 0
+SameUnlessDone old new (Refused refusal) = node_of new ≡ node_of old
+SameUnlessDone old new Ignored = node_of new ≡ node_of old
+SameUnlessDone old new (Done messages) = Unit {0}
 
 -- what a whole step came to, in the same words
-abbrev pub effect_of : Core → Given → Effect
-effect_of c (RefusedGiven refusal) = Refuses refusal
-effect_of c IgnoredGiven = Nothing
+abbrev pub effect_of : Core → Given Taken → Effect
+effect_of c (Refused refusal) = Refuses refusal
+effect_of c Ignored = Nothing
 effect_of c (Done t) = Moves (after_of c t.messages.items)
 
 -- what is stored is as it was
@@ -111,9 +112,9 @@ abbrev pub ChangeFits : Node → Node → Option Change → Type 0
 ChangeFits x y change = MatchOption change (IsStoredAlready x y) (λ c. IsChange x y c)
 
 -- what an effect tells of the step from old to new
-abbrev pub EffectFits : Core → Core → Given → Type 0
-EffectFits old new (RefusedGiven refusal) = node_of new ≡ node_of old
-EffectFits old new IgnoredGiven = node_of new ≡ node_of old
+abbrev pub EffectFits : Core → Core → Given Taken → Type 0
+EffectFits old new (Refused refusal) = node_of new ≡ node_of old
+EffectFits old new Ignored = node_of new ≡ node_of old
 EffectFits old new (Done t) = ChangeFits (node_of old) (node_of new) t.change × (t.committed_before ≡ old.commit)
 
 -- no index that is committed is taken back, and the log stays up to there

@@ -3,13 +3,13 @@ ghost use Rattle.std.specs.Prelude.{◌≡◌, ◌+◌, ◌<◌, ◌≤◌, ◌^
 ghost use Rattle.model.specs.Lists.{nth};
 ghost use Rattle.model.specs.Members.{agreed};
 ghost use Rattle.model.specs.Steps.{on_append, go_on, cuts_below, accepted, takes_entries, follows, LOG_LIMIT};
-ghost use Rattle.raft.specs.View.{node_of, IsSameSeat, outcome_of, SameIfNotSent};
+ghost use Rattle.raft.specs.View.{node_of, IsSameSeat, outcome_of, SameUnlessDone};
 
 use crate::logs::{accept, agreed, go_on, least_at, stands, term_at};
-use crate::state::{Core, Outcome};
+use crate::state::{Core, Effect};
 use model::entry::Entry;
 use model::member::Member;
-use model::message::{Body, LOG_ROOM, Role};
+use model::message::{Body, LOG_ROOM, Message, Role};
 use std::alloc::AllocError;
 
 impl Core {
@@ -87,12 +87,12 @@ impl Core {
         prev_term: u64,
         entries: Vec<Entry>,
         commit: usize,
-    ) -> Result<Outcome, AllocError>
+    ) -> Result<Effect<Vec<Message>>, AllocError>
         requires { vec_len entries ≤ 64 }
         ensures done { IfOk result
             (λ o. outcome_of self.new o
             ≡ on_append self.old.me sender term prev prev_term entries.items commit (node_of self.old)) }
-        ensures same { IfOk result (SameIfNotSent self.old self.new) }
+        ensures same { IfOk result (SameUnlessDone self.old self.new) }
         ensures seat { IsSameSeat self.old self.new }
     {
         let no = Body::Reply {
@@ -101,23 +101,23 @@ impl Core {
         };
         if term < self.term {
             let messages = self.answer(sender, no)?;
-            return Ok(Outcome::Sent(messages));
+            return Ok(Effect::Done(messages));
         }
         if self.is_leader() {
-            return Ok(Outcome::Ignored);
+            return Ok(Effect::Ignored);
         }
         if !stands(&self.log, prev, prev_term) {
             self.follow(sender);
             let messages = self.answer(sender, no)?;
-            return Ok(Outcome::Sent(messages));
+            return Ok(Effect::Done(messages));
         }
         if !self.continues(term, prev, &entries) || self.cuts_too_far(prev, &entries) {
-            return Ok(Outcome::Ignored);
+            return Ok(Effect::Ignored);
         }
         let matched = prev + entries.len();
         self.follow(sender);
         self.take_entries(prev, entries, commit)?;
         let messages = self.answer(sender, Body::Reply { ok: true, matched })?;
-        Ok(Outcome::Sent(messages))
+        Ok(Effect::Done(messages))
     }
 }

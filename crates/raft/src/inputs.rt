@@ -4,35 +4,35 @@ ghost use Rattle.model.specs.Stamps.{stamp};
 ghost use Rattle.model.specs.Logs.{least_stamp};
 ghost use Rattle.model.specs.Steps.{time_out, append_own, is_time_full, is_log_full, on_input};
 ghost use Rattle.raft.specs.Memory.{is_idle};
-ghost use Rattle.raft.specs.View.{node_of, with_entry, IsSameSeat, outcome_of, SameIfNotSent};
+ghost use Rattle.raft.specs.View.{node_of, with_entry, IsSameSeat, outcome_of, SameUnlessDone};
 
-use crate::state::{Core, Outcome};
+use crate::state::{Core, Effect};
 use closedtime::{closed, stamp};
 use fault::Refusal;
 use model::entry::{Entry, Request};
-use model::message::{Input, LAST_TERM, LOG_ROOM};
+use model::message::{Input, LAST_TERM, LOG_ROOM, Message};
 use model::stamp::Stamp;
 use std::alloc::AllocError;
 
 impl Core {
     /// Stands for election; a leader does nothing.
     #[tactic(auto, unfolding(model::specs::Steps::time_out))]
-    fn time_out(&mut self) -> Result<Outcome, AllocError>
+    fn time_out(&mut self) -> Result<Effect<Vec<Message>>, AllocError>
         ensures done { IfOk result
             (λ o. outcome_of self.new o ≡ time_out self.old.members self.old.me (node_of self.old)) }
         ensures spares { is_idle (time_out self.old.members self.old.me (node_of self.old)) ≡ true → IsOk result }
-        ensures same { IfOk result (SameIfNotSent self.old self.new) }
+        ensures same { IfOk result (SameUnlessDone self.old self.new) }
         ensures seat { IsSameSeat self.old self.new }
     {
         if self.is_leader() {
-            return Ok(Outcome::Ignored);
+            return Ok(Effect::Ignored);
         }
         if self.term >= LAST_TERM {
-            return Ok(Outcome::Refused(Refusal::TermFull));
+            return Ok(Effect::Refused(Refusal::TermFull));
         }
         self.stand_up()?;
         let messages = self.vote_requests()?;
-        Ok(Outcome::Sent(messages))
+        Ok(Effect::Done(messages))
     }
 
     /// The stamp of its next entry, none where no stamp is left.
@@ -70,44 +70,48 @@ impl Core {
 
     /// Appends an entry and sends it, if it leads and a stamp and room are left.
     #[tactic(auto, unfolding(model::specs::Steps::append_own))]
-    fn append_own(&mut self, reading: i64, request: Option<Request>) -> Result<Outcome, AllocError>
+    fn append_own(
+        &mut self,
+        reading: i64,
+        request: Option<Request>,
+    ) -> Result<Effect<Vec<Message>>, AllocError>
         ensures done { IfOk result
             (λ o. outcome_of self.new o
             ≡ append_own self.old.members self.old.me reading request (node_of self.old)) }
         ensures spares { is_idle (append_own self.old.members self.old.me reading request (node_of self.old)) ≡ true → IsOk result }
-        ensures same { IfOk result (SameIfNotSent self.old self.new) }
+        ensures same { IfOk result (SameUnlessDone self.old self.new) }
         ensures seat { IsSameSeat self.old self.new }
     {
         if !self.is_leader() {
-            return Ok(Outcome::Refused(Refusal::NotLeader(self.known)));
+            return Ok(Effect::Refused(Refusal::NotLeader(self.known)));
         }
         let Some(stamp) = self.next_stamp(reading) else {
-            return Ok(Outcome::Refused(Refusal::TimeFull));
+            return Ok(Effect::Refused(Refusal::TimeFull));
         };
         if self.is_log_full() {
-            return Ok(Outcome::Refused(Refusal::LogFull));
+            return Ok(Effect::Refused(Refusal::LogFull));
         }
         self.extend(stamp, request)?;
         let messages = self.append_to_all()?;
-        Ok(Outcome::Sent(messages))
+        Ok(Effect::Done(messages))
     }
 
-    pub(crate) fn on_input(&mut self, input: Input) -> Result<Outcome, AllocError>
+    pub(crate) fn on_input(&mut self, input: Input) -> Result<Effect<Vec<Message>>, AllocError>
         ensures done { IfOk result
             (λ o. outcome_of self.new o
             ≡ on_input self.old.members self.old.me input (node_of self.old)) }
         ensures spares { is_idle (on_input self.old.members self.old.me input (node_of self.old)) ≡ true → IsOk result }
-        ensures same { IfOk result (SameIfNotSent self.old self.new) }
+        ensures same { IfOk result (SameUnlessDone self.old self.new) }
         ensures seat { IsSameSeat self.old self.new }
     {
         match input {
             Input::Timeout => self.time_out(),
             Input::Beat => {
                 if !self.is_leader() {
-                    return Ok(Outcome::Ignored);
+                    return Ok(Effect::Ignored);
                 }
                 let messages = self.append_to_all()?;
-                Ok(Outcome::Sent(messages))
+                Ok(Effect::Done(messages))
             }
             Input::Close { reading } => self.append_own(reading, None),
             Input::Submit { reading, request } => self.append_own(reading, Some(request)),

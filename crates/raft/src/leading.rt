@@ -2,13 +2,13 @@
 ghost use Rattle.std.specs.Prelude.{◌≡◌, ◌+◌, ◌-◌, ◌*◌, ◌<◌, ◌≤◌, ◌^◌, length, max, vec_len, IfOk, OnOk, OnErr, replicate};
 ghost use Rattle.model.specs.Members.{count_members, is_majority, is_in};
 ghost use Rattle.model.specs.Steps.{holds_to, is_matched, commits, greatest, crowned, noted, on_reply, on_reply_yes, on_reply_no};
-ghost use Rattle.raft.specs.View.{node_of, after_of, outcome_of, IsSameSeat, SameIfNotSent};
+ghost use Rattle.raft.specs.View.{node_of, after_of, outcome_of, IsSameSeat, SameUnlessDone};
 
 use crate::counted::{flag_at, number_at, set_number};
 use crate::logs::term_at;
-use crate::state::{Core, Outcome};
+use crate::state::{Core, Effect};
 use model::member::Member;
-use model::message::Role;
+use model::message::{Message, Role};
 use std::alloc::AllocError;
 
 /// How many members gave their vote.
@@ -103,43 +103,47 @@ impl Core {
 
     /// The sender's log agrees up to `matched`.
     #[tactic(auto, unfolding(model::specs::Steps::on_reply_yes))]
-    fn on_reply_yes(&mut self, sender: Member, matched: usize) -> Result<Outcome, AllocError>
+    fn on_reply_yes(
+        &mut self,
+        sender: Member,
+        matched: usize,
+    ) -> Result<Effect<Vec<Message>>, AllocError>
         ensures done { IfOk result
             (λ o. outcome_of self.new o
             ≡ on_reply_yes self.old.members self.old.me sender matched (node_of self.old)) }
-        ensures same { IfOk result (SameIfNotSent self.old self.new) }
+        ensures same { IfOk result (SameUnlessDone self.old self.new) }
         ensures seat { IsSameSeat self.old self.new }
     {
         if matched > self.log.len() {
-            return Ok(Outcome::Ignored);
+            return Ok(Effect::Ignored);
         }
         self.note(sender, matched);
         let commit = self.commits();
         if self.commit < commit {
             self.commit = commit;
             let messages = self.append_to_all()?;
-            return Ok(Outcome::Sent(messages));
+            return Ok(Effect::Done(messages));
         }
         self.commit = commit;
         if number_at(&self.next, sender) <= self.log.len() {
             let messages = self.append_one(sender)?;
-            return Ok(Outcome::Sent(messages));
+            return Ok(Effect::Done(messages));
         }
-        Ok(Outcome::Sent(Vec::new(self.alloc)))
+        Ok(Effect::Done(Vec::new(self.alloc)))
     }
 
     /// The sender had not the entry before: goes one back, and sends again.
     #[tactic(auto, unfolding(model::specs::Steps::on_reply_no))]
-    fn on_reply_no(&mut self, sender: Member) -> Result<Outcome, AllocError>
+    fn on_reply_no(&mut self, sender: Member) -> Result<Effect<Vec<Message>>, AllocError>
         ensures done { IfOk result
             (λ o. outcome_of self.new o ≡ on_reply_no self.old.me sender (node_of self.old)) }
-        ensures same { IfOk result (SameIfNotSent self.old self.new) }
+        ensures same { IfOk result (SameUnlessDone self.old self.new) }
         ensures seat { IsSameSeat self.old self.new }
     {
         let back = number_at(&self.next, sender).saturating_sub(1).max(1);
         set_number(&mut self.next, sender, back);
         let messages = self.append_one(sender)?;
-        Ok(Outcome::Sent(messages))
+        Ok(Effect::Done(messages))
     }
 
     /// Takes what a follower answers to an `Append`.
@@ -149,15 +153,15 @@ impl Core {
         term: u64,
         ok: bool,
         matched: usize,
-    ) -> Result<Outcome, AllocError>
+    ) -> Result<Effect<Vec<Message>>, AllocError>
         ensures done { IfOk result
             (λ o. outcome_of self.new o
             ≡ on_reply self.old.members self.old.me sender term ok matched (node_of self.old)) }
-        ensures same { IfOk result (SameIfNotSent self.old self.new) }
+        ensures same { IfOk result (SameUnlessDone self.old self.new) }
         ensures seat { IsSameSeat self.old self.new }
     {
         if !(self.is_leader() && term == self.term) {
-            return Ok(Outcome::Sent(Vec::new(self.alloc)));
+            return Ok(Effect::Done(Vec::new(self.alloc)));
         }
         if ok {
             self.on_reply_yes(sender, matched)

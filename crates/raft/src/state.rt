@@ -33,24 +33,15 @@ pub struct Taken {
     pub committed_before: usize,
 }
 
-/// What a step gives.
+/// What comes of an input or a message.
 #[derive(Debug, Drop)]
-pub enum Effect {
+pub enum Effect<T> {
     /// Nothing changed.
     Refused(Refusal),
     /// Nothing changed, and nothing is sent.
     Ignored,
-    Done(Taken),
-}
-
-/// What comes of an input or a message, before it is known what is to be stored.
-#[derive(Debug, Drop)]
-pub(crate) enum Outcome {
-    /// Nothing changed.
-    Refused(Refusal),
-    /// Nothing changed, and nothing is sent.
-    Ignored,
-    Sent(Vec<Message>),
+    /// What a step gives.
+    Done(T),
 }
 
 /// What a member was before it heard of a greater term.

@@ -9,10 +9,10 @@ ghost use Rattle.model.specs.Lists.{IsBeginning};
 ghost use Rattle.model.specs.Members.{applied, term_at};
 ghost use Rattle.raft.specs.Memory.{spares_memory};
 ghost use Rattle.raft.specs.declared.state.Work.TheVariants.{Local};
-ghost use Rattle.raft.specs.View.{hard_of, node_of, after_of, works, kept_of, IsSameSeat, outcome_of, SameIfNotSent, effect_of, EffectFits, Grows};
+ghost use Rattle.raft.specs.View.{hard_of, node_of, after_of, works, kept_of, IsSameSeat, outcome_of, SameUnlessDone, effect_of, EffectFits, Grows};
 
 use crate::logs::{copies_of, go_on, kept_under, term_at};
-use crate::state::{Core, Effect, Outcome, Taken, Work};
+use crate::state::{Core, Effect, Taken, Work};
 use keep::change::Change;
 use keep::hard_state::HardState;
 use model::entry::{Entry, Request};
@@ -94,12 +94,12 @@ impl Core {
         sender: Member,
         term: u64,
         body: Body,
-    ) -> Result<Outcome, AllocError>
+    ) -> Result<Effect<Vec<Message>>, AllocError>
         requires { length (entries_of body) ≤ 64 }
         ensures done { IfOk result
             (λ o. outcome_of self.new o
             ≡ on_body self.old.members self.old.me reading sender term body (node_of self.old)) }
-        ensures same { IfOk result (SameIfNotSent self.old self.new) }
+        ensures same { IfOk result (SameUnlessDone self.old self.new) }
         ensures seat { IsSameSeat self.old self.new }
     {
         match body {
@@ -108,11 +108,11 @@ impl Core {
                 last_term,
             } => {
                 let messages = self.on_request_vote(sender, term, last_index, last_term)?;
-                Ok(Outcome::Sent(messages))
+                Ok(Effect::Done(messages))
             }
             Body::Vote { given } => {
                 let messages = self.on_vote(reading, sender, term, given)?;
-                Ok(Outcome::Sent(messages))
+                Ok(Effect::Done(messages))
             }
             Body::Append {
                 prev_index,
@@ -132,15 +132,19 @@ impl Core {
     }
 
     /// Takes a message, if an honest member can have sent it.
-    fn receive(&mut self, reading: i64, message: Message) -> Result<Outcome, AllocError>
+    fn receive(
+        &mut self,
+        reading: i64,
+        message: Message,
+    ) -> Result<Effect<Vec<Message>>, AllocError>
         ensures done { IfOk result
             (λ o. outcome_of self.new o
             ≡ on_message (schema_of self.old.schema) self.old.members self.old.me reading message (node_of self.old)) }
-        ensures same { IfOk result (SameIfNotSent self.old self.new) }
+        ensures same { IfOk result (SameUnlessDone self.old self.new) }
         ensures seat { IsSameSeat self.old self.new }
     {
         if !self.is_honest(&message)? {
-            return Ok(Outcome::Ignored);
+            return Ok(Effect::Ignored);
         }
         let Message {
             sender,
@@ -150,25 +154,25 @@ impl Core {
         } = message;
         let heard = self.hear(term);
         match self.on_body(reading, sender, term, body)? {
-            Outcome::Refused(refusal) => {
+            Effect::Refused(refusal) => {
                 self.forget(heard);
-                Ok(Outcome::Refused(refusal))
+                Ok(Effect::Refused(refusal))
             }
-            Outcome::Ignored => {
+            Effect::Ignored => {
                 self.forget(heard);
-                Ok(Outcome::Ignored)
+                Ok(Effect::Ignored)
             }
-            Outcome::Sent(messages) => Ok(Outcome::Sent(messages)),
+            Effect::Done(messages) => Ok(Effect::Done(messages)),
         }
     }
 
     /// Takes a local input. A submitted text that spells no transaction is refused before all else.
-    fn on_hand(&mut self, input: Input) -> Result<Outcome, AllocError>
+    fn on_hand(&mut self, input: Input) -> Result<Effect<Vec<Message>>, AllocError>
         ensures done { IfOk result
             (λ o. outcome_of self.new o
             ≡ hand (schema_of self.old.schema) self.old.members self.old.me input (node_of self.old)) }
         ensures spares { spares_memory self.old.members self.old.me (Local input) (node_of self.old) ≡ true → IsOk result }
-        ensures same { IfOk result (SameIfNotSent self.old self.new) }
+        ensures same { IfOk result (SameUnlessDone self.old self.new) }
         ensures seat { IsSameSeat self.old self.new }
     {
         match input {
@@ -178,7 +182,7 @@ impl Core {
             Input::Submit { reading, request } => {
                 let refusal = misreading(self.alloc, &self.schema, request.text.as_str())?;
                 if let Some(refusal) = refusal {
-                    return Ok(Outcome::Refused(refusal));
+                    return Ok(Effect::Refused(refusal));
                 }
                 self.on_input(Input::Submit { reading, request })
             }
@@ -186,12 +190,12 @@ impl Core {
     }
 
     /// Takes what is brought to it, and leaves aside what is to be stored.
-    fn on_work(&mut self, work: Work) -> Result<Outcome, AllocError>
+    fn on_work(&mut self, work: Work) -> Result<Effect<Vec<Message>>, AllocError>
         ensures done { IfOk result
             (λ o. outcome_of self.new o
             ≡ works self.old.schema self.old.members self.old.me work (node_of self.old)) }
         ensures spares { spares_memory self.old.members self.old.me work (node_of self.old) ≡ true → IsOk result }
-        ensures same { IfOk result (SameIfNotSent self.old self.new) }
+        ensures same { IfOk result (SameUnlessDone self.old self.new) }
         ensures seat { IsSameSeat self.old self.new }
     {
         match work {
@@ -265,7 +269,7 @@ impl Core {
     }
 
     /// Does the work, and says what changes in what is stored.
-    fn take_work(&mut self, work: Work) -> Result<Effect, AllocError>
+    fn take_work(&mut self, work: Work) -> Result<Effect<Taken>, AllocError>
         ensures done { IfOk result
             (λ e. effect_of self.new e ≡ works self.old.schema self.old.members self.old.me work (node_of self.old)) }
         ensures spares { spares_memory self.old.members self.old.me work (node_of self.old) ≡ true → IsOk result }
@@ -278,9 +282,9 @@ impl Core {
         let hard = self.hard_state();
         let committed_before = self.commit;
         let messages = match self.on_work(work)? {
-            Outcome::Refused(refusal) => return Ok(Effect::Refused(refusal)),
-            Outcome::Ignored => return Ok(Effect::Ignored),
-            Outcome::Sent(messages) => messages,
+            Effect::Refused(refusal) => return Ok(Effect::Refused(refusal)),
+            Effect::Ignored => return Ok(Effect::Ignored),
+            Effect::Done(messages) => messages,
         };
         if self.is_log_as_before(len, kept, next_term) {
             let change = self.change_of_hard_state(hard);
@@ -308,7 +312,7 @@ impl Core {
     ///
     /// An `Err` is want of memory: the state may be half changed, and each later step gives an `Err`
     /// too. A timeout, a beat or a close that is refused or ignored takes no memory.
-    pub fn step(&mut self, work: Work) -> Result<Effect, AllocError>
+    pub fn step(&mut self, work: Work) -> Result<Effect<Taken>, AllocError>
         ensures done { IfOk result
             (λ e. effect_of self.new e ≡ works self.old.schema self.old.members self.old.me work (node_of self.old)) }
         ensures spares { self.old.is_spent ≡ false → spares_memory self.old.members self.old.me work (node_of self.old) ≡ true → IsOk result }

@@ -8,8 +8,8 @@ use Rattle.raft.proofs.state.Core.take_work.Goals as goal
 pub returns-then-is_log_as_before-clause-fits : goal.returns-then-is_log_as_before-clause-fits
 returns-then-is_log_as_before-clause-fits c =
     let x = node_of c.args.self.now in
-    let a = after_of c.on_work.new.self c.in-Sent.messages.items in
-    let e : Moves a ≡ works c.args.self.now.schema c.args.self.now.members c.args.self.now.me c.args.work x = rw c.in-Sent.is at c.in_ok-refusal.ensures.done in
+    let a = after_of c.on_work.new.self c.in-Done.messages.items in
+    let e : Moves a ≡ works c.args.self.now.schema c.args.self.now.members c.args.self.now.me c.args.work x = rw c.in-Done.is at c.in_ok-refusal.ensures.done in
     let yes = c.is_log_as_before.ensures.yes c.if-is_log_as_before.true in
     let within : c.kept_of-kept.result ≤ length x.log = omega (arith, c.kept_of-kept.ensures.within) in
     let len : length a.node.log ≡ length x.log = omega (arith, yes.0) in
@@ -21,8 +21,8 @@ returns-then-is_log_as_before-clause-fits c =
 pub returns-clause-fits : goal.returns-clause-fits
 returns-clause-fits c =
     let x = node_of c.args.self.now in
-    let a = after_of c.on_work.new.self c.in-Sent.messages.items in
-    let e : Moves a ≡ works c.args.self.now.schema c.args.self.now.members c.args.self.now.me c.args.work x = rw c.in-Sent.is at c.in_ok-refusal.ensures.done in
+    let a = after_of c.on_work.new.self c.in-Done.messages.items in
+    let e : Moves a ≡ works c.args.self.now.schema c.args.self.now.members c.args.self.now.me c.args.work x = rw c.in-Done.is at c.in_ok-refusal.ensures.done in
     let within : c.kept_of-kept.result ≤ length x.log = omega (arith, c.kept_of-kept.ensures.within) in
     let there : c.term_at-next_term.result ≡ term_at x.log (c.kept_of-kept.result + 1) = rw c.deref.ensures.value at c.term_at-next_term.ensures in
     let no = c.is_log_as_before.ensures.no c.if-is_log_as_before.false in
