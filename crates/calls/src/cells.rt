@@ -126,7 +126,7 @@ fn second_life(rt: &impl Abort, mut cell: Cell<MemKeeper>) -> Life {
     let Ok(ignored) = cell.feed(beat()) else {
         panic!(rt; "a beat is refused");
     };
-    assert!(rt; ignored.given.is_none());
+    assert!(rt; ignored.given.messages.is_empty() && ignored.given.told.is_empty());
     let (_image, life) = cell.stop();
     life
 }

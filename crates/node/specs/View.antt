@@ -1,5 +1,5 @@
 -- What a node stores, tells and answers, in the words of the definitions and of its keeper.
-use Rattle.std.specs.Prelude.{◌≡◌, ℕ, ◌+◌, ◌-◌, ◌≤◌, ◌<◌, Bool, false, Option, Some, None, Result, Ok, Err, List, length, ◌⊎◌}
+use Rattle.std.specs.Prelude.{◌≡◌, ℕ, ◌+◌, ◌-◌, ◌≤◌, ◌<◌, Bool, false, Option, Some, None, Result, Ok, Err, List, [], length, ◌⊎◌}
 use Rattle.std.specs.List.{filter_map, range_with_len}
 use Rattle.model.specs.declared.entry.Entry.{Entry}
 use Rattle.model.specs.declared.entry.Told.{Told}
@@ -9,11 +9,10 @@ use Rattle.model.specs.Members.{Node}
 use Rattle.model.specs.Steps.{Effect, Moves, Refuses, Nothing}
 use Rattle.model.specs.Worlds.{fresh, started}
 use Rattle.keep.specs.Durable.{Durable, after, IsBeforeOrAfter}
-use Rattle.raft.specs.declared.state.Core.{Core}
 use Rattle.keep.specs.declared.change.Change.{Change}
 use Rattle.keep.specs.declared.error.StoreError.{StoreError}
 use Rattle.keep.specs.declared.error.StoreError.TheVariants.{NoMemory, StoreFault}
-use Rattle.raft.specs.View.{after_of, hard_of}
+use Rattle.raft.specs.View.{hard_of}
 use Rattle.node.specs.declared.node.Out.{Out}
 use Rattle.node.specs.declared.node.Fault.{Fault}
 use Rattle.node.specs.declared.node.Fault.TheVariants.{Kept, Down}
@@ -39,13 +38,18 @@ told_between schema log before commit = filter_map (told_at schema log) (range_w
 abbrev pub started_from : Durable → Node
 started_from d = started (record (fresh d.hard.term d.hard.vote) { log = d.log })
 
--- the result of a step and the core after it are what the definition of a step says; a node that goes
--- down says nothing
-abbrev pub Gave : Core → Effect → Result (Option Out) Fault → Type 0
-Gave c effect (Ok (Some out)) = Moves (after_of c out.messages.items) ≡ effect
-Gave c effect (Ok None) = Nothing ≡ effect
-Gave c effect (Err (Kept refusal)) = Refuses refusal ≡ effect
-Gave c effect (Err (Down error)) = Unit {0}
+abbrev pub IsEmpty : Out → Type 0
+IsEmpty out = (out.messages.items ≡ []) × (out.told.items ≡ [])
+
+-- a step from one node to another gives what its definition says; where nothing comes of it nothing is given or changed
+abbrev pub IsGiven : Node → Node → Effect → Out → Type 0
+IsGiven old new effect out = (Moves (record { node = new; sent = out.messages.items }) ≡ effect) ⊎ ((Nothing ≡ effect) × (new ≡ old) × IsEmpty out)
+
+-- so does one that may be refused; a node that goes down says nothing
+abbrev pub Gave : Node → Node → Effect → Result Out Fault → Type 0
+Gave old new effect (Ok out) = IsGiven old new effect out
+Gave old new effect (Err (Kept refusal)) = Refuses refusal ≡ effect
+Gave old new effect (Err (Down error)) = Unit {0}
 
 -- nothing changed
 abbrev pub IsKept : Fault → Type 0
@@ -66,15 +70,13 @@ abbrev pub HasCause : ℕ → ℕ → Fault → Type 0
 HasCause failed failed' (Kept refusal) = Unit {0}
 HasCause failed failed' (Down error) = IsCause failed failed' error
 
--- a refusal changes nothing, nor does what no honest member can send
-abbrev pub IsSame : Node → Node → Result (Option Out) Fault → Type 0
-IsSame old new (Ok (Some out)) = Unit {0}
-IsSame old new (Ok None) = new ≡ old
-IsSame old new (Err (Kept refusal)) = new ≡ old
-IsSame old new (Err (Down error)) = Unit {0}
+-- a refusal changes nothing
+abbrev pub IsSame : Node → Node → Fault → Type 0
+IsSame old new (Kept refusal) = new ≡ old
+IsSame old new (Down error) = Unit {0}
 
 -- after a step that goes down, what the keeper holds is what was stored before it, or after it
-abbrev pub IsTorn : Durable → Durable → (Durable → Type 0) → Result (Option Out) Fault → Type 0
+abbrev pub IsTorn : Durable → Durable → (Durable → Type 0) → Result Out Fault → Type 0
 IsTorn before new held (Ok out) = Unit {0}
 IsTorn before new held (Err (Kept refusal)) = Unit {0}
 IsTorn before new held (Err (Down error)) = (d : Durable) → held d → IsBeforeOrAfter before new d

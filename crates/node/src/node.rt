@@ -174,19 +174,19 @@ impl<K: Keeper> Node<K> {
     }
 
     /// Takes one step: the core's, then one save if what is stored changes, then what became committed
-    /// is applied to the tables and told. None where the message is one that no honest member can send, or the input is one
-    /// that its role has no use for: nothing changed then.
+    /// is applied to the tables and told. What it gives is empty where the message is one that no honest member can send, or
+    /// the input is one that its role has no use for: nothing changed then.
     ///
     /// `Fault::Kept` is a refusal that leaves the node as it was: `NodeDown` where it is down, and
     /// those of `Core::step`. `Fault::Down` takes the node down: `StoreFault` where the store fails,
     /// `NoMemory` where memory is refused. What is stored is then what was so before the step, or
     /// after it. A timeout, a beat or a close that is refused or ignored takes no memory, and never takes the node down.
     #[tactic(auto, using(crate::proofs::Stored::fits, crate::proofs::Stored::short, crate::proofs::Stored::synced))]
-    pub fn step(&mut self, work: Work) -> Result<Option<Out>, Fault>
-        ensures done { self.old.is_up ≡ true → Gave self.new.core (works self.old.core.schema self.old.core.members self.old.core.me work (node_of self.old.core)) result }
-        ensures told { IfOk result (λ o. MatchOption o (Unit {0}) (λ out. out.told.items ≡ told_between (schema_of self.old.core.schema) self.new.core.log.items self.old.core.commit self.new.core.commit)) }
+    pub fn step(&mut self, work: Work) -> Result<Out, Fault>
+        ensures done { self.old.is_up ≡ true → Gave (node_of self.old.core) (node_of self.new.core) (works self.old.core.schema self.old.core.members self.old.core.me work (node_of self.old.core)) result }
+        ensures told { IfOk result (λ out. out.told.items ≡ told_between (schema_of self.old.core.schema) self.new.core.log.items self.old.core.commit self.new.core.commit) }
         ensures spares { spares_memory self.old.core.members self.old.core.me work (node_of self.old.core) ≡ true → IfErr result IsKept }
-        ensures same { IsSame (node_of self.old.core) (node_of self.new.core) result }
+        ensures same { IfErr result (IsSame (node_of self.old.core) (node_of self.new.core)) }
         ensures torn { IsTorn (durable_of (node_of self.old.core)) (durable_of (node_after (node_of self.old.core) (works self.old.core.schema self.old.core.members self.old.core.me work (node_of self.old.core)))) (K.may_hold self.new.keeper) result }
         ensures up { OnOk result ((self.old.is_up ≡ true) × (self.new.is_up ≡ true)) }
         ensures down { self.old.is_up ≡ false → result ≡ Err (Fault.Kept Refusal.NodeDown) }
@@ -207,12 +207,17 @@ impl<K: Keeper> Node<K> {
                 &mut self.tables,
                 taken,
             ),
-            Ok(Effect::Ignored) => return Ok(None),
+            Ok(Effect::Ignored) => {
+                return Ok(Out {
+                    messages: Vec::new(self.alloc),
+                    told: Vec::new(self.alloc),
+                });
+            }
             Ok(Effect::Refused(refusal)) => return Err(Fault::Kept(refusal)),
             Err(error) => Err(StoreError::from(error)),
         };
         match finished {
-            Ok(out) => Ok(Some(out)),
+            Ok(out) => Ok(out),
             Err(error) => {
                 self.is_up = false;
                 Err(Fault::Down(error))

@@ -1,5 +1,5 @@
 -- A life with one step more.
-use Rattle.std.proofs.Common.{◌≡◌, ◌∙◌, ℕ, List, [], ◌∷◌, ◌++◌, fold, Option, Some, None, Ok, Err, refl, sym, ap}
+use Rattle.std.proofs.Common.{◌≡◌, ◌∙◌, ℕ, List, [], ◌∷◌, ◌++◌, fold, Err, refl, sym, ap, ⊎_elim}
 use Rattle.std.proofs.lemmas.List.Sums.{fold-append}
 use Rattle.std.proofs.lemmas.Grind.{merely}
 use Rattle.fault.specs.declared.refusal.Refusal.{Refusal}
@@ -12,7 +12,7 @@ use Rattle.raft.specs.declared.state.Work.{Work}
 use Rattle.raft.specs.View.{node_of, works}
 use Rattle.node.specs.declared.node.Out.{Out}
 use Rattle.node.specs.declared.node.Fault.TheVariants.{Kept}
-use Rattle.node.specs.View.{Gave, IsSame, durable_of, started_from}
+use Rattle.node.specs.View.{Gave, IsGiven, durable_of, started_from}
 use Rattle.nodes.specs.declared.life.Step.{Step}
 use Rattle.nodes.specs.declared.life.Opening.{Opening}
 use Rattle.nodes.specs.Lives.{work_of, stepped, opened_with}
@@ -30,13 +30,12 @@ replay_more : (c : Core) (o : Opening) (steps : List Step) (s : Step) → taken_
 replay_more c o steps s = fold-append (stepped c.schema c.members c.me) (started_from (opened_with o)) steps (s ∷ [])
 
 -- a step that was made whole
-stepped_given : (schema : Tables) (n me : ℕ) (x : Node) (s : Step) (w : Work) (c : Core) (given : Option Out) → w ≡ work_of s.packet → Gave c (works schema n me w x) (Ok given) → IsSame x (node_of c) (Ok given) → stepped schema n me x s ≡ node_of c
+stepped_given : (schema : Tables) (n me : ℕ) (x : Node) (s : Step) (w : Work) (c : Core) (out : Out) → w ≡ work_of s.packet → IsGiven x (node_of c) (works schema n me w x) out → stepped schema n me x s ≡ node_of c
 unfolding stepped
-stepped_given schema n me x s w c (Some out) is gave same = rw (← is) (ap (node_after x) (sym gave))
-stepped_given schema n me x s w c None is gave same = rw (← is) (ap (node_after x) (sym gave) ∙ sym same)
+stepped_given schema n me x s w c out is gave = rw (← is) (⊎_elim (λ moved. ap (node_after x) (sym moved)) (λ ignored. ap (node_after x) (sym ignored.0) ∙ sym ignored.1) gave)
 
 -- a step that was refused
-stepped_refused : (schema : Tables) (n me : ℕ) (x : Node) (s : Step) (w : Work) (c : Core) (refusal : Refusal) → w ≡ work_of s.packet → Gave c (works schema n me w x) (Err (Kept refusal)) → node_of c ≡ x → stepped schema n me x s ≡ node_of c
+stepped_refused : (schema : Tables) (n me : ℕ) (x : Node) (s : Step) (w : Work) (c : Core) (refusal : Refusal) → w ≡ work_of s.packet → Gave x (node_of c) (works schema n me w x) (Err (Kept refusal)) → node_of c ≡ x → stepped schema n me x s ≡ node_of c
 unfolding stepped
 stepped_refused schema n me x s w c refusal is gave same = rw (← is) (ap (node_after x) (sym gave) ∙ sym same)
 
@@ -44,11 +43,11 @@ replayed : (old new : Core) (o : Opening) (before after : List Step) (s : Step) 
 replayed old new o before after s a b c e was is = sym is ∙ ap (λ v. stepped old.schema old.members old.me v s) was ∙ sym (replay_more old o before s) ∙ sym (same_seat old new o (before ++ s ∷ []) a b c) ∙ ap (taken_through new o) (sym e)
 
 -- after a step that was made whole the node is what the longer life replays to
-pub replayed_given : (old new : Core) (o : Opening) (before after : List Step) (s : Step) (w : Work) (given : Option Out) → new.schema ≡ old.schema → new.members ≡ old.members → new.me ≡ old.me → after ≡ before ++ s ∷ [] → w ≡ work_of s.packet → node_of old ≡ taken_through old o before → Gave new (works old.schema old.members old.me w (node_of old)) (Ok given) → IsSame (node_of old) (node_of new) (Ok given) → node_of new ≡ taken_through new o after
-replayed_given old new o before after s w given a b c e is was gave same = replayed old new o before after s a b c e was (stepped_given old.schema old.members old.me (node_of old) s w new given is gave same)
+pub replayed_given : (old new : Core) (o : Opening) (before after : List Step) (s : Step) (w : Work) (out : Out) → new.schema ≡ old.schema → new.members ≡ old.members → new.me ≡ old.me → after ≡ before ++ s ∷ [] → w ≡ work_of s.packet → node_of old ≡ taken_through old o before → IsGiven (node_of old) (node_of new) (works old.schema old.members old.me w (node_of old)) out → node_of new ≡ taken_through new o after
+replayed_given old new o before after s w out a b c e is was gave = replayed old new o before after s a b c e was (stepped_given old.schema old.members old.me (node_of old) s w new out is gave)
 
 -- so it is after one that was refused
-pub replayed_refused : (old new : Core) (o : Opening) (before after : List Step) (s : Step) (w : Work) (refusal : Refusal) → new.schema ≡ old.schema → new.members ≡ old.members → new.me ≡ old.me → after ≡ before ++ s ∷ [] → w ≡ work_of s.packet → node_of old ≡ taken_through old o before → Gave new (works old.schema old.members old.me w (node_of old)) (Err (Kept refusal)) → node_of new ≡ node_of old → node_of new ≡ taken_through new o after
+pub replayed_refused : (old new : Core) (o : Opening) (before after : List Step) (s : Step) (w : Work) (refusal : Refusal) → new.schema ≡ old.schema → new.members ≡ old.members → new.me ≡ old.me → after ≡ before ++ s ∷ [] → w ≡ work_of s.packet → node_of old ≡ taken_through old o before → Gave (node_of old) (node_of new) (works old.schema old.members old.me w (node_of old)) (Err (Kept refusal)) → node_of new ≡ node_of old → node_of new ≡ taken_through new o after
 replayed_refused old new o before after s w refusal a b c e is was gave same = replayed old new o before after s a b c e was (stepped_refused old.schema old.members old.me (node_of old) s w new refusal is gave same)
 
 -- what is left of a step that was cut short

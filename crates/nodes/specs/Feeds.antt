@@ -24,7 +24,7 @@ IsRecorded old new s (Err (Kept refusal)) = IsLifeWith old new (s ∷ []) Up
 IsRecorded old new s (Err (Down t)) = IsLifeWith old new [] (Torn s)
 
 -- what the node gave
-abbrev pub given_of : Result Out Fault → Result (Option NodeOut) Fault
+abbrev pub given_of : Result Out Fault → Result NodeOut Fault
 given_of (Ok out) = Ok out.given
 given_of (Err fault) = Err fault
 

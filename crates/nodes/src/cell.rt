@@ -20,11 +20,11 @@ use node::{Fault, Node, Out as NodeOut};
 use schema::Schema;
 use std::alloc::Global;
 
-/// What a step gives: its mark, and what the node gave, none where the packet had no effect.
+/// What a step gives: its mark, and what the node gave.
 #[derive(Debug, Drop)]
 pub struct Out {
     pub mark: Mark,
-    pub given: Option<NodeOut>,
+    pub given: NodeOut,
 }
 
 /// A node and its life. While the node is up it is what its life replays to; its store never holds
@@ -95,8 +95,8 @@ impl<K: Keeper> Cell<K> {
             × (self.new.node ≡ self.old.node))
             ⊎ ((self.old.node.is_up ≡ true)
             × MatchOption (mark_for self.old.life packet) ⊥ (λ m. IsRecorded self.old.life self.new.life (record { mark = m; packet = packet }) result)
-            × Gave self.new.node.core (works self.old.node.core.schema self.old.node.core.members self.old.node.core.me (work_of packet) (node_of self.old.node.core)) (given_of result)) }
-        ensures told { IfOk result (λ out. MatchOption out.given (Unit {0}) (λ given. given.told.items ≡ told_between (schema_of self.old.node.core.schema) self.new.node.core.log.items self.old.node.core.commit self.new.node.core.commit)) }
+            × Gave (node_of self.old.node.core) (node_of self.new.node.core) (works self.old.node.core.schema self.old.node.core.members self.old.node.core.me (work_of packet) (node_of self.old.node.core)) (given_of result)) }
+        ensures told { IfOk result (λ out. out.given.told.items ≡ told_between (schema_of self.old.node.core.schema) self.new.node.core.log.items self.old.node.core.commit self.new.node.core.commit) }
         ensures spares { spares_memory self.old.node.core.members self.old.node.core.me (work_of packet) (node_of self.old.node.core) ≡ true → IfErr result IsKept }
         ensures up { OnOk result ((self.old.node.is_up ≡ true) × (self.new.node.is_up ≡ true)) }
         ensures leaves { IfErr result (LeavesUp self.old.node.is_up self.new.node.is_up) }

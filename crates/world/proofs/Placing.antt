@@ -1,21 +1,21 @@
 -- A group in which one seat is looked at, or changed.
-use Rattle.std.proofs.Common.{◌≡◌, ◌∙◌, Bool, true, false, if◌then◌else◌, ℕ, zero, suc, ◌+◌, ◌<◌, ◌⊎◌, inl, inr, ⊎_elim, Some, None, List, [], ◌∷◌, ◌++◌, map, length, slice_get, slice_set, slice_index_or, refl, sym, ap, subst, option_map, add-one, append-nil}
+use Rattle.std.proofs.Common.{◌≡◌, ◌∙◌, Bool, true, false, if◌then◌else◌, ℕ, zero, suc, ◌+◌, ◌<◌, ◌⊎◌, inl, inr, ⊎_elim, Some, None, List, [], ◌∷◌, ◌++◌, map, length, slice_get, slice_set, slice_index_or, refl, sym, ap, subst, option_map, add-one, append-nil, Ok, Err}
 use Rattle.std.proofs.lemmas.Option.{same_Some, slice_get-map, slice_get_read, get_or_from_slice_get}
 use Rattle.std.proofs.lemmas.List.{map-set, set-get_or}
 use Rattle.std.proofs.Math.ListN.{length-set}
 use Rattle.model.specs.Lists.{nth, with_nth}
 use Rattle.model.specs.Members.{Node}
-use Rattle.model.specs.Steps.{Effect}
+use Rattle.model.specs.Steps.{Effect, Moves, Nothing}
 use Rattle.model.specs.Worlds.{World, done, effect_gives, numbered, with_node}
 use Rattle.model.specs.Worlds.Output.{Applied, Refused}
 use Rattle.model.specs.declared.message.Message.{Message}
 use Rattle.fault.specs.declared.refusal.Refusal.{Refusal}
 use Rattle.node.specs.declared.node.Out.{Out}
+use Rattle.node.specs.View.{IsEmpty}
 use Rattle.raft.specs.declared.state.Work.{Work}
 use Rattle.sqlchecks.specs.Columns.{Tables}
 use Rattle.sqlread.specs.Meaning.{schema_of}
 use Rattle.world.specs.declared.seat.Seat.{Seat}
-use Rattle.world.specs.declared.seat.Step.TheVariants.{Moved, Refused as RefusedStep, Ignored}
 use Rattle.world.specs.View.{brings, brought, if_up, node_in, nodes_of, works_at, IsGroup, IsSeat, IsStep}
 
 get_set : {A : Type 0} (xs : List A) (i k : ℕ) (v s : A) → slice_get (slice_set xs i v) k ≡ Some s → ((k ≡ i) × (v ≡ s)) ⊎ (slice_get xs k ≡ Some s)
@@ -105,26 +105,31 @@ module _ {t : Tables} {n : ℕ} {seats : List Seat} {m i : ℕ} {s : Seat} (p : 
     gives_there : effect_gives (schema_of t) w m (node_in s) effect ≡ brought t n w m work (nth (nodes_of seats) m)
     gives_there = sym (ap (brought t n w m work) here)
 
-    pub moved_world : (out : Out) → IsStep (schema_of t) m (node_in s) (node_in v) effect (Moved out) →
+    abbrev IsMove : Out → Type 0
+    IsMove out = Moves (record { node = node_in v; sent = out.messages.items }) ≡ effect
+
+    -- nothing comes of it
+    abbrev IsNone : Out → Type 0
+    IsNone out = (Nothing ≡ effect) × (node_in v ≡ node_in s) × IsEmpty out
+
+    pub made_world : (out : Out) → IsStep (schema_of t) m (node_in s) (node_in v) effect (Ok out) →
         world_with (nodes_of (slice_set seats i v)) (sent ++ out.messages.items) ≡ brings t n w m work (nth (nodes_of seats) m)
-    moved_world out step = ap (λ xs. world_with xs (sent ++ out.messages.items)) (nodes_after v) ∙ ap (done w m) step.0 ∙ brought_there
+    made_world out step = ⊎_elim
+        (λ (moved : IsMove out). ap (λ xs. world_with xs (sent ++ out.messages.items)) (nodes_after v) ∙ ap (done w m) moved ∙ brought_there)
+        (λ (none : IsNone out). ap (λ more. world_with (nodes_of (slice_set seats i v)) (sent ++ more)) none.2.0 ∙ ap (world_with (nodes_of (slice_set seats i v))) (append-nil sent) ∙ same_world sent v none.1 ∙ ap (done w m) none.0 ∙ brought_there)
+        step.0
 
-    pub moved_gives : (out : Out) → IsStep (schema_of t) m (node_in s) (node_in v) effect (Moved out) →
+    pub made_gives : (out : Out) → IsStep (schema_of t) m (node_in s) (node_in v) effect (Ok out) →
         numbered (length sent) out.messages.items ++ map (Applied m) out.told.items ≡ brought t n w m work (nth (nodes_of seats) m)
-    moved_gives out step = ap (λ told. numbered (length sent) out.messages.items ++ told) step.1 ∙ ap (effect_gives (schema_of t) w m (node_in s)) step.0 ∙ gives_there
+    made_gives out step = ⊎_elim
+        (λ (moved : IsMove out). ap (λ told. numbered (length sent) out.messages.items ++ told) step.1 ∙ ap (effect_gives (schema_of t) w m (node_in s)) moved ∙ gives_there)
+        (λ (none : IsNone out). rw (none.2.0, none.2.1) (ap (effect_gives (schema_of t) w m (node_in s)) none.0 ∙ gives_there))
+        step.0
 
-    pub refused_world : (refusal : Refusal) → IsStep (schema_of t) m (node_in s) (node_in v) effect (RefusedStep refusal) →
+    pub refused_world : (refusal : Refusal) → IsStep (schema_of t) m (node_in s) (node_in v) effect (Err refusal) →
         world_with (nodes_of (slice_set seats i v)) sent ≡ brings t n w m work (nth (nodes_of seats) m)
     refused_world refusal step = same_world sent v step.1 ∙ ap (done w m) step.0 ∙ brought_there
 
-    pub refused_gives : (refusal : Refusal) → IsStep (schema_of t) m (node_in s) (node_in v) effect (RefusedStep refusal) →
+    pub refused_gives : (refusal : Refusal) → IsStep (schema_of t) m (node_in s) (node_in v) effect (Err refusal) →
         Refused m refusal ∷ [] ≡ brought t n w m work (nth (nodes_of seats) m)
     refused_gives refusal step = ap (effect_gives (schema_of t) w m (node_in s)) step.0 ∙ gives_there
-
-    pub ignored_world : IsStep (schema_of t) m (node_in s) (node_in v) effect Ignored →
-        world_with (nodes_of (slice_set seats i v)) sent ≡ brings t n w m work (nth (nodes_of seats) m)
-    ignored_world step = same_world sent v step.1 ∙ ap (done w m) step.0 ∙ brought_there
-
-    pub ignored_gives : IsStep (schema_of t) m (node_in s) (node_in v) effect Ignored →
-        [] ≡ brought t n w m work (nth (nodes_of seats) m)
-    ignored_gives step = ap (effect_gives (schema_of t) w m (node_in s)) step.0 ∙ gives_there

@@ -1,5 +1,5 @@
 -- What a step, a stop and a start come to at the seat of a member.
-use Rattle.std.proofs.Common.{◌≡◌, ◌∙◌, ℕ, Bool, true, false, Some, None, Result, Ok, Err, IfOk, IfErr, map, refl, sym, ap, if◌then◌else◌}
+use Rattle.std.proofs.Common.{◌≡◌, ◌∙◌, ℕ, Bool, true, false, Some, None, Result, Ok, Err, IfOk, IfErr, map, refl, sym, ap, inl, inr, ◌⊎◌, ⊎_elim, if◌then◌else◌}
 use Rattle.std.specs.Result.{result_ok}
 use Rattle.fault.specs.declared.refusal.Refusal.{Refusal}
 use Rattle.fault.specs.declared.refusal.Refusal.TheVariants.{NodeDown}
@@ -15,7 +15,7 @@ use Rattle.sqlchecks.specs.Columns.{Tables}
 use Rattle.sqlread.specs.Meaning.{schema_of}
 use Rattle.raft.specs.declared.state.Core.{Core}
 use Rattle.raft.specs.declared.state.Work.{Work}
-use Rattle.raft.specs.View.{node_of, works, after_of}
+use Rattle.raft.specs.View.{node_of, works}
 use Rattle.answer.specs.declared.Answer.{Answer}
 use Rattle.apply.specs.View.{IsAskedOf}
 use Rattle.sqlread.specs.Shapes.{QueryShape}
@@ -24,11 +24,9 @@ use Rattle.node.specs.declared.durable.Stored.{Stored}
 use Rattle.node.specs.declared.node.Fault.{Fault}
 use Rattle.node.specs.declared.node.Fault.TheVariants.{Kept}
 use Rattle.node.specs.declared.node.Out.{Out}
-use Rattle.node.specs.View.{durable_of, told_between}
+use Rattle.node.specs.View.{durable_of, told_between, IsEmpty, IsGiven}
 use Rattle.world.specs.View.{at_rest, commit_in, durable_in, IsAskedAt, node_in, occupant, works_at, IsMember, IsSeat, IsStep}
 use Rattle.world.specs.declared.seat.Seat.{Seat}
-use Rattle.world.specs.declared.seat.Step.{Step}
-use Rattle.world.specs.declared.seat.Step.TheVariants.{Moved, Refused as RefusedStep, Ignored}
 
 -- a member that is up sits there
 module _ (t : Tables) (n m : ℕ) (s : Seat) (core : Core) (is_up : Bool) (there : occupant s ≡ Some (record { core = core; is_up = is_up })) (node : node_in s ≡ node_of core) (seat : IsSeat t n m s) where
@@ -51,22 +49,25 @@ module _ (t : Tables) (n m : ℕ) (s : Seat) (core : Core) (is_up : Bool) (there
   works_there : (work : Work) → works core.schema core.members core.me work (node_of core) ≡ works_at t n m work (node_in s)
   works_there work = rw (node, member.schema, member.members, member.me) refl
 
-  pub moved : (y : Core) (work : Work) (out : Out) → Moves (after_of y out.messages.items) ≡ works core.schema core.members core.me work (node_of core) →
+  given_there : (y : Core) (work : Work) (out : Out) → IsGiven (node_of core) (node_of y) (works core.schema core.members core.me work (node_of core)) out → IsGiven (node_in s) (node_of y) (works_at t n m work (node_in s)) out
+  given_there y work out did = rw (node, ← member.schema, ← member.members, ← member.me) did
+
+  pub made_there : (y : Core) (work : Work) (out : Out) → IsGiven (node_of core) (node_of y) (works core.schema core.members core.me work (node_of core)) out →
       out.told.items ≡ told_between (schema_of core.schema) y.log.items core.commit y.commit →
-      IsStep (schema_of t) m (node_in s) (node_of y) (works_at t n m work (node_in s)) (Moved out)
+      IsStep (schema_of t) m (node_in s) (node_of y) (works_at t n m work (node_in s)) (Ok out)
   unfolding told_between
-  moved y work out did told = (did ∙ works_there work, ap (map (Applied m)) told ∙ rw (node, member.schema) refl)
+  made_there y work out did told = (given_there y work out did, ap (map (Applied m)) told ∙ rw (node, member.schema) refl)
 
   pub kept : (y : Core) (work : Work) (refusal : Refusal) → Refuses refusal ≡ works core.schema core.members core.me work (node_of core) → node_of y ≡ node_of core →
-      IsStep (schema_of t) m (node_in s) (node_of y) (works_at t n m work (node_in s)) (RefusedStep refusal)
+      IsStep (schema_of t) m (node_in s) (node_of y) (works_at t n m work (node_in s)) (Err refusal)
   kept y work refusal did same = (did ∙ works_there work, same ∙ sym node)
 
-  pub ignored : (y : Core) (work : Work) → Nothing ≡ works core.schema core.members core.me work (node_of core) → node_of y ≡ node_of core →
-      IsStep (schema_of t) m (node_in s) (node_of y) (works_at t n m work (node_in s)) Ignored
-  ignored y work did same = (did ∙ works_there work, same ∙ sym node)
+given : (x y : Node) (effect : Effect) (out : Out) → IsGiven x y effect out → y ≡ node_left New x effect
+given x y effect out h =
+    ⊎_elim (λ (moved : Moves (record { node = y; sent = out.messages.items }) ≡ effect). ap (node_left New x) moved)
+    (λ (none : (Nothing ≡ effect) × (y ≡ x) × IsEmpty out). none.1 ∙ ap (node_left New x) none.0) h
 
 -- a step that was made
-pub made : (t : TheSchema) (m : ℕ) (x y : Node) (effect : Effect) (s : Step) → IsStep t m x y effect s → y ≡ node_left New x effect
-made t m x y effect (Moved out) h = ap (node_left New x) h.0
-made t m x y effect (RefusedStep refusal) h = h.1 ∙ ap (node_left New x) h.0
-made t m x y effect Ignored h = h.1 ∙ ap (node_left New x) h.0
+pub made : (t : TheSchema) (m : ℕ) (x y : Node) (effect : Effect) (r : Result Out Refusal) → IsStep t m x y effect r → y ≡ node_left New x effect
+made t m x y effect (Ok out) h = given x y effect out h.0
+made t m x y effect (Err refusal) h = h.1 ∙ ap (node_left New x) h.0

@@ -1,5 +1,5 @@
 -- Events, outputs and a group as the definitions see them.
-use Rattle.std.specs.Prelude.{◌≡◌, ℕ, ◌≤◌, ◌+◌, Bool, true, false, Option, Some, None, Result, Err, List, [], map, length, slice_get, option_map, option_and_then, if◌then◌else◌}
+use Rattle.std.specs.Prelude.{◌≡◌, ℕ, ◌≤◌, ◌+◌, Bool, true, false, Option, Some, None, Result, Ok, Err, List, [], map, length, slice_get, option_map, option_and_then, if◌then◌else◌}
 use Rattle.std.specs.List.{All}
 use Rattle.std.specs.Option.{ForSome}
 use Rattle.std.specs.declared.vec.Vec.{Vec}
@@ -11,13 +11,14 @@ use Rattle.model.specs.Lists.{nth}
 use Rattle.model.specs.Logs.{IsStamped}
 use Rattle.model.specs.Transactions.{Schema as TheSchema}
 use Rattle.model.specs.Members.{Node, applied}
-use Rattle.model.specs.Steps.{Effect, Moves, Refuses, Nothing}
+use Rattle.model.specs.Steps.{Effect, Refuses}
 use Rattle.model.specs.Worlds as model
 use Rattle.model.specs.Worlds.{World, Event, Output, done, effect_gives, fresh, new_world, run, stopped, tells}
 use Rattle.model.specs.Worlds.Output.{Sent, Applied, Refused, Answered}
 use Rattle.keep.specs.Durable.{Durable, stored_in}
 use Rattle.node.specs.Answered.{stored_of}
-use Rattle.node.specs.View.{durable_of}
+use Rattle.node.specs.View.{durable_of, IsGiven}
+use Rattle.node.specs.declared.node.Out.{Out as Taken}
 use Rattle.apply.specs.View.{IsAskedOf}
 use Rattle.node.specs.declared.durable.Stored.{Stored}
 use Rattle.raft.specs.declared.state.Core.{Core}
@@ -39,8 +40,6 @@ use Rattle.world.specs.declared.output.Output.TheVariants.{Sent as SentOut, Appl
 use Rattle.world.specs.declared.group.Group.{Group}
 use Rattle.world.specs.declared.seat.Seat.{Seat}
 use Rattle.world.specs.declared.seat.Seat.TheVariants.{Up, Down}
-use Rattle.world.specs.declared.seat.Step.{Step}
-use Rattle.world.specs.declared.seat.Step.TheVariants.{Moved, Refused as RefusedStep, Ignored}
 
 -- ---- events and outputs
 
@@ -124,10 +123,9 @@ abbrev pub works_at : Tables → ℕ → ℕ → Work → Node → Effect
 works_at schema n m work x = if x.up then works schema n m work x else Refuses NodeDown
 
 -- a step that takes member m from x to y
-abbrev pub IsStep : TheSchema → ℕ → Node → Node → Effect → Step → Type 0
-IsStep schema m x y effect (Moved out) = (Moves (record { node = y; sent = out.messages.items }) ≡ effect) × (map (Applied m) out.told.items ≡ tells schema m x y)
-IsStep schema m x y effect (RefusedStep refusal) = (Refuses refusal ≡ effect) × (y ≡ x)
-IsStep schema m x y effect Ignored = (Nothing ≡ effect) × (y ≡ x)
+abbrev pub IsStep : TheSchema → ℕ → Node → Node → Effect → Result Taken Refusal → Type 0
+IsStep schema m x y effect (Ok out) = IsGiven x y effect out × (map (Applied m) out.told.items ≡ tells schema m x y)
+IsStep schema m x y effect (Err refusal) = (Refuses refusal ≡ effect) × (y ≡ x)
 
 -- ---- what is told of a member: nothing of one that is down, or not there
 

@@ -14,7 +14,7 @@ ghost use Rattle.world.specs.View.{brings, brought, commit_in, durable_in, entry
 
 use crate::event::{Event, Job, Left};
 use crate::output::{Output, announce, apply_all, refused, single};
-use crate::seat::{Seat, Step};
+use crate::seat::Seat;
 use model::entry::Entry;
 use model::member::Member;
 use model::message::{Input, Message};
@@ -74,9 +74,8 @@ impl Group {
             return Ok(Vec::new(self.alloc));
         };
         match self.seats[place].step(work)? {
-            Step::Moved(out) => self.publish(member, out),
-            Step::Refused(refusal) => single(self.alloc, Output::Refused(member, refusal)),
-            Step::Ignored => Ok(Vec::new(self.alloc)),
+            Ok(out) => self.publish(member, out),
+            Err(refusal) => single(self.alloc, Output::Refused(member, refusal)),
         }
     }
 

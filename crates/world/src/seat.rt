@@ -28,29 +28,20 @@ pub(crate) enum Seat {
     Down(MemImage),
 }
 
-/// What a step of a member came to.
-#[derive(Drop)]
-pub(crate) enum Step {
-    Moved(Out),
-    Refused(Refusal),
-    Ignored,
-}
-
 impl Seat {
-    /// A step of the member. One that is down refuses all.
-    pub(crate) fn step(&mut self, work: Work) -> Result<Step, AllocError>
+    /// A step of the member: what it gives, or why it is refused. One that is down refuses all.
+    pub(crate) fn step(&mut self, work: Work) -> Result<Result<Out, Refusal>, AllocError>
         ensures seat { OnOk result ((t : Tables) (n m : ℕ) → IsSeat t n m self.old → IsSeat t n m self.new) }
         ensures step { IfOk result (λ s. (t : Tables) (n m : ℕ) → IsSeat t n m self.old →
             IsStep (schema_of t) m (node_in self.old) (node_in self.new) (works_at t n m work (node_in self.old)) s) }
     {
         match self {
             Seat::Up(node) => match node.step(work) {
-                Ok(Some(out)) => Ok(Step::Moved(out)),
-                Ok(None) => Ok(Step::Ignored),
-                Err(Fault::Kept(refusal)) => Ok(Step::Refused(refusal)),
+                Ok(out) => Ok(Ok(out)),
+                Err(Fault::Kept(refusal)) => Ok(Err(refusal)),
                 Err(Fault::Down(_)) => Err(AllocError),
             },
-            Seat::Down(_) => Ok(Step::Refused(Refusal::NodeDown)),
+            Seat::Down(_) => Ok(Err(Refusal::NodeDown)),
         }
     }
 

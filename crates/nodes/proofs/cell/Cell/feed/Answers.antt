@@ -11,7 +11,7 @@ invariant_of-self-in-Ok-step-clause-replayed g c = λ up.
     let s : Step = record { mark = c.in-Some.mark; packet = c.args.packet } in
     let items = c.push_reserved.ensures.items ∙ ap (λ xs. xs ++ s ∷ []) c.reserve.ensures.items in
     let seat = c.step.ensures.group in
-    (replayed_given old.node.core c.step.new.self.core old.life.opening old.life.steps.items _ s _ _ seat.0 seat.1 seat.2 items c.in-Ok.ensures was.0 (c.in-Ok-step.ensures.done c.in-Ok-step.ensures.up.0) c.in-Ok-step.ensures.same, was.1)
+    (replayed_given old.node.core c.step.new.self.core old.life.opening old.life.steps.items _ s _ c.in-Ok-step.given seat.0 seat.1 seat.2 items c.in-Ok.ensures was.0 (c.in-Ok-step.ensures.done c.in-Ok-step.ensures.up.0), was.1)
 
 pub invariant_of-self-in-Err-Kept-clause-replayed : goal.invariant_of-self-in-Err-Kept-clause-replayed
 invariant_of-self-in-Err-Kept-clause-replayed g c = λ up.
