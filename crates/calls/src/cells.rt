@@ -232,3 +232,14 @@ fn lacks_memory(rt: HostRuntime) {
         Err((refusal, _image)) => assert_eq!(rt; refusal, Refusal::NoMemory),
     }
 }
+
+// A fault prints as the refusal or the error of the store that it holds.
+#[test]
+fn prints_its_faults(rt: HostRuntime) -> Result<(), Fail> {
+    let alloc = rt.alloc();
+    let kept = format!(in alloc; "{}", Fault::Kept(Refusal::NodeDown))?;
+    let down = format!(in alloc; "{}", Fault::Down(StoreError::StoreFault))?;
+    assert_eq!(rt; kept.as_str(), "41 node down");
+    assert_eq!(rt; down.as_str(), "40 store fault");
+    Ok(())
+}

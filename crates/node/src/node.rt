@@ -29,6 +29,7 @@ use raft::state::{Core, Effect, Taken, Work};
 use schema::Schema;
 use sqlread::query::Query;
 use std::alloc::Global;
+use thiserror::Error;
 
 /// What a step gives, once what it changed is stored.
 #[derive(Debug, Drop)]
@@ -39,12 +40,14 @@ pub struct Out {
     pub told: Vec<Told>,
 }
 
-/// Why a step gives nothing.
-#[derive(Debug, Drop)]
+/// Why a step gives nothing. It prints as what it holds.
+#[derive(Debug, Drop, Error)]
 pub enum Fault {
     /// Nothing changed.
+    #[error("{0}")]
     Kept(Refusal),
     /// The node is down till it is started again. No message leaves, and nothing is told.
+    #[error("{0}")]
     Down(StoreError),
 }
 
