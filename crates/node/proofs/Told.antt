@@ -1,5 +1,5 @@
 -- What is told, an entry at a time.
-use Rattle.std.proofs.Common.{◌≡◌, ◌∙◌, ℕ, zero, suc, ◌+◌, ◌-◌, ◌≤◌, Option, Some, None, List, [], ◌∷◌, ◌++◌, refl, ap, arith, append-nil}
+use Rattle.std.proofs.Common.{◌≡◌, ◌∙◌, ℕ, zero, suc, ◌+◌, ◌-◌, ◌≤◌, Option, Some, None, List, [], ◌∷◌, ◌++◌, slice_range, refl, ap, arith, append-nil}
 use Rattle.std.specs.List.{filter_map, range_with_len, cons_option}
 use Rattle.model.specs.declared.entry.Entry.{Entry}
 use Rattle.model.specs.declared.entry.Told.{Told}
@@ -30,3 +30,7 @@ told_more schema log before i t h e = between schema log before i h ∙ ap (λ o
 
 pub told_same : (schema : Schema) (log : List Entry) (before i : ℕ) → before ≤ i → told_at schema log (i + 1) ≡ None → told_between schema log before (i + 1) ≡ told_between schema log before i
 told_same schema log before i h e = between schema log before i h ∙ ap (λ o. told_between schema log before i ++ cons_option o []) e ∙ append-nil (told_between schema log before i)
+
+-- no entry is between
+pub range_none : (log : List Entry) (before commit : ℕ) → commit ≤ before → slice_range log before commit ≡ []
+range_none log before commit h = let e : commit - before ≡ 0 = omega (arith, h) in rw e refl

@@ -39,7 +39,7 @@ abbrev pub started_from : Durable → Node
 started_from d = started (record (fresh d.hard.term d.hard.vote) { log = d.log })
 
 abbrev pub IsEmpty : Out → Type 0
-IsEmpty out = (out.messages.items ≡ []) × (out.told.items ≡ [])
+IsEmpty out = (out.messages.items ≡ []) × (out.applied.items ≡ []) × (out.told.items ≡ [])
 
 -- a step from one node to another gives what its definition says; where nothing comes of it nothing is given or changed
 abbrev pub IsGiven : Node → Node → Effect → Out → Type 0

@@ -1,5 +1,5 @@
 //! A member over a keeper.
-ghost use Rattle.std.specs.Prelude.{◌≡◌, ◌+◌, ◌≤◌, true, false, length, take, if◌then◌else◌, Some, None, IfOk, IfErr, OnOk, OnErr, MatchOption};
+ghost use Rattle.std.specs.Prelude.{◌≡◌, ◌+◌, ◌≤◌, true, false, length, take, slice_range, if◌then◌else◌, Some, None, IfOk, IfErr, OnOk, OnErr, MatchOption};
 ghost use Rattle.std.specs.Coded.{→_prop};
 ghost use Rattle.sqlread.specs.Meaning.{schema_of};
 ghost use Rattle.sqlread.specs.Shapes.{query_of};
@@ -14,7 +14,7 @@ ghost use Rattle.raft.specs.Memory.{spares_memory};
 ghost use Rattle.raft.specs.View.{node_of, works};
 ghost use Rattle.node.specs.View.{durable_of, after_change, Fits, Gave, IsKept, IsSame, IsTorn, IsCause, HasCause, LeavesUp, started_from, told_between};
 
-use crate::telling::tell;
+use crate::telling::{entries_between, tell};
 use answer::Answer;
 use apply::Tables;
 use fault::Refusal;
@@ -22,7 +22,7 @@ use keep::change::Change;
 use keep::error::StoreError;
 use keep::keeper::Keeper;
 use keep::state::State;
-use model::entry::Told;
+use model::entry::{Entry, Told};
 use model::member::Member;
 use model::message::{LAST_TERM, LOG_ROOM, Message};
 use raft::state::{Core, Effect, Taken, Work};
@@ -36,6 +36,8 @@ use thiserror::Error;
 pub struct Out {
     /// In the order of their addressees.
     pub messages: Vec<Message>,
+    /// The entries that became applied, in the order of the log.
+    pub applied: Vec<Entry>,
     /// What is told of each request that became applied, in the order of the log.
     pub told: Vec<Told>,
 }
@@ -106,6 +108,7 @@ fn finish<K: Keeper>(
     requires short { MatchOption taken.change (Unit {0}) (λ c. c.kept + length c.entries.items ≤ 100000) }
     requires up { K.is_up keeper.old ≡ true }
     ensures messages { IfOk result (λ out. out.messages.items ≡ taken.messages.items) }
+    ensures applied { IfOk result (λ out. out.applied.items ≡ slice_range core.now.log.items taken.committed_before core.now.commit) }
     ensures told { IfOk result (λ out. out.told.items ≡ told_between (schema_of core.now.schema) core.now.log.items taken.committed_before core.now.commit) }
     ensures current { OnOk result (AreTables (schema_of core.now.schema) (applied (node_of core.now)) tables.new) }
     ensures ok { OnOk result (K.is_honest keeper.new → K.stored keeper.new ≡ after_change taken.change (K.stored keeper.old)) }
@@ -128,7 +131,12 @@ fn finish<K: Keeper>(
         committed_before,
         core.commit,
     )?;
-    Ok(Out { messages, told })
+    let applied = entries_between(alloc, &core.log, committed_before, core.commit)?;
+    Ok(Out {
+        messages,
+        applied,
+        told,
+    })
 }
 
 impl<K: Keeper> Node<K> {
@@ -187,6 +195,7 @@ impl<K: Keeper> Node<K> {
     #[tactic(auto, using(crate::proofs::Stored::fits, crate::proofs::Stored::short, crate::proofs::Stored::synced))]
     pub fn step(&mut self, work: Work) -> Result<Out, Fault>
         ensures done { self.old.is_up ≡ true → Gave (node_of self.old.core) (node_of self.new.core) (works self.old.core.schema self.old.core.members self.old.core.me work (node_of self.old.core)) result }
+        ensures applied { IfOk result (λ out. out.applied.items ≡ slice_range self.new.core.log.items self.old.core.commit self.new.core.commit) }
         ensures told { IfOk result (λ out. out.told.items ≡ told_between (schema_of self.old.core.schema) self.new.core.log.items self.old.core.commit self.new.core.commit) }
         ensures spares { spares_memory self.old.core.members self.old.core.me work (node_of self.old.core) ≡ true → IfErr result IsKept }
         ensures same { IfErr result (IsSame (node_of self.old.core) (node_of self.new.core)) }
@@ -213,6 +222,7 @@ impl<K: Keeper> Node<K> {
             Ok(Effect::Ignored) => {
                 return Ok(Out {
                     messages: Vec::new(self.alloc),
+                    applied: Vec::new(self.alloc),
                     told: Vec::new(self.alloc),
                 });
             }

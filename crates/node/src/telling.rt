@@ -1,5 +1,5 @@
 //! What a member tells of the requests that it applies.
-ghost use Rattle.std.specs.Prelude.{◌≡◌, ◌+◌, ◌≤◌, ◌<◌, length, take, IfOk, OnOk};
+ghost use Rattle.std.specs.Prelude.{◌≡◌, ◌+◌, ◌≤◌, ◌<◌, length, take, slice_range, IfOk, OnOk};
 ghost use Rattle.sqlread.specs.Meaning.{schema_of};
 ghost use Rattle.model.specs.Logs.{told_at};
 ghost use Rattle.apply.specs.View.{AreTables};
@@ -61,4 +61,18 @@ pub(crate) fn tell(
         }
     }
     Ok(told)
+}
+
+/// Copies of the entries after one index, up to another.
+pub(crate) fn entries_between(
+    alloc: Global,
+    log: &[Entry],
+    before: usize,
+    commit: usize,
+) -> Result<Vec<Entry>, AllocError>
+    requires rises { before ≤ commit }
+    requires within { commit ≤ length log.now }
+    ensures { IfOk result (λ entries. entries.items ≡ slice_range log.now before commit) }
+{
+    log[before..commit].to_vec(alloc)
 }

@@ -1,5 +1,5 @@
 //! A node with its life.
-ghost use Rattle.std.specs.Prelude.{◌≡◌, ◌≢◌, ◌≤◌, ◌⊎◌, [], ◌++◌, ◌∷◌, true, false, Some, None, IfOk, IfErr, OnOk, MatchOption, unwrap_or};
+ghost use Rattle.std.specs.Prelude.{◌≡◌, ◌≢◌, ◌≤◌, ◌⊎◌, [], ◌++◌, ◌∷◌, true, false, Some, None, IfOk, IfErr, OnOk, MatchOption, slice_range, unwrap_or};
 ghost use Rattle.sqlread.specs.Meaning.{schema_of};
 ghost use Rattle.keep.specs.Durable.{Durable};
 ghost use Rattle.raft.specs.Memory.{spares_memory};
@@ -96,6 +96,7 @@ impl<K: Keeper> Cell<K> {
             ⊎ ((self.old.node.is_up ≡ true)
             × MatchOption (mark_for self.old.life packet) ⊥ (λ m. IsRecorded self.old.life self.new.life (record { mark = m; packet = packet }) result)
             × Gave (node_of self.old.node.core) (node_of self.new.node.core) (works self.old.node.core.schema self.old.node.core.members self.old.node.core.me (work_of packet) (node_of self.old.node.core)) (given_of result)) }
+        ensures applied { IfOk result (λ out. out.given.applied.items ≡ slice_range self.new.node.core.log.items self.old.node.core.commit self.new.node.core.commit) }
         ensures told { IfOk result (λ out. out.given.told.items ≡ told_between (schema_of self.old.node.core.schema) self.new.node.core.log.items self.old.node.core.commit self.new.node.core.commit) }
         ensures spares { spares_memory self.old.node.core.members self.old.node.core.me (work_of packet) (node_of self.old.node.core) ≡ true → IfErr result IsKept }
         ensures up { OnOk result ((self.old.node.is_up ≡ true) × (self.new.node.is_up ≡ true)) }

@@ -123,7 +123,7 @@ module _ {t : Tables} {n : ℕ} {seats : List Seat} {m i : ℕ} {s : Seat} (p : 
         numbered (length sent) out.messages.items ++ map (Applied m) out.told.items ≡ brought t n w m work (nth (nodes_of seats) m)
     made_gives out step = ⊎_elim
         (λ (moved : IsMove out). ap (λ told. numbered (length sent) out.messages.items ++ told) step.1 ∙ ap (effect_gives (schema_of t) w m (node_in s)) moved ∙ gives_there)
-        (λ (none : IsNone out). rw (none.2.0, none.2.1) (ap (effect_gives (schema_of t) w m (node_in s)) none.0 ∙ gives_there))
+        (λ (none : IsNone out). rw (none.2.0, none.2.2) (ap (effect_gives (schema_of t) w m (node_in s)) none.0 ∙ gives_there))
         step.0
 
     pub refused_world : (refusal : Refusal) → IsStep (schema_of t) m (node_in s) (node_in v) effect (Err refusal) →

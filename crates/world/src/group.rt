@@ -55,7 +55,11 @@ impl Group {
         ensures sent { OnOk result (self.new.sent.items ≡ self.old.sent.items ++ out.messages.items) }
         ensures same { self.new ≡ record self.old { sent = self.new.sent } }
     {
-        let Out { mut messages, told } = out;
+        let Out {
+            mut messages,
+            applied: _,
+            told,
+        } = out;
         let mut outs = announce(self.alloc, self.sent.len(), &messages)?;
         apply_all(&mut outs, member, told)?;
         self.sent.append(&mut messages)?;
