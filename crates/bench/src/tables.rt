@@ -141,10 +141,10 @@ fn ask(
     versions: &Versions,
     query: &Query,
 ) -> Result<usize, Refusal> {
-    if query.time.is_none() {
+    let Some(time) = query.time else {
         return Err(Refusal::NotClosed(None));
-    }
-    Ok(versions.ask(alloc, schema, query)?.rows.len())
+    };
+    Ok(versions.ask(alloc, schema, query, time)?.rows.len())
 }
 
 // The nanoseconds of a question AS OF by key.
