@@ -1,5 +1,5 @@
 -- What a step, a stop and a start come to at the seat of a member.
-use Rattle.std.proofs.Common.{◌≡◌, ◌∙◌, ℕ, Bool, true, false, Some, None, Result, Ok, Err, IfOk, IfErr, map, refl, sym, ap, inl, inr, ◌⊎◌, ⊎_elim, if◌then◌else◌}
+use Rattle.std.proofs.Common.{◌≡◌, ◌∙◌, ℕ, Bool, true, false, Some, None, Result, Ok, Err, IfOk, IfErr, map, refl, sym, ap, ⊎_elim, if◌then◌else◌}
 use Rattle.std.specs.Result.{result_ok}
 use Rattle.fault.specs.declared.refusal.Refusal.{Refusal}
 use Rattle.fault.specs.declared.refusal.Refusal.TheVariants.{NodeDown}

@@ -1,6 +1,6 @@
 use Rattle.std.proofs.Common.{rules, ◌≡◌, ap, subst, Err}
 use Rattle.model.specs.Steps.{Refuses}
-use Rattle.node.specs.View.{Gave, IsGiven}
+use Rattle.node.specs.View.{Gave}
 use Rattle.node.specs.declared.node.Fault.{Fault}
 use Rattle.raft.specs.View.{works, node_of}
 use Rattle.world.specs.View.{node_in, occupant}
