@@ -1,2 +1,3 @@
 pub mod LawsNames
 pub mod Parsed
+pub mod Shorter

@@ -3,6 +3,7 @@
 
 mod answer;
 pub mod forms;
+pub mod lists;
 pub mod names;
 
 pub use answer::refusal;

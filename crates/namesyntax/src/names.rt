@@ -11,6 +11,7 @@ ghost use Rattle.namesyntax.specs.Words.{begins_with_letter, is_name_text};
 ghost use Rattle.namesyntax.specs.Names.{name_of, names_of, names, another_name, name_list};
 
 use crate::forms::Name;
+use crate::lists::{Repeated, row};
 use phrase::ReadError;
 use sqltokens::{Cursor, Kind, Sign, next_is_sign, sign};
 use std::alloc::Global;
@@ -72,24 +73,32 @@ pub fn next_is_name(cursor: &Cursor) -> bool
     }
 }
 
-#[tactic(auto, unfolding(crate::specs::Names::another_name))]
-fn another_name<'a>(cursor: &mut Cursor<'_, 'a>) -> Result<Name<'a>, ReadError>
-    ensures { Gives (λ x. (name_of x, whats cursor.new.rest.now)) result (another_name.read (whats cursor.old.rest.now)) }
-{
-    sign(cursor, Sign::Comma)?;
-    name(cursor)
-}
+/// A name with a comma before it.
+pub struct AnotherName;
 
-/// The names that commas add, at the end of `all`, which may be none. Where a comma has no name behind it, the
-/// token there is wrong.
-pub fn more_names<'a>(all: &mut Vec<Name<'a>>, cursor: &mut Cursor<'_, 'a>) -> Result<(), ReadError>
-    ensures { Gives (λ _. (names_of all.new.items, whats cursor.new.rest.now)) result (with_front (names_of all.old.items) ((many (is_mark Sign.Comma) another_name).read (whats cursor.old.rest.now))) }
-{
-    while next_is_sign(cursor, Sign::Comma) {
-        let item = another_name(cursor)?;
-        all.push(item)?;
+impl<'a> Repeated<'a> for AnotherName {
+    ghost use Rattle.sqltokens.specs.declared.token.Sign.TheVariants.{Comma};
+    ghost use Rattle.namesyntax.specs.Names.{Bytes};
+
+    type Item = Name<'a>;
+
+    ghost Form = { Bytes };
+
+    ghost form = { name_of };
+
+    ghost begins = { is_mark Comma };
+
+    ghost reads = { another_name.read };
+
+    fn is_next(cursor: &Cursor<'_, 'a>) -> bool {
+        next_is_sign(cursor, Sign::Comma)
     }
-    Ok(())
+
+    #[tactic(auto, unfolding(crate::specs::Names::another_name))]
+    fn read(_alloc: Global, cursor: &mut Cursor<'_, 'a>) -> Result<Name<'a>, ReadError> {
+        sign(cursor, Sign::Comma)?;
+        name(cursor)
+    }
 }
 
 /// Takes one or more names with a comma between each two.
@@ -97,9 +106,6 @@ pub fn more_names<'a>(all: &mut Vec<Name<'a>>, cursor: &mut Cursor<'_, 'a>) -> R
 pub fn name_list<'a>(alloc: Global, cursor: &mut Cursor<'_, 'a>) -> Result<Vec<Name<'a>>, ReadError>
     ensures { Gives (λ x. (names_of x.items, whats cursor.new.rest.now)) result (name_list.read (whats cursor.old.rest.now)) }
 {
-    let mut all = Vec::new(alloc);
     let first = name(cursor)?;
-    all.push(first)?;
-    more_names(&mut all, cursor)?;
-    Ok(all)
+    row::<AnotherName>(alloc, first, cursor)
 }

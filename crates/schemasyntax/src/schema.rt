@@ -3,8 +3,8 @@
 ghost use Rattle.std.specs.Prelude.{◌≡◌, Ok, map};
 ghost use Rattle.sqltokens.specs.What.{What, whats, is_word, is_mark};
 ghost use Rattle.sqltokens.specs.Classes.{is_name};
-ghost use Rattle.phrase.specs.Grammar.{expect, next, one, optional, many};
-ghost use Rattle.phrase.specs.Reading.{Gives, with_front};
+ghost use Rattle.phrase.specs.Grammar.{expect, one};
+ghost use Rattle.phrase.specs.Reading.{Gives};
 ghost use Rattle.namesyntax.specs.Names.{name_of, names_of};
 ghost use Rattle.schemasyntax.specs.Schemas.{is_six, column_type, type_form, column, column_form, column_comma, columns, application_period, application_form, system_period, system_form, key_columns, key, name_comma, names_comma, key_names, key_names_form, reference, reference_form, another_reference, table, table_form, tables};
 
@@ -12,7 +12,8 @@ use crate::forms::{
     ApplicationPeriod, Column, ColumnType, ForeignKey, KeyNames, SystemPeriod, Table,
 };
 use namesyntax::Name;
-use namesyntax::names::{more_names, name, next_is_name};
+use namesyntax::lists::{Repeated, more, row};
+use namesyntax::names::{AnotherName, name, next_is_name};
 use phrase::ReadError;
 use sqltokens::{
     Cursor, Keyword, Kind, Sign, digits, has_shape, next_is, next_is_sign, sign, word,
@@ -78,35 +79,40 @@ fn column<'a>(cursor: &mut Cursor<'_, 'a>) -> Result<Column<'a>, ReadError>
     Ok(Column { name, column_type })
 }
 
-#[tactic(auto, unfolding(crate::specs::Schemas::column_comma))]
-fn column_comma<'a>(cursor: &mut Cursor<'_, 'a>) -> Result<Column<'a>, ReadError>
-    ensures { Gives (λ x. (column_form x, whats cursor.new.rest.now)) result (column_comma.read (whats cursor.old.rest.now)) }
-{
-    let column = column(cursor)?;
-    sign(cursor, Sign::Comma)?;
-    Ok(column)
-}
+/// A column with the comma behind it.
+struct ColumnBeforeComma;
 
-/// The further columns, each with the comma after it, at the end of `all`.
-fn more_columns<'a>(all: &mut Vec<Column<'a>>, cursor: &mut Cursor<'_, 'a>) -> Result<(), ReadError>
-    ensures { Gives (λ _. (map column_form all.new.items, whats cursor.new.rest.now)) result (with_front (map column_form all.old.items) ((many is_name column_comma).read (whats cursor.old.rest.now))) }
-{
-    while next_is_name(cursor) {
-        let item = column_comma(cursor)?;
-        all.push(item)?;
+impl<'a> Repeated<'a> for ColumnBeforeComma {
+    ghost use Rattle.schemasyntax.specs.Schemas.{ColumnForm};
+
+    type Item = Column<'a>;
+
+    ghost Form = { ColumnForm };
+
+    ghost form = { column_form };
+
+    ghost begins = { is_name };
+
+    ghost reads = { column_comma.read };
+
+    fn is_next(cursor: &Cursor<'_, 'a>) -> bool {
+        next_is_name(cursor)
     }
-    Ok(())
+
+    #[tactic(auto, unfolding(crate::specs::Schemas::column_comma))]
+    fn read(_alloc: Global, cursor: &mut Cursor<'_, 'a>) -> Result<Column<'a>, ReadError> {
+        let column = column(cursor)?;
+        sign(cursor, Sign::Comma)?;
+        Ok(column)
+    }
 }
 
 #[tactic(auto, unfolding(crate::specs::Schemas::columns))]
 fn columns<'a>(alloc: Global, cursor: &mut Cursor<'_, 'a>) -> Result<Vec<Column<'a>>, ReadError>
     ensures { Gives (λ x. (map column_form x.items, whats cursor.new.rest.now)) result (columns.read (whats cursor.old.rest.now)) }
 {
-    let mut all = Vec::new(alloc);
-    let first = column_comma(cursor)?;
-    all.push(first)?;
-    more_columns(&mut all, cursor)?;
-    Ok(all)
+    let first = ColumnBeforeComma::read(alloc, cursor)?;
+    row::<ColumnBeforeComma>(alloc, first, cursor)
 }
 
 #[tactic(auto, unfolding(crate::specs::Schemas::application_period))]
@@ -154,7 +160,7 @@ fn key_columns<'a>(alloc: Global, cursor: &mut Cursor<'_, 'a>) -> Result<KeyName
     sign(cursor, Sign::Comma)?;
     let second = name(cursor)?;
     columns.push(second)?;
-    more_names(&mut columns, cursor)?;
+    more::<AnotherName>(alloc, &mut columns, cursor)?;
     let period = columns.pop().unwrap();
     Ok(KeyNames { columns, period })
 }
@@ -173,38 +179,40 @@ fn key<'a>(alloc: Global, cursor: &mut Cursor<'_, 'a>) -> Result<KeyNames<'a>, R
     Ok(names)
 }
 
-#[tactic(auto, unfolding(crate::specs::Schemas::name_comma))]
-fn name_comma<'a>(cursor: &mut Cursor<'_, 'a>) -> Result<Name<'a>, ReadError>
-    ensures { Gives (λ x. (name_of x, whats cursor.new.rest.now)) result (name_comma.read (whats cursor.old.rest.now)) }
-{
-    let name = name(cursor)?;
-    sign(cursor, Sign::Comma)?;
-    Ok(name)
-}
+/// A name with the comma behind it.
+struct NameBeforeComma;
 
-/// The further names, each with the comma after it, at the end of `all`.
-fn more_names_comma<'a>(
-    all: &mut Vec<Name<'a>>,
-    cursor: &mut Cursor<'_, 'a>,
-) -> Result<(), ReadError>
-    ensures { Gives (λ _. (names_of all.new.items, whats cursor.new.rest.now)) result (with_front (names_of all.old.items) ((many is_name name_comma).read (whats cursor.old.rest.now))) }
-{
-    while next_is_name(cursor) {
-        let item = name_comma(cursor)?;
-        all.push(item)?;
+impl<'a> Repeated<'a> for NameBeforeComma {
+    ghost use Rattle.namesyntax.specs.Names.{Bytes};
+
+    type Item = Name<'a>;
+
+    ghost Form = { Bytes };
+
+    ghost form = { name_of };
+
+    ghost begins = { is_name };
+
+    ghost reads = { name_comma.read };
+
+    fn is_next(cursor: &Cursor<'_, 'a>) -> bool {
+        next_is_name(cursor)
     }
-    Ok(())
+
+    #[tactic(auto, unfolding(crate::specs::Schemas::name_comma))]
+    fn read(_alloc: Global, cursor: &mut Cursor<'_, 'a>) -> Result<Name<'a>, ReadError> {
+        let name = name(cursor)?;
+        sign(cursor, Sign::Comma)?;
+        Ok(name)
+    }
 }
 
 #[tactic(auto, unfolding(crate::specs::Schemas::names_comma))]
 fn names_comma<'a>(alloc: Global, cursor: &mut Cursor<'_, 'a>) -> Result<Vec<Name<'a>>, ReadError>
     ensures { Gives (λ x. (names_of x.items, whats cursor.new.rest.now)) result (names_comma.read (whats cursor.old.rest.now)) }
 {
-    let mut all = Vec::new(alloc);
-    let first = name_comma(cursor)?;
-    all.push(first)?;
-    more_names_comma(&mut all, cursor)?;
-    Ok(all)
+    let first = NameBeforeComma::read(alloc, cursor)?;
+    row::<NameBeforeComma>(alloc, first, cursor)
 }
 
 #[tactic(auto, unfolding(crate::specs::Schemas::key_names))]
@@ -236,30 +244,32 @@ fn reference<'a>(alloc: Global, cursor: &mut Cursor<'_, 'a>) -> Result<ForeignKe
     })
 }
 
-#[tactic(auto, unfolding(crate::specs::Schemas::another_reference))]
-fn another_reference<'a>(
-    alloc: Global,
-    cursor: &mut Cursor<'_, 'a>,
-) -> Result<ForeignKey<'a>, ReadError>
-    ensures { Gives (λ x. (reference_form x, whats cursor.new.rest.now)) result (another_reference.read (whats cursor.old.rest.now)) }
-{
-    sign(cursor, Sign::Comma)?;
-    reference(alloc, cursor)
-}
+/// A foreign key with a comma before it.
+struct AnotherReference;
 
-/// The foreign keys, at the end of `all`.
-fn more_references<'a>(
-    alloc: Global,
-    all: &mut Vec<ForeignKey<'a>>,
-    cursor: &mut Cursor<'_, 'a>,
-) -> Result<(), ReadError>
-    ensures { Gives (λ _. (map reference_form all.new.items, whats cursor.new.rest.now)) result (with_front (map reference_form all.old.items) ((many (is_mark Sign.Comma) another_reference).read (whats cursor.old.rest.now))) }
-{
-    while next_is_sign(cursor, Sign::Comma) {
-        let item = another_reference(alloc, cursor)?;
-        all.push(item)?;
+impl<'a> Repeated<'a> for AnotherReference {
+    ghost use Rattle.sqltokens.specs.declared.token.Sign.TheVariants.{Comma};
+    ghost use Rattle.schemasyntax.specs.Schemas.{ReferenceForm};
+
+    type Item = ForeignKey<'a>;
+
+    ghost Form = { ReferenceForm };
+
+    ghost form = { reference_form };
+
+    ghost begins = { is_mark Comma };
+
+    ghost reads = { another_reference.read };
+
+    fn is_next(cursor: &Cursor<'_, 'a>) -> bool {
+        next_is_sign(cursor, Sign::Comma)
     }
-    Ok(())
+
+    #[tactic(auto, unfolding(crate::specs::Schemas::another_reference))]
+    fn read(alloc: Global, cursor: &mut Cursor<'_, 'a>) -> Result<ForeignKey<'a>, ReadError> {
+        sign(cursor, Sign::Comma)?;
+        reference(alloc, cursor)
+    }
 }
 
 #[tactic(auto, unfolding(crate::specs::Schemas::table))]
@@ -277,7 +287,7 @@ fn table<'a>(alloc: Global, cursor: &mut Cursor<'_, 'a>) -> Result<Table<'a>, Re
     sign(cursor, Sign::Comma)?;
     let key = key(alloc, cursor)?;
     let mut foreign_keys = Vec::new(alloc);
-    more_references(alloc, &mut foreign_keys, cursor)?;
+    more::<AnotherReference>(alloc, &mut foreign_keys, cursor)?;
     sign(cursor, Sign::Close)?;
     word(cursor, Keyword::With)?;
     word(cursor, Keyword::System)?;
@@ -293,19 +303,30 @@ fn table<'a>(alloc: Global, cursor: &mut Cursor<'_, 'a>) -> Result<Table<'a>, Re
     })
 }
 
-/// The further tables, at the end of `all`.
-fn more_tables<'a>(
-    alloc: Global,
-    all: &mut Vec<Table<'a>>,
-    cursor: &mut Cursor<'_, 'a>,
-) -> Result<(), ReadError>
-    ensures { Gives (λ _. (map table_form all.new.items, whats cursor.new.rest.now)) result (with_front (map table_form all.old.items) ((many (is_word Keyword.Create) table).read (whats cursor.old.rest.now))) }
-{
-    while next_is(cursor, Keyword::Create) {
-        let item = table(alloc, cursor)?;
-        all.push(item)?;
+/// A further table.
+struct AnotherTable;
+
+impl<'a> Repeated<'a> for AnotherTable {
+    ghost use Rattle.sqltokens.specs.declared.token.Keyword.TheVariants as keyword;
+    ghost use Rattle.schemasyntax.specs.Schemas.{TableForm};
+
+    type Item = Table<'a>;
+
+    ghost Form = { TableForm };
+
+    ghost form = { table_form };
+
+    ghost begins = { is_word keyword.Create };
+
+    ghost reads = { table.read };
+
+    fn is_next(cursor: &Cursor<'_, 'a>) -> bool {
+        next_is(cursor, Keyword::Create)
     }
-    Ok(())
+
+    fn read(alloc: Global, cursor: &mut Cursor<'_, 'a>) -> Result<Table<'a>, ReadError> {
+        table(alloc, cursor)
+    }
 }
 
 #[tactic(auto, unfolding(crate::specs::Schemas::tables))]
@@ -315,9 +336,6 @@ pub(crate) fn tables<'a>(
 ) -> Result<Vec<Table<'a>>, ReadError>
     ensures { Gives (λ x. (map table_form x.items, whats cursor.new.rest.now)) result (tables.read (whats cursor.old.rest.now)) }
 {
-    let mut all = Vec::new(alloc);
     let first = table(alloc, cursor)?;
-    all.push(first)?;
-    more_tables(alloc, &mut all, cursor)?;
-    Ok(all)
+    row::<AnotherTable>(alloc, first, cursor)
 }

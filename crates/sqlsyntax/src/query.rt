@@ -3,12 +3,13 @@
 ghost use Rattle.std.specs.Prelude.{◌≡◌, Ok, map};
 ghost use Rattle.std.specs.Option.{option_map};
 ghost use Rattle.sqltokens.specs.What.{What, whats, is_word, is_mark};
-ghost use Rattle.phrase.specs.Grammar.{next, one, optional, many};
-ghost use Rattle.phrase.specs.Reading.{Gives, with_front};
+ghost use Rattle.phrase.specs.Grammar.{next, one, optional};
+ghost use Rattle.phrase.specs.Reading.{Gives};
 ghost use Rattle.sqlsyntax.specs.Queries.{span, span_form, relation, relation_form, predicate, predicate_form, term, term_form, another_term, terms, condition, stamp, time, time_form, query, query_form};
 
 use crate::forms::{Predicate, Query, Relation, Span, SystemTime, Term};
 use crate::shared::{date, literal, next_is_operator, operator};
+use namesyntax::lists::{Repeated, row};
 use namesyntax::names::name;
 use phrase::ReadError;
 use sqltokens::{Cursor, Keyword, Quoted, Sign, next_is, sign, stamp_text, word};
@@ -87,34 +88,40 @@ fn term<'a>(cursor: &mut Cursor<'_, 'a>) -> Result<Term<'a>, ReadError>
     Ok(Term { name, predicate })
 }
 
-#[tactic(auto, unfolding(crate::specs::Queries::another_term))]
-fn another_term<'a>(cursor: &mut Cursor<'_, 'a>) -> Result<Term<'a>, ReadError>
-    ensures { Gives (λ x. (term_form x, whats cursor.new.rest.now)) result (another_term.read (whats cursor.old.rest.now)) }
-{
-    word(cursor, Keyword::And)?;
-    term(cursor)
-}
+/// A term behind AND.
+struct AnotherTerm;
 
-/// The terms that AND adds, at the end of `all`.
-fn more_terms<'a>(all: &mut Vec<Term<'a>>, cursor: &mut Cursor<'_, 'a>) -> Result<(), ReadError>
-    ensures { Gives (λ _. (map term_form all.new.items, whats cursor.new.rest.now)) result (with_front (map term_form all.old.items) ((many (is_word Keyword.And) another_term).read (whats cursor.old.rest.now))) }
-{
-    while next_is(cursor, Keyword::And) {
-        let item = another_term(cursor)?;
-        all.push(item)?;
+impl<'a> Repeated<'a> for AnotherTerm {
+    ghost use Rattle.sqltokens.specs.declared.token.Keyword.TheVariants as keyword;
+    ghost use Rattle.sqlsyntax.specs.Queries.{TermForm};
+
+    type Item = Term<'a>;
+
+    ghost Form = { TermForm };
+
+    ghost form = { term_form };
+
+    ghost begins = { is_word keyword.And };
+
+    ghost reads = { another_term.read };
+
+    fn is_next(cursor: &Cursor<'_, 'a>) -> bool {
+        next_is(cursor, Keyword::And)
     }
-    Ok(())
+
+    #[tactic(auto, unfolding(crate::specs::Queries::another_term))]
+    fn read(_alloc: Global, cursor: &mut Cursor<'_, 'a>) -> Result<Term<'a>, ReadError> {
+        word(cursor, Keyword::And)?;
+        term(cursor)
+    }
 }
 
 #[tactic(auto, unfolding(crate::specs::Queries::terms))]
 fn terms<'a>(alloc: Global, cursor: &mut Cursor<'_, 'a>) -> Result<Vec<Term<'a>>, ReadError>
     ensures { Gives (λ x. (map term_form x.items, whats cursor.new.rest.now)) result (terms.read (whats cursor.old.rest.now)) }
 {
-    let mut all = Vec::new(alloc);
     let first = term(cursor)?;
-    all.push(first)?;
-    more_terms(&mut all, cursor)?;
-    Ok(all)
+    row::<AnotherTerm>(alloc, first, cursor)
 }
 
 #[tactic(auto, unfolding(crate::specs::Queries::condition))]

@@ -3,11 +3,12 @@
 ghost use Rattle.std.specs.Prelude.{◌≡◌, Ok, map};
 ghost use Rattle.std.specs.Option.{option_map};
 ghost use Rattle.sqltokens.specs.What.{What, whats, is_word, is_mark};
-ghost use Rattle.phrase.specs.Grammar.{next, one, optional, many};
-ghost use Rattle.phrase.specs.Reading.{Gives, with_front};
+ghost use Rattle.phrase.specs.Grammar.{next, one, optional};
+ghost use Rattle.phrase.specs.Reading.{Gives};
 ghost use Rattle.sqlsyntax.specs.Shared.{operator_of, is_operator, operators, date, literal, literal_form, comparison, comparison_form, another_comparison, comparisons, condition};
 
 use crate::forms::{Comparison, Literal, Operator};
+use namesyntax::lists::{Repeated, row};
 use namesyntax::names::name;
 use phrase::ReadError;
 use sqltokens::{
@@ -96,26 +97,32 @@ fn comparison<'a>(cursor: &mut Cursor<'_, 'a>) -> Result<Comparison<'a>, ReadErr
     })
 }
 
-#[tactic(auto, unfolding(crate::specs::Shared::another_comparison))]
-fn another_comparison<'a>(cursor: &mut Cursor<'_, 'a>) -> Result<Comparison<'a>, ReadError>
-    ensures { Gives (λ x. (comparison_form x, whats cursor.new.rest.now)) result (another_comparison.read (whats cursor.old.rest.now)) }
-{
-    word(cursor, Keyword::And)?;
-    comparison(cursor)
-}
+/// A comparison behind AND.
+struct AnotherComparison;
 
-/// The comparisons that AND adds, at the end of `all`.
-fn more_comparisons<'a>(
-    all: &mut Vec<Comparison<'a>>,
-    cursor: &mut Cursor<'_, 'a>,
-) -> Result<(), ReadError>
-    ensures { Gives (λ _. (map comparison_form all.new.items, whats cursor.new.rest.now)) result (with_front (map comparison_form all.old.items) ((many (is_word Keyword.And) another_comparison).read (whats cursor.old.rest.now))) }
-{
-    while next_is(cursor, Keyword::And) {
-        let item = another_comparison(cursor)?;
-        all.push(item)?;
+impl<'a> Repeated<'a> for AnotherComparison {
+    ghost use Rattle.sqltokens.specs.declared.token.Keyword.TheVariants as keyword;
+    ghost use Rattle.sqlsyntax.specs.Shared.{ComparisonForm};
+
+    type Item = Comparison<'a>;
+
+    ghost Form = { ComparisonForm };
+
+    ghost form = { comparison_form };
+
+    ghost begins = { is_word keyword.And };
+
+    ghost reads = { another_comparison.read };
+
+    fn is_next(cursor: &Cursor<'_, 'a>) -> bool {
+        next_is(cursor, Keyword::And)
     }
-    Ok(())
+
+    #[tactic(auto, unfolding(crate::specs::Shared::another_comparison))]
+    fn read(_alloc: Global, cursor: &mut Cursor<'_, 'a>) -> Result<Comparison<'a>, ReadError> {
+        word(cursor, Keyword::And)?;
+        comparison(cursor)
+    }
 }
 
 #[tactic(auto, unfolding(crate::specs::Shared::comparisons))]
@@ -125,11 +132,8 @@ fn comparisons<'a>(
 ) -> Result<Vec<Comparison<'a>>, ReadError>
     ensures { Gives (λ x. (map comparison_form x.items, whats cursor.new.rest.now)) result (comparisons.read (whats cursor.old.rest.now)) }
 {
-    let mut all = Vec::new(alloc);
     let first = comparison(cursor)?;
-    all.push(first)?;
-    more_comparisons(&mut all, cursor)?;
-    Ok(all)
+    row::<AnotherComparison>(alloc, first, cursor)
 }
 
 #[tactic(auto, unfolding(crate::specs::Shared::condition))]

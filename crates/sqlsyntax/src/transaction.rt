@@ -3,8 +3,8 @@
 ghost use Rattle.std.specs.Prelude.{◌≡◌, Ok, map};
 ghost use Rattle.std.specs.Option.{option_map};
 ghost use Rattle.sqltokens.specs.What.{What, whats, is_word, is_mark};
-ghost use Rattle.phrase.specs.Grammar.{next, one, optional, many};
-ghost use Rattle.phrase.specs.Reading.{Gives, with_front};
+ghost use Rattle.phrase.specs.Grammar.{next, one, optional};
+ghost use Rattle.phrase.specs.Reading.{Gives};
 ghost use Rattle.sqlsyntax.specs.Shared.{literal_form, comparison_form, condition};
 ghost use Rattle.sqlsyntax.specs.Transactions.{another_literal, literals, portion, portion_form, new_value, value_form, assignment, assignment_form, another_assignment, assignments, insert, insert_form, update, update_form, delete, delete_form, is_statement, statement, statement_form, statements};
 
@@ -12,42 +12,46 @@ use crate::forms::{
     Assignment, Comparison, Delete, Insert, Literal, NewValue, Portion, Statement, Update,
 };
 use crate::shared::{condition, date, literal};
+use namesyntax::lists::{Repeated, row};
 use namesyntax::names::{name, name_list, next_is_name};
 use phrase::ReadError;
 use sqltokens::{Cursor, Keyword, Sign, digits, next_is, next_is_sign, sign, word};
 use std::alloc::Global;
 
-#[tactic(auto, unfolding(crate::specs::Transactions::another_literal))]
-fn another_literal<'a>(cursor: &mut Cursor<'_, 'a>) -> Result<Literal<'a>, ReadError>
-    ensures { Gives (λ x. (literal_form x, whats cursor.new.rest.now)) result (another_literal.read (whats cursor.old.rest.now)) }
-{
-    sign(cursor, Sign::Comma)?;
-    literal(cursor)
-}
+/// A literal with a comma before it.
+struct AnotherLiteral;
 
-/// The literals that commas add, at the end of `all`.
-fn more_literals<'a>(
-    all: &mut Vec<Literal<'a>>,
-    cursor: &mut Cursor<'_, 'a>,
-) -> Result<(), ReadError>
-    ensures { Gives (λ _. (map literal_form all.new.items, whats cursor.new.rest.now)) result (with_front (map literal_form all.old.items) ((many (is_mark Sign.Comma) another_literal).read (whats cursor.old.rest.now))) }
-{
-    while next_is_sign(cursor, Sign::Comma) {
-        let item = another_literal(cursor)?;
-        all.push(item)?;
+impl<'a> Repeated<'a> for AnotherLiteral {
+    ghost use Rattle.sqltokens.specs.declared.token.Sign.TheVariants.{Comma};
+    ghost use Rattle.sqlsyntax.specs.Shared.{LiteralForm};
+
+    type Item = Literal<'a>;
+
+    ghost Form = { LiteralForm };
+
+    ghost form = { literal_form };
+
+    ghost begins = { is_mark Comma };
+
+    ghost reads = { another_literal.read };
+
+    fn is_next(cursor: &Cursor<'_, 'a>) -> bool {
+        next_is_sign(cursor, Sign::Comma)
     }
-    Ok(())
+
+    #[tactic(auto, unfolding(crate::specs::Transactions::another_literal))]
+    fn read(_alloc: Global, cursor: &mut Cursor<'_, 'a>) -> Result<Literal<'a>, ReadError> {
+        sign(cursor, Sign::Comma)?;
+        literal(cursor)
+    }
 }
 
 #[tactic(auto, unfolding(crate::specs::Transactions::literals))]
 fn literals<'a>(alloc: Global, cursor: &mut Cursor<'_, 'a>) -> Result<Vec<Literal<'a>>, ReadError>
     ensures { Gives (λ x. (map literal_form x.items, whats cursor.new.rest.now)) result (literals.read (whats cursor.old.rest.now)) }
 {
-    let mut all = Vec::new(alloc);
     let first = literal(cursor)?;
-    all.push(first)?;
-    more_literals(&mut all, cursor)?;
-    Ok(all)
+    row::<AnotherLiteral>(alloc, first, cursor)
 }
 
 #[tactic(auto, unfolding(crate::specs::Transactions::portion))]
@@ -106,26 +110,32 @@ fn assignment<'a>(cursor: &mut Cursor<'_, 'a>) -> Result<Assignment<'a>, ReadErr
     Ok(Assignment { column, value })
 }
 
-#[tactic(auto, unfolding(crate::specs::Transactions::another_assignment))]
-fn another_assignment<'a>(cursor: &mut Cursor<'_, 'a>) -> Result<Assignment<'a>, ReadError>
-    ensures { Gives (λ x. (assignment_form x, whats cursor.new.rest.now)) result (another_assignment.read (whats cursor.old.rest.now)) }
-{
-    sign(cursor, Sign::Comma)?;
-    assignment(cursor)
-}
+/// An assignment with a comma before it.
+struct AnotherAssignment;
 
-/// The assignments that commas add, at the end of `all`.
-fn more_assignments<'a>(
-    all: &mut Vec<Assignment<'a>>,
-    cursor: &mut Cursor<'_, 'a>,
-) -> Result<(), ReadError>
-    ensures { Gives (λ _. (map assignment_form all.new.items, whats cursor.new.rest.now)) result (with_front (map assignment_form all.old.items) ((many (is_mark Sign.Comma) another_assignment).read (whats cursor.old.rest.now))) }
-{
-    while next_is_sign(cursor, Sign::Comma) {
-        let item = another_assignment(cursor)?;
-        all.push(item)?;
+impl<'a> Repeated<'a> for AnotherAssignment {
+    ghost use Rattle.sqltokens.specs.declared.token.Sign.TheVariants.{Comma};
+    ghost use Rattle.sqlsyntax.specs.Transactions.{AssignmentForm};
+
+    type Item = Assignment<'a>;
+
+    ghost Form = { AssignmentForm };
+
+    ghost form = { assignment_form };
+
+    ghost begins = { is_mark Comma };
+
+    ghost reads = { another_assignment.read };
+
+    fn is_next(cursor: &Cursor<'_, 'a>) -> bool {
+        next_is_sign(cursor, Sign::Comma)
     }
-    Ok(())
+
+    #[tactic(auto, unfolding(crate::specs::Transactions::another_assignment))]
+    fn read(_alloc: Global, cursor: &mut Cursor<'_, 'a>) -> Result<Assignment<'a>, ReadError> {
+        sign(cursor, Sign::Comma)?;
+        assignment(cursor)
+    }
 }
 
 #[tactic(auto, unfolding(crate::specs::Transactions::assignments))]
@@ -135,11 +145,8 @@ fn assignments<'a>(
 ) -> Result<Vec<Assignment<'a>>, ReadError>
     ensures { Gives (λ x. (map assignment_form x.items, whats cursor.new.rest.now)) result (assignments.read (whats cursor.old.rest.now)) }
 {
-    let mut all = Vec::new(alloc);
     let first = assignment(cursor)?;
-    all.push(first)?;
-    more_assignments(&mut all, cursor)?;
-    Ok(all)
+    row::<AnotherAssignment>(alloc, first, cursor)
 }
 
 #[tactic(auto, unfolding(crate::specs::Transactions::insert))]
@@ -221,19 +228,29 @@ fn statement<'a>(alloc: Global, cursor: &mut Cursor<'_, 'a>) -> Result<Statement
     Ok(Statement::Delete(delete(alloc, cursor)?))
 }
 
-/// The further statements, at the end of `all`.
-fn more_statements<'a>(
-    alloc: Global,
-    all: &mut Vec<Statement<'a>>,
-    cursor: &mut Cursor<'_, 'a>,
-) -> Result<(), ReadError>
-    ensures { Gives (λ _. (map statement_form all.new.items, whats cursor.new.rest.now)) result (with_front (map statement_form all.old.items) ((many is_statement statement).read (whats cursor.old.rest.now))) }
-{
-    while next_is_statement(cursor) {
-        let item = statement(alloc, cursor)?;
-        all.push(item)?;
+/// A further statement.
+struct AnotherStatement;
+
+impl<'a> Repeated<'a> for AnotherStatement {
+    ghost use Rattle.sqlsyntax.specs.Transactions.{StatementForm};
+
+    type Item = Statement<'a>;
+
+    ghost Form = { StatementForm };
+
+    ghost form = { statement_form };
+
+    ghost begins = { is_statement };
+
+    ghost reads = { statement.read };
+
+    fn is_next(cursor: &Cursor<'_, 'a>) -> bool {
+        next_is_statement(cursor)
     }
-    Ok(())
+
+    fn read(alloc: Global, cursor: &mut Cursor<'_, 'a>) -> Result<Statement<'a>, ReadError> {
+        statement(alloc, cursor)
+    }
 }
 
 #[tactic(auto, unfolding(crate::specs::Transactions::statements))]
@@ -243,9 +260,6 @@ pub(crate) fn statements<'a>(
 ) -> Result<Vec<Statement<'a>>, ReadError>
     ensures { Gives (λ x. (map statement_form x.items, whats cursor.new.rest.now)) result (statements.read (whats cursor.old.rest.now)) }
 {
-    let mut all = Vec::new(alloc);
     let first = statement(alloc, cursor)?;
-    all.push(first)?;
-    more_statements(alloc, &mut all, cursor)?;
-    Ok(all)
+    row::<AnotherStatement>(alloc, first, cursor)
 }
