@@ -20,6 +20,8 @@ use Rattle.versionlaws.specs.Versions.{Version, Holds, HeldBefore, NoVersions}
 use Rattle.versionlaws.specs.Committing.{CommitEntry, EntryStays}
 use Rattle.current.specs.declared.current.Current.{Current}
 use Rattle.current.specs.Current as current
+use Rattle.sqlchecks.specs.Columns as columns
+use Rattle.sqlread.specs.Meaning.{schema_of}
 use Rattle.sysversion.specs.declared.Versions.{Versions}
 use Rattle.sysversion.specs.Versions as versions
 use Rattle.retry.specs.declared.Latest.{Latest}
@@ -117,7 +119,10 @@ bound_less list e s = by (last_entry list) refl
 
 -- ---- one more entry
 
-module _ (schema : Schema) (list : List Entry) (e : Entry) where
+module _ (tables : columns.Tables) (list : List Entry) (e : Entry) where
+  abbrev schema : Schema
+  schema = schema_of tables
+
   abbrev before : List Entry
   before = reverse list
 
@@ -140,11 +145,11 @@ module _ (schema : Schema) (list : List Entry) (e : Entry) where
   unfolding kept
   kept_is o client h = ap (kept schema client) more ∙ ap (λ r. kept_request schema client e.stamp r before (kept schema client before)) h
 
-  module _ (stays_held : EntryStays) (old : Tables) (are : AreTables schema list old) where
+  module _ (stays_held : EntryStays) (old : Tables) (are : AreTables tables list old) where
     -- nothing is executed
     same : (new : Tables) → new.current ≡ old.current → new.versions ≡ old.versions → new.requests ≡ old.requests → new.last ≡ Some e.stamp
         → state_after schema (reverse all) ≡ state_after schema before → ((c : ℕ) → executed c (reverse all) ≡ executed c before) → ((c : ℕ) → kept schema c (reverse all) ≡ kept schema c before)
-        → AreTables schema all new
+        → AreTables tables all new
     same new c v r l state numbers outcomes = record {
       rows = subst (λ (s : State). AllListed (current.rows_of new.current) s) (sym state) (subst (λ (x : Current). AllListed (current.rows_of x) (state_after schema before)) (sym c) are.rows);
       numbers = λ k. ap (λ x. number_of (latest_of x k)) r ∙ are.numbers k ∙ sym (numbers k);
@@ -152,11 +157,11 @@ module _ (schema : Schema) (list : List Entry) (e : Entry) where
       last = l ∙ sym (closed_more list e);
       held = λ s n. subst (λ (x : Versions). Holds (versions.versions_of x n) (λ u. state_at schema all u n) (least_stamp all) (state_after schema (reverse all) n)) (sym v)
           (stays_held schema n list e (versions.versions_of old.versions n) s (are.held (stamped_before list (e ∷ []) s) n) (ap (λ (x : State). x n) state));
-      current_tables = ap current.table_count c ∙ are.current_tables;
-      versions_tables = ap versions.table_count v ∙ are.versions_tables;
+      current_schema = ap current.schema_in c ∙ are.current_schema;
+      versions_schema = ap versions.schema_in v ∙ are.versions_schema;
     }
 
-    pub a_close : (new : Tables) → new.current ≡ old.current → new.versions ≡ old.versions → new.requests ≡ old.requests → new.last ≡ Some e.stamp → e.request ≡ None → AreTables schema all new
+    pub a_close : (new : Tables) → new.current ≡ old.current → new.versions ≡ old.versions → new.requests ≡ old.requests → new.last ≡ Some e.stamp → e.request ≡ None → AreTables tables all new
     a_close new c v r l h = same new c v r l (state_is None h) (λ k. executed_is None k h) (λ k. kept_is None k h)
 
     -- a request that was judged before
@@ -182,7 +187,7 @@ module _ (schema : Schema) (list : List Entry) (e : Entry) where
       state_same : after_request schema e.stamp (Some r) before (state_after schema before) ≡ state_after schema before
       state_same = rw is_later refl
 
-      pub asked_again : (new : Tables) → new.current ≡ old.current → new.versions ≡ old.versions → new.requests ≡ old.requests → new.last ≡ Some e.stamp → AreTables schema all new
+      pub asked_again : (new : Tables) → new.current ≡ old.current → new.versions ≡ old.versions → new.requests ≡ old.requests → new.last ≡ Some e.stamp → AreTables tables all new
       asked_again new c v q l = same new c v q l (state_is (Some r) asks ∙ state_same) (λ k. executed_is (Some r) k asks ∙ none_more k) (λ k. kept_is (Some r) k asks ∙ kept_same k)
 
       pub outcome_again : o ≡ outcome schema e.stamp r before
@@ -234,16 +239,16 @@ module _ (schema : Schema) (list : List Entry) (e : Entry) where
             → AllListed (current.rows_of new.current) next
             → ((n : ℕ) → IsCommitted e.stamp (state_after schema before n) (next n) (versions.versions_of old.versions n) (versions.versions_of new.versions n))
             → ((c : ℕ) → latest_of new.requests c ≡ with_latest r.client r.number o (latest_of old.requests) c)
-            → new.last ≡ Some e.stamp → current.table_count new.current ≡ current.table_count old.current → versions.table_count new.versions ≡ versions.table_count old.versions
-            → AreTables schema all new
-        executed_first commit held_before fine reads new rows versioned latest last count count' = record {
+            → new.last ≡ Some e.stamp → current.schema_in new.current ≡ current.schema_in old.current → versions.schema_in new.versions ≡ versions.schema_in old.versions
+            → AreTables tables all new
+        executed_first commit held_before fine reads new rows versioned latest last made made' = record {
           rows = subst (λ (s : State). AllListed (current.rows_of new.current) s) (sym state) rows;
           numbers = λ c. ap number_of (latest c) ∙ number_more c ∙ sym (executed_is (Some r) c asks);
           outcomes = λ c. ap (λ x. option_map outcome_of x) (latest c) ∙ kept_more c ∙ sym (kept_is (Some r) c asks);
           last = last ∙ sym (closed_more list e);
           held = λ s n. by s n (versioned n);
-          current_tables = count ∙ are.current_tables;
-          versions_tables = count' ∙ are.versions_tables;
+          current_schema = made ∙ are.current_schema;
+          versions_schema = made' ∙ are.versions_schema;
         }
           where
             state : state_after schema (reverse all) ≡ next
@@ -265,15 +270,15 @@ module _ (schema : Schema) (list : List Entry) (e : Entry) where
 
 -- ---- before any entry
 
-pub of_no_entry : NoVersions → LogsOnRows → (schema : Schema) (new : Tables) → ((n : ℕ) → current.rows_of new.current n ≡ []) → ((n : ℕ) → versions.versions_of new.versions n ≡ []) → ((c : ℕ) → latest_of new.requests c ≡ None) → new.last ≡ None
-    → current.table_count new.current ≡ schema.tables → versions.table_count new.versions ≡ schema.tables → AreTables schema [] new
+pub of_no_entry : NoVersions → LogsOnRows → (tables : columns.Tables) (new : Tables) → ((n : ℕ) → current.rows_of new.current n ≡ []) → ((n : ℕ) → versions.versions_of new.versions n ≡ []) → ((c : ℕ) → latest_of new.requests c ≡ None) → new.last ≡ None
+    → current.schema_in new.current ≡ tables → versions.schema_in new.versions ≡ tables → AreTables tables [] new
 unfolding state_after executed kept rows_after
-of_no_entry none logs schema new rows kept' latest last count count' = record {
-  rows = λ n. subst (λ (x : List Row). Lists x (state_after schema [] n)) (sym (rows n)) (logs schema [] tt n);
+of_no_entry none logs tables new rows kept' latest last made made' = record {
+  rows = λ n. subst (λ (x : List Row). Lists x (state_after (schema_of tables) [] n)) (sym (rows n)) (logs (schema_of tables) [] tt n);
   numbers = λ c. ap number_of (latest c);
   outcomes = λ c. ap (λ x. option_map outcome_of x) (latest c);
   last = last;
-  held = λ s n. subst (λ (x : List Version). Holds x (λ u. state_at schema [] u n) 0 empty_table) (sym (kept' n)) (none (λ u. state_at schema [] u n));
-  current_tables = count;
-  versions_tables = count';
+  held = λ s n. subst (λ (x : List Version). Holds x (λ u. state_at (schema_of tables) [] u n) 0 empty_table) (sym (kept' n)) (none (λ u. state_at (schema_of tables) [] u n));
+  current_schema = made;
+  versions_schema = made';
 }

@@ -8,11 +8,11 @@ use Rattle.fault.specs.declared.refusal.Refusal.TheVariants as refusals
 use Rattle.model.specs.Transactions.{State, Statement, Schema, and_then, run_statement, run_statements, first_orphan, unless_orphan, transacted, read_statements, executed_text}
 use Rattle.model.specs.Logs.{outcome_at, next_state}
 use Rattle.rowlaws.specs.Changes.{IsFine}
-use Rattle.rowlaws.specs.Touching.{gone_both, come_both}
+use Rattle.rowlaws.specs.Touching.{removed_both, added_both}
 use Rattle.rowlaws.specs.Statements.{Rows, AllListed, AllFollow}
 use Rattle.rowlaws.specs.Transactions.{TransactionsFollow}
 use Rattle.versionlaws.specs.Committing.{committed}
-use Rattle.current.specs.Touched.{gone_in, come_in}
+use Rattle.current.specs.Touched.{removed_in, added_in}
 use Rattle.current.specs.declared.touched.Touched.{Touched}
 use Rattle.current.specs.Run.{IsRun, IsRefused, AllUndoable, IsUndone}
 use Rattle.current.specs.Laws.{NothingBeyond}
@@ -63,19 +63,19 @@ pub no_items : {A : Type 0} (xs : List A) → length xs ≡ 0 → xs ≡ []
 no_items [] h = refl
 no_items (x ∷ xs) h = absurd (omega arith)
 
-pub checked : (schema : Schema) (t : ℕ) (rows : Rows) (gone come : Rows) → ((n : ℕ) → gone n ≡ []) → ((n : ℕ) → come n ≡ []) → ((state : State) → AllListed rows state → unless_orphan schema state (first_orphan schema state) ≡ Ok state) → IsTransacted schema t [] rows rows gone come
-checked schema t rows gone come g c ok state listed =
-    (state, none_is schema t state ∙ ok state listed, listed, (λ n. subst (λ x. IsTurned t (state n) (state n) x (come n)) (sym (g n)) (subst (λ x. IsTurned t (state n) (state n) [] x) (sym (c n)) (stays t (state n)))))
+pub checked : (schema : Schema) (t : ℕ) (rows : Rows) (removed added : Rows) → ((n : ℕ) → removed n ≡ []) → ((n : ℕ) → added n ≡ []) → ((state : State) → AllListed rows state → unless_orphan schema state (first_orphan schema state) ≡ Ok state) → IsTransacted schema t [] rows rows removed added
+checked schema t rows removed added g c ok state listed =
+    (state, none_is schema t state ∙ ok state listed, listed, (λ n. subst (λ x. IsTurned t (state n) (state n) x (added n)) (sym (g n)) (subst (λ x. IsTurned t (state n) (state n) [] x) (sym (c n)) (stays t (state n)))))
 
 pub unchecked : (schema : Schema) (t : ℕ) (rows : Rows) (r : Refusal) → (r ≡ refusals.NoMemory) ⊎ ((state : State) → AllListed rows state → unless_orphan schema state (first_orphan schema state) ≡ Err r) → IsRefusedWhole schema t [] rows rows r
 unchecked schema t rows r (inl e) = inl e
 unchecked schema t rows r (inr h) = inr (λ state listed. (none_is schema t state ∙ h state listed, listed))
 
-pub then_rest : TransactionsFollow → (schema : Schema) (t : ℕ) (s : Statement) (ss : List Statement) (rows mid more gone come later_gone later_come both_gone both_come : Rows) → IsFine s.change
-    → IsRun t s rows mid gone come → IsTransacted schema t ss mid more later_gone later_come
-    → ((n : ℕ) → both_gone n ≡ gone_both (gone n) (come n) (later_gone n)) → ((n : ℕ) → both_come n ≡ come_both (come n) (later_gone n) (later_come n))
-    → IsTransacted schema t (s ∷ ss) rows more both_gone both_come
-then_rest follows schema t s ss rows mid more gone come later_gone later_come both_gone both_come fine run later g c state listed =
+pub then_rest : TransactionsFollow → (schema : Schema) (t : ℕ) (s : Statement) (ss : List Statement) (rows mid more removed added later_removed later_added both_removed both_added : Rows) → IsFine s.change
+    → IsRun t s rows mid removed added → IsTransacted schema t ss mid more later_removed later_added
+    → ((n : ℕ) → both_removed n ≡ removed_both (removed n) (added n) (later_removed n)) → ((n : ℕ) → both_added n ≡ added_both (added n) (later_removed n) (later_added n))
+    → IsTransacted schema t (s ∷ ss) rows more both_removed both_added
+then_rest follows schema t s ss rows mid more removed added later_removed later_added both_removed both_added fine run later g c state listed =
     let r = run state listed in
     let b : State = r.0 in
     let l = later b r.2 in
@@ -85,21 +85,21 @@ then_rest follows schema t s ss rows mid more gone come later_gone later_come bo
       more_is schema t s ss state b r.1 ∙ l.1,
       l.2,
       (λ n.
-          let turned = turned_both t (state n) (b n) (next n) (gone n) (come n) (later_gone n) (later_come n) (r.3 n) (f n) (l.3 n) in
-          subst (λ x. IsTurned t (state n) (next n) x (both_come n)) (sym (g n)) (subst (λ x. IsTurned t (state n) (next n) (gone_both (gone n) (come n) (later_gone n)) x) (sym (c n)) turned)),
+          let turned = turned_both t (state n) (b n) (next n) (removed n) (added n) (later_removed n) (later_added n) (r.3 n) (f n) (l.3 n) in
+          subst (λ x. IsTurned t (state n) (next n) x (both_added n)) (sym (g n)) (subst (λ x. IsTurned t (state n) (next n) (removed_both (removed n) (added n) (later_removed n)) x) (sym (c n)) turned)),
     )
 
 pub stopped : (schema : Schema) (t : ℕ) (s : Statement) (ss : List Statement) (rows more : Rows) (r : Refusal) → more ≡ rows → IsRefused t s rows r → IsRefusedWhole schema t (s ∷ ss) rows more r
 stopped schema t s ss rows more r e (inl h) = inl h
 stopped schema t s ss rows more r e (inr h) = inr (λ state listed. (stopped_is schema t s ss state r (h state listed), subst (λ x. AllListed x state) (sym e) listed))
 
-pub undoable : (schema : Schema) (t : ℕ) (s : Statement) (ss : List Statement) (rows mid more gone come : Rows) (r : Refusal) → (r ≡ refusals.NoMemory → ⊥) → (state : State) × AllListed rows state → IsRun t s rows mid gone come → IsRefusedWhole schema t ss mid more r → AllUndoable more gone come
-undoable schema t s ss rows mid more gone come r n start run (inl e) = absurd (n e)
-undoable schema t s ss rows mid more gone come r n start run (inr h) = let x = run start.0 start.1 in (start.0, x.0, rows, start.1, (h x.0 x.2).1, x.3)
+pub undoable : (schema : Schema) (t : ℕ) (s : Statement) (ss : List Statement) (rows mid more removed added : Rows) (r : Refusal) → (r ≡ refusals.NoMemory → ⊥) → (state : State) × AllListed rows state → IsRun t s rows mid removed added → IsRefusedWhole schema t ss mid more r → AllUndoable more removed added
+undoable schema t s ss rows mid more removed added r n start run (inl e) = absurd (n e)
+undoable schema t s ss rows mid more removed added r n start run (inr h) = let x = run start.0 start.1 in (start.0, x.0, rows, start.1, (h x.0 x.2).1, x.3)
 
-pub undone : (schema : Schema) (t : ℕ) (s : Statement) (ss : List Statement) (rows mid more back gone come : Rows) (r : Refusal) → IsRun t s rows mid gone come → IsRefusedWhole schema t ss mid more r → IsUndone more back gone come → IsRefusedWhole schema t (s ∷ ss) rows back r
-undone schema t s ss rows mid more back gone come r run (inl e) undo = inl e
-undone schema t s ss rows mid more back gone come r run (inr h) undo = inr (λ state listed.
+pub undone : (schema : Schema) (t : ℕ) (s : Statement) (ss : List Statement) (rows mid more back removed added : Rows) (r : Refusal) → IsRun t s rows mid removed added → IsRefusedWhole schema t ss mid more r → IsUndone more back removed added → IsRefusedWhole schema t (s ∷ ss) rows back r
+undone schema t s ss rows mid more back removed added r run (inl e) undo = inl e
+undone schema t s ss rows mid more back removed added r run (inr h) undo = inr (λ state listed.
     let x = run state listed in
     let y = h x.0 x.2 in
     (more_is schema t s ss state x.0 x.1 ∙ y.0, undo state x.0 rows listed y.1 x.3))
@@ -112,23 +112,23 @@ none_beyond (x ∷ xs) zero h = absurd (omega arith)
 none_beyond (x ∷ xs) (suc n) h = none_beyond xs n (omega arith)
 
 beyond : (v : Versions) (n : ℕ) → table_count v ≤ n → versions_of v n ≡ []
-beyond v n h = ap (λ o. option_map_or (λ table. map version_of table.items) o []) (none_beyond v.tables.items n h)
+beyond v n h = ap (λ o. option_map_or (λ table. map version_of table.items) o []) (none_beyond v.tables.items n (omega (arith, h, v.counted)))
 
 nothing_committed : (t : ℕ) → committed t [] [] [] ≡ []
 unfolding committed
 nothing_committed t = refl
 
 all_committed : NothingBeyond → (t : ℕ) (touched : Touched) (old new : Versions) → table_count new ≡ table_count old → length touched.tables.items ≤ table_count old
-    → ((n : ℕ) → n < table_count old → versions_of new n ≡ committed t (gone_in touched n) (come_in touched n) (versions_of old n))
-    → (n : ℕ) → versions_of new n ≡ committed t (gone_in touched n) (come_in touched n) (versions_of old n)
+    → ((n : ℕ) → n < table_count old → versions_of new n ≡ committed t (removed_in touched n) (added_in touched n) (versions_of old n))
+    → (n : ℕ) → versions_of new n ≡ committed t (removed_in touched n) (added_in touched n) (versions_of old n)
 all_committed nothing t touched old new count few each n = elim (cases_lt n (table_count old)) [
   | inl l ↦ each n l
   | inr g ↦
       let a : versions_of old n ≡ [] = beyond old n g in
       let b : versions_of new n ≡ [] = beyond new n (omega arith) in
       let (c, d) = nothing touched n (omega arith) in
-      let e : committed t (gone_in touched n) (come_in touched n) (versions_of old n) ≡ [] =
-      ap (λ x. committed t x (come_in touched n) (versions_of old n)) c ∙ ap (λ x. committed t [] x (versions_of old n)) d ∙ ap (λ x. committed t [] [] x) a ∙ nothing_committed t in
+      let e : committed t (removed_in touched n) (added_in touched n) (versions_of old n) ≡ [] =
+      ap (λ x. committed t x (added_in touched n) (versions_of old n)) c ∙ ap (λ x. committed t [] x (versions_of old n)) d ∙ ap (λ x. committed t [] [] x) a ∙ nothing_committed t in
       b ∙ sym e
 ]
 
@@ -137,8 +137,8 @@ unfolding executed_text
 text_is schema t text ss state e = ap (λ x. transacted schema t x state) e
 
 pub accepted : NothingBeyond → (schema : Schema) (t : ℕ) (text : List ℕ) (ss : List Statement) (rows more : Rows) (touched : Touched) (old new : Versions) (tables : ℕ) → ss ≡ read_statements (schema.reads text)
-    → IsTransacted schema t ss rows more (gone_in touched) (come_in touched) → length touched.tables.items ≤ tables → table_count new ≡ table_count old
-    → ((n : ℕ) → n < table_count old → versions_of new n ≡ committed t (gone_in touched n) (come_in touched n) (versions_of old n))
+    → IsTransacted schema t ss rows more (removed_in touched) (added_in touched) → length touched.tables.items ≤ tables → table_count new ≡ table_count old
+    → ((n : ℕ) → n < table_count old → versions_of new n ≡ committed t (removed_in touched n) (added_in touched n) (versions_of old n))
     → (state : State) → AllListed rows state → table_count old ≡ tables → IsExecuted schema t text state more (versions_of old) (versions_of new) (Ok t)
 accepted nothing schema t text ss rows more touched old new tables e done few count each state listed same =
     let d = done state listed in
@@ -147,7 +147,7 @@ accepted nothing schema t text ss rows more touched old new tables e done few co
     record {
       is = ap (outcome_at t) (sym ok);
       rows = subst (λ (s : State). AllListed more s) (sym next) d.2;
-      committed = λ n. inr (gone_in touched n, come_in touched n, subst (λ (s : State). IsTurned t (state n) (s n) (gone_in touched n) (come_in touched n)) (sym next) (d.3 n), all_committed nothing t touched old new count (omega arith) each n);
+      committed = λ n. inr (removed_in touched n, added_in touched n, subst (λ (s : State). IsTurned t (state n) (s n) (removed_in touched n) (added_in touched n)) (sym next) (d.3 n), all_committed nothing t touched old new count (omega arith) each n);
     }
 
 pub refused : (schema : Schema) (t : ℕ) (text : List ℕ) (ss : List Statement) (rows more : Rows) (old : Versions) (r : Refusal) → ss ≡ read_statements (schema.reads text)

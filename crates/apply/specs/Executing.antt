@@ -13,20 +13,20 @@ use Rattle.retry.specs.Judging.{Verdict, New, Kept, Old, Gap}
 
 -- Several statements at t turned the older table into the newer: these rows went and these came. A row that was born at t
 -- may have gone and come again.
-pub record IsTurned (t : ℕ) (old new : Table) (gone come : List Row) : Type 0 where
-  pub went : (row : Row) → Has gone row → IsRow old row
-  pub back : (row : Row) → Has gone row → IsRow new row → Has come row
-  pub stay : (row : Row) → IsRow old row → IsRow new row ⊎ Has gone row
-  pub came : (row : Row) → Has come row → IsRow new row × (row.system_start ≡ t)
-  pub anew : (row : Row) → Has come row → IsRow old row → Has gone row
-  pub comes : (row : Row) → IsRow new row → IsRow old row ⊎ Has come row
-  pub gone_once : Apart gone
-  pub come_once : Apart come
+pub record IsTurned (t : ℕ) (old new : Table) (removed added : List Row) : Type 0 where
+  pub went : (row : Row) → Has removed row → IsRow old row
+  pub back : (row : Row) → Has removed row → IsRow new row → Has added row
+  pub stay : (row : Row) → IsRow old row → IsRow new row ⊎ Has removed row
+  pub came : (row : Row) → Has added row → IsRow new row × (row.system_start ≡ t)
+  pub anew : (row : Row) → Has added row → IsRow old row → Has removed row
+  pub comes : (row : Row) → IsRow new row → IsRow old row ⊎ Has added row
+  pub removed_once : Apart removed
+  pub added_once : Apart added
 
 -- whatever state the rows were of, it takes the transaction, the new rows are those of the state after it, and these went and came
 abbrev pub IsTransacted : Schema → ℕ → List Statement → Rows → Rows → Rows → Rows → Type 0
-IsTransacted schema t ss rows more gone come =
-    (state : State) → AllListed rows state → (next : State) × (transacted schema t ss state ≡ Ok next) × AllListed more next × ((n : ℕ) → IsTurned t (state n) (next n) (gone n) (come n))
+IsTransacted schema t ss rows more removed added =
+    (state : State) → AllListed rows state → (next : State) × (transacted schema t ss state ≡ Ok next) × AllListed more next × ((n : ℕ) → IsTurned t (state n) (next n) (removed n) (added n))
 
 -- whatever state the rows are of, it refuses the transaction so, and they are its rows again; or there was no memory
 abbrev pub IsRefusedWhole : Schema → ℕ → List Statement → Rows → Rows → Refusal → Type 0
@@ -36,7 +36,7 @@ IsRefusedWhole schema t ss rows more refusal =
 -- the table stays with its versions, or what the transaction at t turned is committed
 abbrev pub IsCommitted : ℕ → Table → Table → List Version → List Version → Type 0
 IsCommitted t old new versions more =
-    ((new ≡ old) × (more ≡ versions)) ⊎ ((gone : List Row) × (come : List Row) × IsTurned t old new gone come × (more ≡ committed t gone come versions))
+    ((new ≡ old) × (more ≡ versions)) ⊎ ((removed : List Row) × (added : List Row) × IsTurned t old new removed added × (more ≡ committed t removed added versions))
 
 -- the outcome of a text that is executed at t in a state, and the rows and versions after it
 pub record IsExecuted (schema : Schema) (t : ℕ) (text : List ℕ) (state : State) (more : Rows) (versions later : ℕ → List Version) (outcome : Outcome) : Type 0 where

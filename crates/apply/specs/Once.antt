@@ -6,7 +6,9 @@ use mathlib.Core.HLevel.{is_prop→PathP, Unit-prop}
 use Rattle.model.specs.declared.value.Value.{Value}
 use Rattle.model.specs.declared.entry.Entry.{Entry}
 use Rattle.model.specs.Tables.{Table, Row, Cell, IsRow}
-use Rattle.model.specs.Transactions.{Schema}
+use Rattle.schema.specs.Shape.{TableShape, ReferenceShape}
+use Rattle.schema.specs.declared.table.Kind.{Kind}
+use Rattle.sqlchecks.specs.Columns as columns
 use Rattle.rowlaws.specs.Rows.{Has, Apart, Lists}
 use Rattle.rowlaws.proofs.RowFacts.{one_row}
 use Rattle.rowlaws.proofs.Keys.{apart_from_sorted}
@@ -117,5 +119,17 @@ holds_prop versions history bound current a b = holds_from versions history boun
 
 -- ---- all tables
 
-pub tables_prop : (schema : Schema) (list : List Entry) (tables : Tables) → IsProp (AreTables schema list tables)
-tables_prop schema list tables = hlevel (props, lists_prop, holds_prop)
+kind_set : IsSet Kind
+kind_set = hlevel props
+
+reference_set : IsSet ReferenceShape
+reference_set = hlevel props
+
+shape_set : IsSet TableShape
+shape_set = hlevel (props, kind_set, reference_set)
+
+schema_set : IsSet columns.Tables
+schema_set = hlevel (props, shape_set)
+
+pub tables_prop : (schema : columns.Tables) (list : List Entry) (tables : Tables) → IsProp (AreTables schema list tables)
+tables_prop schema list tables = hlevel (props, lists_prop, holds_prop, schema_set)

@@ -10,7 +10,8 @@ use Rattle.model.specs.Answers.{IsAnswer, closed_query, read_at}
 use Rattle.rowlaws.specs.Statements.{AllListed}
 use Rattle.versionlaws.specs.Versions.{Holds}
 use Rattle.sqlread.specs.Shapes.{QueryShape}
-use Rattle.sqlread.specs.Meaning.{select_of}
+use Rattle.sqlchecks.specs.Columns as columns
+use Rattle.sqlread.specs.Meaning.{select_of, schema_of}
 use Rattle.answer.specs.declared.Answer.{Answer}
 use Rattle.answer.specs.Answers.{answer_of}
 use Rattle.retry.specs.declared.Latest.{Latest}
@@ -25,15 +26,15 @@ is_failed tables = tables.failed
 abbrev pub outcome_of : Latest → Result ℕ Refusal
 outcome_of latest = latest.outcome
 
--- the tables are what the list of entries leaves
-pub record AreTables (schema : Schema) (list : List Entry) (tables : Tables) : Type 0 where
-  pub rows : AllListed (current.rows_of tables.current) (state_after schema (reverse list))
+-- the tables are those of the schema, and what the list of entries leaves
+pub record AreTables (schema : columns.Tables) (list : List Entry) (tables : Tables) : Type 0 where
+  pub rows : AllListed (current.rows_of tables.current) (state_after (schema_of schema) (reverse list))
   pub numbers : (client : ℕ) → number_of (latest_of tables.requests client) ≡ executed client (reverse list)
-  pub outcomes : (client : ℕ) → option_map outcome_of (latest_of tables.requests client) ≡ kept schema client (reverse list)
+  pub outcomes : (client : ℕ) → option_map outcome_of (latest_of tables.requests client) ≡ kept (schema_of schema) client (reverse list)
   pub last : tables.last ≡ closed list
-  pub held : IsStamped list → (n : ℕ) → Holds (versions.versions_of tables.versions n) (λ u. state_at schema list u n) (least_stamp list) (state_after schema (reverse list) n)
-  pub current_tables : current.table_count tables.current ≡ schema.tables
-  pub versions_tables : versions.table_count tables.versions ≡ schema.tables
+  pub held : IsStamped list → (n : ℕ) → Holds (versions.versions_of tables.versions n) (λ u. state_at (schema_of schema) list u n) (least_stamp list) (state_after (schema_of schema) (reverse list) n)
+  pub current_schema : current.schema_in tables.current ≡ schema
+  pub versions_schema : versions.schema_in tables.versions ≡ schema
 
 -- the answer to a question that is closed in the list, or 33 where it is not; or there was no memory
 abbrev pub IsAskedOf : Schema → QueryShape → List Entry → Result Answer Refusal → Type 0

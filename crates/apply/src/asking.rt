@@ -5,14 +5,13 @@ ghost use Rattle.model.specs.Texts.{instant_text};
 ghost use Rattle.model.specs.Answers.{time_or};
 ghost use Rattle.sqlread.specs.Shapes.{query_of, time_of};
 ghost use Rattle.answer.specs.Answers.{columns_in};
-ghost use Rattle.sysversion.specs.Versions.{versions_of};
+ghost use Rattle.sysversion.specs.Versions.{versions_of, schema_in};
 ghost use Rattle.apply.specs.Asking.{IsAnswered, IsUnanswered};
 
 use answer::Answer;
 use asof::Ask;
 use fault::{Refusal, Text};
 use model::stamp::Stamp;
-use schema::Schema;
 use sqlread::query::{Query, SystemTime};
 use std::alloc::{AllocError, Global};
 use sysversion::Versions;
@@ -51,12 +50,11 @@ fn time_or(query: &Query, at: Stamp) -> SystemTime
 pub(crate) fn ask(
     alloc: Global,
     versions: &Versions,
-    schema: &Schema,
     query: &Query,
     last: Option<Stamp>,
 ) -> Result<Answer, Refusal>
     ensures ok { IfOk result (λ a. IsAnswered (query_of query.now) last (versions_of versions.now query.now.table) a) }
-    ensures columns { IfOk result (λ a. a.columns.items ≡ columns_in schema.now query.now.table) }
+    ensures columns { IfOk result (λ a. a.columns.items ≡ columns_in (schema_in versions.now) query.now.table) }
     ensures err { IfErr result (λ refusal. IsUnanswered (query_of query.now) last refusal) }
 {
     let Some(closed) = last else {
@@ -66,5 +64,5 @@ pub(crate) fn ask(
     if time.last.micros() > closed.micros() {
         return Err(not_closed(alloc, closed));
     }
-    versions.ask(alloc, schema, query, time)
+    versions.ask(alloc, query, time)
 }

@@ -6,9 +6,8 @@ ghost use Rattle.rowlaws.specs.Statements.{AllListed};
 ghost use Rattle.rowlaws.specs.Transactions.{TransactionsFollow};
 ghost use Rattle.sqlread.specs.Meaning.{schema_of, meaning};
 ghost use Rattle.sqlread.specs.Shapes.{statement_of};
-ghost use Rattle.current.specs.Current.{rows_of, table_count};
-ghost use Rattle.current.specs.Touched.{gone_in, come_in};
-ghost use Rattle.current.specs.Run.{IsRun, IsRefused};
+ghost use Rattle.current.specs.Current.{rows_of, schema_in, table_count};
+ghost use Rattle.current.specs.Touched.{removed_in, added_in};
 ghost use Rattle.current.specs.Laws.{OfSomeState};
 ghost use Rattle.sysversion.specs.Versions.{versions_of};
 ghost use Rattle.sysversion.specs.Versions as stored;
@@ -40,42 +39,27 @@ fn is_no_memory(refusal: &Refusal) -> bool
     matches!(refusal, Refusal::NoMemory)
 }
 
-// Runs a statement. One on a table that is not there, which only another schema has, fails as for want of memory.
-fn run(current: &mut Current, statement: &Statement, t: Stamp) -> Result<Touched, Refusal>
-    ensures ok { IfOk result (λ touched. IsRun t (meaning (statement_of statement.now)) (rows_of current.old) (rows_of current.new) (gone_in touched) (come_in touched)) }
-    ensures err { IfErr result (λ refusal. IsRefused t (meaning (statement_of statement.now)) (rows_of current.old) refusal) }
-    ensures unchanged { OnErr result (rows_of current.new ≡ rows_of current.old) }
-    ensures count { table_count current.new ≡ table_count current.old }
-    ensures tables { IfOk result (λ touched. length touched.tables.items ≤ table_count current.old) }
-{
-    if statement.table() >= current.table_count() {
-        return Err(Refusal::NoMemory);
-    }
-    current.run(statement, t)
-}
-
 // Runs statements in order, and after the last one checks the references; tells what all of them touched. At a refusal
 // the statements that ran are undone, from the last back to the first. After `NoMemory` the rows may be any.
 fn transact(
     alloc: Global,
     current: &mut Current,
-    schema: &Schema,
     statements: &[Statement],
     t: Stamp,
 ) -> Result<Touched, Refusal>
-    ensures ok { IfOk result (λ touched. IsTransacted (schema_of schema.now) t (map meaning (map statement_of statements.now)) (rows_of current.old) (rows_of current.new) (gone_in touched) (come_in touched)) }
-    ensures err { IfErr result (λ refusal. IsRefusedWhole (schema_of schema.now) t (map meaning (map statement_of statements.now)) (rows_of current.old) (rows_of current.new) refusal) }
-    ensures count { table_count current.new ≡ table_count current.old }
+    ensures ok { IfOk result (λ touched. IsTransacted (schema_of (schema_in current.old)) t (map meaning (map statement_of statements.now)) (rows_of current.old) (rows_of current.new) (removed_in touched) (added_in touched)) }
+    ensures err { IfErr result (λ refusal. IsRefusedWhole (schema_of (schema_in current.old)) t (map meaning (map statement_of statements.now)) (rows_of current.old) (rows_of current.new) refusal) }
+    ensures schema { schema_in current.new ≡ schema_in current.old }
     ensures tables { IfOk result (λ touched. length touched.tables.items ≤ table_count current.old) }
 {
     row_laws();
     let Some((statement, rest)) = statements.split_first() else {
-        current.check(schema)?;
+        current.check()?;
         let tables = Vec::new(alloc);
         return Ok(Touched { tables });
     };
-    let touched = run(current, statement, t)?;
-    match transact(alloc, current, schema, rest, t) {
+    let touched = current.run(statement, t)?;
+    match transact(alloc, current, rest, t) {
         Ok(later) => Ok(touched.then(alloc, later)?),
         Err(refusal) => {
             if !is_no_memory(&refusal) {
@@ -107,17 +91,16 @@ pub(crate) fn execute(
     alloc: Global,
     current: &mut Current,
     versions: &mut Versions,
-    schema: &Schema,
     text: &str,
     t: Stamp,
 ) -> Result<Outcome, AllocError>
-    ensures executed { IfOk result (λ outcome. (state : State) → AllListed (rows_of current.old) state → stored.table_count versions.old ≡ table_count current.old → IsExecuted (schema_of schema.now) t text.now state (rows_of current.new) (versions_of versions.old) (versions_of versions.new) outcome) }
-    ensures current_tables { table_count current.new ≡ table_count current.old }
-    ensures versions_tables { stored.table_count versions.new ≡ stored.table_count versions.old }
+    ensures executed { IfOk result (λ outcome. (state : State) → AllListed (rows_of current.old) state → stored.schema_in versions.old ≡ schema_in current.old → IsExecuted (schema_of (schema_in current.old)) t text.now state (rows_of current.new) (versions_of versions.old) (versions_of versions.new) outcome) }
+    ensures current_schema { schema_in current.new ≡ schema_in current.old }
+    ensures versions_schema { stored.schema_in versions.new ≡ stored.schema_in versions.old }
 {
     laws::nothing_beyond();
-    let statements = statements(alloc, schema, text)?;
-    match transact(alloc, current, schema, statements.as_slice(), t) {
+    let statements = statements(alloc, current.schema(), text)?;
+    match transact(alloc, current, statements.as_slice(), t) {
         Ok(touched) => {
             versions.commit(touched, t)?;
             Ok(Ok(t))

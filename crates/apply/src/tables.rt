@@ -4,6 +4,7 @@ ghost use Rattle.std.specs.Option.{option_map};
 ghost use Rattle.fault.specs.declared.refusal.Refusal.TheVariants.{NoMemory};
 ghost use Rattle.model.specs.declared.entry.Entry as entries;
 ghost use Rattle.model.specs.Logs.{IsStamped, outcome};
+ghost use Rattle.sqlchecks.specs.Columns as columns;
 ghost use Rattle.sqlread.specs.Calendar.{LiteralsInCalendar};
 ghost use Rattle.sqlread.specs.Meaning.{schema_of};
 ghost use Rattle.sqlread.specs.Shapes.{query_of};
@@ -30,8 +31,7 @@ use std::alloc::{AllocError, Global};
 use sysversion::Versions;
 
 /// The tables of a schema after a list of entries: the current rows, all versions, each client's latest outcome, and
-/// the last stamp. Each call has to be given the schema that the tables were made of. Contracts say by `AreTables` of
-/// which list they are.
+/// the last stamp. Contracts say by `AreTables` of which schema and of which list they are.
 #[derive(Drop)]
 pub struct Tables {
     pub(crate) alloc: Global,
@@ -87,13 +87,12 @@ fn unless_new(requests: &Requests, request: &Request) -> Result<Option<Outcome>,
 impl Tables {
     /// The tables of a schema before any entry.
     pub fn new(alloc: Global, schema: &Schema) -> Result<Tables, AllocError>
-        ensures tables { IfOk result (λ tables. AreTables (schema_of schema.now) [] tables) }
+        ensures tables { IfOk result (λ tables. AreTables schema.now [] tables) }
         ensures up { IfOk result (λ tables. is_failed tables ≡ false) }
     {
         log_laws();
-        let count = schema.len();
-        let current = Current::new(alloc, count)?;
-        let versions = Versions::new(alloc, count)?;
+        let current = Current::new(alloc, schema)?;
+        let versions = Versions::new(alloc, schema)?;
         let requests = Requests::new(alloc);
         Ok(Tables {
             alloc,
@@ -106,9 +105,9 @@ impl Tables {
     }
 
     // Takes in one more entry. After want of memory it is of no list.
-    fn take(&mut self, schema: &Schema, entry: &Entry) -> Result<Option<Outcome>, AllocError>
-        ensures kept { OnOk result ((list : List entries.Entry) → AreTables (schema_of schema.now) list self.old → AreTables (schema_of schema.now) (list ++ entry.now ∷ []) self.new) }
-        ensures outcome { IfOk result (λ o. (list : List entries.Entry) → AreTables (schema_of schema.now) list self.old → o ≡ option_map (λ r. outcome (schema_of schema.now) entry.now.stamp r (reverse list)) entry.now.request) }
+    fn take(&mut self, entry: &Entry) -> Result<Option<Outcome>, AllocError>
+        ensures kept { OnOk result ((schema : columns.Tables) (list : List entries.Entry) → AreTables schema list self.old → AreTables schema (list ++ entry.now ∷ []) self.new) }
+        ensures outcome { IfOk result (λ o. (schema : columns.Tables) (list : List entries.Entry) → AreTables schema list self.old → o ≡ option_map (λ r. outcome (schema_of schema) entry.now.stamp r (reverse list)) entry.now.request) }
         ensures failed { is_failed self.new ≡ is_failed self.old }
     {
         log_laws();
@@ -123,7 +122,6 @@ impl Tables {
             self.alloc,
             &mut self.current,
             &mut self.versions,
-            schema,
             request.text.as_str(),
             entry.stamp,
         )?;
@@ -137,9 +135,9 @@ impl Tables {
     /// transaction changes no row.
     ///
     /// Want of memory is never an outcome: the value has then failed, and answers only that.
-    pub fn apply(&mut self, schema: &Schema, entry: &Entry) -> Result<Option<Outcome>, AllocError>
-        ensures kept { OnOk result ((list : List entries.Entry) → AreTables (schema_of schema.now) list self.old → AreTables (schema_of schema.now) (list ++ entry.now ∷ []) self.new) }
-        ensures outcome { IfOk result (λ o. (list : List entries.Entry) → AreTables (schema_of schema.now) list self.old → o ≡ option_map (λ r. outcome (schema_of schema.now) entry.now.stamp r (reverse list)) entry.now.request) }
+    pub fn apply(&mut self, entry: &Entry) -> Result<Option<Outcome>, AllocError>
+        ensures kept { OnOk result ((schema : columns.Tables) (list : List entries.Entry) → AreTables schema list self.old → AreTables schema (list ++ entry.now ∷ []) self.new) }
+        ensures outcome { IfOk result (λ o. (schema : columns.Tables) (list : List entries.Entry) → AreTables schema list self.old → o ≡ option_map (λ r. outcome (schema_of schema) entry.now.stamp r (reverse list)) entry.now.request) }
         ensures err { OnErr result (is_failed self.new ≡ true) }
         ensures up { OnOk result (is_failed self.new ≡ false) }
         ensures once_failed { is_failed self.old ≡ true → result ≡ Err alloc_error }
@@ -147,7 +145,7 @@ impl Tables {
         if self.failed {
             return Err(AllocError);
         }
-        match self.take(schema, entry) {
+        match self.take(entry) {
             Ok(outcome) => Ok(outcome),
             Err(error) => {
                 self.failed = true;
@@ -159,16 +157,16 @@ impl Tables {
     /// Answers a question; one without system time is AS OF the last stamp. `NotClosed` with the last stamp where the
     /// question's last instant is later than that, or where there is none; `NoMemory`, always once it has failed. It
     /// changes nothing.
-    pub fn ask(&self, schema: &Schema, query: &Query) -> Result<Answer, Refusal>
-        ensures asked { (list : List entries.Entry) → AreTables (schema_of schema.now) list self.now → IsStamped list → IsAskedOf (schema_of schema.now) (query_of query.now) list result }
-        ensures columns { IfOk result (λ a. a.columns.items ≡ columns_in schema.now query.now.table) }
+    pub fn ask(&self, query: &Query) -> Result<Answer, Refusal>
+        ensures asked { (schema : columns.Tables) (list : List entries.Entry) → AreTables schema list self.now → IsStamped list → IsAskedOf (schema_of schema) (query_of query.now) list result }
+        ensures columns { (schema : columns.Tables) (list : List entries.Entry) → AreTables schema list self.now → IfOk result (λ a. a.columns.items ≡ columns_in schema query.now.table) }
         ensures once_failed { is_failed self.now ≡ true → result ≡ Err NoMemory }
     {
         if self.failed {
             return Err(Refusal::NoMemory);
         }
         log_laws();
-        asking::ask(self.alloc, &self.versions, schema, query, self.last)
+        asking::ask(self.alloc, &self.versions, query, self.last)
     }
 
     /// Whether a call has found no memory.

@@ -12,7 +12,6 @@ use crate::found::{found, in_order};
 use crate::shown::show_all;
 use answer::{Answer, columns_of};
 use fault::Refusal;
-use schema::Schema;
 use sqlread::query::{Query, SystemTime};
 use std::alloc::Global;
 use sysversion::Versions;
@@ -21,6 +20,7 @@ use sysversion::Versions;
 pub trait Ask {
     ghost use Rattle.std.specs.Prelude.{◌≡◌, true, Err, IfOk, IfErr, ℕ, Bool, List};
     ghost use Rattle.fault.specs.declared.refusal.Refusal.TheVariants.{NoMemory};
+    ghost use Rattle.sqlchecks.specs.Columns.{Tables};
     ghost use Rattle.sqlread.specs.Shapes.{query_of, time_of};
     ghost use Rattle.sqlread.specs.Meaning.{select_of};
     ghost use Rattle.versionlaws.specs.Answering.{answer_from};
@@ -31,40 +31,33 @@ pub trait Ask {
     /// The versions of each table, by its number, that the answers come from.
     ghost versions_in: { Self → ℕ → List Version };
 
+    /// The tables of the schema, whose columns the answers have.
+    ghost tables_in: { Self → Tables };
+
     /// It has found no memory, and answers no more.
     ghost failed_in: { Self → Bool };
 
     /// The answer to a question that is read with this system time, whatever its own is.
     ///
     /// Refused for want of memory alone, always once it has failed.
-    fn ask(
-        &self,
-        alloc: Global,
-        schema: &Schema,
-        query: &Query,
-        time: SystemTime,
-    ) -> Result<Answer, Refusal>
+    fn ask(&self, alloc: Global, query: &Query, time: SystemTime) -> Result<Answer, Refusal>
         ensures ok { IfOk result (λ a. answer_of a ≡ answer_from (read_with (time_of time) (select_of (query_of query.now))) (versions_in self.now query.now.table)) }
         ensures kept { IfOk result (λ a. IsKept (read_with (time_of time) (select_of (query_of query.now))) (versions_in self.now query.now.table) (answer_of a)) }
-        ensures columns { IfOk result (λ a. a.columns.items ≡ columns_in schema.now query.now.table) }
+        ensures columns { IfOk result (λ a. a.columns.items ≡ columns_in (tables_in self.now) query.now.table) }
         ensures err { IfErr result (λ refusal. refusal ≡ NoMemory) }
         ensures once_failed { failed_in self.now ≡ true → result ≡ Err NoMemory };
 }
 
 impl Ask for Versions {
-    ghost use Rattle.sysversion.specs.Versions.{versions_of, is_failed};
+    ghost use Rattle.sysversion.specs.Versions.{versions_of, schema_in, is_failed};
 
     ghost versions_in = { versions_of };
 
+    ghost tables_in = { schema_in };
+
     ghost failed_in = { is_failed };
 
-    fn ask(
-        &self,
-        alloc: Global,
-        schema: &Schema,
-        query: &Query,
-        time: SystemTime,
-    ) -> Result<Answer, Refusal> {
+    fn ask(&self, alloc: Global, query: &Query, time: SystemTime) -> Result<Answer, Refusal> {
         if self.has_failed() {
             return Err(Refusal::NoMemory);
         }
@@ -73,7 +66,7 @@ impl Ask for Versions {
         let found = found(alloc, versions, &time, query.terms.as_slice())?;
         let sorted = in_order(found)?;
         let rows = show_all(alloc, sorted.as_slice(), time.last)?;
-        let columns = columns_of(alloc, schema, query.table)?;
+        let columns = columns_of(alloc, self.schema(), query.table)?;
         Ok(Answer {
             last: time.last,
             columns,

@@ -31,13 +31,6 @@ pub(crate) fn tell<R: Print + Clock>(rt: &R, alloc: Global, schema: &Schema) -> 
     Ok(())
 }
 
-fn run(current: &mut Current, statement: &Statement) -> Result<Touched, Refusal> {
-    if statement.table() >= current.table_count() {
-        return Err(Refusal::UnknownTable);
-    }
-    current.run(statement, Stamp::new(1))
-}
-
 // The key, the start and the end of a row: months in turn from the year 1000 on where all have one key.
 fn row(alloc: Global, keys: Keys, n: usize) -> Result<(usize, String, String)> {
     Ok(match keys {
@@ -91,7 +84,7 @@ fn timed<R: Clock>(
     statement: &Statement,
 ) -> Result<(u128, Touched)> {
     let start = Instant::now(rt)?;
-    let touched = run(current, statement)?;
+    let touched = current.run(statement, Stamp::new(1))?;
     Ok((start.elapsed(rt)?.as_nanos(), touched))
 }
 
@@ -135,16 +128,11 @@ fn updates<R: Clock>(
     Ok(nanos / MEASURED as u128)
 }
 
-fn ask(
-    alloc: Global,
-    schema: &Schema,
-    versions: &Versions,
-    query: &Query,
-) -> Result<usize, Refusal> {
+fn ask(alloc: Global, versions: &Versions, query: &Query) -> Result<usize, Refusal> {
     let Some(time) = query.time else {
         return Err(Refusal::NotClosed(None));
     };
-    Ok(versions.ask(alloc, schema, query, time)?.rows.len())
+    Ok(versions.ask(alloc, query, time)?.rows.len())
 }
 
 // The nanoseconds of a question AS OF by key.
@@ -159,7 +147,7 @@ fn questions<R: Clock>(
     let query = read_query(alloc, schema, text)?;
     let start = Instant::now(rt)?;
     for _ in 0..MEASURED {
-        let _ = ask(alloc, schema, versions, &query)?;
+        let _ = ask(alloc, versions, &query)?;
     }
     Ok(start.elapsed(rt)?.as_nanos() / MEASURED as u128)
 }
@@ -171,8 +159,8 @@ fn tell_rows<R: Print + Clock>(
     keys: Keys,
     rows: usize,
 ) -> Result<()> {
-    let mut current = Current::new(alloc, 1)?;
-    let mut versions = Versions::new(alloc, 1)?;
+    let mut current = Current::new(alloc, schema)?;
+    let mut versions = Versions::new(alloc, schema)?;
     let inserted = fill(rt, alloc, schema, keys, rows, &mut current, &mut versions)?;
     let updated = updates(rt, alloc, schema, keys, rows, &mut current)?;
     let asked = questions(rt, alloc, schema, &versions)?;

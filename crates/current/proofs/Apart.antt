@@ -10,11 +10,11 @@ use Rattle.model.specs.Statements.{meets}
 use Rattle.model.specs.Transactions.{Change, Insert, Update, Delete}
 use Rattle.rowlaws.specs.Rows.{Has, Lists}
 use Rattle.rowlaws.specs.Cutting.{part, if_days, pieces, rest}
-use Rattle.rowlaws.specs.Touching.{same_row, rows_without, gone_by, come_by}
+use Rattle.rowlaws.specs.Touching.{same_row, rows_without, removed_by, added_by}
 use Rattle.rowlaws.proofs.Members.{has_cases, has_flat, flat_has, filter_has}
 use Rattle.rowlaws.proofs.RowFacts.{one_row, both}
 use Rattle.rowlaws.proofs.Anys.{any_has, has_any, same_test}
-use Rattle.current.specs.Cuts.{is_met, made, gone_at, come_at}
+use Rattle.current.specs.Cuts.{is_met, made, removed_at, added_at}
 use Rattle.current.proofs.InLine.{HasPortion}
 use Rattle.rowlaws.proofs.SameRow.{same_row-true, same_row-itself}
 
@@ -152,16 +152,16 @@ module _ (test : Row → Bool) (g : Row → List Row) (rows : List Row) (table :
       let e : x.0 ≡ r = elim x.1 [ inl i ↦ i | inr n ↦ absurd n ] in
       has_any (same_row y) met x.0 (subst (λ z. Has met z) (sym e) h) x.2)
 
-  pub gone_alone : rows_without met (flat_map g met) ≡ flat_map (λ r. cond (test r) (rows_without (r ∷ []) (g r)) []) rows
+  pub removed_alone : rows_without met (flat_map g met) ≡ flat_map (λ r. cond (test r) (rows_without (r ∷ []) (g r)) []) rows
   unfolding rows_without
-  gone_alone =
+  removed_alone =
       filter_same (λ r. not (list_any (same_row r) (flat_map g met))) (λ r. not (list_any (same_row r) (g r))) met (λ r h. ap not (made_again r h))
       ∙ one_each (λ r. not (list_any (same_row r) (g r))) met
       ∙ flat_filter test (λ r. rows_without (r ∷ []) (g r)) rows
 
-  pub come_alone : rows_without (flat_map g met) met ≡ flat_map (λ r. cond (test r) (rows_without (g r) (r ∷ [])) []) rows
+  pub added_alone : rows_without (flat_map g met) met ≡ flat_map (λ r. cond (test r) (rows_without (g r) (r ∷ [])) []) rows
   unfolding rows_without
-  come_alone =
+  added_alone =
       filter_flat (λ y. not (list_any (same_row y) met)) g met
       ∙ flat_same (λ r. filter (λ y. not (list_any (same_row y) met)) (g r)) (λ r. rows_without (g r) (r ∷ [])) met (λ r h. filter_same (λ y. not (list_any (same_row y) met)) (λ y. not (list_any (same_row y) (r ∷ []))) (g r) (λ y i. ap not (met_before r y h i)))
       ∙ flat_filter test (λ r. rows_without (g r) (r ∷ [])) rows
@@ -172,12 +172,12 @@ IsOfRows (Insert key values p) = ⊥
 IsOfRows (Update passes p set) = Unit {0}
 IsOfRows (Delete passes p) = Unit {0}
 
-pub gone_is : (c : Change) (t : ℕ) (rows : List Row) (table : Table) → IsOfRows c → HasPortion c → Lists rows table → gone_by c t rows ≡ flat_map (gone_at c t) rows
-gone_is (Insert k v p) t rows table of fine l = absurd of
-gone_is (Update passes p set) t rows table of fine l = gone_alone (meets passes p) (pieces p set t) rows table l (λ r y h m i. made_part (Update passes p set) t r y fine m (l.each r h).some i)
-gone_is (Delete passes p) t rows table of fine l = gone_alone (meets passes p) (rest p t) rows table l (λ r y h m i. made_part (Delete passes p) t r y fine m (l.each r h).some i)
+pub removed_is : (c : Change) (t : ℕ) (rows : List Row) (table : Table) → IsOfRows c → HasPortion c → Lists rows table → removed_by c t rows ≡ flat_map (removed_at c t) rows
+removed_is (Insert k v p) t rows table of fine l = absurd of
+removed_is (Update passes p set) t rows table of fine l = removed_alone (meets passes p) (pieces p set t) rows table l (λ r y h m i. made_part (Update passes p set) t r y fine m (l.each r h).some i)
+removed_is (Delete passes p) t rows table of fine l = removed_alone (meets passes p) (rest p t) rows table l (λ r y h m i. made_part (Delete passes p) t r y fine m (l.each r h).some i)
 
-pub come_is : (c : Change) (t : ℕ) (rows : List Row) (table : Table) → IsOfRows c → HasPortion c → Lists rows table → come_by c t rows ≡ flat_map (come_at c t) rows
-come_is (Insert k v p) t rows table of fine l = absurd of
-come_is (Update passes p set) t rows table of fine l = come_alone (meets passes p) (pieces p set t) rows table l (λ r y h m i. made_part (Update passes p set) t r y fine m (l.each r h).some i)
-come_is (Delete passes p) t rows table of fine l = come_alone (meets passes p) (rest p t) rows table l (λ r y h m i. made_part (Delete passes p) t r y fine m (l.each r h).some i)
+pub added_is : (c : Change) (t : ℕ) (rows : List Row) (table : Table) → IsOfRows c → HasPortion c → Lists rows table → added_by c t rows ≡ flat_map (added_at c t) rows
+added_is (Insert k v p) t rows table of fine l = absurd of
+added_is (Update passes p set) t rows table of fine l = added_alone (meets passes p) (pieces p set t) rows table l (λ r y h m i. made_part (Update passes p set) t r y fine m (l.each r h).some i)
+added_is (Delete passes p) t rows table of fine l = added_alone (meets passes p) (rest p t) rows table l (λ r y h m i. made_part (Delete passes p) t r y fine m (l.each r h).some i)

@@ -13,7 +13,7 @@ use Rattle.rowlaws.proofs.RowFacts.{both}
 use Rattle.current.specs.declared.plan.Line.{Line}
 use Rattle.current.specs.declared.row.Row.{Row as Declared}
 use Rattle.current.specs.Rows.{row_of}
-use Rattle.current.specs.Cuts.{is_met, is_stuck, kept, gone_at, come_at}
+use Rattle.current.specs.Cuts.{is_met, is_stuck, kept, removed_at, added_at}
 use Rattle.current.specs.Stored.{Lines}
 use Rattle.current.specs.Plans.{instead, with_planned, ArePlanned}
 use Rattle.current.proofs.Walks.{unmet_in_range}
@@ -22,8 +22,8 @@ use Rattle.current.proofs.Walks.{unmet_in_range}
 
 pub record Unmet (c : Change) (t : ℕ) (rows : List Row) : Type 0 where
   pub kept_all : flat_map (kept c t) rows ≡ rows
-  pub gone_none : flat_map (gone_at c t) rows ≡ []
-  pub come_none : flat_map (come_at c t) rows ≡ []
+  pub removed_none : flat_map (removed_at c t) rows ≡ []
+  pub added_none : flat_map (added_at c t) rows ≡ []
   pub in_range : list_any (is_stuck c) rows ≡ false
 
 parts_or : (a b : Bool) → (a || b) ≡ false → (a ≡ false) × (b ≡ false)
@@ -31,14 +31,14 @@ parts_or true b h = absurd (both refl h)
 parts_or false b h = (refl, h)
 
 pub unmet : (c : Change) (t : ℕ) (rows : List Declared) → list_any (λ r. is_met c (row_of r)) rows ≡ false → Unmet c t (map row_of rows)
-unmet c t [] h = record { kept_all = refl; gone_none = refl; come_none = refl; in_range = refl }
+unmet c t [] h = record { kept_all = refl; removed_none = refl; added_none = refl; in_range = refl }
 unmet c t (r ∷ rows) h =
     let p = parts_or _ _ h in
     let u = unmet c t rows p.1 in
     record {
       kept_all = rw p.0 (ap (λ rs. row_of r ∷ rs) u.kept_all);
-      gone_none = rw p.0 u.gone_none;
-      come_none = rw p.0 u.come_none;
+      removed_none = rw p.0 u.removed_none;
+      added_none = rw p.0 u.added_none;
       in_range = rw (unmet_in_range c (row_of r) p.0) u.in_range;
     }
 

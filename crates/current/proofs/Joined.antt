@@ -2,7 +2,7 @@
 use Rattle.std.proofs.Common.{◌≡◌, ℕ, zero, suc, ◌<◌, ◌≤◌, ◌+◌, List, [], ◌∷◌, ◌++◌, length, refl, sym, ◌∙◌, arith, inl, inr, subst}
 use Rattle.std.proofs.lemmas.Bool.{cases_lt}
 use Rattle.model.specs.Tables.{Row}
-use Rattle.rowlaws.specs.Touching.{gone_both, come_both, rows_without}
+use Rattle.rowlaws.specs.Touching.{removed_both, added_both, rows_without}
 use Rattle.current.specs.Places.{rows_at}
 
 module _ {A : Type 0} (f : A → List Row) where
@@ -27,10 +27,10 @@ module _ {A : Type 0} (f : A → List Row) where
     | inr at ↦ let i : n ≡ length xs = omega arith in subst (λ m. rows_at f (xs ++ y ∷ []) m ≡ g m) (sym i) (at_last xs y ∙ e)
   ]
 
-pub none_both : (gone come later : List Row) → gone ≡ [] → later ≡ [] → gone_both gone come later ≡ []
+pub none_both : (removed added later : List Row) → removed ≡ [] → later ≡ [] → removed_both removed added later ≡ []
 unfolding rows_without
-none_both gone come later g l = rw (g, l) refl
+none_both removed added later g l = rw (g, l) refl
 
-pub none_come : (come gone later : List Row) → come ≡ [] → later ≡ [] → come_both come gone later ≡ []
+pub none_added : (added removed later : List Row) → added ≡ [] → later ≡ [] → added_both added removed later ≡ []
 unfolding rows_without
-none_come come gone later c l = rw (c, l) refl
+none_added added removed later c l = rw (c, l) refl

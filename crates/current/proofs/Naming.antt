@@ -26,7 +26,7 @@ use Rattle.sqlchecks.specs.Columns.{kept_at}
 use Rattle.sqlchecks.specs.Comparisons.{holds, compares, passes_all}
 use Rattle.sqlread.specs.declared.statement.Assignment.{Assignment}
 use Rattle.current.specs.declared.cut.Cut.{Cut}
-use Rattle.current.specs.Cuts.{is_met, is_stuck, kept, gone_at, come_at, cut_change, change_of_cut}
+use Rattle.current.specs.Cuts.{is_met, is_stuck, kept, removed_at, added_at, cut_change, change_of_cut}
 use Rattle.current.specs.Stored.{Map, lines_of, rows_in, in_line}
 use Rattle.current.specs.declared.plan.Line.{Line}
 use Rattle.current.specs.Rows.{row_of}
@@ -148,11 +148,11 @@ module _ (c : Change) (t : ℕ) (k : List Value) where
 -- ---- the plan for the rows of one key
 
 module _ (c : Change) (t : ℕ) (m : Map) (ordered : IsOrdered key_cmp m) (in_lines : (l : List Value) → in_line l 0 (lines_of m l) ≡ true) (k : List Value) (only : (r : Row) → Has (rows_in m.entries) r → is_met c r ≡ true → r.key ≡ k) where
-  pub gone_line : flat_map (gone_at c t) (lines_of m k) ≡ flat_map (gone_at c t) (rows_in m.entries)
-  gone_line = ap (flat_map (gone_at c t)) (sym (line_of_key m ordered in_lines k)) ∙ sym (only_of_key c t k (gone_at c t) (λ r h. rw h refl) (rows_in m.entries) only)
+  pub removed_line : flat_map (removed_at c t) (lines_of m k) ≡ flat_map (removed_at c t) (rows_in m.entries)
+  removed_line = ap (flat_map (removed_at c t)) (sym (line_of_key m ordered in_lines k)) ∙ sym (only_of_key c t k (removed_at c t) (λ r h. rw h refl) (rows_in m.entries) only)
 
-  pub come_line : flat_map (come_at c t) (lines_of m k) ≡ flat_map (come_at c t) (rows_in m.entries)
-  come_line = ap (flat_map (come_at c t)) (sym (line_of_key m ordered in_lines k)) ∙ sym (only_of_key c t k (come_at c t) (λ r h. rw h refl) (rows_in m.entries) only)
+  pub added_line : flat_map (added_at c t) (lines_of m k) ≡ flat_map (added_at c t) (rows_in m.entries)
+  added_line = ap (flat_map (added_at c t)) (sym (line_of_key m ordered in_lines k)) ∙ sym (only_of_key c t k (added_at c t) (λ r h. rw h refl) (rows_in m.entries) only)
 
   pub stuck_line : list_any (is_stuck c) (lines_of m k) ≡ list_any (is_stuck c) (rows_in m.entries)
   stuck_line = ap (list_any (is_stuck c)) (sym (line_of_key m ordered in_lines k)) ∙ sym (any_of_key c t k (rows_in m.entries) only)

@@ -15,7 +15,7 @@ use Rattle.model.specs.Transactions.{Statement, Change, Insert, Update, Delete, 
 use Rattle.rowlaws.specs.Rows.{Has, Apart, SameRows, RowCount}
 use Rattle.rowlaws.specs.Changes.{IsFine, rows_changed, ChangeOnRows, clashes, new_row}
 use Rattle.rowlaws.specs.Cutting.{cut_rows, removed_rows}
-use Rattle.rowlaws.specs.Touching.{Untouched, TouchedBy, gone_by, come_by, rows_without}
+use Rattle.rowlaws.specs.Touching.{Untouched, TouchedBy, removed_by, added_by, rows_without}
 use Rattle.rowlaws.specs.Statements.{Rows}
 use Rattle.rowlaws.proofs.Members.{has_left, has_right, has_cases}
 use Rattle.current.specs.declared.table.TableRows.{TableRows}
@@ -29,7 +29,7 @@ use Rattle.current.proofs.Sorted.{map_sorted, apart_sorted}
 use Rattle.current.proofs.Tabled.{rows_at-is, rows_at-set}
 use Rattle.current.proofs.TableCut.{cut_portion}
 use Rattle.current.proofs.Running.{ran, stopped, too_many}
-use Rattle.current.proofs.Apart.{IsOfRows, gone_is, come_is}
+use Rattle.current.proofs.Apart.{IsOfRows, removed_is, added_is}
 
 pub table_apart : (y : TableRows) → Apart (rows_of_table y)
 table_apart y = apart_sorted (rows_of_table y) (map_sorted y.lines y.ordered y.in_lines)
@@ -77,11 +77,11 @@ insert_clashes : (key values : List Value) (p : Period) (t : ℕ) (rows : List R
 unfolding rows_changed
 insert_clashes key values p t rows h = rw h refl
 
-none_gone : (key values : List Value) (p : Period) (t : ℕ) (rows : List Row) → gone_by (Insert key values p) t rows ≡ []
+none_removed : (key values : List Value) (p : Period) (t : ℕ) (rows : List Row) → removed_by (Insert key values p) t rows ≡ []
 unfolding rows_without
-none_gone key values p t rows = refl
+none_removed key values p t rows = refl
 
-one_comes : (key values : List Value) (p : Period) (t : ℕ) (rows : List Row) → come_by (Insert key values p) t rows ≡ new_row key values p t ∷ []
+one_comes : (key values : List Value) (p : Period) (t : ℕ) (rows : List Row) → added_by (Insert key values p) t rows ≡ new_row key values p t ∷ []
 unfolding rows_without
 one_comes key values p t rows = refl
 
@@ -116,26 +116,26 @@ module _ (on_rows : ChangeOnRows) (count : RowCount) (untouched : Untouched) (to
         | inr other ↦ more_other m other
       ]
 
-  module _ (t : ℕ) (gone come : Rows) (g c : List Row) (went : (m : ℕ) → gone m ≡ cond (m == n) g []) (came : (m : ℕ) → come m ≡ cond (m == n) c []) where
-    pub cut_run : (cut : Cut) → IsCut (change_of_cut cut) t (rows_of_table x) (rows_of_table y) g c → IsRun t (record { table = n; change = change_of_cut cut }) rows more gone come
+  module _ (t : ℕ) (removed added : Rows) (g c : List Row) (went : (m : ℕ) → removed m ≡ cond (m == n) g []) (came : (m : ℕ) → added m ≡ cond (m == n) c []) where
+    pub cut_run : (cut : Cut) → IsCut (change_of_cut cut) t (rows_of_table x) (rows_of_table y) g c → IsRun t (record { table = n; change = change_of_cut cut }) rows more removed added
     cut_run cut h =
         let change : Change = change_of_cut cut in
         let of = of_rows cut.conditions.now (period_of cut.portion) cut.assignments in
         let portion = cut_portion cut in
         let k : IsCut change t (rows n) (more n) g c = subst (λ rs. IsCut change t rs (more n) g c) (sym rows_here) (subst (λ rs. IsCut change t (rows_of_table x) rs g c) (sym more_here) h) in
-        ran on_rows count untouched touched same_rows (record { table = n; change = change }) t rows more gone come (fine_portion change of portion) (record {
+        ran on_rows count untouched touched same_rows (record { table = n; change = change }) t rows more removed added (fine_portion change of portion) (record {
           after = flat_map (kept change t) (rows n);
           is = cut_changed change t (rows n) of k.0;
           few = k.1;
           same = k.2;
           apart = more_apart;
           others = λ m f. (more_other m f, went m ∙ other_is m n g [] f, came m ∙ other_is m n c [] f);
-          went = λ table i. went n ∙ here_is n g [] ∙ k.3 ∙ sym (gone_is change t (rows n) table of portion i);
-          came = λ table i. came n ∙ here_is n c [] ∙ k.4 ∙ sym (come_is change t (rows n) table of portion i);
+          went = λ table i. went n ∙ here_is n g [] ∙ k.3 ∙ sym (removed_is change t (rows n) table of portion i);
+          came = λ table i. came n ∙ here_is n c [] ∙ k.4 ∙ sym (added_is change t (rows n) table of portion i);
         })
 
     pub insert_run : (key values : List Value) (p : Period) → p.start < p.end → p.end ≤ days → IsInserted (new_row key values p t) (rows_of_table x) (rows_of_table y) → g ≡ [] → c ≡ new_row key values p t ∷ []
-        → IsRun t (record { table = n; change = Insert key values p }) rows more gone come
+        → IsRun t (record { table = n; change = Insert key values p }) rows more removed added
     insert_run key values p some short h none one =
         let row : Row = new_row key values p t in
         let k : IsInserted row (rows n) (more n) = subst (λ rs. IsInserted row rs (more n)) (sym rows_here) (subst (λ rs. IsInserted row (rows_of_table x) rs) (sym more_here) h) in
@@ -143,14 +143,14 @@ module _ (on_rows : ChangeOnRows) (count : RowCount) (untouched : Untouched) (to
         let room = k.1 in
         let to : (r : Row) → Has (more n) r → Has (rows n ++ row ∷ []) r = λ r i. elim ((k.2 r).0 i) [ inl a ↦ has_left (rows n) (row ∷ []) r a | inr e ↦ has_right (rows n) (row ∷ []) r (inl e) ] in
         let from : (r : Row) → Has (rows n ++ row ∷ []) r → Has (more n) r = λ r i. elim (has_cases (rows n) (row ∷ []) r i) [ inl a ↦ (k.2 r).1 (inl a) | inr b ↦ elim b [ inl e ↦ (k.2 r).1 (inr e) | inr z ↦ absurd z ] ] in
-        ran on_rows count untouched touched same_rows (record { table = n; change = Insert key values p }) t rows more gone come (some, short) (record {
+        ran on_rows count untouched touched same_rows (record { table = n; change = Insert key values p }) t rows more removed added (some, short) (record {
           after = rows n ++ row ∷ [];
           is = insert_changed key values p t (rows n) k.0;
           few = omega (arith, long, room);
           same = λ r. (to r, from r);
           apart = more_apart;
           others = λ m f. (more_other m f, went m ∙ other_is m n g [] f, came m ∙ other_is m n c [] f);
-          went = λ table i. went n ∙ here_is n g [] ∙ none ∙ sym (none_gone key values p t (rows n));
+          went = λ table i. went n ∙ here_is n g [] ∙ none ∙ sym (none_removed key values p t (rows n));
           came = λ table i. came n ∙ here_is n c [] ∙ one ∙ sym (one_comes key values p t (rows n));
         })
 

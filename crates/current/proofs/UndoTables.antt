@@ -9,7 +9,7 @@ use Rattle.current.specs.declared.table.TableRows.{TableRows}
 use Rattle.current.specs.declared.line.Changes.{Changes}
 use Rattle.current.specs.Places.{rows_at}
 use Rattle.current.specs.Table.{rows_of_table, HaveSame}
-use Rattle.current.specs.Touched.{gone_of, come_of}
+use Rattle.current.specs.Touched.{removed_of, added_of}
 use Rattle.current.specs.Run.{IsUndone}
 use Rattle.std.proofs.Math.ListN.{set}
 use Rattle.rowlaws.proofs.RowFacts.{both}
@@ -22,22 +22,22 @@ all_apart [] n = tt
 all_apart (t ∷ ts) zero = table_apart t
 all_apart (t ∷ ts) (suc n) = all_apart ts n
 
-nothing : (rows come : List Row) → rows ≡ [] → rows_without rows come ≡ []
+nothing : (rows added : List Row) → rows ≡ [] → rows_without rows added ≡ []
 unfolding rows_without
-nothing rows come h = rw h refl
+nothing rows added h = rw h refl
 
 pub tables_undone : Undo → SameRows → (tables more : List TableRows) (changes : List Changes) → length more ≡ length tables → length changes ≤ length tables
-    → ((n : ℕ) → n < length tables → HaveSame (rows_without (rows_at rows_of_table tables n) (rows_at come_of changes n) ++ rows_at gone_of changes n) (rows_at rows_of_table more n))
-    → IsUndone (rows_at rows_of_table tables) (rows_at rows_of_table more) (rows_at gone_of changes) (rows_at come_of changes)
+    → ((n : ℕ) → n < length tables → HaveSame (rows_without (rows_at rows_of_table tables n) (rows_at added_of changes n) ++ rows_at removed_of changes n) (rows_at rows_of_table more n))
+    → IsUndone (rows_at rows_of_table tables) (rows_at rows_of_table more) (rows_at removed_of changes) (rows_at added_of changes)
 tables_undone undo same_rows tables more changes long few each state next before listed after touched n =
-    let back = undo (before n) (rows_at rows_of_table tables n) (state n) (next n) (rows_at gone_of changes n) (rows_at come_of changes n) (listed n) (after n) (touched n) in
+    let back = undo (before n) (rows_at rows_of_table tables n) (state n) (next n) (rows_at removed_of changes n) (rows_at added_of changes n) (listed n) (after n) (touched n) in
     elim (cases_lt n (length tables)) [
       | inl l ↦ same_rows _ (rows_at rows_of_table more n) (state n) back (all_apart more n) (each n l)
       | inr g ↦
           let none : rows_at rows_of_table tables n ≡ [] = rows_at-beyond rows_of_table tables n g in
           let none' : rows_at rows_of_table more n ≡ [] = rows_at-beyond rows_of_table more n (omega arith) in
-          let gone : rows_at gone_of changes n ≡ [] = rows_at-beyond gone_of changes n (omega arith) in
-          let all : rows_without (rows_at rows_of_table tables n) (rows_at come_of changes n) ++ rows_at gone_of changes n ≡ rows_at rows_of_table more n = ap (λ rs. rs ++ rows_at gone_of changes n) (nothing _ (rows_at come_of changes n) none) ∙ gone ∙ sym none' in
+          let removed : rows_at removed_of changes n ≡ [] = rows_at-beyond removed_of changes n (omega arith) in
+          let all : rows_without (rows_at rows_of_table tables n) (rows_at added_of changes n) ++ rows_at removed_of changes n ≡ rows_at rows_of_table more n = ap (λ rs. rs ++ rows_at removed_of changes n) (nothing _ (rows_at added_of changes n) none) ∙ removed ∙ sym none' in
           subst (λ rs. Lists rs (state n)) all back
     ]
 
@@ -46,12 +46,12 @@ tables_undone undo same_rows tables more changes long few each state next before
 pub table_before : (tables : List TableRows) (n : ℕ) (x : TableRows) → n < length tables → x ≡ get_or tables n x → rows_of_table x ≡ rows_at rows_of_table tables n
 table_before tables n x l at = ap rows_of_table at ∙ sym (rows_at-is rows_of_table tables n x l)
 
-module _ (old tables : List TableRows) (n : ℕ) (y : TableRows) (gone come : Rows) (l : n < length tables) where
+module _ (old tables : List TableRows) (n : ℕ) (y : TableRows) (removed added : Rows) (l : n < length tables) where
   abbrev new : List TableRows
   new = set tables n y
 
   abbrev Done : ℕ → List Row → Type 0
-  Done m rows = HaveSame (rows_without (rows_at rows_of_table old m) (come m) ++ gone m) rows
+  Done m rows = HaveSame (rows_without (rows_at rows_of_table old m) (added m) ++ removed m) rows
 
   pub done_more : ((m : ℕ) → m < n → Done m (rows_at rows_of_table tables m)) → Done n (rows_of_table y) → (m : ℕ) → m < n + 1 → Done m (rows_at rows_of_table new m)
   done_more h here m k = subst (λ rows. Done m rows) (sym (rows_at-set rows_of_table tables n y m l)) (elim (cases_Bool (m == n)) [

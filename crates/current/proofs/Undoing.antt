@@ -130,25 +130,25 @@ join_more row rest now more old all w h r = (
 
 -- ---- undone
 
-pub can_put : (rows gone come now : List Row) → CanUndo rows gone come → IsWithout come rows now → CanPut now gone
-can_put rows gone come now (old, new, before, l, m, i) w = (
+pub can_put : (rows removed added now : List Row) → CanUndo rows removed added → IsWithout added rows now → CanPut now removed
+can_put rows removed added now (old, new, before, l, m, i) w = (
   old,
   (λ r h. elim h [
     | inl a ↦ let b = (w r).0 a in elim (i.comes r (m.each r b.0)) [ inl o ↦ o | inr c ↦ absurd (b.1 c) ]
     | inr g ↦ (i.went r g).0
   ]),
-  i.gone_once,
+  i.removed_once,
   (λ r g a. (i.went r g).1 (m.each r ((w r).0 a).0)),
 )
 
-pub undone_rows : (rows gone come now more : List Row) → IsWithout come rows now → IsJoined gone now more → HaveSame (rows_without rows come ++ gone) more
-undone_rows rows gone come now more w j r = (
+pub undone_rows : (rows removed added now more : List Row) → IsWithout added rows now → IsJoined removed now more → HaveSame (rows_without rows added ++ removed) more
+undone_rows rows removed added now more w j r = (
   (λ h. elim ((j r).0 h) [
-    | inl a ↦ let b = (w r).0 a in has_left (rows_without rows come) gone r (has_without rows come r b.0 b.1)
-    | inr g ↦ has_right (rows_without rows come) gone r g
+    | inl a ↦ let b = (w r).0 a in has_left (rows_without rows added) removed r (has_without rows added r b.0 b.1)
+    | inr g ↦ has_right (rows_without rows added) removed r g
   ]),
-  (λ h. (j r).1 (elim (has_cases (rows_without rows come) gone r h) [
-    | inl a ↦ inl ((w r).1 (without_has rows come r a))
+  (λ h. (j r).1 (elim (has_cases (rows_without rows added) removed r h) [
+    | inl a ↦ inl ((w r).1 (without_has rows added r a))
     | inr g ↦ inr g
   ])),
 )

@@ -64,9 +64,9 @@ abbrev pub kept : Change → ℕ → Row → List Row
 kept c t r = if is_met c r then made c t r else (r ∷ [])
 
 -- the row, if it goes
-abbrev pub gone_at : Change → ℕ → Row → List Row
-gone_at c t r = if is_met c r then rows_without (r ∷ []) (made c t r) else []
+abbrev pub removed_at : Change → ℕ → Row → List Row
+removed_at c t r = if is_met c r then rows_without (r ∷ []) (made c t r) else []
 
 -- the rows that come in its place
-abbrev pub come_at : Change → ℕ → Row → List Row
-come_at c t r = if is_met c r then rows_without (made c t r) (r ∷ []) else []
+abbrev pub added_at : Change → ℕ → Row → List Row
+added_at c t r = if is_met c r then rows_without (made c t r) (r ∷ []) else []

@@ -5,7 +5,7 @@ use Rattle.rowlaws.specs.Statements.{AllListed}
 use Rattle.current.specs.declared.current.Current.{Current}
 use Rattle.current.specs.declared.touched.Touched.{Touched}
 use Rattle.current.specs.Current.{rows_of}
-use Rattle.current.specs.Touched.{gone_in, come_in}
+use Rattle.current.specs.Touched.{removed_in, added_in}
 
 -- the rows of all tables are those of some state
 abbrev pub OfSomeState : Type 0
@@ -13,4 +13,4 @@ OfSomeState = (current : Current) → (state : State) × AllListed (rows_of curr
 
 -- nothing is touched of a table past the last that is told of
 abbrev pub NothingBeyond : Type 0
-NothingBeyond = (touched : Touched) (n : ℕ) → length touched.tables.items ≤ n → (gone_in touched n ≡ []) × (come_in touched n ≡ [])
+NothingBeyond = (touched : Touched) (n : ℕ) → length touched.tables.items ≤ n → (removed_in touched n ≡ []) × (added_in touched n ≡ [])

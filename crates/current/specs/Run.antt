@@ -8,12 +8,12 @@ use Rattle.rowlaws.specs.Touching.{IsTouched}
 
 -- the rows gone and come, of each table, are what was touched between the states
 abbrev pub AllTouched : State → State → Rows → Rows → Type 0
-AllTouched state next gone come = (n : ℕ) → IsTouched (state n) (next n) (gone n) (come n)
+AllTouched state next removed added = (n : ℕ) → IsTouched (state n) (next n) (removed n) (added n)
 
 -- whatever state the rows were of, it takes the statement, the new rows are those of the state after it, and this was touched
 abbrev pub IsRun : ℕ → Statement → Rows → Rows → Rows → Rows → Type 0
-IsRun t s rows more gone come =
-    (state : State) → AllListed rows state → (next : State) × (run_statement t s state ≡ Ok next) × AllListed more next × AllTouched state next gone come
+IsRun t s rows more removed added =
+    (state : State) → AllListed rows state → (next : State) × (run_statement t s state ≡ Ok next) × AllListed more next × AllTouched state next removed added
 
 -- whatever state the rows are of, it refuses the statement so; or there was no memory
 abbrev pub IsRefused : ℕ → Statement → Rows → Refusal → Type 0
@@ -23,8 +23,8 @@ IsRefused t s rows refusal = (refusal ≡ NoMemory) ⊎ ((state : State) → All
 
 -- from some state the tables came to these rows, and this was touched
 abbrev pub AllUndoable : Rows → Rows → Rows → Type 0
-AllUndoable rows gone come = (state : State) × (next : State) × (before : Rows) × AllListed before state × AllListed rows next × AllTouched state next gone come
+AllUndoable rows removed added = (state : State) × (next : State) × (before : Rows) × AllListed before state × AllListed rows next × AllTouched state next removed added
 
 -- whatever state that was, the new rows are its rows
 abbrev pub IsUndone : Rows → Rows → Rows → Rows → Type 0
-IsUndone rows more gone come = (state next : State) (before : Rows) → AllListed before state → AllListed rows next → AllTouched state next gone come → AllListed more state
+IsUndone rows more removed added = (state next : State) (before : Rows) → AllListed before state → AllListed rows next → AllTouched state next removed added → AllListed more state

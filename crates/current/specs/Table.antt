@@ -5,7 +5,7 @@ use Rattle.fault.specs.declared.refusal.Refusal.{Refusal}
 use Rattle.fault.specs.declared.refusal.Refusal.TheVariants.{NoMemory, KeyOverlap, RowLimit, NumberRange}
 use Rattle.model.specs.Transactions.{Change}
 use Rattle.rowlaws.specs.Changes.{clashes}
-use Rattle.current.specs.Cuts.{is_stuck, kept, gone_at, come_at}
+use Rattle.current.specs.Cuts.{is_stuck, kept, removed_at, added_at}
 use Rattle.model.specs.Tables.{Table, Row, IsRow}
 use Rattle.rowlaws.specs.Rows.{Has, Apart, Lists}
 use Rattle.rowlaws.specs.Touching.{IsTouched}
@@ -35,9 +35,9 @@ IsInsertRefused row rows refusal =
 
 -- what was kept are the new rows, at most 20,000, and this is what went and came
 abbrev pub IsCut : Change → ℕ → List Row → List Row → List Row → List Row → Type 0
-IsCut c t rows more gone come =
+IsCut c t rows more removed added =
     (list_any (is_stuck c) rows ≡ false) × (length (flat_map (kept c t) rows) ≤ 20000) × HaveSame (flat_map (kept c t) rows) more
-    × (gone ≡ flat_map (gone_at c t) rows) × (come ≡ flat_map (come_at c t) rows)
+    × (removed ≡ flat_map (removed_at c t) rows) × (added ≡ flat_map (added_at c t) rows)
 
 -- 23, and then 22; or 43
 abbrev pub IsCutRefused : Change → ℕ → List Row → Refusal → Type 0
@@ -60,4 +60,4 @@ CanPut rows others = (table : Table) × ((r : Row) → Has rows r ⊎ Has others
 
 -- some rows became these, and this was touched
 abbrev pub CanUndo : List Row → List Row → List Row → Type 0
-CanUndo rows gone come = (old : Table) × (new : Table) × (before : List Row) × Lists before old × Lists rows new × IsTouched old new gone come
+CanUndo rows removed added = (old : Table) × (new : Table) × (before : List Row) × Lists before old × Lists rows new × IsTouched old new removed added

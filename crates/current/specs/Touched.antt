@@ -6,16 +6,16 @@ use Rattle.current.specs.declared.touched.Touched.{Touched}
 use Rattle.current.specs.Rows.{row_of}
 use Rattle.current.specs.Places.{rows_at}
 
-abbrev pub gone_of : Changes → List Row
-gone_of c = map row_of c.gone.items
+abbrev pub removed_of : Changes → List Row
+removed_of c = map row_of c.removed.items
 
-abbrev pub come_of : Changes → List Row
-come_of c = map row_of c.come.items
+abbrev pub added_of : Changes → List Row
+added_of c = map row_of c.added.items
 
 -- the rows of the n-th table that go
-abbrev pub gone_in : Touched → ℕ → List Row
-gone_in touched = rows_at gone_of touched.tables.items
+abbrev pub removed_in : Touched → ℕ → List Row
+removed_in touched = rows_at removed_of touched.tables.items
 
 -- and those that come
-abbrev pub come_in : Touched → ℕ → List Row
-come_in touched = rows_at come_of touched.tables.items
+abbrev pub added_in : Touched → ℕ → List Row
+added_in touched = rows_at added_of touched.tables.items

@@ -1,7 +1,7 @@
 //! Lists of rows against each other.
 ghost use Rattle.std.specs.Prelude.{◌≡◌, ◌++◌, map, IfOk};
 ghost use Rattle.std.specs.List.{list_any};
-ghost use Rattle.rowlaws.specs.Touching.{same_row, rows_without, gone_both, come_both};
+ghost use Rattle.rowlaws.specs.Touching.{same_row, rows_without, removed_both, added_both};
 ghost use Rattle.current.specs.Rows.{row_of};
 
 use crate::row::Row;
@@ -52,29 +52,29 @@ pub(crate) fn append(rows: &mut Vec<Row>, more: Vec<Row>) -> Result<(), AllocErr
 
 /// The rows that go with two statements: what comes with the first and goes with the second does not
 /// count.
-pub(crate) fn gone_both(
+pub(crate) fn removed_both(
     alloc: Global,
-    gone: &[Row],
-    come: &[Row],
-    later_gone: &[Row],
+    removed: &[Row],
+    added: &[Row],
+    later_removed: &[Row],
 ) -> Result<Vec<Row>, AllocError>
-    ensures { IfOk result (λ both. map row_of both.items ≡ gone_both (map row_of gone.now) (map row_of come.now) (map row_of later_gone.now)) }
+    ensures { IfOk result (λ both. map row_of both.items ≡ removed_both (map row_of removed.now) (map row_of added.now) (map row_of later_removed.now)) }
 {
-    let mut both = clone_rows(alloc, gone)?;
-    append(&mut both, rows_without(alloc, later_gone, come)?)?;
+    let mut both = clone_rows(alloc, removed)?;
+    append(&mut both, rows_without(alloc, later_removed, added)?)?;
     Ok(both)
 }
 
 /// The rows that come with two statements.
-pub(crate) fn come_both(
+pub(crate) fn added_both(
     alloc: Global,
-    come: &[Row],
-    later_gone: &[Row],
-    later_come: &[Row],
+    added: &[Row],
+    later_removed: &[Row],
+    later_added: &[Row],
 ) -> Result<Vec<Row>, AllocError>
-    ensures { IfOk result (λ both. map row_of both.items ≡ come_both (map row_of come.now) (map row_of later_gone.now) (map row_of later_come.now)) }
+    ensures { IfOk result (λ both. map row_of both.items ≡ added_both (map row_of added.now) (map row_of later_removed.now) (map row_of later_added.now)) }
 {
-    let mut both = rows_without(alloc, come, later_gone)?;
-    append(&mut both, clone_rows(alloc, later_come)?)?;
+    let mut both = rows_without(alloc, added, later_removed)?;
+    append(&mut both, clone_rows(alloc, later_added)?)?;
     Ok(both)
 }

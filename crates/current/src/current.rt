@@ -4,14 +4,13 @@ ghost use Rattle.std.specs.Option.{option_map};
 ghost use Rattle.fault.specs.declared.refusal.Refusal.TheVariants.{NoMemory, NoParent};
 ghost use Rattle.sqlread.specs.Shapes.{insert_of, update_of, delete_of, statement_of};
 ghost use Rattle.sqlread.specs.Shapes as shapes;
-ghost use Rattle.sqlread.specs.Meaning.{meaning, table_of, all_days, name_of, schema_of};
+ghost use Rattle.sqlread.specs.Meaning.{meaning, all_days, name_of, schema_of};
 ghost use Rattle.model.specs.Texts.{key_text, day_text};
 ghost use Rattle.model.specs.Transactions.{State, first_orphan, unless_orphan};
 ghost use Rattle.rowlaws.specs.Statements.{AllListed};
-ghost use Rattle.current.specs.Current.{rows_of, table_count, is_failed};
 ghost use Rattle.current.specs.Table.{HaveSame};
 ghost use Rattle.rowlaws.specs.Touching.{rows_without};
-ghost use Rattle.current.specs.Touched.{gone_in, come_in};
+ghost use Rattle.current.specs.Touched.{removed_in, added_in};
 ghost use Rattle.model.specs.Periods.{period_of};
 ghost use Rattle.rowlaws.specs.Rows.{SameRows, RowCount};
 ghost use Rattle.rowlaws.specs.Touching.{Untouched, TouchedBy};
@@ -35,13 +34,15 @@ use schema::Schema;
 use sqlread::statement::{Assignment, Delete, Insert, Statement, Update};
 use std::alloc::{AllocError, Global};
 
-/// The current rows of all tables. A contract sees what `rows_of` gives: of each table, by its
-/// number from 0, its rows in the order of key and start.
-#[derive(Debug, Drop)]
+/// The current rows of all tables of a schema, which it keeps. A contract sees what `rows_of` gives: of
+/// each table, by its number from 0, its rows in the order of key and start.
+#[derive(Drop)]
 pub struct Current {
+    pub(crate) schema: Schema,
     pub(crate) tables: Vec<TableRows>,
     pub(crate) alloc: Global,
     pub(crate) failed: bool,
+    ghost counted: { length tables.items ≡ length schema },
 }
 
 // What a change of one table's rows comes to on days.
@@ -60,18 +61,22 @@ fn change_laws()
 }
 
 impl Current {
-    /// So many tables, without rows.
-    pub fn new(alloc: Global, tables: usize) -> Result<Current, AllocError>
+    ghost use Rattle.current.specs.Current.{rows_of, schema_in, table_count, is_failed};
+
+    /// The tables of a schema, without rows.
+    pub fn new(alloc: Global, schema: &Schema) -> Result<Current, AllocError>
         ensures rows { IfOk result (λ current. (n : ℕ) → rows_of current n ≡ []) }
-        ensures count { IfOk result (λ current. table_count current ≡ tables) }
+        ensures schema { IfOk result (λ current. schema_in current ≡ schema.now) }
         ensures up { IfOk result (λ current. is_failed current ≡ false) }
     {
-        let mut all = Vec::new(alloc);
-        for _ in 0..tables {
-            all.push(TableRows::new(alloc))?;
+        let schema = schema.clone()?;
+        let mut tables = Vec::new(alloc);
+        for _ in 0..schema.len() {
+            tables.push(TableRows::new(alloc))?;
         }
         Ok(Current {
-            tables: all,
+            schema,
+            tables,
             alloc,
             failed: false,
         })
@@ -80,17 +85,17 @@ impl Current {
     // Runs an INSERT.
     fn insert(&mut self, insert: &Insert, t: Stamp) -> Result<Touched, Refusal>
         requires { insert.now.table < table_count self.old }
-        ensures ok { IfOk result (λ touched. IsRun t (meaning (shapes.Insert (insert_of insert.now))) (rows_of self.old) (rows_of self.new) (gone_in touched) (come_in touched)) }
+        ensures ok { IfOk result (λ touched. IsRun t (meaning (shapes.Insert (insert_of insert.now))) (rows_of self.old) (rows_of self.new) (removed_in touched) (added_in touched)) }
         ensures err { IfErr result (λ refusal. IsRefused t (meaning (shapes.Insert (insert_of insert.now))) (rows_of self.old) refusal) }
         ensures unchanged { OnErr result (rows_of self.new ≡ rows_of self.old) }
-        ensures count { table_count self.new ≡ table_count self.old }
+        ensures schema { schema_in self.new ≡ schema_in self.old }
         ensures tables { IfOk result (λ touched. length touched.tables.items ≤ table_count self.old) }
         ensures failed { is_failed self.new ≡ is_failed self.old }
     {
         change_laws();
         let row = inserted_row(insert, t)?;
         let mut changes = Changes::none(self.alloc);
-        changes.come.push(row.clone()?)?;
+        changes.added.push(row.clone()?)?;
         let touched = Touched::none(self.alloc, insert.table)?;
         match self.tables[insert.table].insert(row) {
             Ok(()) => Ok(touched.with(insert.table, changes)),
@@ -101,10 +106,10 @@ impl Current {
     // Runs an UPDATE or a DELETE.
     fn cut(&mut self, table: usize, cut: &Cut) -> Result<Touched, Refusal>
         requires { table < table_count self.old }
-        ensures ok { IfOk result (λ touched. IsRun cut.now.system_start (record { table = table; change = change_of_cut cut.now }) (rows_of self.old) (rows_of self.new) (gone_in touched) (come_in touched)) }
+        ensures ok { IfOk result (λ touched. IsRun cut.now.system_start (record { table = table; change = change_of_cut cut.now }) (rows_of self.old) (rows_of self.new) (removed_in touched) (added_in touched)) }
         ensures err { IfErr result (λ refusal. IsRefused cut.now.system_start (record { table = table; change = change_of_cut cut.now }) (rows_of self.old) refusal) }
         ensures unchanged { OnErr result (rows_of self.new ≡ rows_of self.old) }
-        ensures count { table_count self.new ≡ table_count self.old }
+        ensures schema { schema_in self.new ≡ schema_in self.old }
         ensures tables { IfOk result (λ touched. length touched.tables.items ≤ table_count self.old) }
         ensures failed { is_failed self.new ≡ is_failed self.old }
     {
@@ -119,10 +124,10 @@ impl Current {
     // Runs an UPDATE.
     fn update(&mut self, update: &Update, t: Stamp) -> Result<Touched, Refusal>
         requires { update.now.table < table_count self.old }
-        ensures ok { IfOk result (λ touched. IsRun t (meaning (shapes.Update (update_of update.now))) (rows_of self.old) (rows_of self.new) (gone_in touched) (come_in touched)) }
+        ensures ok { IfOk result (λ touched. IsRun t (meaning (shapes.Update (update_of update.now))) (rows_of self.old) (rows_of self.new) (removed_in touched) (added_in touched)) }
         ensures err { IfErr result (λ refusal. IsRefused t (meaning (shapes.Update (update_of update.now))) (rows_of self.old) refusal) }
         ensures unchanged { OnErr result (rows_of self.new ≡ rows_of self.old) }
-        ensures count { table_count self.new ≡ table_count self.old }
+        ensures schema { schema_in self.new ≡ schema_in self.old }
         ensures tables { IfOk result (λ touched. length touched.tables.items ≤ table_count self.old) }
         ensures failed { is_failed self.new ≡ is_failed self.old }
     {
@@ -139,10 +144,10 @@ impl Current {
     // Runs a DELETE.
     fn delete(&mut self, delete: &Delete, t: Stamp) -> Result<Touched, Refusal>
         requires { delete.now.table < table_count self.old }
-        ensures ok { IfOk result (λ touched. IsRun t (meaning (shapes.Delete (delete_of delete.now))) (rows_of self.old) (rows_of self.new) (gone_in touched) (come_in touched)) }
+        ensures ok { IfOk result (λ touched. IsRun t (meaning (shapes.Delete (delete_of delete.now))) (rows_of self.old) (rows_of self.new) (removed_in touched) (added_in touched)) }
         ensures err { IfErr result (λ refusal. IsRefused t (meaning (shapes.Delete (delete_of delete.now))) (rows_of self.old) refusal) }
         ensures unchanged { OnErr result (rows_of self.new ≡ rows_of self.old) }
-        ensures count { table_count self.new ≡ table_count self.old }
+        ensures schema { schema_in self.new ≡ schema_in self.old }
         ensures tables { IfOk result (λ touched. length touched.tables.items ≤ table_count self.old) }
         ensures failed { is_failed self.new ≡ is_failed self.old }
     {
@@ -156,23 +161,22 @@ impl Current {
         self.cut(delete.table, &cut)
     }
 
-    /// Runs a statement at an instant, on a table that there is, and tells what it touched. Each
-    /// refusal changes nothing.
+    /// Runs a statement at an instant, and tells what it touched. Each refusal changes nothing.
     ///
     /// `KeyOverlap` of an INSERT where a row of its key has a day of its period; `NumberRange` of an
     /// UPDATE where SET of a row that is met is out of range; then `RowLimit` where the table would
-    /// have more than 20,000 rows; `NoMemory`, always once it has failed.
+    /// have more than 20,000 rows; `NoMemory`, always once it has failed, and for a statement on a table
+    /// that is not there, which only another schema has.
     pub fn run(&mut self, statement: &Statement, t: Stamp) -> Result<Touched, Refusal>
-        requires { table_of (statement_of statement.now) < table_count self.old }
-        ensures ok { IfOk result (λ touched. IsRun t (meaning (statement_of statement.now)) (rows_of self.old) (rows_of self.new) (gone_in touched) (come_in touched)) }
+        ensures ok { IfOk result (λ touched. IsRun t (meaning (statement_of statement.now)) (rows_of self.old) (rows_of self.new) (removed_in touched) (added_in touched)) }
         ensures err { IfErr result (λ refusal. IsRefused t (meaning (statement_of statement.now)) (rows_of self.old) refusal) }
         ensures unchanged { OnErr result (rows_of self.new ≡ rows_of self.old) }
-        ensures count { table_count self.new ≡ table_count self.old }
+        ensures schema { schema_in self.new ≡ schema_in self.old }
         ensures tables { IfOk result (λ touched. length touched.tables.items ≤ table_count self.old) }
         ensures failed { is_failed self.new ≡ is_failed self.old }
         ensures once_failed { is_failed self.old ≡ true → result ≡ Err NoMemory }
     {
-        if self.failed {
+        if self.failed || statement.table() >= self.tables.len() {
             return Err(Refusal::NoMemory);
         }
         match statement {
@@ -184,12 +188,12 @@ impl Current {
 
     // Gives the rows of each table before a statement. Want of memory leaves some of them away.
     fn undo_tables(&mut self, touched: &Touched) -> Result<(), AllocError>
-        requires { AllUndoable (rows_of self.old) (gone_in touched.now) (come_in touched.now) }
-        ensures ok { OnOk result ((n : ℕ) → n < table_count self.old → HaveSame (rows_without (rows_of self.old n) (come_in touched.now n) ++ gone_in touched.now n) (rows_of self.new n)) }
-        ensures count { table_count self.new ≡ table_count self.old }
+        requires { AllUndoable (rows_of self.old) (removed_in touched.now) (added_in touched.now) }
+        ensures ok { OnOk result ((n : ℕ) → n < table_count self.old → HaveSame (rows_without (rows_of self.old n) (added_in touched.now n) ++ removed_in touched.now n) (rows_of self.new n)) }
+        ensures schema { schema_in self.new ≡ schema_in self.old }
     {
         for n in 0..self.tables.len() {
-            self.tables[n].undo(touched.gone(n), touched.come(n))?;
+            self.tables[n].undo(touched.removed(n), touched.added(n))?;
         }
         Ok(())
     }
@@ -199,11 +203,11 @@ impl Current {
     /// answers only that.
     pub fn undo(&mut self, touched: &Touched) -> Result<(), AllocError>
         requires tables { length touched.now.tables.items ≤ table_count self.old }
-        requires touched { AllUndoable (rows_of self.old) (gone_in touched.now) (come_in touched.now) }
-        ensures ok { OnOk result (IsUndone (rows_of self.old) (rows_of self.new) (gone_in touched.now) (come_in touched.now)) }
+        requires touched { AllUndoable (rows_of self.old) (removed_in touched.now) (added_in touched.now) }
+        ensures ok { OnOk result (IsUndone (rows_of self.old) (rows_of self.new) (removed_in touched.now) (added_in touched.now)) }
         ensures err { OnErr result (is_failed self.new ≡ true) }
         ensures up { OnOk result (is_failed self.new ≡ false) }
-        ensures count { table_count self.new ≡ table_count self.old }
+        ensures schema { schema_in self.new ≡ schema_in self.old }
         ensures once_failed { is_failed self.old ≡ true → result ≡ Err alloc_error }
     {
         if self.failed {
@@ -216,22 +220,21 @@ impl Current {
         undone
     }
 
-    /// Checks the foreign keys of a schema: each day of a row that refers to a parent is to be a day of a row of the
-    /// parent's key.
+    /// Checks the foreign keys: each day of a row that refers to a parent is to be a day of a row of the parent's key.
     ///
     /// `NoParent` with the first table in declared order, then its least key, then its least day without a parent;
     /// `NoMemory`, always once it has failed.
-    pub fn check(&self, schema: &Schema) -> Result<(), Refusal>
-        ensures ok { OnOk result ((state : State) → AllListed (rows_of self.now) state → unless_orphan (schema_of schema.now) state (first_orphan (schema_of schema.now) state) ≡ Ok state) }
-        ensures err { IfErr result (λ refusal. (refusal ≡ NoMemory) ⊎ ((state : State) → AllListed (rows_of self.now) state → unless_orphan (schema_of schema.now) state (first_orphan (schema_of schema.now) state) ≡ Err refusal)) }
+    pub fn check(&self) -> Result<(), Refusal>
+        ensures ok { OnOk result ((state : State) → AllListed (rows_of self.now) state → unless_orphan (schema_of (schema_in self.now)) state (first_orphan (schema_of (schema_in self.now)) state) ≡ Ok state) }
+        ensures err { IfErr result (λ refusal. (refusal ≡ NoMemory) ⊎ ((state : State) → AllListed (rows_of self.now) state → unless_orphan (schema_of (schema_in self.now)) state (first_orphan (schema_of (schema_in self.now)) state) ≡ Err refusal)) }
         ensures once_failed { is_failed self.now ≡ true → result ≡ Err NoMemory }
     {
         if self.failed {
             return Err(Refusal::NoMemory);
         }
         rowlaws::orphan_on_rows();
-        match first_orphan(self.alloc, self.tables.as_slice(), schema)? {
-            Some(place) => Err(no_parent(self.alloc, schema, &place)?),
+        match first_orphan(self.alloc, self.tables.as_slice(), &self.schema)? {
+            Some(place) => Err(no_parent(self.alloc, &self.schema, &place)?),
             None => Ok(()),
         }
     }
@@ -243,11 +246,11 @@ impl Current {
         self.failed
     }
 
-    /// How many tables there are.
-    pub fn table_count(&self) -> usize
-        ensures { result ≡ table_count self.now }
+    /// The schema whose tables they are.
+    pub fn schema(&self) -> &Schema
+        ensures { result.now ≡ schema_in self.now }
     {
-        self.tables.len()
+        &self.schema
     }
 }
 

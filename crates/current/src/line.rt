@@ -3,8 +3,8 @@ ghost use Rattle.std.specs.Prelude.{◌≡◌, ◌⊎◌, ◌++◌, [], map, tru
 ghost use Rattle.std.specs.List.{list_any};
 ghost use Rattle.fault.specs.declared.refusal.Refusal.TheVariants.{NoMemory, NumberRange};
 ghost use Rattle.current.specs.Rows.{row_of};
-ghost use Rattle.current.specs.Touched.{gone_of, come_of};
-ghost use Rattle.current.specs.Cuts.{change_of_cut, is_met, is_stuck, kept, gone_at, come_at};
+ghost use Rattle.current.specs.Touched.{removed_of, added_of};
+ghost use Rattle.current.specs.Cuts.{change_of_cut, is_met, is_stuck, kept, removed_at, added_at};
 
 use crate::compare::{append, rows_without};
 use crate::cut::Cut;
@@ -16,20 +16,20 @@ use std::alloc::{AllocError, Global};
 #[derive(Debug, Drop)]
 pub struct Changes {
     /// The rows that go.
-    pub gone: Vec<Row>,
+    pub removed: Vec<Row>,
     /// The rows that come.
-    pub come: Vec<Row>,
+    pub added: Vec<Row>,
 }
 
 impl Changes {
     /// None. Takes no memory.
     pub(crate) fn none(alloc: Global) -> Changes
-        ensures gone { gone_of result ≡ [] }
-        ensures come { come_of result ≡ [] }
+        ensures removed { removed_of result ≡ [] }
+        ensures added { added_of result ≡ [] }
     {
         Changes {
-            gone: Vec::new(alloc),
-            come: Vec::new(alloc),
+            removed: Vec::new(alloc),
+            added: Vec::new(alloc),
         }
     }
 }
@@ -44,17 +44,17 @@ fn cut_met(
 ) -> Result<(), Refusal>
     requires { is_met (change_of_cut cut.now) (row_of row.now) ≡ true }
     ensures rows { IfOk result (λ u. map row_of rows.new.items ≡ map row_of rows.old.items ++ kept (change_of_cut cut.now) cut.now.system_start (row_of row.now)) }
-    ensures gone { IfOk result (λ u. map row_of changes.new.gone.items ≡ map row_of changes.old.gone.items ++ gone_at (change_of_cut cut.now) cut.now.system_start (row_of row.now)) }
-    ensures come { IfOk result (λ u. map row_of changes.new.come.items ≡ map row_of changes.old.come.items ++ come_at (change_of_cut cut.now) cut.now.system_start (row_of row.now)) }
+    ensures removed { IfOk result (λ u. map row_of changes.new.removed.items ≡ map row_of changes.old.removed.items ++ removed_at (change_of_cut cut.now) cut.now.system_start (row_of row.now)) }
+    ensures added { IfOk result (λ u. map row_of changes.new.added.items ≡ map row_of changes.old.added.items ++ added_at (change_of_cut cut.now) cut.now.system_start (row_of row.now)) }
     ensures in_range { IfOk result (λ u. is_stuck (change_of_cut cut.now) (row_of row.now) ≡ false) }
     ensures err { IfErr result (λ refusal. (refusal ≡ NoMemory) ⊎ ((refusal ≡ NumberRange) × (is_stuck (change_of_cut cut.now) (row_of row.now) ≡ true))) }
 {
     let parts = cut.parts(alloc, row)?;
     let before = vec![in alloc; row.clone()?]?;
-    let gone = rows_without(alloc, before.as_slice(), parts.as_slice())?;
-    let come = rows_without(alloc, parts.as_slice(), before.as_slice())?;
-    append(&mut changes.gone, gone)?;
-    append(&mut changes.come, come)?;
+    let removed = rows_without(alloc, before.as_slice(), parts.as_slice())?;
+    let added = rows_without(alloc, parts.as_slice(), before.as_slice())?;
+    append(&mut changes.removed, removed)?;
+    append(&mut changes.added, added)?;
     append(rows, parts)?;
     Ok(())
 }
@@ -69,8 +69,8 @@ fn cut_row(
     changes: &mut Changes,
 ) -> Result<(), Refusal>
     ensures rows { IfOk result (λ u. map row_of rows.new.items ≡ map row_of rows.old.items ++ kept (change_of_cut cut.now) cut.now.system_start (row_of row.now)) }
-    ensures gone { IfOk result (λ u. map row_of changes.new.gone.items ≡ map row_of changes.old.gone.items ++ gone_at (change_of_cut cut.now) cut.now.system_start (row_of row.now)) }
-    ensures come { IfOk result (λ u. map row_of changes.new.come.items ≡ map row_of changes.old.come.items ++ come_at (change_of_cut cut.now) cut.now.system_start (row_of row.now)) }
+    ensures removed { IfOk result (λ u. map row_of changes.new.removed.items ≡ map row_of changes.old.removed.items ++ removed_at (change_of_cut cut.now) cut.now.system_start (row_of row.now)) }
+    ensures added { IfOk result (λ u. map row_of changes.new.added.items ≡ map row_of changes.old.added.items ++ added_at (change_of_cut cut.now) cut.now.system_start (row_of row.now)) }
     ensures in_range { IfOk result (λ u. is_stuck (change_of_cut cut.now) (row_of row.now) ≡ false) }
     ensures err { IfErr result (λ refusal. (refusal ≡ NoMemory) ⊎ ((refusal ≡ NumberRange) × (is_stuck (change_of_cut cut.now) (row_of row.now) ≡ true))) }
 {
@@ -91,8 +91,8 @@ pub(crate) fn cut_line(
     changes: &mut Changes,
 ) -> Result<Vec<Row>, Refusal>
     ensures rows { IfOk result (λ rows. map row_of rows.items ≡ flat_map (kept (change_of_cut cut.now) cut.now.system_start) (map row_of line.now)) }
-    ensures gone { IfOk result (λ rows. map row_of changes.new.gone.items ≡ map row_of changes.old.gone.items ++ flat_map (gone_at (change_of_cut cut.now) cut.now.system_start) (map row_of line.now)) }
-    ensures come { IfOk result (λ rows. map row_of changes.new.come.items ≡ map row_of changes.old.come.items ++ flat_map (come_at (change_of_cut cut.now) cut.now.system_start) (map row_of line.now)) }
+    ensures removed { IfOk result (λ rows. map row_of changes.new.removed.items ≡ map row_of changes.old.removed.items ++ flat_map (removed_at (change_of_cut cut.now) cut.now.system_start) (map row_of line.now)) }
+    ensures added { IfOk result (λ rows. map row_of changes.new.added.items ≡ map row_of changes.old.added.items ++ flat_map (added_at (change_of_cut cut.now) cut.now.system_start) (map row_of line.now)) }
     ensures in_range { IfOk result (λ rows. list_any (is_stuck (change_of_cut cut.now)) (map row_of line.now) ≡ false) }
     ensures err { IfErr result (λ refusal. (refusal ≡ NoMemory) ⊎ ((refusal ≡ NumberRange) × (list_any (is_stuck (change_of_cut cut.now)) (map row_of line.now) ≡ true))) }
 {

@@ -3,7 +3,7 @@ ghost use Rattle.std.specs.Prelude.{◌≡◌, ◌⊎◌, ◌<◌, ◌≤◌, �
 ghost use Rattle.std.specs.List.{list_any};
 ghost use Rattle.fault.specs.declared.refusal.Refusal.TheVariants.{NoMemory, NumberRange};
 ghost use Rattle.current.specs.Rows.{row_of};
-ghost use Rattle.current.specs.Cuts.{change_of_cut, is_met, is_stuck, kept, gone_at, come_at};
+ghost use Rattle.current.specs.Cuts.{change_of_cut, is_met, is_stuck, kept, removed_at, added_at};
 ghost use Rattle.std.specs.Prelude.{List, IsTrue};
 ghost use Rattle.std.specs.BTreeMap.{IsOrdered};
 ghost use Rattle.model.specs.declared.value.Value.{Value};
@@ -49,8 +49,8 @@ impl Plan {
     fn add(&mut self, alloc: Global, cut: &Cut, key: &Key, rows: &[Row]) -> Result<(), Refusal>
         ensures lines { IfOk result (λ u. IsPlanned (change_of_cut cut.now) cut.now.system_start key.now (map row_of rows.now) self.old.lines.items self.new.lines.items) }
         ensures count { IfOk result (λ u. self.new.count ≡ min (self.old.count + length (flat_map (kept (change_of_cut cut.now) cut.now.system_start) (map row_of rows.now))) usize.MAX) }
-        ensures gone { IfOk result (λ u. map row_of self.new.changes.gone.items ≡ map row_of self.old.changes.gone.items ++ flat_map (gone_at (change_of_cut cut.now) cut.now.system_start) (map row_of rows.now)) }
-        ensures come { IfOk result (λ u. map row_of self.new.changes.come.items ≡ map row_of self.old.changes.come.items ++ flat_map (come_at (change_of_cut cut.now) cut.now.system_start) (map row_of rows.now)) }
+        ensures removed { IfOk result (λ u. map row_of self.new.changes.removed.items ≡ map row_of self.old.changes.removed.items ++ flat_map (removed_at (change_of_cut cut.now) cut.now.system_start) (map row_of rows.now)) }
+        ensures added { IfOk result (λ u. map row_of self.new.changes.added.items ≡ map row_of self.old.changes.added.items ++ flat_map (added_at (change_of_cut cut.now) cut.now.system_start) (map row_of rows.now)) }
         ensures in_range { IfOk result (λ u. list_any (is_stuck (change_of_cut cut.now)) (map row_of rows.now) ≡ false) }
         ensures err { IfErr result (λ refusal. (refusal ≡ NoMemory) ⊎ ((refusal ≡ NumberRange) × (list_any (is_stuck (change_of_cut cut.now)) (map row_of rows.now) ≡ true))) }
     {
@@ -72,8 +72,8 @@ impl Plan {
 pub(crate) fn plan_cut(alloc: Global, cut: &Cut, lines: &Lines) -> Result<Plan, Refusal>
     ensures lines { IfOk result (λ plan. ArePlanned (change_of_cut cut.now) cut.now.system_start (lines_of lines.now) plan.lines.items) }
     ensures count { IfOk result (λ plan. plan.count ≡ min (length (flat_map (kept (change_of_cut cut.now) cut.now.system_start) (rows_in lines.now.entries))) usize.MAX) }
-    ensures gone { IfOk result (λ plan. map row_of plan.changes.gone.items ≡ flat_map (gone_at (change_of_cut cut.now) cut.now.system_start) (rows_in lines.now.entries)) }
-    ensures come { IfOk result (λ plan. map row_of plan.changes.come.items ≡ flat_map (come_at (change_of_cut cut.now) cut.now.system_start) (rows_in lines.now.entries)) }
+    ensures removed { IfOk result (λ plan. map row_of plan.changes.removed.items ≡ flat_map (removed_at (change_of_cut cut.now) cut.now.system_start) (rows_in lines.now.entries)) }
+    ensures added { IfOk result (λ plan. map row_of plan.changes.added.items ≡ flat_map (added_at (change_of_cut cut.now) cut.now.system_start) (rows_in lines.now.entries)) }
     ensures in_range { IfOk result (λ plan. list_any (is_stuck (change_of_cut cut.now)) (rows_in lines.now.entries) ≡ false) }
     ensures err { IfErr result (λ refusal. (refusal ≡ NoMemory) ⊎ ((refusal ≡ NumberRange) × (list_any (is_stuck (change_of_cut cut.now)) (rows_in lines.now.entries) ≡ true))) }
 {
@@ -104,8 +104,8 @@ pub(crate) fn plan_key(
     requires met { (r : TableRow) → Has (rows_in lines.now.entries) r → is_met (change_of_cut cut.now) r ≡ true → r.key ≡ key.now }
     ensures lines { IfOk result (λ plan. ArePlanned (change_of_cut cut.now) cut.now.system_start (lines_of lines.now) plan.lines.items) }
     ensures count { IfOk result (λ plan. plan.count ≡ min (length (flat_map (kept (change_of_cut cut.now) cut.now.system_start) (rows_in lines.now.entries))) usize.MAX) }
-    ensures gone { IfOk result (λ plan. map row_of plan.changes.gone.items ≡ flat_map (gone_at (change_of_cut cut.now) cut.now.system_start) (rows_in lines.now.entries)) }
-    ensures come { IfOk result (λ plan. map row_of plan.changes.come.items ≡ flat_map (come_at (change_of_cut cut.now) cut.now.system_start) (rows_in lines.now.entries)) }
+    ensures removed { IfOk result (λ plan. map row_of plan.changes.removed.items ≡ flat_map (removed_at (change_of_cut cut.now) cut.now.system_start) (rows_in lines.now.entries)) }
+    ensures added { IfOk result (λ plan. map row_of plan.changes.added.items ≡ flat_map (added_at (change_of_cut cut.now) cut.now.system_start) (rows_in lines.now.entries)) }
     ensures in_range { IfOk result (λ plan. list_any (is_stuck (change_of_cut cut.now)) (rows_in lines.now.entries) ≡ false) }
     ensures err { IfErr result (λ refusal. (refusal ≡ NoMemory) ⊎ ((refusal ≡ NumberRange) × (list_any (is_stuck (change_of_cut cut.now)) (rows_in lines.now.entries) ≡ true))) }
 {

@@ -45,7 +45,7 @@ impl TableRows {
     ghost use Rattle.current.specs.Rows.{row_of};
     ghost use Rattle.current.specs.Table.{rows_of_table, IsWith, IsInserted, IsInsertRefused, IsCut, IsCutRefused, IsWithout, IsJoined, CanPut, CanUndo, HaveSame};
     ghost use Rattle.rowlaws.specs.Touching.{rows_without};
-    ghost use Rattle.current.specs.Cuts.{change_of_cut, is_stuck, kept, gone_at, come_at};
+    ghost use Rattle.current.specs.Cuts.{change_of_cut, is_stuck, kept, removed_at, added_at};
     ghost use Rattle.current.specs.Plans.{ArePlanned};
     ghost use Rattle.current.specs.Stored.{lines_of, line_in};
     ghost use Rattle.model.specs.Periods.{period_of, StartInOrder};
@@ -120,8 +120,8 @@ impl TableRows {
     fn plan(&self, cut: &Cut) -> Result<Plan, Refusal>
         ensures lines { IfOk result (λ plan. ArePlanned (change_of_cut cut.now) cut.now.system_start (lines_of self.now.lines) plan.lines.items) }
         ensures count { IfOk result (λ plan. plan.count ≡ min (length (flat_map (kept (change_of_cut cut.now) cut.now.system_start) (rows_of_table self.now))) usize.MAX) }
-        ensures gone { IfOk result (λ plan. map row_of plan.changes.gone.items ≡ flat_map (gone_at (change_of_cut cut.now) cut.now.system_start) (rows_of_table self.now)) }
-        ensures come { IfOk result (λ plan. map row_of plan.changes.come.items ≡ flat_map (come_at (change_of_cut cut.now) cut.now.system_start) (rows_of_table self.now)) }
+        ensures removed { IfOk result (λ plan. map row_of plan.changes.removed.items ≡ flat_map (removed_at (change_of_cut cut.now) cut.now.system_start) (rows_of_table self.now)) }
+        ensures added { IfOk result (λ plan. map row_of plan.changes.added.items ≡ flat_map (added_at (change_of_cut cut.now) cut.now.system_start) (rows_of_table self.now)) }
         ensures in_range { IfOk result (λ plan. list_any (is_stuck (change_of_cut cut.now)) (rows_of_table self.now) ≡ false) }
         ensures err { IfErr result (λ refusal. (refusal ≡ NoMemory) ⊎ ((refusal ≡ NumberRange) × (list_any (is_stuck (change_of_cut cut.now)) (rows_of_table self.now) ≡ true))) }
     {
@@ -137,7 +137,7 @@ impl TableRows {
     /// `NumberRange` where a new value of a row that is met is out of range; then `RowLimit` where
     /// more than 20,000 rows would be left; `NoMemory`.
     pub(crate) fn cut(&mut self, cut: &Cut) -> Result<Changes, Refusal>
-        ensures ok { IfOk result (λ changes. IsCut (change_of_cut cut.now) cut.now.system_start (rows_of_table self.old) (rows_of_table self.new) (map row_of changes.gone.items) (map row_of changes.come.items)) }
+        ensures ok { IfOk result (λ changes. IsCut (change_of_cut cut.now) cut.now.system_start (rows_of_table self.old) (rows_of_table self.new) (map row_of changes.removed.items) (map row_of changes.added.items)) }
         ensures err { IfErr result (λ refusal. (rows_of_table self.new ≡ rows_of_table self.old) × IsCutRefused (change_of_cut cut.now) cut.now.system_start (rows_of_table self.old) refusal) }
     {
         let plan = self.plan(cut)?;
@@ -189,11 +189,11 @@ impl TableRows {
 
     /// Gives the rows before a statement, by what it touched. Want of memory leaves some of them
     /// away.
-    pub(crate) fn undo(&mut self, gone: &[Row], come: &[Row]) -> Result<(), AllocError>
-        requires { CanUndo (rows_of_table self.old) (map row_of gone.now) (map row_of come.now) }
-        ensures { OnOk result (HaveSame (rows_without (rows_of_table self.old) (map row_of come.now) ++ map row_of gone.now) (rows_of_table self.new)) }
+    pub(crate) fn undo(&mut self, removed: &[Row], added: &[Row]) -> Result<(), AllocError>
+        requires { CanUndo (rows_of_table self.old) (map row_of removed.now) (map row_of added.now) }
+        ensures { OnOk result (HaveSame (rows_without (rows_of_table self.old) (map row_of added.now) ++ map row_of removed.now) (rows_of_table self.new)) }
     {
-        self.take_all(come);
-        self.put_all(gone)
+        self.take_all(added);
+        self.put_all(removed)
     }
 }

@@ -96,7 +96,7 @@ impl Both {
         let stamp = Stamp::new(u64::from(self.last));
         let transaction = read_transaction(self.alloc, &self.schema, text.as_str())?;
         let entry = entry_of(stamp, client, number, text)?;
-        let given = self.tables.apply(&self.schema, &entry)?;
+        let given = self.tables.apply(&entry)?;
         let wanted = self
             .judge
             .take(&self.schema, stamp, client, number, transaction)?;
@@ -116,7 +116,7 @@ impl Both {
                 return Ok(());
             }
         };
-        let given = self.tables.ask(&self.schema, &query);
+        let given = self.tables.ask(&query);
         match (given, self.judge.ask(&self.schema, &query)) {
             (Ok(given), Ok(wanted)) => {
                 tally.answer(&wanted);

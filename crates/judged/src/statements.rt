@@ -5,7 +5,6 @@ use crate::tally::Tally;
 use crate::touching::{are_same, delete_all, is_touched};
 use anyhow::{Result, bail, ensure};
 use current::{Current, Touched};
-use fault::Refusal;
 use model::stamp::Stamp;
 use plain::Tables;
 use schema::Schema;
@@ -24,20 +23,13 @@ struct Both {
     text: String,
 }
 
-/// Runs a statement; `UnknownTable` where its table is not there.
-fn run(current: &mut Current, statement: &Statement, t: Stamp) -> Result<Touched, Refusal> {
-    if statement.table() >= current.table_count() {
-        return Err(Refusal::UnknownTable);
-    }
-    current.run(statement, t)
-}
-
 impl Both {
     fn new(alloc: Global) -> Result<Both> {
+        let schema = read_schema(alloc, STAFF)?;
         Ok(Both {
             alloc,
-            schema: read_schema(alloc, STAFF)?,
-            current: Current::new(alloc, 2)?,
+            current: Current::new(alloc, &schema)?,
+            schema,
             tables: Tables::empty(alloc, 2, all_days()?)?,
             text: String::new(alloc),
         })
@@ -56,7 +48,7 @@ impl Both {
     /// Runs a statement by both.
     fn run(&mut self, statement: &Statement, t: Stamp, tally: &mut Tally) -> Result<()> {
         let wanted = self.tables.run(self.alloc, statement, t.micros());
-        match (run(&mut self.current, statement, t), wanted) {
+        match (self.current.run(statement, t), wanted) {
             (Ok(touched), Ok(next)) => {
                 tally.accept();
                 self.compare(next, &touched)
@@ -87,9 +79,9 @@ impl Both {
     fn compare_rows(&mut self) -> Result<()> {
         for names in [DEPT, EMP] {
             let all = delete_all(self.alloc, names.place);
-            let touched = run(&mut self.current, &all, Stamp::new(1000))?;
+            let touched = self.current.run(&all, Stamp::new(1000))?;
             let rows = self.tables.rows(self.alloc, names.place)?;
-            let is_right = are_same(&rows, touched.gone(names.place));
+            let is_right = are_same(&rows, touched.removed(names.place));
             ensure!(is_right, "other rows of {}", names.table);
         }
         Ok(())

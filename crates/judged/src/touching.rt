@@ -46,9 +46,9 @@ pub(crate) fn is_touched(
 ) -> Result<bool, AllocError> {
     let old = before.rows(alloc, table)?;
     let new = after.rows(alloc, table)?;
-    let gone = without(alloc, before.rows(alloc, table)?, &new)?;
-    let come = without(alloc, after.rows(alloc, table)?, &old)?;
-    Ok(are_same(&gone, touched.gone(table)) && are_same(&come, touched.come(table)))
+    let removed = without(alloc, before.rows(alloc, table)?, &new)?;
+    let added = without(alloc, after.rows(alloc, table)?, &old)?;
+    Ok(are_same(&removed, touched.removed(table)) && are_same(&added, touched.added(table)))
 }
 
 /// Takes all rows out of a table.

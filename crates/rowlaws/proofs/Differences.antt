@@ -57,8 +57,8 @@ touched rows more old new l m = record {
   stay = is_without rows more old new l m;
   came = without_is more rows new old m l;
   comes = is_without more rows new old m l;
-  gone_once = apart_without rows more l.once;
-  come_once = apart_without more rows m.once;
+  removed_once = apart_without rows more l.once;
+  added_once = apart_without more rows m.once;
 }
 
 pub untouched : Untouched
@@ -67,6 +67,6 @@ untouched table = record {
   stay = λ row h. inl h;
   came = λ row h. absurd h;
   comes = λ row h. inl h;
-  gone_once = tt;
-  come_once = tt;
+  removed_once = tt;
+  added_once = tt;
 }

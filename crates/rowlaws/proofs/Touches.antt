@@ -10,7 +10,7 @@ use Rattle.fault.specs.declared.refusal.Refusal.{Refusal}
 use Rattle.fault.specs.declared.refusal.Refusal.TheVariants.{KeyOverlap, NumberRange}
 use Rattle.model.specs.Transactions.{Insert, Update, Delete, changed}
 use Rattle.rowlaws.specs.Changes.{Follows}
-use Rattle.rowlaws.specs.Touching.{rows_without, IsTouched, gone_by, come_by, gone_both, come_both, TouchedBy, Undo}
+use Rattle.rowlaws.specs.Touching.{rows_without, IsTouched, removed_by, added_by, removed_both, added_both, TouchedBy, Undo}
 use Rattle.rowlaws.proofs.Members.{has_left, has_right, has_cases, apart_append, apart_flat, apart_filter, has_flat, flat_has, has_filter, filter_has}
 use Rattle.rowlaws.proofs.RowFacts.{both, one_row}
 use Rattle.rowlaws.proofs.Recut.{Cuts}
@@ -22,51 +22,51 @@ use Rattle.rowlaws.proofs.Differences.{without_has, has_without, apart_without}
 
 -- ---- two in turn
 
-module _ (t : ℕ) (a b c : Table) (gone come later_gone later_come : List Row) (first : IsTouched a b gone come) (second : IsTouched b c later_gone later_come)
+module _ (t : ℕ) (a b c : Table) (removed added later_removed later_added : List Row) (first : IsTouched a b removed added) (second : IsTouched b c later_removed later_added)
     (follows : Follows t a b) (follows_later : Follows t b c) (old : (r : Row) → IsRow a r → r.system_start < t) where
-  born : (r : Row) → Has come r → r.system_start ≡ t
+  born : (r : Row) → Has added r → r.system_start ≡ t
   born r h = let k = first.came r h in elim (follows r k.0) [ inl x ↦ absurd (k.1 x) | inr e ↦ e ]
 
-  born_later : (r : Row) → Has later_come r → r.system_start ≡ t
+  born_later : (r : Row) → Has later_added r → r.system_start ≡ t
   born_later r h = let k = second.came r h in elim (follows_later r k.0) [ inl x ↦ absurd (k.1 x) | inr e ↦ e ]
 
   not_both : (r : Row) → IsRow a r → r.system_start ≡ t → ⊥
   not_both r h e = let l = old r h in omega arith
 
-  still : (r : Row) → IsRow a r → IsRow b r → IsRow c r ⊎ Has (gone_both gone come later_gone) r
+  still : (r : Row) → IsRow a r → IsRow b r → IsRow c r ⊎ Has (removed_both removed added later_removed) r
   still r x y = elim (second.stay r y) [
     | inl z ↦ inl z
-    | inr g ↦ elim (has_without later_gone come r g) [ inl k ↦ absurd (not_both r x (born r k)) | inr k ↦ inr (has_right gone (rows_without later_gone come) r k) ]
+    | inr g ↦ elim (has_without later_removed added r g) [ inl k ↦ absurd (not_both r x (born r k)) | inr k ↦ inr (has_right removed (rows_without later_removed added) r k) ]
   ]
 
-  newer : (r : Row) → IsRow b r → IsRow c r → IsRow a r ⊎ Has (come_both come later_gone later_come) r
+  newer : (r : Row) → IsRow b r → IsRow c r → IsRow a r ⊎ Has (added_both added later_removed later_added) r
   newer r y z = elim (first.comes r y) [
     | inl x ↦ inl x
-    | inr k ↦ elim (has_without come later_gone r k) [ inl g ↦ absurd ((second.went r g).1 z) | inr w ↦ inr (has_left (rows_without come later_gone) later_come r w) ]
+    | inr k ↦ elim (has_without added later_removed r k) [ inl g ↦ absurd ((second.went r g).1 z) | inr w ↦ inr (has_left (rows_without added later_removed) later_added r w) ]
   ]
 
-  went_both : (r : Row) → Has (gone_both gone come later_gone) r → IsRow a r × (IsRow c r → ⊥)
-  went_both r h = elim (has_cases gone (rows_without later_gone come) r h) [
+  went_both : (r : Row) → Has (removed_both removed added later_removed) r → IsRow a r × (IsRow c r → ⊥)
+  went_both r h = elim (has_cases removed (rows_without later_removed added) r h) [
     | inl g ↦ let w = first.went r g in (w.0, λ z. elim (second.comes r z) [ inl y ↦ w.1 y | inr k ↦ not_both r w.0 (born_later r k) ])
-    | inr g ↦ let x = without_has later_gone come r g in let w = second.went r x.0 in (elim (first.comes r w.0) [ inl y ↦ y | inr k ↦ absurd (x.1 k) ], w.1)
+    | inr g ↦ let x = without_has later_removed added r g in let w = second.went r x.0 in (elim (first.comes r w.0) [ inl y ↦ y | inr k ↦ absurd (x.1 k) ], w.1)
   ]
 
-  came_both : (r : Row) → Has (come_both come later_gone later_come) r → IsRow c r × (IsRow a r → ⊥)
-  came_both r h = elim (has_cases (rows_without come later_gone) later_come r h) [
-    | inl g ↦ let x = without_has come later_gone r g in let w = first.came r x.0 in (elim (second.stay r w.0) [ inl z ↦ z | inr k ↦ absurd (x.1 k) ], w.1)
+  came_both : (r : Row) → Has (added_both added later_removed later_added) r → IsRow c r × (IsRow a r → ⊥)
+  came_both r h = elim (has_cases (rows_without added later_removed) later_added r h) [
+    | inl g ↦ let x = without_has added later_removed r g in let w = first.came r x.0 in (elim (second.stay r w.0) [ inl z ↦ z | inr k ↦ absurd (x.1 k) ], w.1)
     | inr g ↦ let w = second.came r g in (w.0, λ x. not_both r x (born_later r g))
   ]
 
-  pub touched_both : IsTouched a c (gone_both gone come later_gone) (come_both come later_gone later_come)
+  pub touched_both : IsTouched a c (removed_both removed added later_removed) (added_both added later_removed later_added)
   touched_both = record {
     went = went_both;
-    stay = λ r x. elim (first.stay r x) [ inl y ↦ still r x y | inr g ↦ inr (has_left gone (rows_without later_gone come) r g) ];
+    stay = λ r x. elim (first.stay r x) [ inl y ↦ still r x y | inr g ↦ inr (has_left removed (rows_without later_removed added) r g) ];
     came = came_both;
-    comes = λ r z. elim (second.comes r z) [ inl y ↦ newer r y z | inr k ↦ inr (has_right (rows_without come later_gone) later_come r k) ];
-    gone_once = apart_append gone (rows_without later_gone come) first.gone_once (apart_without later_gone come second.gone_once)
-        (λ r h g. (first.went r h).1 (second.went r (without_has later_gone come r g).0).0);
-    come_once = apart_append (rows_without come later_gone) later_come (apart_without come later_gone first.come_once) second.come_once
-        (λ r h g. (second.came r g).1 (first.came r (without_has come later_gone r h).0).0);
+    comes = λ r z. elim (second.comes r z) [ inl y ↦ newer r y z | inr k ↦ inr (has_right (rows_without added later_removed) later_added r k) ];
+    removed_once = apart_append removed (rows_without later_removed added) first.removed_once (apart_without later_removed added second.removed_once)
+        (λ r h g. (first.went r h).1 (second.went r (without_has later_removed added r g).0).0);
+    added_once = apart_append (rows_without added later_removed) later_added (apart_without added later_removed first.added_once) second.added_once
+        (λ r h g. (second.came r g).1 (first.came r (without_has added later_removed r h).0).0);
   }
 
 -- ---- rows that are met are cut, and the others stay
@@ -147,8 +147,8 @@ module _ (test : Row → Bool) (g : Row → List Row) (old new : Table) (rows : 
         | inl k ↦ elim (has_without made met r k) [ inl w ↦ inl (l.each r (filter_has test rows r w).0) | inr w ↦ inr w ]
         | inr u ↦ inl (l.each r u.0)
       ];
-      gone_once = apart_without met made (apart_filter test rows l.once);
-      come_once = apart_without made met apart_made;
+      removed_once = apart_without met made (apart_filter test rows l.once);
+      added_once = apart_without made met apart_made;
     }
 
 -- ---- each statement
@@ -173,45 +173,45 @@ touched_insert key values p t rows old l le short clear =
         | inl h ↦ inl (l.each r h)
         | inr h ↦ elim (has_without (new ∷ []) [] r h) [ inl n ↦ absurd n | inr w ↦ inr w ]
       ];
-      gone_once = apart_without [] (new ∷ []) tt;
-      come_once = apart_without (new ∷ []) [] ((λ h. h), tt);
+      removed_once = apart_without [] (new ∷ []) tt;
+      added_once = apart_without (new ∷ []) [] ((λ h. h), tt);
     }
 
 pub touched_by : TouchedBy
 unfolding changed cut_rows removed_rows
 touched_by (Insert key values p) t rows old new fine l h =
     let o = ok_if (insert_overlaps key p old) KeyOverlap (inserted key values p t old) new h in
-    subst (λ x. IsTouched old x (gone_by (Insert key values p) t rows) (come_by (Insert key values p) t rows)) o.1 (touched_insert key values p t rows old l fine.0 fine.1 o.0)
+    subst (λ x. IsTouched old x (removed_by (Insert key values p) t rows) (added_by (Insert key values p) t rows)) o.1 (touched_insert key values p t rows old l fine.0 fine.1 o.0)
 touched_by (Update passes p set) t rows old new fine l h =
     let o = ok_if (set_overflows passes p set old) NumberRange (updated passes p set t old) new h in
-    subst (λ x. IsTouched old x (gone_by (Update passes p set) t rows) (come_by (Update passes p set) t rows)) o.1
+    subst (λ x. IsTouched old x (removed_by (Update passes p set) t rows) (added_by (Update passes p set) t rows)) o.1
     (touched_cut (meets passes p) (pieces p set t) old (updated passes p set t old) rows l (lists_updated passes p set t old fine rows l) (λ r k. cut_cuts passes p set t old fine (l.each r k) (l.within r k)))
 touched_by (Delete passes p) t rows old new fine l h =
     let e : deleted passes p t old ≡ new = cc in
-    subst (λ x. IsTouched old x (gone_by (Delete passes p) t rows) (come_by (Delete passes p) t rows)) e
+    subst (λ x. IsTouched old x (removed_by (Delete passes p) t rows) (added_by (Delete passes p) t rows)) e
     (touched_cut (meets passes p) (rest p t) old (deleted passes p t old) rows l (lists_deleted passes p t old fine rows l) (λ r k. removed_cuts passes p t old fine (l.each r k) (l.within r k)))
 
 -- ---- undone
 
 pub undone : Undo
-undone rows more old new gone come l m touch =
-    let left : List Row = rows_without more come in
-    let is : (r : Row) → Has (left ++ gone) r → IsRow old r = λ r h. elim (has_cases left gone r h) [
-      | inl a ↦ let w = without_has more come r a in elim (touch.comes r (m.each r w.0)) [ inl o ↦ o | inr k ↦ absurd (w.1 k) ]
+undone rows more old new removed added l m touch =
+    let left : List Row = rows_without more added in
+    let is : (r : Row) → Has (left ++ removed) r → IsRow old r = λ r h. elim (has_cases left removed r h) [
+      | inl a ↦ let w = without_has more added r a in elim (touch.comes r (m.each r w.0)) [ inl o ↦ o | inr k ↦ absurd (w.1 k) ]
       | inr g ↦ (touch.went r g).0
     ] in
-    let listed : (r : Row) → Has (left ++ gone) r → Has rows r = λ r h. row_listed rows old r l (is r h) in
+    let listed : (r : Row) → Has (left ++ removed) r → Has rows r = λ r h. row_listed rows old r l (is r h) in
     record {
       each = is;
       every = λ k d c h.
           let r = l.every k d c h in
           let row = l.each r.0 r.1 in
-          let there : Has (left ++ gone) r.0 = elim (touch.stay r.0 row) [
-            | inl n ↦ elim (has_without more come r.0 (row_listed more new r.0 m n)) [ inl x ↦ absurd ((touch.came r.0 x).1 row) | inr w ↦ has_left left gone r.0 w ]
-            | inr g ↦ has_right left gone r.0 g
+          let there : Has (left ++ removed) r.0 = elim (touch.stay r.0 row) [
+            | inl n ↦ elim (has_without more added r.0 (row_listed more new r.0 m n)) [ inl x ↦ absurd ((touch.came r.0 x).1 row) | inr w ↦ has_left left removed r.0 w ]
+            | inr g ↦ has_right left removed r.0 g
           ] in
           (r.0, there, r.2, r.3, r.4);
-      once = apart_append left gone (apart_without more come m.once) touch.gone_once (λ r a g. (touch.went r g).1 (m.each r (without_has more come r a).0));
+      once = apart_append left removed (apart_without more added m.once) touch.removed_once (λ r a g. (touch.went r g).1 (m.each r (without_has more added r a).0));
       within = λ r h. l.within r (listed r h);
       keyed = λ r h. l.keyed r (listed r h);
       keys = l.keys;

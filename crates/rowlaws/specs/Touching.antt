@@ -18,13 +18,13 @@ unfoldable pub rows_without : List Row → List Row → List Row
 rows_without rows more = filter (λ r. not (list_any (same_row r) more)) rows
 
 -- the rows that the older table has and the newer not, and those that the newer has and the older not, each once
-pub record IsTouched (old new : Table) (gone come : List Row) : Type 0 where
-  pub went : (row : Row) → Has gone row → IsRow old row × (IsRow new row → ⊥)
-  pub stay : (row : Row) → IsRow old row → IsRow new row ⊎ Has gone row
-  pub came : (row : Row) → Has come row → IsRow new row × (IsRow old row → ⊥)
-  pub comes : (row : Row) → IsRow new row → IsRow old row ⊎ Has come row
-  pub gone_once : Apart gone
-  pub come_once : Apart come
+pub record IsTouched (old new : Table) (removed added : List Row) : Type 0 where
+  pub went : (row : Row) → Has removed row → IsRow old row × (IsRow new row → ⊥)
+  pub stay : (row : Row) → IsRow old row → IsRow new row ⊎ Has removed row
+  pub came : (row : Row) → Has added row → IsRow new row × (IsRow old row → ⊥)
+  pub comes : (row : Row) → IsRow new row → IsRow old row ⊎ Has added row
+  pub removed_once : Apart removed
+  pub added_once : Apart added
 
 -- ---- one change, by the rows that it meets alone
 
@@ -41,22 +41,22 @@ made_by (Update passes p set) t rows = flat_map (pieces p set t) (filter (meets 
 made_by (Delete passes p) t rows = flat_map (rest p t) (filter (meets passes p) rows)
 
 -- the rows that go: one that is made again as it was stays
-abbrev pub gone_by : Change → ℕ → List Row → List Row
-gone_by c t rows = rows_without (met_by c rows) (made_by c t rows)
+abbrev pub removed_by : Change → ℕ → List Row → List Row
+removed_by c t rows = rows_without (met_by c rows) (made_by c t rows)
 
 -- the rows that come
-abbrev pub come_by : Change → ℕ → List Row → List Row
-come_by c t rows = rows_without (made_by c t rows) (met_by c rows)
+abbrev pub added_by : Change → ℕ → List Row → List Row
+added_by c t rows = rows_without (made_by c t rows) (met_by c rows)
 
 -- ---- two changes in turn: a row that comes and goes is in neither list
 
 -- the rows that go with both
-abbrev pub gone_both : List Row → List Row → List Row → List Row
-gone_both gone come later_gone = gone ++ rows_without later_gone come
+abbrev pub removed_both : List Row → List Row → List Row → List Row
+removed_both removed added later_removed = removed ++ rows_without later_removed added
 
 -- the rows that come with both
-abbrev pub come_both : List Row → List Row → List Row → List Row
-come_both come later_gone later_come = rows_without come later_gone ++ later_come
+abbrev pub added_both : List Row → List Row → List Row → List Row
+added_both added later_removed later_added = rows_without added later_removed ++ later_added
 
 -- ---- laws
 
@@ -71,15 +71,15 @@ Touched = (rows more : List Row) (old new : Table) → Lists rows old → Lists 
 -- what an accepted change touches, by the rows that it meets alone
 abbrev pub TouchedBy : Type 0
 TouchedBy = (c : Change) (t : ℕ) (rows : List Row) (old new : Table) →
-    IsFine c → Lists rows old → changed c t old ≡ Ok new → IsTouched old new (gone_by c t rows) (come_by c t rows)
+    IsFine c → Lists rows old → changed c t old ≡ Ok new → IsTouched old new (removed_by c t rows) (added_by c t rows)
 
 -- what two changes touch in one transaction, at an instant after each system start in the first table
 abbrev pub TouchedThen : Type 0
-TouchedThen = (t : ℕ) (a b c : Table) (gone come later_gone later_come : List Row) →
-    IsTouched a b gone come → IsTouched b c later_gone later_come → Follows t a b → Follows t b c → ((r : Row) → IsRow a r → r.system_start < t) →
-    IsTouched a c (gone_both gone come later_gone) (come_both come later_gone later_come)
+TouchedThen = (t : ℕ) (a b c : Table) (removed added later_removed later_added : List Row) →
+    IsTouched a b removed added → IsTouched b c later_removed later_added → Follows t a b → Follows t b c → ((r : Row) → IsRow a r → r.system_start < t) →
+    IsTouched a c (removed_both removed added later_removed) (added_both added later_removed later_added)
 
 -- the rows before a change, from those after it and what it touched
 abbrev pub Undo : Type 0
-Undo = (rows more : List Row) (old new : Table) (gone come : List Row) →
-    Lists rows old → Lists more new → IsTouched old new gone come → Lists (rows_without more come ++ gone) old
+Undo = (rows more : List Row) (old new : Table) (removed added : List Row) →
+    Lists rows old → Lists more new → IsTouched old new removed added → Lists (rows_without more added ++ removed) old

@@ -7,7 +7,7 @@ use Rattle.model.specs.Values.{same_key}
 use Rattle.model.specs.Tables.{Period, Row}
 use Rattle.model.specs.Transactions.{Change, Insert, Update, Delete, Schema}
 use Rattle.rowlaws.specs.Changes.{rows_changed}
-use Rattle.rowlaws.specs.Touching.{rows_without, gone_by, come_by, gone_both, come_both}
+use Rattle.rowlaws.specs.Touching.{rows_without, removed_by, added_by, removed_both, added_both}
 use Rattle.rowlaws.specs.Statements.{Rows}
 use Rattle.rowlaws.specs.Covering.{rows_orphan}
 
@@ -43,8 +43,8 @@ PortionUpdate = rows_changed lent 102 hired ≡ Ok after_lent
 -- the row goes, and the three come; without them and with it the rows are as before
 abbrev pub PortionTouched : Type 0
 PortionTouched =
-    (gone_by lent 102 hired ≡ hired) × (come_by lent 102 hired ≡ after_lent)
-    × (rows_without after_lent (come_by lent 102 hired) ++ gone_by lent 102 hired ≡ hired)
+    (removed_by lent 102 hired ≡ hired) × (added_by lent 102 hired ≡ after_lent)
+    × (rows_without after_lent (added_by lent 102 hired) ++ removed_by lent 102 hired ≡ hired)
 
 -- ---- refusals
 
@@ -67,10 +67,10 @@ CameAndWent =
     let inserted = Insert (number 3) (number 0) (from_to 730119 737424) in
     let deleted = Delete (has_number 3) (from_to 0 3652058) in
     let dept = row 3 730119 737424 0 101 ∷ [] in
-    (gone_both (gone_by lent 102 hired) (come_by lent 102 hired) (gone_by dropped 102 after_lent) ≡ hired)
-    × (come_both (come_by lent 102 hired) (gone_by dropped 102 after_lent) (come_by dropped 102 after_lent) ≡ row 22217 733772 734170 3 102 ∷ row 22217 734389 734452 3 102 ∷ [])
-    × (gone_both (gone_by inserted 101 []) (come_by inserted 101 []) (gone_by deleted 101 dept) ≡ [])
-    × (come_both (come_by inserted 101 []) (gone_by deleted 101 dept) (come_by deleted 101 dept) ≡ [])
+    (removed_both (removed_by lent 102 hired) (added_by lent 102 hired) (removed_by dropped 102 after_lent) ≡ hired)
+    × (added_both (added_by lent 102 hired) (removed_by dropped 102 after_lent) (added_by dropped 102 after_lent) ≡ row 22217 733772 734170 3 102 ∷ row 22217 734389 734452 3 102 ∷ [])
+    × (removed_both (removed_by inserted 101 []) (added_by inserted 101 []) (removed_by deleted 101 dept) ≡ [])
+    × (added_both (added_by inserted 101 []) (removed_by deleted 101 dept) (added_by deleted 101 dept) ≡ [])
 
 -- ---- references
 

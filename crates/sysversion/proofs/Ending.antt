@@ -32,12 +32,12 @@ none_ends t [] = refl
 none_ends t (v ∷ versions) = λ i. ends_none t v i ∷ none_ends t versions i
 
 -- the version ends where the test is so
-pub ends_at : (t : ℕ) (gone : List Row) (v : Declared) → ended t (map row_of gone) (version_of v) ≡ ends (is_none v.end && list_any (λ r. is_at (row_of v.row) (row_of r)) gone) t (version_of v)
-ends_at t gone v = ap (λ b. ends (is_none v.end && b) t (version_of v)) (any_map (is_at (row_of v.row)) row_of gone)
+pub ends_at : (t : ℕ) (removed : List Row) (v : Declared) → ended t (map row_of removed) (version_of v) ≡ ends (is_none v.end && list_any (λ r. is_at (row_of v.row) (row_of r)) removed) t (version_of v)
+ends_at t removed v = ap (λ b. ends (is_none v.end && b) t (version_of v)) (any_map (is_at (row_of v.row)) row_of removed)
 
-pub none_at_all : (gone : List Row) (t : ℕ) (versions : List Version) → length gone ≡ 0 → map (ended t (map row_of gone)) versions ≡ versions
+pub none_at_all : (removed : List Row) (t : ℕ) (versions : List Version) → length removed ≡ 0 → map (ended t (map row_of removed)) versions ≡ versions
 none_at_all [] t versions e = none_ends t versions
-none_at_all (r ∷ gone) t versions e = absurd (omega (arith, e))
+none_at_all (r ∷ removed) t versions e = absurd (omega (arith, e))
 
 -- where nothing is touched the versions stay
 pub none_committed : (t : ℕ) (versions : List Version) → committed t [] [] versions ≡ versions

@@ -1,5 +1,7 @@
 -- What is touched of each table, one table after another.
-use Rattle.std.proofs.Common.{◌≡◌, ℕ, zero, suc, ◌+◌, ◌≤◌, List, [], ◌∷◌, length, drop, ap, arith}
+use Rattle.std.proofs.Common.{◌++◌, refl, ◌≡◌, ℕ, zero, suc, ◌+◌, ◌≤◌, List, [], ◌∷◌, length, drop, ap, arith}
+use Rattle.std.specs.Prelude.{slice_get}
+use Rattle.std.specs.Option.{option_map_or}
 use Rattle.model.specs.Tables.{Row}
 use Rattle.current.specs.Places.{rows_at}
 
@@ -22,3 +24,10 @@ pub drop_all : {A : Type 0} (xs : List A) (n : ℕ) → length (drop n xs) ≡ 0
 drop_all [] n e = omega arith
 drop_all (x ∷ xs) zero e = absurd (omega (arith, e))
 drop_all (x ∷ xs) (suc n) e = let less : length xs ≤ n = drop_all xs n e in omega arith
+
+-- one more table without anything
+pub none_more : {A B : Type 0} (f : A → List B) (xs : List A) (x : A) → f x ≡ [] → ((n : ℕ) → option_map_or f (slice_get xs n) [] ≡ []) → (n : ℕ) → option_map_or f (slice_get (xs ++ x ∷ []) n) [] ≡ []
+none_more f [] x e h zero = e
+none_more f [] x e h (suc n) = refl
+none_more f (y ∷ xs) x e h zero = h zero
+none_more f (y ∷ xs) x e h (suc n) = none_more f xs x e (λ k. h (suc k)) n

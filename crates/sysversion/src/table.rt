@@ -1,7 +1,7 @@
 //! The versions of one table over a transaction.
 ghost use Rattle.std.specs.Prelude.{◌≡◌, ◌++◌, map, OnOk};
 ghost use Rattle.current.specs.Rows.{row_of};
-ghost use Rattle.current.specs.Touched.{gone_of, come_of};
+ghost use Rattle.current.specs.Touched.{removed_of, added_of};
 ghost use Rattle.versionlaws.specs.Committing.{ended, opened, committed};
 ghost use Rattle.sysversion.specs.Versions.{version_of};
 
@@ -11,23 +11,23 @@ use model::stamp::Stamp;
 use std::alloc::AllocError;
 
 // Ends the open versions of the rows that go.
-fn end_rows(versions: &mut [Version], gone: &[Row], t: Stamp)
-    ensures { map version_of versions.new ≡ map (ended t (map row_of gone.now)) (map version_of versions.old) }
+fn end_rows(versions: &mut [Version], removed: &[Row], t: Stamp)
+    ensures { map version_of versions.new ≡ map (ended t (map row_of removed.now)) (map version_of versions.old) }
 {
-    if gone.is_empty() {
+    if removed.is_empty() {
         return;
     }
     for version in versions.iter_mut() {
-        version.end_with(gone, t);
+        version.end_with(removed, t);
     }
 }
 
 // Adds an open version for each row that comes.
-fn open_rows(versions: &mut Vec<Version>, come: Vec<Row>) -> Result<(), AllocError>
-    ensures { OnOk result (map version_of versions.new.items ≡ map version_of versions.old.items ++ map opened (map row_of come.items)) }
+fn open_rows(versions: &mut Vec<Version>, added: Vec<Row>) -> Result<(), AllocError>
+    ensures { OnOk result (map version_of versions.new.items ≡ map version_of versions.old.items ++ map opened (map row_of added.items)) }
 {
-    versions.reserve(come.len())?;
-    for row in come {
+    versions.reserve(added.len())?;
+    for row in added {
         versions.push(Version { row, end: None })?;
     }
     Ok(())
@@ -41,9 +41,9 @@ pub(crate) fn commit_changes(
     changes: Changes,
     t: Stamp,
 ) -> Result<(), AllocError>
-    ensures { OnOk result (map version_of versions.new.items ≡ committed t (gone_of changes) (come_of changes) (map version_of versions.old.items)) }
+    ensures { OnOk result (map version_of versions.new.items ≡ committed t (removed_of changes) (added_of changes) (map version_of versions.old.items)) }
 {
-    let Changes { gone, come } = changes;
-    end_rows(versions.as_mut_slice(), gone.as_slice(), t);
-    open_rows(versions, come)
+    let Changes { removed, added } = changes;
+    end_rows(versions.as_mut_slice(), removed.as_slice(), t);
+    open_rows(versions, added)
 }

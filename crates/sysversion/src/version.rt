@@ -32,10 +32,10 @@ impl Version {
     }
 
     /// Ends the version at an instant if it is open and one of the rows that go has its row's key and start.
-    pub(crate) fn end_with(&mut self, gone: &[Row], t: Stamp)
-        ensures { version_of self.new ≡ ended t (map row_of gone.now) (version_of self.old) }
+    pub(crate) fn end_with(&mut self, removed: &[Row], t: Stamp)
+        ensures { version_of self.new ≡ ended t (map row_of removed.now) (version_of self.old) }
     {
-        if self.end.is_none() && self.is_among(gone) {
+        if self.end.is_none() && self.is_among(removed) {
             self.end = Some(t);
         }
     }

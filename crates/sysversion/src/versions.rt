@@ -1,37 +1,43 @@
 //! The versions of all tables.
 ghost use Rattle.std.specs.Prelude.{◌≡◌, ◌≢◌, ℕ, ◌<◌, [], true, false, map, length, Err, alloc_error, OnOk, OnErr, IfOk};
-ghost use Rattle.current.specs.Touched.{gone_of, come_of, gone_in, come_in};
+ghost use Rattle.current.specs.Touched.{removed_of, added_of, removed_in, added_in};
 ghost use Rattle.versionlaws.specs.Committing.{committed};
-ghost use Rattle.sysversion.specs.Versions.{versions_of, version_of, table_count, is_failed};
 
 use crate::table::commit_changes;
 use crate::version::Version;
 use current::{Changes, Touched};
 use model::stamp::Stamp;
+use schema::Schema;
 use std::alloc::{AllocError, Global};
 
-/// The versions of all tables. A contract sees what `versions_of` gives: of each table, by its number
-/// from 0, its versions in the order in which they came.
-#[derive(Debug, Drop)]
+/// The versions of all tables of a schema, which it keeps. A contract sees what `versions_of` gives: of each table, by
+/// its number from 0, its versions in the order in which they came.
+#[derive(Drop)]
 pub struct Versions {
+    pub(crate) schema: Schema,
     pub(crate) tables: Vec<Vec<Version>>,
     pub(crate) alloc: Global,
     pub(crate) failed: bool,
+    ghost counted: { length tables.items ≡ length schema },
 }
 
 impl Versions {
-    /// So many tables, without versions.
-    pub fn new(alloc: Global, tables: usize) -> Result<Versions, AllocError>
+    ghost use Rattle.sysversion.specs.Versions.{versions_of, version_of, schema_in, table_count, is_failed};
+
+    /// The tables of a schema, without versions.
+    pub fn new(alloc: Global, schema: &Schema) -> Result<Versions, AllocError>
         ensures versions { IfOk result (λ versions. (n : ℕ) → versions_of versions n ≡ []) }
-        ensures count { IfOk result (λ versions. table_count versions ≡ tables) }
+        ensures schema { IfOk result (λ versions. schema_in versions ≡ schema.now) }
         ensures up { IfOk result (λ versions. is_failed versions ≡ false) }
     {
-        let mut all = Vec::new(alloc);
-        for _ in 0..tables {
-            all.push(Vec::new(alloc))?;
+        let schema = schema.clone()?;
+        let mut tables = Vec::new(alloc);
+        for _ in 0..schema.len() {
+            tables.push(Vec::new(alloc))?;
         }
         Ok(Versions {
-            tables: all,
+            schema,
+            tables,
             alloc,
             failed: false,
         })
@@ -39,9 +45,9 @@ impl Versions {
 
     // Takes in what was touched of a table, if it is there.
     fn commit_table(&mut self, table: usize, changes: Changes, t: Stamp) -> Result<(), AllocError>
-        ensures here { OnOk result (table < table_count self.old → versions_of self.new table ≡ committed t (gone_of changes) (come_of changes) (versions_of self.old table)) }
+        ensures here { OnOk result (table < table_count self.old → versions_of self.new table ≡ committed t (removed_of changes) (added_of changes) (versions_of self.old table)) }
         ensures others { OnOk result ((n : ℕ) → n ≢ table → versions_of self.new n ≡ versions_of self.old n) }
-        ensures count { table_count self.new ≡ table_count self.old }
+        ensures schema { schema_in self.new ≡ schema_in self.old }
     {
         if table >= self.tables.len() {
             return Ok(());
@@ -51,8 +57,8 @@ impl Versions {
 
     // Takes in what was touched of each table.
     fn commit_tables(&mut self, touched: Touched, t: Stamp) -> Result<(), AllocError>
-        ensures ok { OnOk result ((n : ℕ) → n < table_count self.old → versions_of self.new n ≡ committed t (gone_in touched n) (come_in touched n) (versions_of self.old n)) }
-        ensures count { table_count self.new ≡ table_count self.old }
+        ensures ok { OnOk result ((n : ℕ) → n < table_count self.old → versions_of self.new n ≡ committed t (removed_in touched n) (added_in touched n) (versions_of self.old n)) }
+        ensures schema { schema_in self.new ≡ schema_in self.old }
     {
         current::laws::nothing_beyond();
         for (table, changes) in touched.tables.into_iter().enumerate() {
@@ -66,10 +72,10 @@ impl Versions {
     ///
     /// Want of memory may leave some of it out: the value has then failed, and each later commit is refused.
     pub fn commit(&mut self, touched: Touched, t: Stamp) -> Result<(), AllocError>
-        ensures ok { OnOk result ((n : ℕ) → n < table_count self.old → versions_of self.new n ≡ committed t (gone_in touched n) (come_in touched n) (versions_of self.old n)) }
+        ensures ok { OnOk result ((n : ℕ) → n < table_count self.old → versions_of self.new n ≡ committed t (removed_in touched n) (added_in touched n) (versions_of self.old n)) }
         ensures err { OnErr result (is_failed self.new ≡ true) }
         ensures up { OnOk result ((is_failed self.old ≡ false) × (is_failed self.new ≡ false)) }
-        ensures count { table_count self.new ≡ table_count self.old }
+        ensures schema { schema_in self.new ≡ schema_in self.old }
         ensures once_failed { is_failed self.old ≡ true → result ≡ Err alloc_error }
     {
         if self.failed {
@@ -91,6 +97,13 @@ impl Versions {
             Some(versions) => versions.as_slice(),
             None => &[],
         }
+    }
+
+    /// The schema whose tables they are.
+    pub fn schema(&self) -> &Schema
+        ensures { result.now ≡ schema_in self.now }
+    {
+        &self.schema
     }
 
     /// Whether a commit has found no memory.

@@ -69,33 +69,33 @@ is_at-same table a b r s h = let p = and_parts _ _ h in one_place table a b r s 
 is_at-itself : (a b : Row) → a ≡ b → is_at a b ≡ true
 is_at-itself a b e = subst (λ x. is_at a x ≡ true) e (and_from _ _ (same_key-itself a.key) (eq-eqb _ _ refl))
 
-module _ (versions : List Version) (history later : ℕ → Table) (bound t : ℕ) (old new : Table) (gone come : List Row)
+module _ (versions : List Version) (history later : ℕ → Table) (bound t : ℕ) (old new : Table) (removed added : List Row)
     (holds : Holds versions history bound old) (le : bound ≤ t)
     (before : (u : ℕ) → u < bound → later u ≡ history u) (between : (u : ℕ) → bound ≤ u → u < t → later u ≡ old) (now : later t ≡ new)
-    (touch : IsTouched old new gone come) (follows : Follows t old new) where
+    (touch : IsTouched old new removed added) (follows : Follows t old new) where
   abbrev next : List Version
-  next = committed t gone come versions
+  next = committed t removed added versions
 
-  new_system_start : (r : Row) → Has come r → r.system_start ≡ t
+  new_system_start : (r : Row) → Has added r → r.system_start ≡ t
   new_system_start r h = let c = touch.came r h in elim (follows r c.0) [ inl o ↦ absurd (c.1 o) | inr e ↦ e ]
 
   -- a version of the new list was one of the old, or is a row that came
-  split : (w : Version) → Has next w → ((v : Version) × Has versions v × (w ≡ ended t gone v)) ⊎ ((r : Row) × Has come r × (w ≡ opened r))
+  split : (w : Version) → Has next w → ((v : Version) × Has versions v × (w ≡ ended t removed v)) ⊎ ((r : Row) × Has added r × (w ≡ opened r))
   unfolding committed
-  split w h = elim (has_cases (map (ended t gone) versions) (map opened come) w h) [ inl a ↦ inl (map_has (ended t gone) versions w a) | inr b ↦ inr (map_has opened come w b) ]
+  split w h = elim (has_cases (map (ended t removed) versions) (map opened added) w h) [ inl a ↦ inl (map_has (ended t removed) versions w a) | inr b ↦ inr (map_has opened added w b) ]
 
-  has_ended : (v : Version) → Has versions v → Has next (ended t gone v)
+  has_ended : (v : Version) → Has versions v → Has next (ended t removed v)
   unfolding committed
-  has_ended v h = has_left (map (ended t gone) versions) (map opened come) (ended t gone v) (has_map (ended t gone) versions v h)
+  has_ended v h = has_left (map (ended t removed) versions) (map opened added) (ended t removed v) (has_map (ended t removed) versions v h)
 
-  has_opened : (r : Row) → Has come r → Has next (opened r)
+  has_opened : (r : Row) → Has added r → Has next (opened r)
   unfolding committed
-  has_opened r h = has_right (map (ended t gone) versions) (map opened come) (opened r) (has_map opened come r h)
+  has_opened r h = has_right (map (ended t removed) versions) (map opened added) (opened r) (has_map opened added r h)
 
   -- what becomes of a version: it stays, or was open and its row is gone
   data Fate (v : Version) : Type 0 where
-    stays : ended t gone v ≡ v → (v.end ≡ None → IsRow new v.row) → Fate v
-    ends : ended t gone v ≡ record { row = v.row; end = Some t } → v.end ≡ None → (IsRow new v.row → ⊥) → Fate v
+    stays : ended t removed v ≡ v → (v.end ≡ None → IsRow new v.row) → Fate v
+    ends : ended t removed v ≡ record { row = v.row; end = Some t } → v.end ≡ None → (IsRow new v.row → ⊥) → Fate v
 
   open_row : (v : Version) → Has versions v → v.end ≡ None → IsRow old v.row
   open_row v h e = (holds.open_rows v.row).1 (v, h, refl, e)
@@ -108,21 +108,21 @@ module _ (versions : List Version) (history later : ℕ → Table) (bound t : �
   is_none_of o e = ap is_none e
 
   fate : (v : Version) → Has versions v → Fate v
-  fate v h = elim (cases_Bool (is_none v.end && list_any (is_at v.row) gone)) [
+  fate v h = elim (cases_Bool (is_none v.end && list_any (is_at v.row) removed)) [
     | inl y ↦
         let p = and_parts _ _ y in
         let e = none_is v.end p.0 in
-        let g = any_has (is_at v.row) gone p.1 in
-        let gone_is = touch.went g.0 g.1 in
-        let same = is_at-same old v.row g.0 (open_row v h e) gone_is.0 g.2 in
-        ends (cond-true _ _ _ y) e (subst (λ x. IsRow new x → ⊥) (sym same) gone_is.1)
+        let g = any_has (is_at v.row) removed p.1 in
+        let removed_is = touch.went g.0 g.1 in
+        let same = is_at-same old v.row g.0 (open_row v h e) removed_is.0 g.2 in
+        ends (cond-true _ _ _ y) e (subst (λ x. IsRow new x → ⊥) (sym same) removed_is.1)
     | inr n ↦ stays (cond-false _ _ _ n) (λ e. elim (touch.stay v.row (open_row v h e)) [
       | inl r ↦ r
-      | inr g ↦ absurd (both (and_from _ _ (is_none_of v.end e) (has_any (is_at v.row) gone v.row g (is_at-itself v.row v.row refl))) n)
+      | inr g ↦ absurd (both (and_from _ _ (is_none_of v.end e) (has_any (is_at v.row) removed v.row g (is_at-itself v.row v.row refl))) n)
     ])
   ]
 
-  row_same : (v : Version) → Has versions v → (ended t gone v).row ≡ v.row
+  row_same : (v : Version) → Has versions v → (ended t removed v).row ≡ v.row
   row_same v h = elim (fate v h) [ stays e r ↦ ap (λ w. w.row) e | ends e o r ↦ ap (λ w. w.row) e ]
 
   -- ---- the current rows
@@ -148,13 +148,13 @@ module _ (versions : List Version) (history later : ℕ → Table) (bound t : �
   -- ---- instants before
 
   -- at an instant before t an old version is alive as it was, and a new one is not yet
-  alive_then : (u : ℕ) → u < t → (v : Version) → Has versions v → IsAlive v u → IsAlive (ended t gone v) u
+  alive_then : (u : ℕ) → u < t → (v : Version) → Has versions v → IsAlive v u → IsAlive (ended t removed v) u
   alive_then u l v h a = elim (fate v h) [
     | stays e r ↦ subst (λ w. IsAlive w u) (sym e) a
     | ends e n r ↦ let b = a.0 in subst (λ w. IsAlive w u) (sym e) (b, l)
   ]
 
-  alive_back : (u : ℕ) → u < t → (v : Version) → Has versions v → IsAlive (ended t gone v) u → IsAlive v u
+  alive_back : (u : ℕ) → u < t → (v : Version) → Has versions v → IsAlive (ended t removed v) u → IsAlive v u
   alive_back u l v h a = elim (fate v h) [
     | stays e r ↦ subst (λ w. IsAlive w u) e a
     | ends e n r ↦ let b = (subst (λ w. IsAlive w u) e a).0 in (b, subst (λ o. IsBefore u o) (sym n) tt)
@@ -162,7 +162,7 @@ module _ (versions : List Version) (history later : ℕ → Table) (bound t : �
 
   rows_then : (u : ℕ) → u < t → (row : Row) → ((v : Version) × Has versions v × (v.row ≡ row) × IsAlive v u) ↔ ((w : Version) × Has next w × (w.row ≡ row) × IsAlive w u)
   rows_then u l row = (
-    (λ v. (ended t gone v.0, has_ended v.0 v.1, row_same v.0 v.1 ∙ v.2, alive_then u l v.0 v.1 v.3)),
+    (λ v. (ended t removed v.0, has_ended v.0 v.1, row_same v.0 v.1 ∙ v.2, alive_then u l v.0 v.1 v.3)),
     (λ w. elim (split w.0 w.1) [
       | inl a ↦ (a.0, a.1, sym (row_same a.0 a.1) ∙ ap (λ x. x.row) (sym a.2) ∙ w.2, alive_back u l a.0 a.1 (subst (λ x. IsAlive x u) a.2 w.3))
       | inr c ↦ let b : c.0.system_start ≡ t = new_system_start c.0 c.1 in let f = (subst (λ x. IsAlive x u) c.2 w.3).0 in absurd (omega arith)
@@ -211,13 +211,13 @@ module _ (versions : List Version) (history later : ℕ → Table) (bound t : �
     ]
   ]
 
-  mixed : (a : Version) → Has versions a → (r : Row) → Has come r → a.row ≡ r → ⊥
+  mixed : (a : Version) → Has versions a → (r : Row) → Has added r → a.row ≡ r → ⊥
   mixed a h r g e = let b = holds.born a h in let c : r.system_start ≡ t = new_system_start r g in let d : a.row.system_start ≡ r.system_start = ap (λ x. x.system_start) e in omega arith
 
   once_next : (v w : Version) → Has next v → Has next w → v.row ≡ w.row → v ≡ w
   once_next v w h g e = elim (split v h) [
     | inl a ↦ elim (split w g) [
-      | inl b ↦ a.2 ∙ ap (ended t gone) (holds.once a.0 b.0 a.1 b.1 (sym (row_same a.0 a.1) ∙ ap (λ x. x.row) (sym a.2) ∙ e ∙ ap (λ x. x.row) b.2 ∙ row_same b.0 b.1)) ∙ sym b.2
+      | inl b ↦ a.2 ∙ ap (ended t removed) (holds.once a.0 b.0 a.1 b.1 (sym (row_same a.0 a.1) ∙ ap (λ x. x.row) (sym a.2) ∙ e ∙ ap (λ x. x.row) b.2 ∙ row_same b.0 b.1)) ∙ sym b.2
       | inr d ↦ absurd (mixed a.0 a.1 d.0 d.1 (sym (row_same a.0 a.1) ∙ ap (λ x. x.row) (sym a.2) ∙ e ∙ ap (λ x. x.row) d.2))
     ]
     | inr c ↦ elim (split w g) [
@@ -228,10 +228,10 @@ module _ (versions : List Version) (history later : ℕ → Table) (bound t : �
 
   apart_next : Apart next
   unfolding committed
-  apart_next = apart_append (map (ended t gone) versions) (map opened come)
-      (apart_map (ended t gone) versions (λ v w h g e. holds.once v w h g (sym (row_same v h) ∙ ap (λ x. x.row) e ∙ row_same w g)) holds.apart)
-      (apart_map opened come (λ r s h g e. ap (λ x. x.row) e) touch.come_once)
-      (λ w h g. let a = map_has (ended t gone) versions w h in let c = map_has opened come w g in mixed a.0 a.1 c.0 c.1 (sym (row_same a.0 a.1) ∙ ap (λ x. x.row) (sym a.2) ∙ ap (λ x. x.row) c.2))
+  apart_next = apart_append (map (ended t removed) versions) (map opened added)
+      (apart_map (ended t removed) versions (λ v w h g e. holds.once v w h g (sym (row_same v h) ∙ ap (λ x. x.row) e ∙ row_same w g)) holds.apart)
+      (apart_map opened added (λ r s h g e. ap (λ x. x.row) e) touch.added_once)
+      (λ w h g. let a = map_has (ended t removed) versions w h in let c = map_has opened added w g in mixed a.0 a.1 c.0 c.1 (sym (row_same a.0 a.1) ∙ ap (λ x. x.row) (sym a.2) ∙ ap (λ x. x.row) c.2))
 
   pub holds_next : Holds next later (t + 1) new
   holds_next = record {
@@ -251,4 +251,4 @@ module _ (versions : List Version) (history later : ℕ → Table) (bound t : �
   }
 
 pub commit_holds : Commit
-commit_holds versions history later bound t old new gone come holds le before between now touch follows = holds_next versions history later bound t old new gone come holds le before between now touch follows
+commit_holds versions history later bound t old new removed added holds le before between now touch follows = holds_next versions history later bound t old new removed added holds le before between now touch follows

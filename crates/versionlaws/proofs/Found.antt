@@ -41,8 +41,8 @@ module _ (versions : List Version) (history : ℕ → Table) (now : ℕ) (keeps 
   alive_row : (v : Version) (u : ℕ) → Has versions v → u ≤ now → IsAlive v u → IsRow (history u) v.row
   alive_row v u h le a = (keeps.rows u le v.row).1 (v, h, refl, a)
 
-  gone_row : (v : Version) (u : ℕ) → Has versions v → u ≤ now → (IsAlive v u → ⊥) → IsRow (history u) v.row → ⊥
-  gone_row v u h le dead row = let w = (keeps.rows u le v.row).0 row in dead (subst (λ x. IsAlive x u) (keeps.once w.0 v w.1 h w.2) w.3)
+  removed_row : (v : Version) (u : ℕ) → Has versions v → u ≤ now → (IsAlive v u → ⊥) → IsRow (history u) v.row → ⊥
+  removed_row v u h le dead row = let w = (keeps.rows u le v.row).0 row in dead (subst (λ x. IsAlive x u) (keeps.once w.0 v w.1 h w.2) w.3)
 
   pub end_is : (v : Version) (last : ℕ) → Has versions v → last ≤ now → IsShownEnd history last v.row (shown_end last v.end)
   end_is v last h le = by v.end refl
@@ -54,7 +54,7 @@ module _ (versions : List Version) (history : ℕ → Table) (now : ℕ) (keeps 
           let alive : (w : ℕ) → v.row.system_start < w → w < end → w ≤ now → IsRow (history w) v.row = λ w a b c. alive_row v w h c (omega arith, subst (λ x. IsBefore w x) (sym e) b) in
           elim (cases_lt last end) [
             | inl l ↦ rw (lt-leb end last l) (λ w a b. alive w a (omega arith) (omega arith))
-            | inr g ↦ rw (le-leb end last g) (born, g, gone_row v end h (omega arith) (λ a. let bad : end < end = subst (λ x. IsBefore end x) e a.1 in omega arith), (λ w a b. alive w a b (omega arith)))
+            | inr g ↦ rw (le-leb end last g) (born, g, removed_row v end h (omega arith) (λ a. let bad : end < end = subst (λ x. IsBefore end x) e a.1 in omega arith), (λ w a b. alive w a b (omega arith)))
           ]
 
 pub versions_rows_are : VersionsRows

@@ -88,11 +88,11 @@ module _ (schema : Schema) (n : ℕ) where
   abbrev history : List Entry → ℕ → Table
   history before u = table (up_to u before)
 
-  holds_entry : (e : Entry) (before : List Entry) (versions : List Version) (gone come : List Row) → LogsFollow → AllFine schema (e ∷ before) → Falling (e ∷ before) →
-      Holds versions (history before) (bound before) (table before) → IsTouched (table before) (table (e ∷ before)) gone come →
-      Holds (committed e.stamp gone come versions) (history (e ∷ before)) (e.stamp + 1) (table (e ∷ before))
-  holds_entry e before versions gone come follows fine falls held touch =
-      holds_next versions (history before) (history (e ∷ before)) (bound before) e.stamp (table before) (table (e ∷ before)) gone come held (bound_less e before falls)
+  holds_entry : (e : Entry) (before : List Entry) (versions : List Version) (removed added : List Row) → LogsFollow → AllFine schema (e ∷ before) → Falling (e ∷ before) →
+      Holds versions (history before) (bound before) (table before) → IsTouched (table before) (table (e ∷ before)) removed added →
+      Holds (committed e.stamp removed added versions) (history (e ∷ before)) (e.stamp + 1) (table (e ∷ before))
+  holds_entry e before versions removed added follows fine falls held touch =
+      holds_next versions (history before) (history (e ∷ before)) (bound before) e.stamp (table before) (table (e ∷ before)) removed added held (bound_less e before falls)
       (λ u l. let b = bound_less e before falls in ap table (none_later u e before (omega arith)))
       (λ u g l. ap table (none_later u e before l ∙ all_kept u before (λ f h. let s = below_bound u before falls.1 g f h in omega arith)))
       (ap table (all_kept e.stamp (e ∷ before) (λ f h. let s = below_bound (e.stamp + 1) (e ∷ before) falls (omega arith) f h in omega arith)))
@@ -140,16 +140,16 @@ module _ (schema : Schema) (n : ℕ) where
 -- ---- the laws
 
 pub commit_entry_holds : StateUpTo → LogsFollow → CommitEntry
-commit_entry_holds same follows schema n list e versions gone come s fine h touch =
+commit_entry_holds same follows schema n list e versions removed added s fine h touch =
     let before : List Entry = reverse list in
     let more : reverse (list ++ e ∷ []) ≡ e ∷ before = reverse-append list (e ∷ []) in
     let was = held_back schema n same list versions (stamped_beginning list (e ∷ []) s) h in
     let fine_now : AllFine schema (e ∷ before) = subst (λ es. AllFine schema es) more (fine_reverse schema (list ++ e ∷ []) fine) in
     let falls_now : Falling (e ∷ before) = subst (λ es. Falling es) more (falling (list ++ e ∷ []) s) in
-    let touched_now = subst (λ es. IsTouched (state_after schema before n) (state_after schema es n) gone come) more touch in
-    let next = holds_entry schema n e before versions gone come follows fine_now falls_now was touched_now in
-    held schema n same (list ++ e ∷ []) (committed e.stamp gone come versions) s
-    (subst (λ es. Holds (committed e.stamp gone come versions) (history schema n es) (bound es) (state_after schema es n)) (sym more) next)
+    let touched_now = subst (λ es. IsTouched (state_after schema before n) (state_after schema es n) removed added) more touch in
+    let next = holds_entry schema n e before versions removed added follows fine_now falls_now was touched_now in
+    held schema n same (list ++ e ∷ []) (committed e.stamp removed added versions) s
+    (subst (λ es. Holds (committed e.stamp removed added versions) (history schema n es) (bound es) (state_after schema es n)) (sym more) next)
 
 pub entry_stays_held : StateUpTo → EntryStays
 entry_stays_held same schema n list e versions s h stays =

@@ -17,7 +17,7 @@ is_at a b = same_key a.key b.key && a.period.start == b.period.start
 
 -- an open version of a row that goes ends at t
 abbrev pub ended : ℕ → List Row → Version → Version
-ended t gone v = if is_none v.end && list_any (is_at v.row) gone then record { row = v.row; end = Some t } else v
+ended t removed v = if is_none v.end && list_any (is_at v.row) removed then record { row = v.row; end = Some t } else v
 
 -- a row that comes has no end yet
 abbrev pub opened : Row → Version
@@ -25,7 +25,7 @@ opened r = record { row = r; end = None }
 
 -- the versions after a transaction at t with which these rows go and come
 unfoldable pub committed : ℕ → List Row → List Row → List Version → List Version
-committed t gone come versions = map (ended t gone) versions ++ map opened come
+committed t removed added versions = map (ended t removed) versions ++ map opened added
 
 -- the versions of table n that a log leaves, its entries from the newest back to the oldest
 unfoldable pub versions_after : Schema → ℕ → List Entry → List Version
@@ -39,19 +39,19 @@ versions_after schema n (e ∷ before) =
 
 -- a commit of what a transaction at t touches keeps what is held; in between, the current rows stayed
 abbrev pub Commit : Type 0
-Commit = (versions : List Version) (history later : ℕ → Table) (bound t : ℕ) (old new : Table) (gone come : List Row) →
+Commit = (versions : List Version) (history later : ℕ → Table) (bound t : ℕ) (old new : Table) (removed added : List Row) →
     Holds versions history bound old → bound ≤ t →
     ((u : ℕ) → u < bound → later u ≡ history u) → ((u : ℕ) → bound ≤ u → u < t → later u ≡ old) → later t ≡ new →
-    IsTouched old new gone come → Follows t old new →
-    Holds (committed t gone come versions) later (t + 1) new
+    IsTouched old new removed added → Follows t old new →
+    Holds (committed t removed added versions) later (t + 1) new
 
 -- and so does a commit of what one more entry of a log touches
 abbrev pub CommitEntry : Type 0
-CommitEntry = (schema : Schema) (n : ℕ) (list : List Entry) (e : Entry) (versions : List Version) (gone come : List Row) →
+CommitEntry = (schema : Schema) (n : ℕ) (list : List Entry) (e : Entry) (versions : List Version) (removed added : List Row) →
     IsStamped (list ++ e ∷ []) → AllFine schema (list ++ e ∷ []) →
     Holds versions (λ u. state_at schema list u n) (least_stamp list) (state_after schema (reverse list) n) →
-    IsTouched (state_after schema (reverse list) n) (state_after schema (reverse (list ++ e ∷ [])) n) gone come →
-    Holds (committed e.stamp gone come versions) (λ u. state_at schema (list ++ e ∷ []) u n) (least_stamp (list ++ e ∷ [])) (state_after schema (reverse (list ++ e ∷ [])) n)
+    IsTouched (state_after schema (reverse list) n) (state_after schema (reverse (list ++ e ∷ [])) n) removed added →
+    Holds (committed e.stamp removed added versions) (λ u. state_at schema (list ++ e ∷ []) u n) (least_stamp (list ++ e ∷ [])) (state_after schema (reverse (list ++ e ∷ [])) n)
 
 -- where an entry leaves a table as it was, the same versions hold on
 abbrev pub EntryStays : Type 0

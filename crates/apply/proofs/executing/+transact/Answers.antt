@@ -3,10 +3,10 @@ use Rattle.std.proofs.lemmas.Result.{err_from_is_err_and}
 use Rattle.rowlaws.proofs.RowFacts.{both}
 use Rattle.sqlread.specs.Meaning.{schema_of, meaning}
 use Rattle.sqlread.specs.Shapes.{statement_of}
-use Rattle.current.specs.Current.{rows_of}
+use Rattle.current.specs.Current.{rows_of, schema_in}
 use Rattle.current.specs.Places.{rows_at}
 use Rattle.current.specs.declared.touched.Touched.{Touched}
-use Rattle.current.specs.Touched.{gone_of, come_of, gone_in, come_in}
+use Rattle.current.specs.Touched.{removed_of, added_of, removed_in, added_in}
 use Rattle.apply.specs.Executing.{IsTransacted, IsRefusedWhole}
 use Rattle.apply.proofs.Fine.{statement_fine}
 use Rattle.apply.proofs.Transacted.{checked, unchecked, then_rest, stopped, undoable, undone, no_items}
@@ -18,31 +18,31 @@ returns-in_err-check-clause-err t c =
     let p = err_from_is_err_and c.from_residual.result c.from_residual.ensures.1 in
     let e = no_items c.args.statements.now c.in_default.ensures.cases in
     let rows = rows_of c.args.current.now in
-    rw (p.1, p.2) (subst (λ ss. IsRefusedWhole (schema_of c.args.schema.now) c.args.t (map meaning (map statement_of ss)) rows rows c.in_err-check.field-0.0) (sym e) (unchecked (schema_of c.args.schema.now) c.args.t rows c.in_err-check.field-0.0 c.in_err-check.ensures.err))
+    rw (p.1, p.2) (subst (λ ss. IsRefusedWhole (schema_of (schema_in c.args.current.now)) c.args.t (map meaning (map statement_of ss)) rows rows c.in_err-check.field-0.0) (sym e) (unchecked (schema_of (schema_in c.args.current.now)) c.args.t rows c.in_err-check.field-0.0 c.in_err-check.ensures.err))
 
 pub returns-in_default-clause-ok : goal.returns-in_default-clause-ok
 returns-in_default-clause-ok t c =
     let e = no_items c.args.statements.now c.in_default.ensures.cases in
     let rows = rows_of c.args.current.now in
     let touched : Touched = record { tables = c.new-tables.result } in
-    let gone : (n : ℕ) → gone_in touched n ≡ [] = λ n. ap (λ xs. rows_at gone_of xs n) c.new-tables.ensures.items in
-    let come : (n : ℕ) → come_in touched n ≡ [] = λ n. ap (λ xs. rows_at come_of xs n) c.new-tables.ensures.items in
-    subst (λ ss. IsTransacted (schema_of c.args.schema.now) c.args.t (map meaning (map statement_of ss)) rows rows (gone_in touched) (come_in touched)) (sym e)
-    (checked (schema_of c.args.schema.now) c.args.t rows (gone_in touched) (come_in touched) gone come c.in_ok-check.ensures.ok)
+    let removed : (n : ℕ) → removed_in touched n ≡ [] = λ n. ap (λ xs. rows_at removed_of xs n) c.new-tables.ensures.items in
+    let added : (n : ℕ) → added_in touched n ≡ [] = λ n. ap (λ xs. rows_at added_of xs n) c.new-tables.ensures.items in
+    subst (λ ss. IsTransacted (schema_of (schema_in c.args.current.now)) c.args.t (map meaning (map statement_of ss)) rows rows (removed_in touched) (added_in touched)) (sym e)
+    (checked (schema_of (schema_in c.args.current.now)) c.args.t rows (removed_in touched) (added_in touched) removed added c.in_ok-check.ensures.ok)
 
 pub returns-in_err-touched-clause-err : goal.returns-in_err-touched-clause-err
 returns-in_err-touched-clause-err t c =
     let p = err_from_is_err_and c.from_residual-in_err-touched.result c.from_residual-in_err-touched.ensures.1 in
     let e : c.args.statements.now ≡ c.in-Some.statement.now ∷ c.in-Some.rest.now = c.in-Some.ensures.cases.0 in
     let r = c.in_err-touched.field-0.0 in
-    rw (p.1, p.2) (subst (λ ss. IsRefusedWhole (schema_of c.args.schema.now) c.args.t (map meaning (map statement_of ss)) (rows_of c.args.current.now) (rows_of c.run.new.current) r) (sym e)
-    (stopped (schema_of c.args.schema.now) c.args.t (meaning (statement_of c.in-Some.statement.now)) (map meaning (map statement_of c.in-Some.rest.now)) (rows_of c.args.current.now) (rows_of c.run.new.current) r c.in_err-touched.ensures.unchanged c.in_err-touched.ensures.err))
+    rw (p.1, p.2) (subst (λ ss. IsRefusedWhole (schema_of (schema_in c.args.current.now)) c.args.t (map meaning (map statement_of ss)) (rows_of c.args.current.now) (rows_of c.run.new.self) r) (sym e)
+    (stopped (schema_of (schema_in c.args.current.now)) c.args.t (meaning (statement_of c.in-Some.statement.now)) (map meaning (map statement_of c.in-Some.rest.now)) (rows_of c.args.current.now) (rows_of c.run.new.self) r c.in_err-touched.ensures.unchanged c.in_err-touched.ensures.err))
 
 pub undo-requires-clause-touched : goal.undo-requires-clause-touched
 undo-requires-clause-touched t c =
     let touched = c.in_ok-touched.touched in
     let start = c.row_laws.ensures.state c.args.current.now in
-    undoable (schema_of c.args.schema.now) c.args.t (meaning (statement_of c.in-Some.statement.now)) (map meaning (map statement_of c.in-Some.rest.now)) (rows_of c.args.current.now) (rows_of c.run.new.current) (rows_of c.transact.new.current) (gone_in touched) (come_in touched) c.in-Err.refusal
+    undoable (schema_of (schema_in c.run.new.self)) c.args.t (meaning (statement_of c.in-Some.statement.now)) (map meaning (map statement_of c.in-Some.rest.now)) (rows_of c.args.current.now) (rows_of c.run.new.self) (rows_of c.transact.new.current) (removed_in touched) (added_in touched) c.in-Err.refusal
     (λ h. both (c.is_no_memory.ensures.1 h) c.if-not-is_no_memory.true) start c.in_ok-touched.ensures.ok c.in-Err.ensures.err
 
 pub returns-in_ok-then-in-Ok-clause-ok : goal.returns-in_ok-then-in-Ok-clause-ok
@@ -51,19 +51,22 @@ returns-in_ok-then-in-Ok-clause-ok t c =
     let touched = c.in_ok-touched.touched in
     let later = c.in-Ok.later in
     let both' = c.in_ok-then-in-Ok.field-0 in
-    subst (λ ss. IsTransacted (schema_of c.args.schema.now) c.args.t (map meaning (map statement_of ss)) (rows_of c.args.current.now) (rows_of c.transact.new.current) (gone_in both') (come_in both')) (sym e)
-    (then_rest c.row_laws.ensures.follows (schema_of c.args.schema.now) c.args.t (meaning (statement_of c.in-Some.statement.now)) (map meaning (map statement_of c.in-Some.rest.now)) (rows_of c.args.current.now) (rows_of c.run.new.current) (rows_of c.transact.new.current)
-    (gone_in touched) (come_in touched) (gone_in later) (come_in later) (gone_in both') (come_in both') (statement_fine c.in-Some.statement.now)
-    c.in_ok-touched.ensures.ok c.in-Ok.ensures.ok c.in_ok-then-in-Ok.ensures.gone c.in_ok-then-in-Ok.ensures.come)
+    subst (λ ss. IsTransacted (schema_of (schema_in c.args.current.now)) c.args.t (map meaning (map statement_of ss)) (rows_of c.args.current.now) (rows_of c.transact.new.current) (removed_in both') (added_in both')) (sym e)
+    (then_rest c.row_laws.ensures.follows (schema_of (schema_in c.args.current.now)) c.args.t (meaning (statement_of c.in-Some.statement.now)) (map meaning (map statement_of c.in-Some.rest.now)) (rows_of c.args.current.now) (rows_of c.run.new.self) (rows_of c.transact.new.current)
+    (removed_in touched) (added_in touched) (removed_in later) (added_in later) (removed_in both') (added_in both') (statement_fine c.in-Some.statement.now)
+    c.in_ok-touched.ensures.ok
+    (subst (λ x. IsTransacted (schema_of x) c.args.t (map meaning (map statement_of c.in-Some.rest.now)) (rows_of c.run.new.self) (rows_of c.transact.new.current) (removed_in later) (added_in later)) c.run.ensures.schema c.in-Ok.ensures.ok)
+    c.in_ok-then-in-Ok.ensures.removed c.in_ok-then-in-Ok.ensures.added)
 
 pub returns-after-not-is_no_memory-clause-err : goal.returns-after-not-is_no_memory-clause-err
 returns-after-not-is_no_memory-clause-err t c =
     let e : c.args.statements.now ≡ c.in-Some.statement.now ∷ c.in-Some.rest.now = c.in-Some.ensures.cases.0 in
     let touched = c.in_ok-touched.touched in
-    subst (λ ss. IsRefusedWhole (schema_of c.args.schema.now) c.args.t (map meaning (map statement_of ss)) (rows_of c.args.current.now) (rows_of c.if-not-is_no_memory.current) c.in-Err.refusal) (sym e)
+    subst (λ ss. IsRefusedWhole (schema_of (schema_in c.args.current.now)) c.args.t (map meaning (map statement_of ss)) (rows_of c.args.current.now) (rows_of c.if-not-is_no_memory.current) c.in-Err.refusal) (sym e)
     (elim c.if-not-is_no_memory.branch [
       | then-not-is_no_memory+in_ok-undo-in-Err w ↦
-          rw w.current-is (undone (schema_of c.args.schema.now) c.args.t (meaning (statement_of c.in-Some.statement.now)) (map meaning (map statement_of c.in-Some.rest.now)) (rows_of c.args.current.now) (rows_of c.run.new.current) (rows_of c.transact.new.current) (rows_of w.undo.new.self) (gone_in touched) (come_in touched) c.in-Err.refusal
-          c.in_ok-touched.ensures.ok c.in-Err.ensures.err w.in_ok-undo-in-Err.ensures.ok)
+          rw w.current-is (undone (schema_of (schema_in c.args.current.now)) c.args.t (meaning (statement_of c.in-Some.statement.now)) (map meaning (map statement_of c.in-Some.rest.now)) (rows_of c.args.current.now) (rows_of c.run.new.self) (rows_of c.transact.new.current) (rows_of w.undo.new.self) (removed_in touched) (added_in touched) c.in-Err.refusal
+          c.in_ok-touched.ensures.ok
+          (subst (λ x. IsRefusedWhole (schema_of x) c.args.t (map meaning (map statement_of c.in-Some.rest.now)) (rows_of c.run.new.self) (rows_of c.transact.new.current) c.in-Err.refusal) c.run.ensures.schema c.in-Err.ensures.err) w.in_ok-undo-in-Err.ensures.ok)
       | else-not-is_no_memory w ↦ inl (c.is_no_memory.ensures.0 w.if-not-is_no_memory.false)
     ])

@@ -1,8 +1,8 @@
 use Rattle.std.proofs.Common.{rules}
 use Rattle.current.proofs.line.cut_met.Goals as goal
 
-pub returns-clause-gone : goal.returns-clause-gone
-returns-clause-gone c = search rules
+pub returns-clause-removed : goal.returns-clause-removed
+returns-clause-removed c = search rules
 
-pub returns-clause-come : goal.returns-clause-come
-returns-clause-come c = search rules
+pub returns-clause-added : goal.returns-clause-added
+returns-clause-added c = search rules

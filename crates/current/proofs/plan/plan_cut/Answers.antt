@@ -4,7 +4,7 @@ use Rattle.std.specs.Map.Iter.{deref_pair}
 use Rattle.std.proofs.lemmas.Map.Iter.{rest_more, rest_all}
 use Rattle.rowlaws.specs.Rows.{Has}
 use Rattle.current.specs.Rows.{row_of}
-use Rattle.current.specs.Cuts.{change_of_cut, is_stuck, kept, gone_at, come_at}
+use Rattle.current.specs.Cuts.{change_of_cut, is_stuck, kept, removed_at, added_at}
 use Rattle.current.specs.Stored.{rows_in}
 use Rattle.current.specs.Plans.{IsPlanned}
 use Rattle.current.proofs.Planning.{Entry, IsSettled, flat_entry, any_entry, length_entry, settled_first, planned_more, settled_more, settled_last}
@@ -20,8 +20,8 @@ loop-key-init c =
     record {
       small = omega arith;
       count = ap (λ n. min n 18446744073709551615) (zero-add _) ∙ ap (λ es. min (length (flat_map (kept change t) (rows_in es))) 18446744073709551615) whole;
-      gone = ap (λ xs. xs ++ flat_map (gone_at change t) (rows_in it)) c.none-changes.ensures.gone ∙ ap (λ es. flat_map (gone_at change t) (rows_in es)) whole;
-      come = ap (λ xs. xs ++ flat_map (come_at change t) (rows_in it)) c.none-changes.ensures.come ∙ ap (λ es. flat_map (come_at change t) (rows_in es)) whole;
+      removed = ap (λ xs. xs ++ flat_map (removed_at change t) (rows_in it)) c.none-changes.ensures.removed ∙ ap (λ es. flat_map (removed_at change t) (rows_in es)) whole;
+      added = ap (λ xs. xs ++ flat_map (added_at change t) (rows_in it)) c.none-changes.ensures.added ∙ ap (λ es. flat_map (added_at change t) (rows_in es)) whole;
       in_range = ap (λ es. list_any (is_stuck change) (rows_in es)) whole;
       there = λ e h. subst (λ es. Has es e) whole h;
       planned = λ p h. absurd (subst (λ ps. Has ps p) c.new.ensures.items h);
@@ -50,8 +50,8 @@ loop-key-preserved c =
     record {
       small = omega (arith, total);
       count = omega (arith, total, long, before);
-      gone = flat_entry (gone_at change t) e rest (map row_of old.changes.gone.items) _ _ (add.gone ∙ ap (λ rs. map row_of old.changes.gone.items ++ flat_map (gone_at change t) (map row_of rs)) line) (ap (λ es. map row_of old.changes.gone.items ++ flat_map (gone_at change t) (rows_in es)) (sym split) ∙ inv.gone);
-      come = flat_entry (come_at change t) e rest (map row_of old.changes.come.items) _ _ (add.come ∙ ap (λ rs. map row_of old.changes.come.items ++ flat_map (come_at change t) (map row_of rs)) line) (ap (λ es. map row_of old.changes.come.items ++ flat_map (come_at change t) (rows_in es)) (sym split) ∙ inv.come);
+      removed = flat_entry (removed_at change t) e rest (map row_of old.changes.removed.items) _ _ (add.removed ∙ ap (λ rs. map row_of old.changes.removed.items ++ flat_map (removed_at change t) (map row_of rs)) line) (ap (λ es. map row_of old.changes.removed.items ++ flat_map (removed_at change t) (rows_in es)) (sym split) ∙ inv.removed);
+      added = flat_entry (added_at change t) e rest (map row_of old.changes.added.items) _ _ (add.added ∙ ap (λ rs. map row_of old.changes.added.items ++ flat_map (added_at change t) (map row_of rs)) line) (ap (λ es. map row_of old.changes.added.items ++ flat_map (added_at change t) (rows_in es)) (sym split) ∙ inv.added);
       in_range = any_entry (is_stuck change) e rest _ (ap (λ rs. list_any (is_stuck change) (map row_of rs)) (sym line) ∙ add.in_range) (ap (λ es. list_any (is_stuck change) (rows_in es)) (sym split) ∙ inv.in_range);
       there = λ x h. inv.there x (subst (λ es. Has es x) (sym split) (inr h));
       planned = planned_more change t m ordered e rest old.lines.items new.lines.items there step inv.planned;

@@ -3,7 +3,7 @@ use Rattle.std.specs.List.{list_any}
 use Rattle.model.specs.declared.value.Value.{Value}
 use Rattle.rowlaws.specs.Rows.{Has}
 use Rattle.current.specs.Rows.{row_of}
-use Rattle.current.specs.Cuts.{change_of_cut, is_stuck, kept, gone_at, come_at}
+use Rattle.current.specs.Cuts.{change_of_cut, is_stuck, kept, removed_at, added_at}
 use Rattle.current.specs.Stored.{rows_in}
 use Rattle.current.proofs.Planning.{Entry, PlannedFor, IsSettled}
 use Rattle.current.proofs.plan.plan_cut.Given as goal
@@ -17,8 +17,8 @@ invariant-loop-key l =
     record {
       small : l.plan.count ≤ 18446744073709551615;
       count : min (l.plan.count + length (flat_map (kept change t) left)) 18446744073709551615 ≡ min (length (flat_map (kept change t) all)) 18446744073709551615;
-      gone : map row_of l.plan.changes.gone.items ++ flat_map (gone_at change t) left ≡ flat_map (gone_at change t) all;
-      come : map row_of l.plan.changes.come.items ++ flat_map (come_at change t) left ≡ flat_map (come_at change t) all;
+      removed : map row_of l.plan.changes.removed.items ++ flat_map (removed_at change t) left ≡ flat_map (removed_at change t) all;
+      added : map row_of l.plan.changes.added.items ++ flat_map (added_at change t) left ≡ flat_map (added_at change t) all;
       in_range : list_any (is_stuck change) left ≡ list_any (is_stuck change) all;
       there : (e : Entry) → Has l.key-iterator e → Has l.lines.entries e;
       planned : PlannedFor change t l.lines l.plan.lines.items;

@@ -1,13 +1,13 @@
 use Rattle.std.proofs.Common.{rules, ◌≡◌, ◌⊎◌, true, ◌≤◌, ◌+◌, ◌-◌, ◌++◌, ◌∙◌, ap, map, flat_map, sym, subst, min, arith, length}
 use Rattle.std.proofs.lemmas.List.{length-map}
 use Rattle.current.specs.Rows.{row_of}
-use Rattle.current.specs.Cuts.{change_of_cut, kept, gone_at, come_at, is_stuck}
+use Rattle.current.specs.Cuts.{change_of_cut, kept, removed_at, added_at, is_stuck}
 use Rattle.current.specs.Plans.{IsPlanned}
 use Rattle.current.specs.Stored.{lines_of, rows_in}
 use Rattle.std.specs.Prelude.{IfErr}
 use Rattle.fault.specs.declared.refusal.Refusal.TheVariants.{NoMemory, NumberRange}
 use Rattle.std.specs.List.{list_any}
-use Rattle.current.proofs.Naming.{gone_line, come_line, stuck_line, short_line, long_line, one_planned}
+use Rattle.current.proofs.Naming.{removed_line, added_line, stuck_line, short_line, long_line, one_planned}
 use Rattle.current.proofs.plan.plan_key.Goals as goal
 
 pub overflow_sub-plan : goal.overflow_sub-plan
@@ -47,21 +47,21 @@ returns-clause-count c =
     let counted = c.requires.counted in
     omega (arith, before, short, long, added, counted)
 
-pub returns-clause-gone : goal.returns-clause-gone
-returns-clause-gone c =
+pub returns-clause-removed : goal.returns-clause-removed
+returns-clause-removed c =
     let cut = c.args.cut.now in
     let change = change_of_cut cut in
     let m = c.args.lines.now in
-    c.in_ok-add.ensures.gone ∙ ap (λ rows. rows ++ flat_map (gone_at change cut.system_start) (map row_of c.line-rows.result.now)) c.none-changes.ensures.gone ∙ ap (flat_map (gone_at change cut.system_start)) c.line-rows.ensures
-    ∙ gone_line change cut.system_start m c.requires.ordered c.requires.in_lines c.args.key.now c.requires.met
+    c.in_ok-add.ensures.removed ∙ ap (λ rows. rows ++ flat_map (removed_at change cut.system_start) (map row_of c.line-rows.result.now)) c.none-changes.ensures.removed ∙ ap (flat_map (removed_at change cut.system_start)) c.line-rows.ensures
+    ∙ removed_line change cut.system_start m c.requires.ordered c.requires.in_lines c.args.key.now c.requires.met
 
-pub returns-clause-come : goal.returns-clause-come
-returns-clause-come c =
+pub returns-clause-added : goal.returns-clause-added
+returns-clause-added c =
     let cut = c.args.cut.now in
     let change = change_of_cut cut in
     let m = c.args.lines.now in
-    c.in_ok-add.ensures.come ∙ ap (λ rows. rows ++ flat_map (come_at change cut.system_start) (map row_of c.line-rows.result.now)) c.none-changes.ensures.come ∙ ap (flat_map (come_at change cut.system_start)) c.line-rows.ensures
-    ∙ come_line change cut.system_start m c.requires.ordered c.requires.in_lines c.args.key.now c.requires.met
+    c.in_ok-add.ensures.added ∙ ap (λ rows. rows ++ flat_map (added_at change cut.system_start) (map row_of c.line-rows.result.now)) c.none-changes.ensures.added ∙ ap (flat_map (added_at change cut.system_start)) c.line-rows.ensures
+    ∙ added_line change cut.system_start m c.requires.ordered c.requires.in_lines c.args.key.now c.requires.met
 
 pub returns-clause-in_range : goal.returns-clause-in_range
 returns-clause-in_range c =

@@ -7,6 +7,6 @@ use Rattle.sysversion.proofs.table.end_rows.Given as goal
 
 abbrev pub invariant-loop-version : goal.invariant-loop-version
 invariant-loop-version l = record {
-  done : (k : ℕ) (d : Version) → k < l.version-index → version_of (get_or l.versions k d) ≡ ended l.t (map row_of l.gone) (version_of (get_or l.fn.versions k d));
+  done : (k : ℕ) (d : Version) → k < l.version-index → version_of (get_or l.versions k d) ≡ ended l.t (map row_of l.removed) (version_of (get_or l.fn.versions k d));
   left : (k : ℕ) (d : Version) → l.version-index ≤ k → get_or l.versions k d ≡ get_or l.fn.versions k d;
 }

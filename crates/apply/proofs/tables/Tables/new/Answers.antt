@@ -1,11 +1,9 @@
-use Rattle.std.proofs.Common.{refl, ◌∙◌}
-use Rattle.sqlread.specs.Meaning.{schema_of}
+use Rattle.std.proofs.Common.{refl}
 use Rattle.apply.proofs.Entries.{of_no_entry}
 use Rattle.apply.proofs.tables.Tables.new.Goals as goal
 
 pub returns-clause-tables : goal.returns-clause-tables
-unfolding schema_of
 returns-clause-tables c =
-    of_no_entry c.log_laws.ensures.none c.log_laws.ensures.rows (schema_of c.args.schema.now) _
+    of_no_entry c.log_laws.ensures.none c.log_laws.ensures.rows c.args.schema.now _
     c.in_ok-current.ensures.rows c.in_ok-versions.ensures.versions c.new-requests.ensures refl
-    (c.in_ok-current.ensures.count ∙ c.len-count.ensures) (c.in_ok-versions.ensures.count ∙ c.len-count.ensures)
+    c.in_ok-current.ensures.schema c.in_ok-versions.ensures.schema

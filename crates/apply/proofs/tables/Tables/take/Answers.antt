@@ -12,26 +12,25 @@ use Rattle.apply.proofs.Entries.{a_close, asked_again, outcome_again, executed_f
 use Rattle.apply.proofs.tables.Tables.take.Goals as goal
 
 pub returns-in_default-clause-kept : goal.returns-in_default-clause-kept
-returns-in_default-clause-kept c = λ list are.
+returns-in_default-clause-kept c = λ schema list are.
     let old = c.args.self.now in
-    a_close (schema_of c.args.schema.now) list c.args.entry.now c.log_laws.ensures.stays old are (record old { last = Some c.args.entry.now.stamp }) refl refl refl refl c.in_default.is
+    a_close schema list c.args.entry.now c.log_laws.ensures.stays old are (record old { last = Some c.args.entry.now.stamp }) refl refl refl refl c.in_default.is
 
 pub returns-in-Some-2-clause-kept : goal.returns-in-Some-2-clause-kept
-returns-in-Some-2-clause-kept c = λ list are.
+returns-in-Some-2-clause-kept c = λ schema list are.
     let old = c.args.self.now in
     let known = sym c.in_ok-outcome.ensures ∙ c.in-Some-2.is in
-    asked_again (schema_of c.args.schema.now) list c.args.entry.now c.log_laws.ensures.stays old are c.in-Some.request c.in-Some.is c.in-Some-2.outcome known (record old { last = Some c.args.entry.now.stamp }) refl refl refl refl
+    asked_again schema list c.args.entry.now c.log_laws.ensures.stays old are c.in-Some.request c.in-Some.is c.in-Some-2.outcome known (record old { last = Some c.args.entry.now.stamp }) refl refl refl refl
 
 pub returns-in-Some-2-clause-outcome : goal.returns-in-Some-2-clause-outcome
-returns-in-Some-2-clause-outcome c = λ list are.
+returns-in-Some-2-clause-outcome c = λ schema list are.
     let e = c.args.entry.now in
     let known = sym c.in_ok-outcome.ensures ∙ c.in-Some-2.is in
-    ap (λ x. Some x) (outcome_again (schema_of c.args.schema.now) list e c.log_laws.ensures.stays c.args.self.now are c.in-Some.request c.in-Some.is c.in-Some-2.outcome known)
-    ∙ sym (ap (λ o. option_map (λ (r : Request). outcome (schema_of c.args.schema.now) e.stamp r (reverse list)) o) c.in-Some.is)
+    ap (λ x. Some x) (outcome_again schema list e c.log_laws.ensures.stays c.args.self.now are c.in-Some.request c.in-Some.is c.in-Some-2.outcome known)
+    ∙ sym (ap (λ o. option_map (λ (r : Request). outcome (schema_of schema) e.stamp r (reverse list)) o) c.in-Some.is)
 
 pub returns-clause-kept : goal.returns-clause-kept
-returns-clause-kept c = λ list are.
-    let schema = schema_of c.args.schema.now in
+returns-clause-kept c = λ schema list are.
     let e = c.args.entry.now in
     let old = c.args.self.now in
     let r = c.in-Some.request in
@@ -39,20 +38,23 @@ returns-clause-kept c = λ list are.
     let laws = c.log_laws.ensures in
     let new : Tables = record { alloc = old.alloc; current = c.execute.new.current; versions = c.execute.new.versions; requests = c.keep.new.self; last = Some e.stamp; failed = old.failed } in
     let unknown = sym c.in_ok-outcome.ensures ∙ c.in_default-2.is in
-    let done = subst (λ text. IsExecuted schema e.stamp text (state_after schema (reverse list)) (rows_of new.current) (versions_of old.versions) (versions_of new.versions) o) c.as_str.ensures
-    (c.in_ok-outcome-2.ensures.executed (state_after schema (reverse list)) are.rows (are.versions_tables ∙ sym are.current_tables)) in
-    executed_first schema list e laws.stays old are r c.in-Some.is unknown o done.is laws.commit laws.before laws.fine (reads_fine laws.calendar c.args.schema.now) new done.rows done.committed
-    (λ k. c.in_ok-keep.ensures.ok k ∙ ap (λ x. with_latest r.client r.number x (latest_of old.requests) k) c.in_ok-kept.ensures) refl c.execute.ensures.current_tables c.execute.ensures.versions_tables
+    let state = state_after (schema_of schema) (reverse list) in
+    let ran = c.in_ok-outcome-2.ensures.executed state are.rows (are.versions_schema ∙ sym are.current_schema) in
+    let done = subst (λ text. IsExecuted (schema_of schema) e.stamp text state (rows_of new.current) (versions_of old.versions) (versions_of new.versions) o) c.as_str.ensures
+    (subst (λ s. IsExecuted (schema_of s) e.stamp c.as_str.result.now state (rows_of new.current) (versions_of old.versions) (versions_of new.versions) o) are.current_schema ran) in
+    executed_first schema list e laws.stays old are r c.in-Some.is unknown o done.is laws.commit laws.before laws.fine (reads_fine laws.calendar schema) new done.rows done.committed
+    (λ k. c.in_ok-keep.ensures.ok k ∙ ap (λ x. with_latest r.client r.number x (latest_of old.requests) k) c.in_ok-kept.ensures) refl c.execute.ensures.current_schema c.execute.ensures.versions_schema
 
 pub returns-clause-outcome : goal.returns-clause-outcome
-returns-clause-outcome c = λ list are.
-    let schema = schema_of c.args.schema.now in
+returns-clause-outcome c = λ schema list are.
     let e = c.args.entry.now in
     let old = c.args.self.now in
     let r = c.in-Some.request in
     let o = c.in_ok-outcome-2.outcome in
     let unknown = sym c.in_ok-outcome.ensures ∙ c.in_default-2.is in
-    let done = subst (λ text. IsExecuted schema e.stamp text (state_after schema (reverse list)) (rows_of c.execute.new.current) (versions_of old.versions) (versions_of c.execute.new.versions) o) c.as_str.ensures
-    (c.in_ok-outcome-2.ensures.executed (state_after schema (reverse list)) are.rows (are.versions_tables ∙ sym are.current_tables)) in
+    let state = state_after (schema_of schema) (reverse list) in
+    let ran = c.in_ok-outcome-2.ensures.executed state are.rows (are.versions_schema ∙ sym are.current_schema) in
+    let done = subst (λ text. IsExecuted (schema_of schema) e.stamp text state (rows_of c.execute.new.current) (versions_of old.versions) (versions_of c.execute.new.versions) o) c.as_str.ensures
+    (subst (λ s. IsExecuted (schema_of s) e.stamp c.as_str.result.now state (rows_of c.execute.new.current) (versions_of old.versions) (versions_of c.execute.new.versions) o) are.current_schema ran) in
     ap (λ x. Some x) (outcome_first schema list e c.log_laws.ensures.stays old are r c.in-Some.is unknown o done.is)
-    ∙ sym (ap (λ x. option_map (λ (q : Request). outcome schema e.stamp q (reverse list)) x) c.in-Some.is)
+    ∙ sym (ap (λ x. option_map (λ (q : Request). outcome (schema_of schema) e.stamp q (reverse list)) x) c.in-Some.is)

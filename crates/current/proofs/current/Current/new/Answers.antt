@@ -7,7 +7,7 @@ use Rattle.current.proofs.current.Current.new.Goals as goal
 
 pub loop-preserved : goal.loop-preserved
 loop-preserved c =
-    let old = c.loop.all.items in
+    let old = c.loop.tables.items in
     let items = c.in_ok-push.ensures.items in
     let long = ap length items ∙ length-append old (c.new.result ∷ []) in
     let was = c.loop.invariant.long in

@@ -5,6 +5,6 @@ use Rattle.current.proofs.current.Current.new.Given as goal
 
 abbrev pub invariant-loop : goal.invariant-loop
 invariant-loop l = record {
-  long : length l.all.items ≡ l.counter;
-  rows : (n : ℕ) → rows_at rows_of_table l.all.items n ≡ [];
+  long : length l.tables.items ≡ l.counter;
+  rows : (n : ℕ) → rows_at rows_of_table l.tables.items n ≡ [];
 }

@@ -5,7 +5,7 @@ use Rattle.rowlaws.specs.Touching.{rows_without, IsTouched}
 use Rattle.current.specs.Rows.{row_of}
 use Rattle.current.specs.Current.{rows_of}
 use Rattle.current.specs.Table.{rows_of_table, HaveSame}
-use Rattle.current.specs.Touched.{gone_in, come_in}
+use Rattle.current.specs.Touched.{removed_in, added_in}
 use Rattle.current.proofs.UndoTables.{table_before, done_more, left_more}
 use Rattle.current.proofs.current.Current.undo_tables.Goals as goal
 
@@ -17,7 +17,7 @@ undo-requires c =
     let inv = c.loop-n.invariant in
     let is : rows_of_table x ≡ rows_of s n = table_before c.loop-n.self.tables.items n x (omega (arith, c.loop-n-test.true, c.len-n-end.ensures, s.tables.ok.0, inv.long)) c.index_mut.ensures.value ∙ inv.left n (omega arith) in
     let r = c.requires in
-    (r.0 n, r.1 n, r.2 n, r.3 n, subst (λ rs. Lists rs (r.1 n)) (sym is) (r.4 n), subst (λ g. IsTouched (r.0 n) (r.1 n) g (map row_of c.come.result.now)) (sym c.gone.ensures) (subst (λ g. IsTouched (r.0 n) (r.1 n) (gone_in c.args.touched.now n) g) (sym c.come.ensures) (r.5 n)))
+    (r.0 n, r.1 n, r.2 n, r.3 n, subst (λ rs. Lists rs (r.1 n)) (sym is) (r.4 n), subst (λ g. IsTouched (r.0 n) (r.1 n) g (map row_of c.added.result.now)) (sym c.removed.ensures) (subst (λ g. IsTouched (r.0 n) (r.1 n) (removed_in c.args.touched.now n) g) (sym c.added.ensures) (r.5 n)))
 
 pub loop-n-preserved : goal.loop-n-preserved
 loop-n-preserved c =
@@ -26,20 +26,21 @@ loop-n-preserved c =
     let x = c.index_mut.result.now in
     let y = c.undo.new.self in
     let tables = c.loop-n.self.tables.items in
-    let gone = gone_in c.args.touched.now in
-    let come = come_in c.args.touched.now in
+    let removed = removed_in c.args.touched.now in
+    let added = added_in c.args.touched.now in
     let inv = c.loop-n.invariant in
     let below : n < length tables = omega (arith, c.loop-n-test.true, c.len-n-end.ensures, s.tables.ok.0, inv.long) in
     let is : rows_of_table x ≡ rows_of s n = table_before tables n x below c.index_mut.ensures.value ∙ inv.left n (omega arith) in
-    let e : rows_without (rows_of_table x) (map row_of c.come.result.now) ++ map row_of c.gone.result.now ≡ rows_without (rows_of s n) (come n) ++ gone n = λ i. rows_without (is i) (c.come.ensures i) ++ c.gone.ensures i in
-    let here : HaveSame (rows_without (rows_of s n) (come n) ++ gone n) (rows_of_table y) = subst (λ rows. HaveSame rows (rows_of_table y)) e c.in_ok-undo.ensures in
+    let e : rows_without (rows_of_table x) (map row_of c.added.result.now) ++ map row_of c.removed.result.now ≡ rows_without (rows_of s n) (added n) ++ removed n = λ i. rows_without (is i) (c.added.ensures i) ++ c.removed.ensures i in
+    let here : HaveSame (rows_without (rows_of s n) (added n) ++ removed n) (rows_of_table y) = subst (λ rows. HaveSame rows (rows_of_table y)) e c.in_ok-undo.ensures in
     record {
       long = length-set tables n y ∙ inv.long;
-      done = done_more s.tables.items tables n y gone come below inv.done here;
-      left = left_more s.tables.items tables n y gone come below inv.left;
+      done = done_more s.tables.items tables n y removed added below inv.done here;
+      schema = inv.schema;
+      left = left_more s.tables.items tables n y removed added below inv.left;
     }
 
 pub returns-clause-ok : goal.returns-clause-ok
 returns-clause-ok c n l =
     let s = c.args.self.now in
-    c.loop-n.invariant.done n (omega (arith, l, c.loop-n-test.false, c.len-n-end.ensures, s.tables.ok.0))
+    c.loop-n.invariant.done n (omega (arith, l, s.counted, c.loop-n-test.false, c.len-n-end.ensures, s.tables.ok.0))

@@ -1,13 +1,14 @@
 use Rattle.std.proofs.Common.{◌≡◌, ◌<◌, ◌≤◌, ◌++◌, ℕ, length}
 use Rattle.rowlaws.specs.Touching.{rows_without}
-use Rattle.current.specs.Current.{rows_of}
+use Rattle.current.specs.Current.{rows_of, schema_in}
 use Rattle.current.specs.Table.{HaveSame}
-use Rattle.current.specs.Touched.{gone_in, come_in}
+use Rattle.current.specs.Touched.{removed_in, added_in}
 use Rattle.current.proofs.current.Current.undo_tables.Given as goal
 
 abbrev pub invariant-loop-n : goal.invariant-loop-n
 invariant-loop-n l = record {
   long : length l.self.tables.items ≡ length l.fn.self.tables.items;
-  done : (m : ℕ) → m < l.n → HaveSame (rows_without (rows_of l.fn.self m) (come_in l.touched m) ++ gone_in l.touched m) (rows_of l.self m);
+  done : (m : ℕ) → m < l.n → HaveSame (rows_without (rows_of l.fn.self m) (added_in l.touched m) ++ removed_in l.touched m) (rows_of l.self m);
+  schema : schema_in l.self ≡ schema_in l.fn.self;
   left : (m : ℕ) → l.n ≤ m → rows_of l.self m ≡ rows_of l.fn.self m;
 }

@@ -14,15 +14,15 @@ pub returns-then-not-meets_some-clause-in_range : goal.returns-then-not-meets_so
 returns-then-not-meets_some-clause-in_range c =
     let u = unmet (change_of_cut c.args.cut.now) c.args.cut.now.system_start c.args.rows.now (sym c.meets_some.ensures ∙ c.if-not-meets_some.true) in u.in_range
 
-pub returns-then-not-meets_some-clause-gone : goal.returns-then-not-meets_some-clause-gone
-returns-then-not-meets_some-clause-gone c =
+pub returns-then-not-meets_some-clause-removed : goal.returns-then-not-meets_some-clause-removed
+returns-then-not-meets_some-clause-removed c =
     let u = unmet (change_of_cut c.args.cut.now) c.args.cut.now.system_start c.args.rows.now (sym c.meets_some.ensures ∙ c.if-not-meets_some.true) in
-    rw u.gone_none (sym (append-nil _))
+    rw u.removed_none (sym (append-nil _))
 
-pub returns-then-not-meets_some-clause-come : goal.returns-then-not-meets_some-clause-come
-returns-then-not-meets_some-clause-come c =
+pub returns-then-not-meets_some-clause-added : goal.returns-then-not-meets_some-clause-added
+returns-then-not-meets_some-clause-added c =
     let u = unmet (change_of_cut c.args.cut.now) c.args.cut.now.system_start c.args.rows.now (sym c.meets_some.ensures ∙ c.if-not-meets_some.true) in
-    rw u.come_none (sym (append-nil _))
+    rw u.added_none (sym (append-nil _))
 
 pub returns-then-not-meets_some-clause-count : goal.returns-then-not-meets_some-clause-count
 returns-then-not-meets_some-clause-count c =

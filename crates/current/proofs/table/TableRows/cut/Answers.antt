@@ -40,4 +40,4 @@ returns-clause-ok c =
     let each : (k : List Value) → lines_of n k ≡ flat_map (kept change t) (lines_of m k) = λ k. ap (λ lines. lines k) c.replace_lines.ensures ∙ all_planned change t (lines_of m) plan.lines.items c.in_ok-plan.ensures.lines k in
     let count : plan.count ≡ min (length (flat_map (kept change t) (rows_in m.entries))) 18446744073709551615 = c.in_ok-plan.ensures.count in
     let small : plan.count ≤ 20000 = c.if-plan-gt-ROWS_MOST.false in
-    (c.in_ok-plan.ensures.in_range, omega (arith, count, small), cut_same change t (cut_portion cut) m n s.ordered s.in_lines each c.keys_in_order.ensures, c.in_ok-plan.ensures.gone, c.in_ok-plan.ensures.come)
+    (c.in_ok-plan.ensures.in_range, omega (arith, count, small), cut_same change t (cut_portion cut) m n s.ordered s.in_lines each c.keys_in_order.ensures, c.in_ok-plan.ensures.removed, c.in_ok-plan.ensures.added)

@@ -6,10 +6,10 @@ use Rattle.current.proofs.Undoing.{can_put, undone_rows}
 use Rattle.current.proofs.table.TableRows.undo.Goals as goal
 
 pub put_all-requires : goal.put_all-requires
-put_all-requires c = can_put (rows_of_table c.args.self.now) (map row_of c.args.gone.now) (map row_of c.args.come.now) (rows_of_table c.take_all.new.self) c.requires c.take_all.ensures
+put_all-requires c = can_put (rows_of_table c.args.self.now) (map row_of c.args.removed.now) (map row_of c.args.added.now) (rows_of_table c.take_all.new.self) c.requires c.take_all.ensures
 
 pub returns : goal.returns
 returns c =
     on_ok c.put_all.result
-    (undone_rows (rows_of_table c.args.self.now) (map row_of c.args.gone.now) (map row_of c.args.come.now) (rows_of_table c.take_all.new.self) (rows_of_table c.put_all.new.self) c.take_all.ensures)
+    (undone_rows (rows_of_table c.args.self.now) (map row_of c.args.removed.now) (map row_of c.args.added.now) (rows_of_table c.take_all.new.self) (rows_of_table c.put_all.new.self) c.take_all.ensures)
     c.put_all.ensures

@@ -1,7 +1,7 @@
 use Rattle.std.proofs.Common.{◌≡◌, ◌∙◌, ◌≤◌, ◌∷◌, drop, length, sym, ap, subst, arith, inl, inr}
 use Rattle.std.proofs.lemmas.Bool.{cases_lt}
 use Rattle.std.specs.Vec.Iter.{into_iter_items}
-use Rattle.current.specs.Touched.{gone_of, come_of, gone_in, come_in}
+use Rattle.current.specs.Touched.{removed_of, added_of, removed_in, added_in}
 use Rattle.versionlaws.specs.Committing.{committed}
 use Rattle.sysversion.specs.Versions.{versions_of}
 use Rattle.sysversion.proofs.Ending.{none_committed}
@@ -20,18 +20,18 @@ loop-table-preserved c =
     let one = c.in_ok-commit_table.ensures in
     let here : table ≡ c.loop-table.table-iterator.count = steps.1 in
     let head : drop table touched.tables.items ≡ c.in-Some.changes ∷ into_iter_items c.next.new.self.iter = ap (λ n. drop n touched.tables.items) here ∙ sym inv.rest ∙ steps.0.0 in
-    let gone = rows_at_head gone_of touched.tables.items table c.in-Some.changes (into_iter_items c.next.new.self.iter) head in
-    let come = rows_at_head come_of touched.tables.items table c.in-Some.changes (into_iter_items c.next.new.self.iter) head in
+    let removed = rows_at_head removed_of touched.tables.items table c.in-Some.changes (into_iter_items c.next.new.self.iter) head in
+    let added = rows_at_head added_of touched.tables.items table c.in-Some.changes (into_iter_items c.next.new.self.iter) head in
     record {
-      long = one.count ∙ inv.long;
+      schema = one.schema ∙ inv.schema;
       rest = drop_next touched.tables.items table c.next.new.self.count c.in-Some.changes (into_iter_items c.next.new.self.iter) (omega (arith, here, steps.2)) head;
       done = λ n l b. elim (cases_lt n table) [
         | inl before ↦ one.others n (omega (arith, before)) ∙ inv.done n (omega (arith, before, here)) b
         | inr from ↦
             let e : n ≡ table = omega (arith, l, from, here, steps.2) in
-            let is : versions_of new table ≡ committed t (gone_in touched table) (come_in touched table) (versions_of start table) =
-            one.here (omega (arith, b, e, inv.long)) ∙ (λ i. committed t (sym gone i) (sym come i) (inv.left table (omega (arith, here)) i)) in
-            subst (λ m. versions_of new m ≡ committed t (gone_in touched m) (come_in touched m) (versions_of start m)) (sym e) is
+            let is : versions_of new table ≡ committed t (removed_in touched table) (added_in touched table) (versions_of start table) =
+            one.here (let long = ap length inv.schema in omega (arith, b, e, long)) ∙ (λ i. committed t (sym removed i) (sym added i) (inv.left table (omega (arith, here)) i)) in
+            subst (λ m. versions_of new m ≡ committed t (removed_in touched m) (added_in touched m) (versions_of start m)) (sym e) is
       ];
       left = λ n l. one.others n (omega (arith, l, here, steps.2)) ∙ inv.left n (omega (arith, l, here, steps.2));
     }
@@ -48,6 +48,6 @@ returns-clause-ok c n l =
       | inr from ↦
           let none : length (drop c.loop-table.table-iterator.count touched.tables.items) ≡ 0 = let rest = ap length inv.rest in omega (arith, rest, c.loop-table.table-iterator.iter.rest.ok.0, steps.0.0) in
           let all : length touched.tables.items ≤ n = let most = drop_all touched.tables.items c.loop-table.table-iterator.count none in omega (arith, most, from) in
-          let (gone, come) = c.nothing_beyond.ensures touched n all in
-          inv.left n from ∙ sym (none_committed t old) ∙ (λ i. committed t (sym gone i) (sym come i) old)
+          let (removed, added) = c.nothing_beyond.ensures touched n all in
+          inv.left n from ∙ sym (none_committed t old) ∙ (λ i. committed t (sym removed i) (sym added i) old)
     ]

@@ -6,6 +6,6 @@ use Rattle.sysversion.proofs.versions.Versions.new.Given as goal
 
 abbrev pub invariant-loop : goal.invariant-loop
 invariant-loop l = record {
-  long : length l.all.items ≡ l.counter;
-  versions : (n : ℕ) → option_map_or (λ table. map version_of table.items) (slice_get l.all.items n) [] ≡ [];
+  long : length l.tables.items ≡ l.counter;
+  versions : (n : ℕ) → option_map_or (λ table. map version_of table.items) (slice_get l.tables.items n) [] ≡ [];
 }
