@@ -1,5 +1,8 @@
 //! The lives of cells.
-ghost use Rattle.std.specs.Prelude.{◌≤◌};
+ghost use Rattle.std.specs.Prelude.{◌≡◌, ◌≤◌, IfOk, IfErr};
+ghost use Rattle.sqlread.specs.Meaning.{schema_of};
+ghost use Rattle.keep.specs.Durable.{stored_in};
+ghost use Rattle.keep.specs.Log.{IsLog};
 
 use crate::stored::{SCHEMA, stored};
 use fault::Refusal;
@@ -10,6 +13,7 @@ use node::Fault;
 use nodes::cell::Cell;
 use nodes::life::{Ending, LIFE_STEPS, Life, Packet};
 use nodes::mark::{LAST_MARK, Mark};
+use schema::Schema;
 use schemaread::schemas::read_schema;
 use std::alloc::Global;
 use std::process::Abort;
@@ -24,14 +28,18 @@ const NOTHING_STORED: HardState = HardState {
 fn start(
     alloc: Global,
     image: MemImage,
+    schema: &Schema,
     me: Member,
     last: Option<Mark>,
 ) -> Result<Cell<MemKeeper>, (Refusal, MemImage)>
-    requires { (1 ≤ me) × (me ≤ 3) }
+    requires member { (1 ≤ me) × (me ≤ 3) }
+    requires log { IsLog 3 (schema_of schema.now) (stored_in image) }
+    ensures group { IfOk result (λ c. (c.node.core.members ≡ 3) × (c.node.core.schema ≡ schema.now)) }
+    ensures log { IfErr result (λ e. IsLog 3 (schema_of schema.now) (stored_in e.1)) }
 {
-    match read_schema(alloc, SCHEMA) {
+    match schema.clone() {
         Ok(schema) => Cell::start(alloc, image, schema, 3, me, last),
-        Err(refusal) => Err((refusal, image)),
+        Err(_) => Err((Refusal::NoMemory, image)),
     }
 }
 
@@ -63,14 +71,18 @@ fn steps_of(life: &Life) -> (u64, usize) {
 }
 
 // Stands for election and is given a vote.
-fn lead(cell: &mut Cell<MemKeeper>) -> Result<(), Fault> {
+fn lead(cell: &mut Cell<MemKeeper>) -> Result<(), Fault>
+    ensures { (cell.new.node.core.members ≡ cell.old.node.core.members) × (cell.new.node.core.schema ≡ cell.old.node.core.schema) }
+{
     let _ = cell.feed(timeout())?;
     let _ = cell.feed(vote(Mark::new(5)))?;
     Ok(())
 }
 
 // The first life of member 1, of whose store this call fails, a save. How it goes down, and what it leaves.
-fn first_life(rt: &impl Abort, mut cell: Cell<MemKeeper>, call: u64) -> (MemImage, Life) {
+fn first_life(rt: &impl Abort, mut cell: Cell<MemKeeper>, call: u64) -> (MemImage, Life)
+    ensures { IsLog cell.node.core.members (schema_of cell.node.core.schema) (stored_in result.0) }
+{
     let down = lead(&mut cell);
     let late = cell.feed(beat());
     assert!(rt; matches!(late, Err(Fault::Kept(Refusal::NodeDown))));
@@ -83,29 +95,52 @@ fn first_life(rt: &impl Abort, mut cell: Cell<MemKeeper>, call: u64) -> (MemImag
     (image, life)
 }
 
+// Member 1 starts again after a life with this last mark, and stops. What it leaves.
+fn next_life(
+    rt: &impl Abort,
+    alloc: Global,
+    image: MemImage,
+    schema: &Schema,
+    last: Mark,
+) -> Result<MemImage, Fail>
+    requires { IsLog 3 (schema_of schema.now) (stored_in image) }
+    ensures { IfOk result (λ image. IsLog 3 (schema_of schema.now) (stored_in image)) }
+{
+    let Ok(cell) = start(alloc, image, schema, 1, Some(last)) else {
+        return Err(Fail::from("it does not start again"));
+    };
+    let (image, next) = cell.stop();
+    assert_eq!(rt; next.last_mark().number(), last.number() + 1);
+    Ok(image)
+}
+
+// Two lives of member 1, the second after the first went down by this call of its store; or none, where the first did
+// not start. What they leave.
+fn lives(rt: &impl Abort, alloc: Global, schema: &Schema, call: u64) -> Result<MemImage, Fail>
+    ensures { IfOk result (λ image. IsLog 3 (schema_of schema.now) (stored_in image)) }
+{
+    let mut image = MemImage::new(alloc);
+    image.fail_at(call);
+    match start(alloc, image, schema, 1, None) {
+        Ok(cell) => {
+            let (image, life) = first_life(rt, cell, call);
+            next_life(rt, alloc, image, schema, life.last_mark())
+        }
+        Err((refusal, image)) => {
+            assert_eq!(rt; (call < 3, refusal), (true, Refusal::StoreFault));
+            Ok(image)
+        }
+    }
+}
+
 // Open and state are the first two calls of the store, the saves of the timeout and of the first entry are the third
 // and the fourth. A later life goes on after the torn step's mark.
 #[test]
 fn goes_down_with_its_store(rt: HostRuntime) -> Result<(), Fail> {
     let alloc = rt.alloc();
+    let schema = read_schema(alloc, SCHEMA)?;
     for call in 1..5 {
-        let mut image = MemImage::new(alloc);
-        image.fail_at(call);
-        let image = match start(alloc, image, 1, None) {
-            Ok(cell) => {
-                let (image, life) = first_life(&rt, cell, call);
-                let Ok(cell) = start(alloc, image, 1, Some(life.last_mark())) else {
-                    return Err(Fail::from("it does not start again"));
-                };
-                let (image, next) = cell.stop();
-                assert_eq!(rt; next.last_mark().number(), life.last_mark().number() + 1);
-                image
-            }
-            Err((refusal, image)) => {
-                assert_eq!(rt; (call < 3, refusal), (true, Refusal::StoreFault));
-                image
-            }
-        };
+        let image = lives(&rt, alloc, &schema, call)?;
         let hard = if call == 4 {
             HardState {
                 term: 1,
@@ -114,7 +149,7 @@ fn goes_down_with_its_store(rt: HostRuntime) -> Result<(), Fail> {
         } else {
             NOTHING_STORED
         };
-        assert_eq!(rt; stored(alloc, image)?, (hard, 0), "call {call}");
+        assert_eq!(rt; stored(alloc, image, &schema)?, (hard, 0), "call {call}");
     }
     Ok(())
 }
@@ -135,7 +170,8 @@ fn second_life(rt: &impl Abort, mut cell: Cell<MemKeeper>) -> Life {
 #[test]
 fn stops_and_starts_again(rt: HostRuntime) -> Result<(), Fail> {
     let alloc = rt.alloc();
-    let Ok(mut cell) = start(alloc, MemImage::new(alloc), 1, None) else {
+    let schema = read_schema(alloc, SCHEMA)?;
+    let Ok(mut cell) = start(alloc, MemImage::new(alloc), &schema, 1, None) else {
         return Err(Fail::from("it does not start"));
     };
     assert_eq!(rt; steps_of(&cell.life), (1, 0));
@@ -145,7 +181,7 @@ fn stops_and_starts_again(rt: HostRuntime) -> Result<(), Fail> {
     assert_eq!(rt; steps_of(&life), (6, 2));
     let first = life.steps.first().map(|step| step.mark.number());
     assert_eq!(rt; first, Some(2));
-    let Ok(cell) = start(alloc, image, 1, Some(life.last_mark())) else {
+    let Ok(cell) = start(alloc, image, &schema, 1, Some(life.last_mark())) else {
         return Err(Fail::from("it does not start again"));
     };
     let life = second_life(&rt, cell);
@@ -162,11 +198,9 @@ fn stops_and_starts_again(rt: HostRuntime) -> Result<(), Fail> {
 }
 
 // Feeds it as many beats, and one that is refused since its life is full.
-fn fill(
-    rt: &impl Abort,
-    mut cell: Cell<MemKeeper>,
-    beats: usize,
-) -> Result<(MemImage, Life), Fail> {
+fn fill(rt: &impl Abort, mut cell: Cell<MemKeeper>, beats: usize) -> Result<(MemImage, Life), Fail>
+    ensures { IfOk result (λ p. IsLog cell.node.core.members (schema_of cell.node.core.schema) (stored_in p.0)) }
+{
     for _ in 0..beats {
         let _ = cell.feed(beat())?;
     }
@@ -180,23 +214,24 @@ fn fill(
 #[test]
 fn fills_a_life(rt: HostRuntime) -> Result<(), Fail> {
     let alloc = rt.alloc();
+    let schema = read_schema(alloc, SCHEMA)?;
     for (last, beats, mark) in [
         (None, LIFE_STEPS, 200_001),
         (Mark::after(LAST_MARK - 3), 1, LAST_MARK),
     ] {
-        let Ok(cell) = start(alloc, MemImage::new(alloc), 2, last) else {
+        let Ok(cell) = start(alloc, MemImage::new(alloc), &schema, 2, last) else {
             return Err(Fail::from("it does not start"));
         };
         let (image, life) = fill(&rt, cell, beats)?;
         assert_eq!(rt; life.last_mark().number(), mark);
-        match start(alloc, image, 2, Some(life.last_mark())) {
+        match start(alloc, image, &schema, 2, Some(life.last_mark())) {
             Ok(cell) => {
                 assert_eq!(rt; cell.life.last_mark().number(), 200_002);
                 let _ = cell.stop();
             }
             Err((refusal, image)) => {
                 assert_eq!(rt; (mark, refusal), (LAST_MARK, Refusal::LifeFull));
-                assert_eq!(rt; stored(alloc, image)?, (NOTHING_STORED, 0));
+                assert_eq!(rt; stored(alloc, image, &schema)?, (NOTHING_STORED, 0));
             }
         }
     }
@@ -223,7 +258,10 @@ fn try_timeout(rt: &impl Abort, cell: &mut Cell<MemKeeper>) {
 #[test]
 fn lacks_memory(rt: HostRuntime) {
     let alloc = rt.alloc();
-    match start(alloc, MemImage::new(alloc), 1, None) {
+    let Ok(schema) = read_schema(alloc, SCHEMA) else {
+        return;
+    };
+    match start(alloc, MemImage::new(alloc), &schema, 1, None) {
         Ok(mut cell) => {
             for _ in 0..4 {
                 try_timeout(&rt, &mut cell);

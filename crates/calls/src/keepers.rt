@@ -1,10 +1,15 @@
 //! A keeper of which a call fails.
-ghost use Rattle.std.specs.Prelude.{◌≡◌, length, IfOk};
+ghost use Rattle.std.specs.Prelude.{◌≡◌, IfOk};
+ghost use Rattle.sqlread.specs.Meaning.{schema_of};
+ghost use Rattle.keep.specs.Calls.{stored_by};
+ghost use Rattle.keep.specs.Durable.{stored_in};
+ghost use Rattle.keep.specs.Log.{IsLog, IsSmall};
 
 use crate::stored::{SCHEMA, stored};
-use keep::{Change, HardState, Keeper, MemImage, MemKeeper, StoreError};
+use keep::{Change, HardState, Keeper, MemImage, MemKeeper, Shelf, StoreError};
 use model::entry::Entry;
 use model::stamp::Stamp;
+use schema::Schema;
 use schemaread::schemas::read_schema;
 use std::alloc::{AllocError, Global};
 use std::process::Abort;
@@ -23,8 +28,10 @@ const HARD_AFTER: HardState = HardState {
 };
 
 // Term 2 without a vote, and one entry of it.
-fn first_change(alloc: Global) -> Result<Change, AllocError>
-    ensures { IfOk result (λ c. (c.kept ≡ 0) × (length c.entries.items ≡ 1)) }
+fn first_change(alloc: Global, _schema: &Schema) -> Result<Change, AllocError>
+    ensures small { IfOk result IsSmall }
+    ensures first { IfOk result (λ c. c.kept ≡ 0) }
+    ensures log { IfOk result (λ c. IsLog 3 (schema_of _schema.now) (record { hard = c.hard; log = c.entries.items })) }
 {
     let entry = Entry {
         term: 2,
@@ -39,21 +46,29 @@ fn first_change(alloc: Global) -> Result<Change, AllocError>
 }
 
 // Each call that may fail, once.
-fn call_each(alloc: Global, keeper: &mut MemKeeper) -> Result<(), StoreError> {
+fn call_each(alloc: Global, keeper: &mut MemKeeper, schema: &Schema) -> Result<(), StoreError>
+    requires { IsLog 3 (schema_of schema.now) (stored_by keeper.old) }
+    ensures { IsLog 3 (schema_of schema.now) (stored_by keeper.new) }
+{
     let _ = keeper.state(alloc)?;
-    let change = first_change(alloc)?;
+    let change = first_change(alloc, schema)?;
     keeper.save(alloc, &change)?;
     let _ = keeper.entry(alloc, 0)?;
     Ok(())
 }
 
 // Whether it is down: no call answers anything else, nor counts as a failure of the store.
-fn is_down(alloc: Global, keeper: &mut MemKeeper) -> Result<bool, AllocError> {
-    let change = first_change(alloc)?;
+fn is_down(alloc: Global, keeper: &mut MemKeeper, schema: &Schema) -> Result<bool, AllocError>
+    requires { IsLog 3 (schema_of schema.now) (stored_by keeper.old) }
+    ensures { IsLog 3 (schema_of schema.now) (stored_by keeper.new) }
+{
+    let change = first_change(alloc, schema)?;
     let failures = keeper.failures();
-    let are_refused = matches!(keeper.state(alloc), Err(StoreError::NodeDown))
-        && matches!(keeper.entry(alloc, 0), Err(StoreError::NodeDown))
-        && keeper.save(alloc, &change) == Err(StoreError::NodeDown);
+    let down = Some(StoreError::NodeDown);
+    let state = keeper.state(alloc).err();
+    let entry = keeper.entry(alloc, 0).err();
+    let save = keeper.save(alloc, &change).err();
+    let are_refused = state == down && entry == down && save == down;
     Ok(are_refused && keeper.failures() == failures)
 }
 
@@ -63,9 +78,13 @@ fn use_keeper(
     alloc: Global,
     mut keeper: MemKeeper,
     call: u64,
-) -> Result<MemImage, Fail> {
+    schema: &Schema,
+) -> Result<MemImage, Fail>
+    requires { IsLog 3 (schema_of schema.now) (stored_by keeper) }
+    ensures { IfOk result (λ image. IsLog 3 (schema_of schema.now) (stored_in image)) }
+{
     let fails = call == 2 || call == 3 || call == 4;
-    let answered = call_each(alloc, &mut keeper);
+    let answered = call_each(alloc, &mut keeper, schema);
     let wanted = if fails {
         Err(StoreError::StoreFault)
     } else {
@@ -74,7 +93,7 @@ fn use_keeper(
     assert_eq!(rt; answered, wanted, "call {call}");
     assert_eq!(rt; keeper.failures(), u64::from(fails));
     if fails {
-        assert!(rt; is_down(alloc, &mut keeper)?);
+        assert!(rt; is_down(alloc, &mut keeper, schema)?);
     }
     Ok(keeper.close())
 }
@@ -83,11 +102,12 @@ fn use_keeper(
 #[test]
 fn fails_at_each_call(rt: HostRuntime) -> Result<(), Fail> {
     let alloc = rt.alloc();
+    let schema = read_schema(alloc, SCHEMA)?;
     for call in 0..6 {
         let mut image = MemImage::with_hard_state(alloc, HARD_BEFORE);
         image.fail_at(call);
-        let image = match MemKeeper::open(alloc, image, 3, &read_schema(alloc, SCHEMA)?) {
-            Ok(keeper) => use_keeper(&rt, alloc, keeper, call)?,
+        let image = match MemKeeper::open(alloc, image, 3, &schema) {
+            Ok(keeper) => use_keeper(&rt, alloc, keeper, call, &schema)?,
             Err((error, image)) => {
                 assert_eq!(rt; (call, error), (1, StoreError::StoreFault));
                 image
@@ -99,7 +119,7 @@ fn fails_at_each_call(rt: HostRuntime) -> Result<(), Fail> {
         } else {
             (HARD_BEFORE, 0)
         };
-        assert_eq!(rt; stored(alloc, image)?, wanted, "call {call}");
+        assert_eq!(rt; stored(alloc, image, &schema)?, wanted, "call {call}");
     }
     Ok(())
 }

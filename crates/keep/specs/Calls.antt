@@ -17,6 +17,10 @@ failing_next k = k.left
 abbrev pub failures_of : MemKeeper → ℕ
 failures_of k = k.failures
 
+-- how often an entry was asked of it
+abbrev pub asks_of : MemKeeper → ℕ
+asks_of k = k.asked
+
 -- A call of it is counted.
 pub record IsCounted {A : Type 0} (old new : MemKeeper) (result : Result A StoreError) : Type 0 where
   -- StoreFault exactly where this is the call that is to fail

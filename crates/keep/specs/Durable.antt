@@ -1,5 +1,5 @@
 -- What a keeper stores.
-use Rattle.std.specs.Prelude.{◌≡◌, ◌⊎◌, ℕ, None, List, [], ◌++◌, take}
+use Rattle.std.specs.Prelude.{◌≡◌, ◌⊎◌, ℕ, ◌+◌, ◌-◌, min, None, List, [], ◌++◌, length, take, drop}
 use Rattle.model.specs.declared.entry.Entry.{Entry}
 use Rattle.keep.specs.declared.change.Change.{Change}
 use Rattle.keep.specs.declared.hard_state.HardState.{HardState}
@@ -32,3 +32,11 @@ stored_in i = record { hard = i.hard; log = i.entries.items }
 -- which call of its next keeper is to fail, its open being 1; 0 is none
 abbrev pub failing_call : MemImage → ℕ
 failing_call i = i.fail_at
+
+-- the last entries of a log, 1,024 of them, or all where there are fewer
+abbrev pub tail_of : List Entry → List Entry
+tail_of log = drop (length log - 1024) log
+
+-- one more; the greatest number of 64 bits stays
+abbrev pub one_more : ℕ → ℕ
+one_more n = min (n + 1) 18446744073709551615

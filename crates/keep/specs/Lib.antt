@@ -1,3 +1,4 @@
 pub mod Durable
+pub mod Log
 pub mod Errors
 pub mod Calls

@@ -1,7 +1,10 @@
 //! What each keeper promises.
-ghost use Rattle.std.specs.Prelude.{◌≡◌, ◌+◌, ◌≤◌, ℕ, Bool, true, false, length, slice_get, IfOk, IfErr, OnOk};
-ghost use Rattle.keep.specs.Durable.{Durable, after, IsBeforeOrAfter};
+ghost use Rattle.std.specs.Prelude.{◌≡◌, ◌≤◌, ℕ, Bool, true, false, length, slice_get, IfOk, IfErr, OnOk};
+ghost use Rattle.model.specs.Transactions.{Schema as Tables};
+ghost use Rattle.sqlread.specs.Meaning.{schema_of};
+ghost use Rattle.keep.specs.Durable.{Durable, after, tail_of, one_more, IsBeforeOrAfter};
 ghost use Rattle.keep.specs.Errors.{IsAnswered};
+ghost use Rattle.keep.specs.Log.{IsLog, IsSmall};
 
 use crate::change::Change;
 use crate::error::StoreError;
@@ -10,20 +13,16 @@ use model::entry::Entry;
 use schema::Schema;
 use std::alloc::Global;
 
-/// Keeps a member's hard state and log over a restart.
+/// Where single entries of a member's log are fetched from.
 ///
-/// Once `state`, `entry` or `save` has answered an error the keeper is down: each later call of them
-/// answers `NodeDown`, and only `failures` and `close` go on. Its image, opened again, holds what was
-/// stored before that call, or after it where it was a `save`, and never anything else.
+/// Once a call has answered an error the shelf is down: each later call answers `NodeDown`, and only
+/// `failures` and `asked` go on.
 ///
-/// What a clause says of the stored state holds while the keeper is honest, that is while nothing
-/// wrong was taken as true: a file may give back other bytes than it took. A keeper that is honest
-/// after a call was so before it.
-pub trait Keeper: Drop {
-    /// What is left of a keeper that is closed, and what the next one opens.
-    type Image;
-
-    /// What is stored. It says something of a keeper that is honest and up.
+/// What a clause says of the stored state holds while the shelf is honest, that is while nothing
+/// wrong was taken as true: a file may give back other bytes than it took. One that is honest after a
+/// call was so before it.
+pub trait Shelf: Drop {
+    /// What is stored. It says something of a shelf that is honest and up.
     ghost stored: { Self → Durable };
 
     /// Nothing wrong was taken as true so far.
@@ -35,67 +34,119 @@ pub trait Keeper: Drop {
     /// How often the store has failed.
     ghost failed: { Self → ℕ };
 
+    /// How often an entry was asked for.
+    ghost asks: { Self → ℕ };
+
     /// What the next open may find, once this is closed.
     ghost may_hold: { Self → Durable → Type 0 };
 
-    /// What an open of the image may find.
-    ghost holds: { Self.Image → Durable → Type 0 };
-
-    /// Opens what an image holds. `StoreFault` where the store fails, and `NoMemory` where memory is
-    /// refused. A keeper over bytes from outside also judges whether what it finds is the state of a
-    /// member of a group of so many with these tables, and answers `BadStore` where it is not. An error
-    /// gives the image back, and what it holds is as it was.
-    fn open(
-        alloc: Global,
-        image: Self::Image,
-        members: usize,
-        schema: &Schema,
-    ) -> Result<Self, (StoreError, Self::Image)>
-        ensures up { IfOk result (λ k. is_up k ≡ true) }
-        ensures found { IfOk result (λ k. is_honest k → holds image (stored k)) }
-        ensures back { IfErr result (λ e. (d : Durable) → holds e.1 d → holds image d) }
-        ensures not_down { IfErr result (λ e. e.0 ≡ StoreError.NodeDown → ⊥) };
-
-    /// Reads the whole of what is stored, and changes nothing. `NodeDown` where the keeper is down,
-    /// `StoreFault` where the store fails, `NoMemory` where memory is refused.
-    fn state(&mut self, alloc: Global) -> Result<State, StoreError>
-        ensures ok { IfOk result (λ s. is_honest self.new → (s.hard ≡ (stored self.old).hard) × (s.entries.items ≡ (stored self.old).log)) }
-        ensures same { OnOk result (is_honest self.new → stored self.new ≡ stored self.old) }
-        ensures answered { IsAnswered (is_up self.old) (is_up self.new) (failed self.old) (failed self.new) result }
-        ensures honest { is_honest self.new → is_honest self.old }
-        ensures left { (d : Durable) → may_hold self.new d → may_hold self.old d };
+    /// It was opened for a member of a group of so many, over these tables.
+    ghost serves: { Self → ℕ → Tables → Type 0 };
 
     /// Reads the entry that has `i` others before it, none past the end of the log, and changes
-    /// nothing. Its errors are those of `state`.
+    /// nothing. `NodeDown` where the shelf is down, `StoreFault` where the store fails, `NoMemory`
+    /// where memory is refused.
     fn entry(&mut self, alloc: Global, i: usize) -> Result<Option<Entry>, StoreError>
         ensures ok { IfOk result (λ e. is_honest self.new → e ≡ slice_get (stored self.old).log i) }
         ensures same { OnOk result (is_honest self.new → stored self.new ≡ stored self.old) }
         ensures answered { IsAnswered (is_up self.old) (is_up self.new) (failed self.old) (failed self.new) result }
         ensures honest { is_honest self.new → is_honest self.old }
-        ensures left { (d : Durable) → may_hold self.new d → may_hold self.old d };
-
-    /// Stores a change, all of it at once. Its errors are those of `state`. After an error what is
-    /// stored is what was so before, or what the change makes of it.
-    fn save(&mut self, alloc: Global, change: &Change) -> Result<(), StoreError>
-        requires kept { is_honest self.old → is_up self.old ≡ true → change.now.kept ≤ length (stored self.old).log }
-        requires short { change.now.kept + length change.now.entries.items ≤ 100000 }
-        ensures ok { OnOk result (is_honest self.new → stored self.new ≡ after change.now (stored self.old)) }
-        ensures answered { IsAnswered (is_up self.old) (is_up self.new) (failed self.old) (failed self.new) result }
-        ensures honest { is_honest self.new → is_honest self.old }
-        ensures left { is_up self.old ≡ true → (d : Durable) → may_hold self.new d → IsBeforeOrAfter (stored self.old) (after change.now (stored self.old)) d }
-        ensures late { is_up self.old ≡ false → (d : Durable) → may_hold self.new d → may_hold self.old d };
+        ensures left { (d : Durable) → may_hold self.new d → may_hold self.old d }
+        ensures serves { (members : ℕ) (tables : Tables) → serves self.old members tables → serves self.new members tables }
+        ensures asks { asks self.new ≡ one_more (asks self.old) };
 
     /// How often the store has failed.
     fn failures(&self) -> u64
         ensures { result ≡ failed self.now };
 
-    /// Gives the image up. It answers also after an error.
-    fn close(self) -> Self::Image
-        ensures { (d : Durable) → holds result d → may_hold self d };
+    /// How often `entry` was called, whatever it answered; at its greatest value the count stays.
+    fn asked(&self) -> u64
+        ensures { result ≡ asks self.now };
 
     /// One that is not honest holds nothing that an open finds.
     ghost only_honest: { (k : Self) (d : Durable) → may_hold k d → is_honest k };
 
     /// While it is up, an open finds what is stored.
     ghost only_stored: { (k : Self) (d : Durable) → is_up k ≡ true → may_hold k d → d ≡ stored k };
+
+    /// That it was opened for such a group is a fact with one proof at most, so that a struct can keep it.
+    ghost served_once: { (k : Self) (members : ℕ) (tables : Tables) → IsProp (serves k members tables) };
+
+    /// While it is honest and up, what is stored forms a log.
+    ghost only_logs: { (k : Self) (members : ℕ) (tables : Tables) → serves k members tables → is_honest k → is_up k ≡ true → IsLog members tables (stored k) };
+}
+
+/// Keeps a member's hard state and log over a restart.
+///
+/// Once `state`, `entry` or `save` has answered an error the keeper is down: each later call of them
+/// answers `NodeDown`, and only `failures`, `asked` and `close` go on. Its image, opened again, holds
+/// what was stored before that call, or after it where it was a `save`, and never anything else.
+pub trait Keeper: Shelf {
+    /// What is left of a keeper that is closed, and what the next one opens.
+    type Image;
+
+    /// What an open of the image may find.
+    ghost holds: { Self.Image → Durable → Type 0 };
+
+    /// What the opener owes of an image, where the keeper does not judge what it finds.
+    ghost suits: { Self.Image → ℕ → Tables → Type 0 };
+
+    /// The image holds no state of a member of a group of so many with these tables. Of others no open
+    /// answers `BadStore`.
+    ghost is_bad: { Self.Image → ℕ → Tables → Type 0 };
+
+    /// Opens what an image holds, for a member of a group of so many with these tables: what is stored
+    /// forms a log. `StoreFault` where the store fails, and `NoMemory` where memory is refused. A keeper
+    /// over bytes from outside judges what it finds, and answers `BadStore` where that is no state of
+    /// such a member. An error gives the image back, and what it holds is as it was.
+    fn open(
+        alloc: Global,
+        image: Self::Image,
+        members: usize,
+        schema: &Schema,
+    ) -> Result<Self, (StoreError, Self::Image)>
+        requires { suits image members (schema_of schema.now) }
+        ensures up { IfOk result (λ k. Self.Shelf.is_up k ≡ true) }
+        ensures found { IfOk result (λ k. Self.Shelf.is_honest k → holds image (Self.Shelf.stored k)) }
+        ensures log { IfOk result (λ k. Self.Shelf.is_honest k → IsLog members (schema_of schema.now) (Self.Shelf.stored k)) }
+        ensures serves { IfOk result (λ k. Self.Shelf.serves k members (schema_of schema.now)) }
+        ensures fresh { IfOk result (λ k. (Self.Shelf.failed k ≡ 0) × (Self.Shelf.asks k ≡ 0)) }
+        ensures back { IfErr result (λ e. (d : Durable) → holds e.1 d → holds image d) }
+        ensures suits { IfErr result (λ e. suits e.1 members (schema_of schema.now)) }
+        ensures bad { IfErr result (λ e. e.0 ≡ StoreError.BadStore → is_bad e.1 members (schema_of schema.now)) }
+        ensures not_down { IfErr result (λ e. e.0 ≡ StoreError.NodeDown → ⊥) };
+
+    /// Reads the hard state, the length of the log and its last 1,024 entries, or all where there are
+    /// fewer, and changes nothing. `NodeDown` where the keeper is down, `StoreFault` where the store
+    /// fails, `NoMemory` where memory is refused.
+    fn state(&mut self, alloc: Global) -> Result<State, StoreError>
+        ensures ok { IfOk result (λ s. Self.Shelf.is_honest self.new → (s.hard ≡ (Self.Shelf.stored self.old).hard) × (s.length ≡ length (Self.Shelf.stored self.old).log) × (s.tail.items ≡ tail_of (Self.Shelf.stored self.old).log)) }
+        ensures log { OnOk result (Self.Shelf.is_honest self.new → (members : ℕ) (tables : Tables) → Self.Shelf.serves self.old members tables → IsLog members tables (Self.Shelf.stored self.old)) }
+        ensures same { OnOk result (Self.Shelf.is_honest self.new → Self.Shelf.stored self.new ≡ Self.Shelf.stored self.old) }
+        ensures answered { IsAnswered (Self.Shelf.is_up self.old) (Self.Shelf.is_up self.new) (Self.Shelf.failed self.old) (Self.Shelf.failed self.new) result }
+        ensures honest { Self.Shelf.is_honest self.new → Self.Shelf.is_honest self.old }
+        ensures left { (d : Durable) → Self.Shelf.may_hold self.new d → Self.Shelf.may_hold self.old d }
+        ensures serves { (members : ℕ) (tables : Tables) → Self.Shelf.serves self.old members tables → Self.Shelf.serves self.new members tables }
+        ensures asks { Self.Shelf.asks self.new ≡ Self.Shelf.asks self.old };
+
+    /// Stores a change, all of it at once. Its errors are those of `state`. After an error what is
+    /// stored is what was so before, or what the change makes of it. Owed: the change keeps no more of
+    /// the log than there is, its numbers are in range, and what it makes of what is stored forms a log
+    /// of a member that the keeper was opened for.
+    fn save(&mut self, alloc: Global, change: &Change) -> Result<(), StoreError>
+        requires kept { Self.Shelf.is_honest self.old → Self.Shelf.is_up self.old ≡ true → change.now.kept ≤ length (Self.Shelf.stored self.old).log }
+        requires small { IsSmall change.now }
+        requires log { (members : ℕ) × ((tables : Tables) × (Self.Shelf.serves self.old members tables × (Self.Shelf.is_honest self.old → Self.Shelf.is_up self.old ≡ true → IsLog members tables (after change.now (Self.Shelf.stored self.old))))) }
+        ensures ok { OnOk result (Self.Shelf.is_honest self.new → Self.Shelf.stored self.new ≡ after change.now (Self.Shelf.stored self.old)) }
+        ensures answered { IsAnswered (Self.Shelf.is_up self.old) (Self.Shelf.is_up self.new) (Self.Shelf.failed self.old) (Self.Shelf.failed self.new) result }
+        ensures honest { Self.Shelf.is_honest self.new → Self.Shelf.is_honest self.old }
+        ensures left { Self.Shelf.is_up self.old ≡ true → (d : Durable) → Self.Shelf.may_hold self.new d → IsBeforeOrAfter (Self.Shelf.stored self.old) (after change.now (Self.Shelf.stored self.old)) d }
+        ensures late { Self.Shelf.is_up self.old ≡ false → (d : Durable) → Self.Shelf.may_hold self.new d → Self.Shelf.may_hold self.old d }
+        ensures serves { (members : ℕ) (tables : Tables) → Self.Shelf.serves self.old members tables → (Self.Shelf.is_honest self.old → Self.Shelf.is_up self.old ≡ true → IsLog members tables (after change.now (Self.Shelf.stored self.old))) → Self.Shelf.serves self.new members tables }
+        ensures asks { Self.Shelf.asks self.new ≡ Self.Shelf.asks self.old };
+
+    /// Gives the image up. It answers also after an error.
+    fn close(self) -> Self::Image
+        ensures holds { (d : Durable) → holds result d → Self.Shelf.may_hold self d }
+        ensures suits { (members : ℕ) (tables : Tables) → Self.Shelf.serves self members tables → suits result members tables };
 }

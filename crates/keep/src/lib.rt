@@ -5,12 +5,13 @@ pub mod change;
 pub mod error;
 pub mod hard_state;
 pub mod keeper;
+pub mod laws;
 pub mod memory;
 pub mod state;
 
 pub use change::Change;
 pub use error::StoreError;
 pub use hard_state::HardState;
-pub use keeper::Keeper;
+pub use keeper::{Keeper, Shelf};
 pub use memory::{MemImage, MemKeeper};
-pub use state::State;
+pub use state::{State, TAIL_MOST};

@@ -1,11 +1,11 @@
 //! A keeper in memory.
-ghost use Rattle.std.specs.Prelude.{◌≡◌, ◌≢◌, ◌↔◌, ◌-◌, ◌≤◌, ◌++◌, ◌⊎◌, true, false, take, length, slice_get, IfOk, IfErr, IsOk, IsErr, OnOk, OnErr};
+ghost use Rattle.std.specs.Prelude.{◌≡◌, ◌≢◌, ◌↔◌, ℕ, ◌-◌, ◌≤◌, ◌++◌, ◌⊎◌, true, false, take, length, slice_get, IfOk, IfErr, IsOk, IsErr, OnOk, OnErr};
 
 use crate::change::Change;
 use crate::error::StoreError;
 use crate::hard_state::HardState;
-use crate::keeper::Keeper;
-use crate::state::State;
+use crate::keeper::{Keeper, Shelf};
+use crate::state::{State, TAIL_MOST};
 use model::entry::Entry;
 use schema::Schema;
 use std::alloc::{AllocError, Global};
@@ -21,11 +21,16 @@ pub struct MemImage {
 }
 
 impl MemImage {
+    ghost use Rattle.model.specs.Steps.{TERM_LAST};
+    ghost use Rattle.model.specs.Transactions.{Schema as Tables};
     ghost use Rattle.keep.specs.Durable.{after, blank, failing_call, beginning, stored_in};
+    ghost use Rattle.keep.specs.Log.{IsLog, is_vote};
 
-    /// Nothing stored yet: term 0, no vote, an empty log. No call is to fail.
+    /// Nothing stored yet: term 0, no vote, an empty log, which form a log of every member. No call is
+    /// to fail.
     pub fn new(alloc: Global) -> MemImage
         ensures stored { stored_in result ≡ blank }
+        ensures log { (members : ℕ) (tables : Tables) → IsLog members tables (stored_in result) }
         ensures failing { failing_call result ≡ 0 }
     {
         let hard = HardState {
@@ -35,9 +40,11 @@ impl MemImage {
         MemImage::with_hard_state(alloc, hard)
     }
 
-    /// This hard state, with an empty log. No call is to fail.
+    /// This hard state, with an empty log. They form a log where the hard state is in range. No call is
+    /// to fail.
     pub fn with_hard_state(alloc: Global, hard: HardState) -> MemImage
         ensures stored { stored_in result ≡ beginning hard }
+        ensures log { (members : ℕ) (tables : Tables) → hard.term ≤ TERM_LAST → is_vote members hard.vote ≡ true → IsLog members tables (stored_in result) }
         ensures failing { failing_call result ≡ 0 }
     {
         MemImage {
@@ -94,13 +101,13 @@ fn copies_of(alloc: Global, entries: &[Entry]) -> Result<Vec<Entry>, AllocError>
     entries.to_vec(alloc)
 }
 
-/// A keeper whose store is a `MemImage`. It is always honest. Its image holds only what keepers of the
-/// same group saved, so `open` needs neither the number of members nor the schema: it judges nothing,
-/// takes no memory, and never answers `BadStore`.
+/// A keeper whose store is a `MemImage`. It is always honest. It judges nothing at `open`, where its
+/// opener owes that what the image holds forms a log: an open takes no memory, and never answers
+/// `BadStore`.
 ///
 /// It answers `StoreFault` at the call that the image was told to fail, and at no other: at the open,
-/// which is call 1, or at a later `state`, `entry` or `save`, which count one each; `failures` and
-/// `close` are not counted. No later keeper of the image is to fail, unless the image is told so again.
+/// which is call 1, or at a later `state`, `entry` or `save`, which count one each; `failures`, `asked`
+/// and `close` are not counted. No later keeper of the image is to fail, unless the image is told so again.
 /// After an error what is stored is as it was before the call.
 #[derive(Debug, Drop)]
 pub struct MemKeeper {
@@ -108,6 +115,7 @@ pub struct MemKeeper {
     /// Calls up to the one that is to fail, it included; 0 is none.
     left: u64,
     failures: u64,
+    asked: u64,
     is_up: bool,
     ghost unfailed: { is_up ≡ true → failures ≡ 0 },
     ghost untold: { image.fail_at ≡ 0 },
@@ -118,7 +126,7 @@ impl MemKeeper {
 
     /// Counts a call, and says whether it may go on.
     fn count_call(&mut self) -> Result<(), StoreError>
-        ensures image { self.new.image ≡ self.old.image }
+        ensures image { (self.new.image ≡ self.old.image) × (self.new.asked ≡ self.old.asked) }
         ensures counted { IsCounted self.old self.new result }
         ensures ok { OnOk result ((self.old.is_up ≡ true) × (self.new.is_up ≡ true)) }
         ensures err { OnErr result (self.new.is_up ≡ false) }
@@ -143,19 +151,18 @@ impl MemKeeper {
     fn lack_memory(&mut self) -> StoreError
         ensures result { result ≡ StoreError.NoMemory }
         ensures down { self.new.is_up ≡ false }
-        ensures same { (self.new.image ≡ self.old.image) × (self.new.failures ≡ self.old.failures) × (self.new.left ≡ self.old.left) }
+        ensures same { (self.new.image ≡ self.old.image) × (self.new.failures ≡ self.old.failures) × (self.new.left ≡ self.old.left) × (self.new.asked ≡ self.old.asked) }
     {
         self.is_up = false;
         StoreError::NoMemory
     }
 }
 
-impl Keeper for MemKeeper {
-    ghost use Rattle.keep.specs.Durable.{stored_in, failing_call, after};
+impl Shelf for MemKeeper {
+    ghost use Rattle.keep.specs.Durable.{stored_in, one_more};
+    ghost use Rattle.keep.specs.Log.{IsLog, log_prop};
     ghost use Rattle.keep.specs.Errors.{IsAnswered};
-    ghost use Rattle.keep.specs.Calls.{stored_by, failing_next, failures_of, IsCounted};
-
-    type Image = MemImage;
+    ghost use Rattle.keep.specs.Calls.{stored_by, failing_next, failures_of, asks_of, IsCounted};
 
     ghost stored = { λ k. stored_in k.image };
 
@@ -165,13 +172,63 @@ impl Keeper for MemKeeper {
 
     ghost failed = { λ k. k.failures };
 
+    ghost asks = { λ k. k.asked };
+
     ghost may_hold = { λ k d. d ≡ stored_in k.image };
 
-    ghost holds = { λ i d. d ≡ stored_in i };
+    ghost serves = { λ k members tables. IsLog members tables (stored_in k.image) };
 
     ghost only_honest = { λ _ _ _. tt };
 
     ghost only_stored = { λ _ _ _ h. h };
+
+    ghost served_once = { λ k members tables. log_prop members tables (stored_in k.image) };
+
+    ghost only_logs = { λ _ _ _ forms _ _. forms };
+
+    fn entry(&mut self, alloc: Global, i: usize) -> Result<Option<Entry>, StoreError>
+        ensures ok { IfOk result (λ e. e ≡ slice_get (stored_by self.old).log i) }
+        // past the end no memory is taken
+        ensures past { self.old.is_up ≡ true → failing_next self.old ≢ 1 → length (stored_by self.old).log ≤ i → IsOk result }
+        ensures same { stored_by self.new ≡ stored_by self.old }
+        ensures answered { IsAnswered self.old.is_up self.new.is_up (failures_of self.old) (failures_of self.new) result }
+        ensures counted { IsCounted self.old self.new result }
+        ensures asked { asks_of self.new ≡ one_more (asks_of self.old) }
+    {
+        let _ = alloc;
+        self.asked = self.asked.saturating_add(1);
+        self.count_call()?;
+        let Some(entry) = self.image.entries.get(i) else {
+            return Ok(None);
+        };
+        let Ok(copy) = copy_of(entry) else {
+            return Err(self.lack_memory());
+        };
+        Ok(Some(copy))
+    }
+
+    fn failures(&self) -> u64 {
+        self.failures
+    }
+
+    fn asked(&self) -> u64 {
+        self.asked
+    }
+}
+
+impl Keeper for MemKeeper {
+    ghost use Rattle.keep.specs.Durable.{stored_in, failing_call, after, tail_of};
+    ghost use Rattle.keep.specs.Log.{IsLog};
+    ghost use Rattle.keep.specs.Errors.{IsAnswered};
+    ghost use Rattle.keep.specs.Calls.{stored_by, failing_next, failures_of, asks_of, IsCounted};
+
+    type Image = MemImage;
+
+    ghost holds = { λ i d. d ≡ stored_in i };
+
+    ghost suits = { λ i members tables. IsLog members tables (stored_in i) };
+
+    ghost is_bad = { λ _ _ _. ⊥ };
 
     fn open(
         alloc: Global,
@@ -183,7 +240,7 @@ impl Keeper for MemKeeper {
         ensures fault { IfErr result (λ e. (e.0 ≡ StoreError.StoreFault) × (stored_in e.1 ≡ stored_in image) × (failing_call e.1 ≡ 0)) }
         ensures stored { IfOk result (λ k. stored_by k ≡ stored_in image) }
         ensures told { IfOk result (λ k. failing_next k ≡ failing_call image - 1) }
-        ensures up { IfOk result (λ k. (k.is_up ≡ true) × (failures_of k ≡ 0)) }
+        ensures up { IfOk result (λ k. (k.is_up ≡ true) × (failures_of k ≡ 0) × (asks_of k ≡ 0)) }
     {
         let _ = alloc;
         let _ = members;
@@ -200,43 +257,29 @@ impl Keeper for MemKeeper {
             image,
             left: fail_at.saturating_sub(1),
             failures: 0,
+            asked: 0,
             is_up: true,
         })
     }
 
     fn state(&mut self, alloc: Global) -> Result<State, StoreError>
-        ensures ok { IfOk result (λ s. (s.hard ≡ (stored_by self.old).hard) × (s.entries.items ≡ (stored_by self.old).log)) }
+        ensures ok { IfOk result (λ s. (s.hard ≡ (stored_by self.old).hard) × (s.length ≡ length (stored_by self.old).log) × (s.tail.items ≡ tail_of (stored_by self.old).log)) }
         ensures same { stored_by self.new ≡ stored_by self.old }
         ensures answered { IsAnswered self.old.is_up self.new.is_up (failures_of self.old) (failures_of self.new) result }
         ensures counted { IsCounted self.old self.new result }
+        ensures asked { asks_of self.new ≡ asks_of self.old }
     {
         self.count_call()?;
-        let Ok(entries) = copies_of(alloc, &self.image.entries) else {
+        let length = self.image.entries.len();
+        let before = length.saturating_sub(TAIL_MOST);
+        let Ok(tail) = copies_of(alloc, &self.image.entries[before..]) else {
             return Err(self.lack_memory());
         };
         Ok(State {
             hard: self.image.hard,
-            entries,
+            length,
+            tail,
         })
-    }
-
-    fn entry(&mut self, alloc: Global, i: usize) -> Result<Option<Entry>, StoreError>
-        ensures ok { IfOk result (λ e. e ≡ slice_get (stored_by self.old).log i) }
-        // past the end no memory is taken
-        ensures past { self.old.is_up ≡ true → failing_next self.old ≢ 1 → length (stored_by self.old).log ≤ i → IsOk result }
-        ensures same { stored_by self.new ≡ stored_by self.old }
-        ensures answered { IsAnswered self.old.is_up self.new.is_up (failures_of self.old) (failures_of self.new) result }
-        ensures counted { IsCounted self.old self.new result }
-    {
-        let _ = alloc;
-        self.count_call()?;
-        let Some(entry) = self.image.entries.get(i) else {
-            return Ok(None);
-        };
-        let Ok(copy) = copy_of(entry) else {
-            return Err(self.lack_memory());
-        };
-        Ok(Some(copy))
     }
 
     fn save(&mut self, alloc: Global, change: &Change) -> Result<(), StoreError>
@@ -244,6 +287,7 @@ impl Keeper for MemKeeper {
         ensures err { OnErr result (stored_by self.new ≡ stored_by self.old) }
         ensures answered { IsAnswered self.old.is_up self.new.is_up (failures_of self.old) (failures_of self.new) result }
         ensures counted { IsCounted self.old self.new result }
+        ensures asked { asks_of self.new ≡ asks_of self.old }
     {
         self.count_call()?;
         let Ok(tail) = copies_of(alloc, &change.entries) else {
@@ -253,10 +297,6 @@ impl Keeper for MemKeeper {
             return Err(self.lack_memory());
         }
         Ok(())
-    }
-
-    fn failures(&self) -> u64 {
-        self.failures
     }
 
     fn close(self) -> MemImage

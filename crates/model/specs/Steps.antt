@@ -161,6 +161,12 @@ abbrev pub go_on : Option Entry → ℕ → List Entry → Bool
 go_on prev bound [] = true
 go_on prev bound (e ∷ es) = nat_lt 0 e.term && nat_le (term_of prev) e.term && nat_le e.term bound && nat_le (above (option_map (λ d. d.stamp) prev)) e.stamp && go_on (Some e) bound es
 
+-- the entries go on after the one at prev, and those that are new after the last one that stays
+abbrev pub continues : List Entry → ℕ → ℕ → List Entry → Bool
+continues log prev bound es =
+    let j = agreed log prev es in
+    go_on (nth log prev) bound es && go_on (nth log j) bound (drop (j - prev) es)
+
 -- a candidate becomes follower; the sender is the known leader
 abbrev pub follows : ℕ → Node → Node
 follows sender x = record x { role = Follower; known = Some sender; votes = []; next = []; matched = [] }
@@ -175,7 +181,7 @@ on_append me sender term prev prev_term es commit x =
     if nat_lt term x.term then Moves (record { node = x; sent = answer x me sender (Reply false 0) })
     else if is_leader x.role then Nothing
     else if not (stands x.log prev prev_term) then Moves (record { node = follows sender x; sent = answer x me sender (Reply false 0) })
-    else if not (go_on (nth x.log prev) term es) || cuts_below x.commit x.log prev es || nat_lt LOG_LIMIT (length (accepted x.log prev es)) then Nothing
+    else if not (continues x.log prev term es) || cuts_below x.commit x.log prev es || nat_lt LOG_LIMIT (length (accepted x.log prev es)) then Nothing
     else Moves (record { node = takes_entries prev es commit (follows sender x); sent = answer x me sender (Reply true (prev + length es)) })
 
 -- ---- Reply

@@ -1,5 +1,7 @@
 //! What a node keeps over a restart, as others ask for it.
-ghost use Rattle.std.specs.Prelude.{◌≡◌, true, false, IfOk, IfErr, OnOk, OnErr};
+ghost use Rattle.std.specs.Prelude.{◌≡◌, true, false, slice_get, IfOk, IfErr, OnOk};
+ghost use Rattle.sqlread.specs.Meaning.{schema_of};
+ghost use Rattle.keep.specs.Errors.{IsAnswered};
 ghost use Rattle.model.specs.Lists.{nth};
 ghost use Rattle.keep.specs.Durable.{Durable};
 ghost use Rattle.raft.specs.View.{node_of};
@@ -8,15 +10,36 @@ ghost use Rattle.node.specs.Answered.{stored_of, IsFaultOf};
 
 use crate::node::{Fault, Node};
 use fault::Refusal;
+use keep::error::StoreError;
 use keep::hard_state::HardState;
-use keep::keeper::Keeper;
+use keep::keeper::{Keeper, Shelf};
 use model::entry::Entry;
+use raft::state::Core;
+use std::alloc::Global;
 
 /// What a node has stored: its hard state, and the length of its log.
 #[derive(Clone, Copy, PartialEq, Eq, Debug)]
 pub struct Stored {
     pub hard: HardState,
     pub length: usize,
+}
+
+/// Reads an entry of the log of a member from its keeper.
+fn fetch<K: Keeper>(
+    alloc: Global,
+    core: &Core,
+    keeper: &mut K,
+    place: usize,
+) -> Result<Option<Entry>, StoreError>
+    requires { ∥ K.serves keeper.old core.now.members (schema_of core.now.schema) ∥₁ }
+    ensures ok { IfOk result (λ e. K.is_honest keeper.new → e ≡ slice_get (K.stored keeper.old).log place) }
+    ensures same { OnOk result (K.is_honest keeper.new → K.stored keeper.new ≡ K.stored keeper.old) }
+    ensures answered { IsAnswered (K.is_up keeper.old) (K.is_up keeper.new) (K.failed keeper.old) (K.failed keeper.new) result }
+    ensures honest { K.is_honest keeper.new → K.is_honest keeper.old }
+    ensures left { (d : Durable) → K.may_hold keeper.new d → K.may_hold keeper.old d }
+    ensures serves { ∥ K.serves keeper.new core.now.members (schema_of core.now.schema) ∥₁ }
+{
+    keeper.entry(alloc, place)
 }
 
 impl<K: Keeper> Node<K> {
@@ -52,7 +75,7 @@ impl<K: Keeper> Node<K> {
         let Some(place) = index.checked_sub(1) else {
             return Ok(None);
         };
-        match self.keeper.entry(self.alloc, place) {
+        match fetch(self.alloc, &self.core, &mut self.keeper, place) {
             Ok(entry) => Ok(entry),
             Err(error) => {
                 self.is_up = false;

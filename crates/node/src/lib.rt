@@ -3,6 +3,7 @@
 
 pub mod durable;
 pub mod node;
+mod reading;
 mod telling;
 
 pub use node::{Fault, Node, Out};

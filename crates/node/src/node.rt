@@ -1,19 +1,20 @@
 //! A member over a keeper.
-ghost use Rattle.std.specs.Prelude.{◌≡◌, ◌+◌, ◌≤◌, true, false, length, take, slice_range, if◌then◌else◌, Some, None, IfOk, IfErr, OnOk, OnErr, MatchOption};
+ghost use Rattle.std.specs.Prelude.{◌≡◌, ◌≤◌, true, false, take, slice_range, if◌then◌else◌, Some, None, IfOk, IfErr, OnOk, OnErr, MatchOption};
 ghost use Rattle.std.specs.Coded.{→_prop};
+ghost use Rattle.keep.specs.Log.{IsSmall};
 ghost use Rattle.sqlread.specs.Meaning.{schema_of};
 ghost use Rattle.sqlread.specs.Shapes.{query_of};
 ghost use Rattle.answer.specs.Answers.{columns_in};
 ghost use Rattle.apply.specs.View.{AreTables, IsAskedOf};
 ghost use Rattle.node.specs.Once.{tables_prop};
 ghost use Rattle.model.specs.Kept.{node_after};
-ghost use Rattle.model.specs.Logs.{IsStamped};
 ghost use Rattle.model.specs.Members.{applied};
 ghost use Rattle.keep.specs.Durable.{Durable, IsBeforeOrAfter};
 ghost use Rattle.raft.specs.Memory.{spares_memory};
 ghost use Rattle.raft.specs.View.{node_of, works};
 ghost use Rattle.node.specs.View.{durable_of, after_change, Fits, Gave, IsKept, IsSame, IsTorn, IsCause, HasCause, LeavesUp, started_from, told_between};
 
+use crate::reading::{Found, read_stored};
 use crate::telling::{entries_between, tell};
 use answer::Answer;
 use apply::Tables;
@@ -21,10 +22,9 @@ use fault::Refusal;
 use keep::change::Change;
 use keep::error::StoreError;
 use keep::keeper::Keeper;
-use keep::state::State;
 use model::entry::{Entry, Told};
 use model::member::Member;
-use model::message::{LAST_TERM, LOG_ROOM, Message};
+use model::message::Message;
 use raft::state::{Core, Effect, Taken, Work};
 use schema::Schema;
 use sqlread::query::Query;
@@ -69,18 +69,23 @@ pub struct Node<K: Keeper> {
     ghost fresh: { is_up ≡ true → core.is_spent ≡ false },
     ghost kept_up: { is_up ≡ true → K.is_up keeper ≡ true },
     ghost synced: { is_up ≡ true → K.is_honest keeper → K.stored keeper ≡ durable_of (node_of core) },
-    ghost current: { is_up ≡ true → AreTables (schema_of core.schema) (applied (node_of core)) tables } by { →_prop (tables_prop _ _ _) },
+    ghost serves: { ∥ K.serves keeper core.members (schema_of core.schema) ∥₁ },
+    ghost current: { is_up ≡ true → AreTables core.schema (applied (node_of core)) tables } by { →_prop (tables_prop _ _ _) },
 }
 
-/// Stores a change, if there is one.
+/// Stores a change of a member, if there is one.
 fn store<K: Keeper>(
     alloc: Global,
+    core: &Core,
     keeper: &mut K,
     change: &Option<Change>,
 ) -> Result<(), StoreError>
     requires kept { K.is_honest keeper.old → K.is_up keeper.old ≡ true → Fits change.now (K.stored keeper.old) }
-    requires short { MatchOption change.now (Unit {0}) (λ c. c.kept + length c.entries.items ≤ 100000) }
+    requires small { MatchOption change.now (Unit {0}) IsSmall }
+    requires new { K.is_honest keeper.old → K.is_up keeper.old ≡ true → after_change change.now (K.stored keeper.old) ≡ durable_of (node_of core.now) }
+    requires serves { K.serves keeper.old core.now.members (schema_of core.now.schema) }
     requires up { K.is_up keeper.old ≡ true }
+    ensures serves { K.serves keeper.new core.now.members (schema_of core.now.schema) }
     ensures ok { OnOk result (K.is_honest keeper.new → K.stored keeper.new ≡ after_change change.now (K.stored keeper.old)) }
     ensures up { OnOk result (K.is_up keeper.new ≡ true) }
     ensures honest { K.is_honest keeper.new → K.is_honest keeper.old }
@@ -102,15 +107,18 @@ fn finish<K: Keeper>(
     tables: &mut Tables,
     taken: Taken,
 ) -> Result<Out, StoreError>
-    requires current { AreTables (schema_of core.now.schema) (take taken.committed_before core.now.log.items) tables.old }
+    requires current { AreTables core.now.schema (take taken.committed_before core.now.log.items) tables.old }
     requires rises { taken.committed_before ≤ core.now.commit }
     requires kept { K.is_honest keeper.old → K.is_up keeper.old ≡ true → Fits taken.change (K.stored keeper.old) }
-    requires short { MatchOption taken.change (Unit {0}) (λ c. c.kept + length c.entries.items ≤ 100000) }
+    requires small { MatchOption taken.change (Unit {0}) IsSmall }
+    requires new { K.is_honest keeper.old → K.is_up keeper.old ≡ true → after_change taken.change (K.stored keeper.old) ≡ durable_of (node_of core.now) }
+    requires serves { K.serves keeper.old core.now.members (schema_of core.now.schema) }
     requires up { K.is_up keeper.old ≡ true }
+    ensures serves { K.serves keeper.new core.now.members (schema_of core.now.schema) }
     ensures messages { IfOk result (λ out. out.messages.items ≡ taken.messages.items) }
     ensures applied { IfOk result (λ out. out.applied.items ≡ slice_range core.now.log.items taken.committed_before core.now.commit) }
     ensures told { IfOk result (λ out. out.told.items ≡ told_between (schema_of core.now.schema) core.now.log.items taken.committed_before core.now.commit) }
-    ensures current { OnOk result (AreTables (schema_of core.now.schema) (applied (node_of core.now)) tables.new) }
+    ensures current { OnOk result (AreTables core.now.schema (applied (node_of core.now)) tables.new) }
     ensures ok { OnOk result (K.is_honest keeper.new → K.stored keeper.new ≡ after_change taken.change (K.stored keeper.old)) }
     ensures up { OnOk result (K.is_up keeper.new ≡ true) }
     ensures honest { K.is_honest keeper.new → K.is_honest keeper.old }
@@ -122,7 +130,7 @@ fn finish<K: Keeper>(
         messages,
         committed_before,
     } = taken;
-    store(alloc, keeper, &change)?;
+    store(alloc, core, keeper, &change)?;
     let told = tell(
         alloc,
         &core.schema,
@@ -142,7 +150,7 @@ fn finish<K: Keeper>(
 impl<K: Keeper> Node<K> {
     /// Opens what the image holds, as a follower with the hard state and the log that are stored,
     /// which knows of no leader and has applied nothing. `me` is one of the group: from 1 to `members`, of
-    /// which there are up to 7; the caller sees to this.
+    /// which there are up to 7; the caller sees to this, and to what the keeper asks of an image.
     ///
     /// `StoreFault` where the store fails, `NoMemory` where memory is refused, `BadStore` where the
     /// image holds no state of a member of such a group. An error gives the image back, and what it
@@ -156,25 +164,23 @@ impl<K: Keeper> Node<K> {
     ) -> Result<Node<K>, (StoreError, K::Image)>
         requires few { members ≤ 7 }
         requires member { (1 ≤ me) × (me ≤ members) }
+        requires suits { K.suits image members (schema_of schema) }
         ensures opened { IfOk result (λ n. node_of n.core ≡ started_from (durable_of (node_of n.core))) }
         ensures found { IfOk result (λ n. K.is_honest n.keeper → K.holds image (durable_of (node_of n.core))) }
         ensures group { IfOk result (λ n. (n.is_up ≡ true) × (n.core.schema ≡ schema) × (n.core.members ≡ members) × (n.core.me ≡ me)) }
         ensures back { IfErr result (λ e. (d : Durable) → K.holds e.1 d → K.holds image d) }
+        ensures suits { IfErr result (λ e. K.suits e.1 members (schema_of schema)) }
         ensures not_down { IfErr result (λ e. e.0 ≡ StoreError.NodeDown → ⊥) }
     {
         let Ok(tables) = Tables::new(alloc, &schema) else {
             return Err((StoreError::NoMemory, image));
         };
         let mut keeper = K::open(alloc, image, members, &schema)?;
-        let state = match keeper.state(alloc) {
-            Ok(state) => state,
+        let Found { hard, log } = match read_stored(alloc, &mut keeper, members, &schema) {
+            Ok(found) => found,
             Err(error) => return Err((error, keeper.close())),
         };
-        let State { hard, entries } = state;
-        if hard.term > LAST_TERM || entries.len() > LOG_ROOM {
-            return Err((StoreError::BadStore, keeper.close()));
-        }
-        let core = Core::start(alloc, schema, members, me, hard, entries);
+        let core = Core::start(alloc, schema, members, me, hard, log);
         Ok(Node {
             alloc,
             core,
@@ -192,7 +198,7 @@ impl<K: Keeper> Node<K> {
     /// those of `Core::step`. `Fault::Down` takes the node down: `StoreFault` where the store fails,
     /// `NoMemory` where memory is refused. What is stored is then what was so before the step, or
     /// after it. A timeout, a beat or a close that is refused or ignored takes no memory, and never takes the node down.
-    #[tactic(auto, using(crate::proofs::Stored::fits, crate::proofs::Stored::short, crate::proofs::Stored::synced))]
+    #[tactic(auto, using(crate::proofs::Stored::fits, crate::proofs::Stored::small, crate::proofs::Stored::synced))]
     pub fn step(&mut self, work: Work) -> Result<Out, Fault>
         ensures done { self.old.is_up ≡ true → Gave (node_of self.old.core) (node_of self.new.core) (works self.old.core.schema self.old.core.members self.old.core.me work (node_of self.old.core)) result }
         ensures applied { IfOk result (λ out. out.applied.items ≡ slice_range self.new.core.log.items self.old.core.commit self.new.core.commit) }
@@ -242,14 +248,14 @@ impl<K: Keeper> Node<K> {
     /// time, the stamp of the last of them. `NodeDown` where the node is down, `NotClosed` with the closed time where the
     /// question's last instant is later than it, or where nothing is applied, `NoMemory` where memory is refused.
     pub fn ask(&self, query: &Query) -> Result<Answer, Refusal>
-        ensures asked { self.now.is_up ≡ true → IsStamped (applied (node_of self.now.core)) → IsAskedOf (schema_of self.now.core.schema) (query_of query.now) (applied (node_of self.now.core)) result }
+        ensures asked { self.now.is_up ≡ true → IsAskedOf (schema_of self.now.core.schema) (query_of query.now) (applied (node_of self.now.core)) result }
         ensures columns { IfOk result (λ a. a.columns.items ≡ columns_in self.now.core.schema query.now.table) }
         ensures down { self.now.is_up ≡ false → result ≡ Err Refusal.NodeDown }
     {
         if !self.is_up {
             return Err(Refusal::NodeDown);
         }
-        self.tables.ask(&self.core.schema, query)
+        self.tables.ask(query)
     }
 
     /// Whether it takes steps and answers: no step has failed.
@@ -273,6 +279,7 @@ impl<K: Keeper> Node<K> {
     /// the log that it has.
     pub fn stop(self) -> K::Image
         ensures held { (d : Durable) → K.holds result d → K.may_hold self.keeper d }
+        ensures suits { K.suits result self.core.members (schema_of self.core.schema) }
         ensures last { self.is_up ≡ true → (d : Durable) → K.holds result d → d ≡ durable_of (node_of self.core) }
     {
         self.keeper.close()

@@ -18,12 +18,12 @@ fn apply_one(
     before: usize,
 ) -> Result<Option<Told>, AllocError>
     requires there { before < length log.now }
-    requires current { AreTables (schema_of schema.now) (take before log.now) tables.old }
+    requires current { AreTables schema.now (take before log.now) tables.old }
     ensures told { IfOk result (λ told. told ≡ told_at (schema_of schema.now) log.now (before + 1)) }
-    ensures current { OnOk result (AreTables (schema_of schema.now) (take (before + 1) log.now) tables.new) }
+    ensures current { OnOk result (AreTables schema.now (take (before + 1) log.now) tables.new) }
 {
     let entry = &log[before];
-    let outcome = tables.apply(schema, entry)?;
+    let outcome = tables.apply(entry)?;
     let Some(request) = &entry.request else {
         return Ok(None);
     };
@@ -50,9 +50,9 @@ pub(crate) fn tell(
 ) -> Result<Vec<Told>, AllocError>
     requires rises { before ≤ commit }
     requires within { commit ≤ length log.now }
-    requires current { AreTables (schema_of schema.now) (take before log.now) tables.old }
+    requires current { AreTables schema.now (take before log.now) tables.old }
     ensures told { IfOk result (λ told. told.items ≡ told_between (schema_of schema.now) log.now before commit) }
-    ensures current { OnOk result (AreTables (schema_of schema.now) (take commit log.now) tables.new) }
+    ensures current { OnOk result (AreTables schema.now (take commit log.now) tables.new) }
 {
     let mut told = Vec::new(alloc);
     for index in before..commit {

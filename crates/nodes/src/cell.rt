@@ -43,8 +43,8 @@ pub struct Cell<K: Keeper> {
 impl<K: Keeper> Cell<K> {
     /// Opens a life with what the image holds. `last` is the greatest mark that the node had before,
     /// none if it had none; the opening's is one more. `me` is one of the group: from 1 to `members`, of
-    /// which there are up to 7; the caller sees to this. 42 where no mark is left, else 40, 43 or 44;
-    /// the image comes back with each.
+    /// which there are up to 7; the caller sees to this, and to what the keeper asks of an image. 42 where
+    /// no mark is left, else 40, 43 or 44; the image comes back with each.
     pub fn start(
         alloc: Global,
         image: K::Image,
@@ -55,11 +55,13 @@ impl<K: Keeper> Cell<K> {
     ) -> Result<Cell<K>, (Refusal, K::Image)>
         requires few { members ≤ 7 }
         requires member { (1 ≤ me) × (me ≤ members) }
+        requires suits { K.suits image members (schema_of schema) }
         ensures opened { IfOk result (λ c. (c.node.is_up ≡ true) × (c.life.steps.items ≡ []) × (Some c.life.opening.mark ≡ mark_after (unwrap_or last 0))) }
         ensures stored { IfOk result (λ c. K.is_honest c.node.keeper → K.holds image (opened_with c.life.opening)) }
         ensures group { IfOk result (λ c. (c.node.core.schema ≡ schema) × (c.node.core.members ≡ members) × (c.node.core.me ≡ me)) }
         ensures refused { IfErr result (λ e. IsStartRefusal (mark_after (unwrap_or last 0)) e.0) }
         ensures back { IfErr result (λ e. (d : Durable) → K.holds e.1 d → K.holds image d) }
+        ensures suits { IfErr result (λ e. K.suits e.1 members (schema_of schema)) }
     {
         let Some(mark) = Mark::after(last.map_or(0, Mark::number)) else {
             return Err((Refusal::LifeFull, image));
@@ -137,6 +139,7 @@ impl<K: Keeper> Cell<K> {
     /// step, what was stored before that step or after it.
     pub fn stop(self) -> (K::Image, Life)
         ensures life { IsLifeWith self.life result.1 [] (ending_of self.node.is_up self.life.ending) }
+        ensures suits { K.suits result.0 self.node.core.members (schema_of self.node.core.schema) }
         ensures stored { self.node.is_up ≡ true → (d : Durable) → K.holds result.0 d → d ≡ durable_of (replay self.node.core.schema self.node.core.members self.node.core.me self.life) }
         ensures torn { self.node.is_up ≡ false → (d : Durable) → K.holds result.0 d → ∥ IsLeft self.node.core.schema self.node.core.members self.node.core.me self.life d ∥₁ }
     {

@@ -14,10 +14,10 @@ use Rattle.model.specs.declared.message.Input.{Input}
 use Rattle.model.specs.declared.message.Input.TheVariants.{Timeout, Beat, Close, Submit}
 use Rattle.model.specs.Stamps.{stamp}
 use Rattle.model.specs.Logs.{least_stamp}
-use Rattle.model.specs.Lists.{nth, IsBeginning}
+use Rattle.model.specs.Lists.{IsBeginning}
 use Rattle.model.specs.Transactions.{Schema, Statement}
 use Rattle.model.specs.Members.{Node, applied, agreed, has_term, is_leader, is_candidate, is_majority, is_in, stands}
-use Rattle.model.specs.Steps.{After, Effect, Moves, Refuses, Nothing, TERM_LAST, LOG_LIMIT, accepted, time_out, append_own, on_input, is_time_full, is_log_full, extended, opened, crowned, counted, hears, in_term, grants, on_request_vote, on_vote, go_on, cuts_below, on_append, on_reply, on_reply_yes, on_reply_no, on_body, is_honest, on_message}
+use Rattle.model.specs.Steps.{After, Effect, Moves, Refuses, Nothing, TERM_LAST, LOG_LIMIT, accepted, time_out, append_own, on_input, is_time_full, is_log_full, extended, opened, crowned, counted, hears, in_term, grants, on_request_vote, on_vote, continues, cuts_below, on_append, on_reply, on_reply_yes, on_reply_no, on_body, is_honest, on_message}
 use Rattle.model.specs.Worlds.{hand, unless_misread}
 use Rattle.model.specs.Kept.{node_after}
 use Rattle.sqlchecks.specs.Columns.{Tables}
@@ -161,9 +161,9 @@ append_stays : (me sender term prev prev_term : ℕ) (es : List Entry) (commit :
 unfolding on_append
 append_stays me sender term prev prev_term es commit x =
     both (Stays x) (nat_lt term x.term) _ _ (record { commit = omega arith; log = refl }) (both (Stays x) (is_leader x.role) _ _ (nothing x) (told (Stays x) (not (stands x.log prev prev_term)) _ _ (λ h. record { commit = omega arith; log = refl }) (λ standing.
-    told (Stays x) (not (go_on (nth x.log prev) term es) || cuts_below x.commit x.log prev es || nat_lt LOG_LIMIT (length (accepted x.log prev es))) _ _ (λ h. nothing x) (λ fits.
-    let goes = neither (not (go_on (nth x.log prev) term es) || cuts_below x.commit x.log prev es) (nat_lt LOG_LIMIT (length (accepted x.log prev es))) fits in
-    let keeps = neither (not (go_on (nth x.log prev) term es)) (cuts_below x.commit x.log prev es) goes.0 in
+    told (Stays x) (not (continues x.log prev term es) || cuts_below x.commit x.log prev es || nat_lt LOG_LIMIT (length (accepted x.log prev es))) _ _ (λ h. nothing x) (λ fits.
+    let goes = neither (not (continues x.log prev term es) || cuts_below x.commit x.log prev es) (nat_lt LOG_LIMIT (length (accepted x.log prev es))) fits in
+    let keeps = neither (not (continues x.log prev term es)) (cuts_below x.commit x.log prev es) goes.0 in
     let within = stands_within x.log prev prev_term (is_so (stands x.log prev prev_term) standing) in
     record { commit = omega arith; log = accepted_keeps x.commit x.log prev es within keeps.1 }))))
 

@@ -10,10 +10,9 @@ use Rattle.model.specs.declared.message.Input.TheVariants.{Timeout, Beat, Close,
 use Rattle.fault.specs.declared.refusal.Refusal.{Refusal}
 use Rattle.model.specs.Stamps.{stamp}
 use Rattle.model.specs.Logs.{least_stamp}
-use Rattle.model.specs.Lists.{nth}
 use Rattle.model.specs.Transactions.{Schema, Statement}
 use Rattle.model.specs.Members.{Node, is_leader, is_candidate, is_majority, is_in, stands}
-use Rattle.model.specs.Steps.{After, Effect, Moves, Refuses, Nothing, TERM_LAST, LOG_LIMIT, accepted, time_out, append_own, on_input, is_time_full, is_log_full, extended, opened, crowned, counted, hears, in_term, grants, on_request_vote, on_vote, go_on, cuts_below, on_append, on_reply, on_reply_yes, on_reply_no, on_body, is_honest, on_message}
+use Rattle.model.specs.Steps.{After, Effect, Moves, Refuses, Nothing, TERM_LAST, LOG_LIMIT, accepted, time_out, append_own, on_input, is_time_full, is_log_full, extended, opened, crowned, counted, hears, in_term, grants, on_request_vote, on_vote, continues, cuts_below, on_append, on_reply, on_reply_yes, on_reply_no, on_body, is_honest, on_message}
 use Rattle.model.specs.Worlds.{hand, unless_misread}
 use Rattle.model.specs.Kept.{kept_under, kept_at, node_after}
 use Rattle.raft.proofs.Lists.{stands_within, is_so}
@@ -90,7 +89,7 @@ append_keeps me sender term prev prev_term es commit x =
     let P : Effect → Type 0 = Leaves (kept_under prev es x.log) x in
     cond_both P (nat_lt term x.term) _ _ (record { turns = inl refl }) (cond_both P (is_leader x.role) _ _ (record { turns = inl refl }) (cond_told P (not (stands x.log prev prev_term)) _ _ (λ other. record { turns = inl refl }) (λ standing.
     let within = stands_within x.log prev prev_term (is_so (stands x.log prev prev_term) standing) in
-    cond_both P (not (go_on (nth x.log prev) term es) || cuts_below x.commit x.log prev es || nat_lt LOG_LIMIT (length (accepted x.log prev es))) _ _ (record { turns = inl refl }) (record { turns = accepted_turns prev es x.log within }))))
+    cond_both P (not (continues x.log prev term es) || cuts_below x.commit x.log prev es || nat_lt LOG_LIMIT (length (accepted x.log prev es))) _ _ (record { turns = inl refl }) (record { turns = accepted_turns prev es x.log within }))))
 
 reply_yes_keeps : (n me sender matched k : ℕ) (x : Node) → Leaves k x (on_reply_yes n me sender matched x)
 unfolding on_reply_yes

@@ -1,5 +1,5 @@
 -- A core in the words of the definitions of a member and its step.
-use Rattle.std.specs.Prelude.{◌≡◌, ℕ, ◌≤◌, true, List, [], ◌∷◌, ◌++◌, take, length, Option, Some, None, MatchOption}
+use Rattle.std.specs.Prelude.{◌≡◌, ℕ, ◌≤◌, Bool, true, List, [], ◌∷◌, ◌++◌, take, length, Option, Some, None, MatchOption}
 use Rattle.raft.specs.declared.state.Core.{Core}
 use Rattle.raft.specs.declared.state.Before.{Before}
 use Rattle.keep.specs.declared.change.Change.{Change}
@@ -18,7 +18,11 @@ use Rattle.model.specs.declared.entry.Request.{Request}
 use Rattle.sqlchecks.specs.Columns.{Tables}
 use Rattle.sqlread.specs.Meaning.{schema_of}
 use Rattle.model.specs.Members.{Node}
-use Rattle.model.specs.Steps.{After, Effect, Moves, Refuses, Nothing, on_message}
+use Rattle.model.specs.declared.message.Input.{Input}
+use Rattle.model.specs.declared.message.Input.TheVariants.{Timeout, Beat, Close, Submit}
+use Rattle.model.specs.Transactions.{Schema}
+use Rattle.model.specs.Steps.{After, Effect, Moves, Refuses, Nothing, on_message, go_on, spells}
+use Rattle.keep.specs.Log.{is_vote}
 use Rattle.model.specs.Worlds.{hand}
 use Rattle.model.specs.Kept.{kept_at}
 
@@ -44,6 +48,18 @@ hard_of x = record { term = x.term; vote = x.vote }
 abbrev pub forgotten : Option Before → Node → Node
 forgotten None x = x
 forgotten (Some b) x = record x { term = b.term; vote = b.vote; role = b.role; known = b.known; votes = b.votes.items; next = b.next.items; matched = b.matched.items }
+
+-- it can go back to what it was: its log went on up to that term, and its vote was for one of the group
+abbrev pub CanForget : Option Before → Core → Type 0
+CanForget None c = Unit {0}
+CanForget (Some b) c = (go_on None b.term c.log.items ≡ true) × (is_vote c.members b.vote ≡ true)
+
+-- a submitted text spells a transaction
+abbrev pub is_readable : Schema → Input → Bool
+is_readable schema Timeout = true
+is_readable schema Beat = true
+is_readable schema (Close reading) = true
+is_readable schema (Submit reading request) = spells schema (Some request)
 
 -- a member that starts with what is stored
 abbrev pub opening : HardState → List Entry → Node

@@ -1,8 +1,11 @@
 //! What a follower takes from its leader.
-ghost use Rattle.std.specs.Prelude.{◌≡◌, ◌+◌, ◌<◌, ◌≤◌, ◌^◌, ◌||◌, length, vec_len, IfOk, false, nat_lt};
+ghost use Rattle.std.specs.Prelude.{◌≡◌, ◌+◌, ◌<◌, ◌≤◌, ◌^◌, ◌||◌, length, vec_len, IfOk, true, false, nat_lt};
+ghost use Rattle.std.specs.List.{list_all};
+ghost use Rattle.sqlread.specs.Meaning.{schema_of};
+ghost use Rattle.keep.specs.Log.{is_entry};
 ghost use Rattle.model.specs.Lists.{nth};
 ghost use Rattle.model.specs.Members.{agreed};
-ghost use Rattle.model.specs.Steps.{on_append, go_on, cuts_below, accepted, takes_entries, follows, LOG_LIMIT};
+ghost use Rattle.model.specs.Steps.{on_append, go_on, continues, cuts_below, accepted, takes_entries, follows, LOG_LIMIT};
 ghost use Rattle.raft.specs.View.{node_of, IsSameSeat, outcome_of, SameUnlessDone};
 
 use crate::logs::{accept, agreed, go_on, least_at, stands, term_at};
@@ -13,17 +16,29 @@ use model::message::{Body, LOG_ROOM, Message, Role};
 use std::alloc::AllocError;
 
 impl Core {
-    /// The entries go on after the one at `prev`, in a message of this term.
+    /// The entries go on after the one at an index, in a message of this term.
     #[tactic(auto, using(crate::proofs::Lists::go_on_is))]
-    fn continues(&self, term: u64, prev: usize, entries: &[Entry]) -> bool
-        ensures { result ≡ go_on (nth self.now.log.items prev) term entries.now }
+    fn goes_on(&self, term: u64, index: usize, entries: &[Entry]) -> bool
+        ensures { result ≡ go_on (nth self.now.log.items index) term entries.now }
     {
         go_on(
-            term_at(&self.log, prev),
-            least_at(&self.log, prev),
+            term_at(&self.log, index),
+            least_at(&self.log, index),
             term,
             entries,
         )
+    }
+
+    /// The entries go on after the one at `prev`, and those that are new after the last one that stays.
+    fn continues(&self, term: u64, prev: usize, entries: &[Entry]) -> bool
+        ensures { result ≡ continues self.now.log.items prev term entries.now }
+    {
+        if !self.goes_on(term, prev, entries) {
+            return false;
+        }
+        let index = agreed(&self.log, prev, entries);
+        let (_, new) = entries.split_at(index - prev);
+        self.goes_on(term, index, new)
     }
 
     /// A cut at or below commit, or a log past its limit.
@@ -65,6 +80,8 @@ impl Core {
         requires fits { prev + vec_len entries < 2 ^ 63 }
         requires stands { prev ≤ vec_len self.old.log }
         requires keeps { cuts_below self.old.commit self.old.log.items prev entries.items ≡ false }
+        requires goes_on { continues self.old.log.items prev self.old.term entries.items ≡ true }
+        requires reads { list_all (is_entry (schema_of self.old.schema)) entries.items ≡ true }
         requires room { agreed self.old.log.items prev entries.items < prev + vec_len entries
             → prev + vec_len entries ≤ 100000 }
         ensures done { IfOk result
@@ -88,7 +105,9 @@ impl Core {
         entries: Vec<Entry>,
         commit: usize,
     ) -> Result<Effect<Vec<Message>>, AllocError>
-        requires { vec_len entries ≤ 64 }
+        requires few { vec_len entries ≤ 64 }
+        requires term { term ≤ self.old.term }
+        requires reads { list_all (is_entry (schema_of self.old.schema)) entries.items ≡ true }
         ensures done { IfOk result
             (λ o. outcome_of self.new o
             ≡ on_append self.old.me sender term prev prev_term entries.items commit (node_of self.old)) }

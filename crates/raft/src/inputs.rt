@@ -1,11 +1,13 @@
 //! Local inputs: a timeout, a beat, and entries that a leader appends.
-ghost use Rattle.std.specs.Prelude.{◌≡◌, IfOk, IsOk, IfSome, IfNone, true, false};
+ghost use Rattle.std.specs.Prelude.{◌≡◌, ◌≤◌, IfOk, IsOk, IfSome, IfNone, true, false};
+ghost use Rattle.sqlread.specs.Meaning.{schema_of};
 ghost use Rattle.model.specs.Stamps.{stamp};
 ghost use Rattle.model.specs.Logs.{least_stamp};
-ghost use Rattle.model.specs.Steps.{time_out, append_own, is_time_full, is_log_full, on_input};
+ghost use Rattle.model.specs.Steps.{time_out, append_own, is_time_full, is_log_full, on_input, spells};
 ghost use Rattle.raft.specs.Memory.{is_idle};
-ghost use Rattle.raft.specs.View.{node_of, with_entry, IsSameSeat, outcome_of, SameUnlessDone};
+ghost use Rattle.raft.specs.View.{node_of, with_entry, is_readable, IsSameSeat, outcome_of, SameUnlessDone};
 
+use crate::logs::has_ranges;
 use crate::state::{Core, Effect};
 use closedtime::{closed, stamp};
 use fault::Refusal;
@@ -38,6 +40,7 @@ impl Core {
     /// The stamp of its next entry, none where no stamp is left.
     pub(crate) fn next_stamp(&self, reading: i64) -> Option<Stamp>
         ensures some { IfSome result (λ t. (t ≡ stamp reading (least_stamp self.now.log.items)) × (is_time_full self.now.log.items ≡ false)) }
+        ensures later { IfSome result (λ t. least_stamp self.now.log.items ≤ t) }
         ensures none { IfNone result (is_time_full self.now.log.items ≡ true) }
     {
         stamp(reading, closed(&self.log))
@@ -57,14 +60,19 @@ impl Core {
         request: Option<Request>,
     ) -> Result<(), AllocError>
         requires room { is_log_full self.old.log.items ≡ false }
+        requires term { 1 ≤ self.old.term }
+        requires later { least_stamp self.old.log.items ≤ stamp }
+        requires reads { spells (schema_of self.old.schema) request ≡ true }
         ensures done { IfOk result (λ _. node_of self.new ≡ with_entry stamp request (node_of self.old)) }
         ensures seat { IsSameSeat self.old self.new }
     {
-        self.log.push(Entry {
+        let entry = Entry {
             term: self.term,
             stamp,
             request,
-        })?;
+        };
+        has_ranges(&entry);
+        self.log.push(entry)?;
         Ok(())
     }
 
@@ -75,6 +83,7 @@ impl Core {
         reading: i64,
         request: Option<Request>,
     ) -> Result<Effect<Vec<Message>>, AllocError>
+        requires { spells (schema_of self.old.schema) request ≡ true }
         ensures done { IfOk result
             (λ o. outcome_of self.new o
             ≡ append_own self.old.members self.old.me reading request (node_of self.old)) }
@@ -96,7 +105,9 @@ impl Core {
         Ok(Effect::Done(messages))
     }
 
+    /// Takes a local input; a submitted text reads.
     pub(crate) fn on_input(&mut self, input: Input) -> Result<Effect<Vec<Message>>, AllocError>
+        requires { is_readable (schema_of self.old.schema) input ≡ true }
         ensures done { IfOk result
             (λ o. outcome_of self.new o
             ≡ on_input self.old.members self.old.me input (node_of self.old)) }

@@ -1,7 +1,8 @@
 //! What a leader does with replies.
-ghost use Rattle.std.specs.Prelude.{◌≡◌, ◌+◌, ◌-◌, ◌*◌, ◌<◌, ◌≤◌, ◌^◌, length, max, vec_len, IfOk, OnOk, OnErr, replicate};
+ghost use Rattle.std.specs.Prelude.{◌≡◌, ◌+◌, ◌-◌, ◌*◌, ◌<◌, ◌≤◌, ◌^◌, length, max, vec_len, true, IfOk, OnOk, OnErr, replicate};
 ghost use Rattle.model.specs.Members.{count_members, is_majority, is_in};
 ghost use Rattle.model.specs.Steps.{holds_to, is_matched, commits, greatest, crowned, noted, on_reply, on_reply_yes, on_reply_no};
+ghost use Rattle.raft.specs.Below.{greatest_below};
 ghost use Rattle.raft.specs.View.{node_of, after_of, outcome_of, IsSameSeat, SameUnlessDone};
 
 use crate::counted::{flag_at, number_at, set_number};
@@ -42,6 +43,20 @@ fn count_matching(matched: &[usize], members: usize, me: Member, place: usize) -
     count
 }
 
+/// The greatest of these numbers below the bound, 0 where there is none.
+#[tactic(auto, using(crate::proofs::Greatest::below_more, crate::proofs::Greatest::below_all))]
+fn greatest_below(numbers: &[usize], bound: usize) -> usize
+    ensures { result ≡ greatest_below bound numbers.now }
+{
+    let mut most = 0;
+    for number in numbers {
+        if *number < bound {
+            most = most.max(*number);
+        }
+    }
+    most
+}
+
 impl Core {
     /// Whether a majority gave me their vote.
     pub(crate) fn is_elected(&self) -> bool
@@ -50,24 +65,43 @@ impl Core {
         2 * count_votes(&self.votes, self.members) > self.members
     }
 
-    /// An entry of its own term stands there, and a majority match it.
-    fn is_matched(&self, index: usize) -> bool
-        ensures { result ≡ is_matched self.now.members self.now.me (node_of self.now) index }
+    /// A majority match the log up to this index.
+    fn is_held(&self, index: usize) -> bool
+        ensures { result ≡ is_majority self.now.members (holds_to self.now.me self.now.matched.items index) }
     {
-        term_at(&self.log, index) == self.term
-            && 2 * count_matching(&self.matched, self.members, self.me, index) > self.members
+        2 * count_matching(&self.matched, self.members, self.me, index) > self.members
     }
 
-    /// The greatest index that can be committed now.
-    #[tactic(auto, using(crate::proofs::Greatest::greatest_hit, crate::proofs::Greatest::greatest_miss, crate::proofs::Greatest::greatest_le))]
+    /// Up to which index a majority match the log, if that is past its commit index; no index above it
+    /// can be committed. It goes over what each member matches, not over the log.
+    #[tactic(auto, using(crate::proofs::Greatest::held_skip, crate::proofs::Greatest::below_less))]
+    fn held(&self) -> usize
+        ensures within { result ≤ length self.now.log.items }
+        ensures most { greatest (is_matched self.now.members self.now.me (node_of self.now)) (length self.now.log.items) ≡ greatest (is_matched self.now.members self.now.me (node_of self.now)) result }
+        ensures held { self.now.commit < result → is_majority self.now.members (holds_to self.now.me self.now.matched.items result) ≡ true }
+    {
+        let mut index = self.log.len();
+        while index > self.commit && !self.is_held(index) {
+            index = greatest_below(&self.matched, index);
+        }
+        index
+    }
+
+    /// The greatest index that can be committed now: up to there a majority match, and an entry of its
+    /// own term stands there. Where the entry is of another term, so are all before it.
+    #[tactic(auto, using(crate::proofs::Greatest::commits_held, crate::proofs::Greatest::commits_none, crate::proofs::Greatest::commits_low))]
     pub(crate) fn commits(&self) -> usize
         ensures { result ≡ max self.now.commit (greatest (is_matched self.now.members self.now.me (node_of self.now)) (vec_len self.now.log)) }
     {
-        let mut index = self.log.len();
-        while index > self.commit && !self.is_matched(index) {
-            index -= 1;
+        let index = self.held();
+        if index <= self.commit {
+            return self.commit;
         }
-        index.max(self.commit)
+        if term_at(&self.log, index) == self.term {
+            index
+        } else {
+            self.commit
+        }
     }
 
     /// Takes the lead of its term, as a member does that a majority chose: it is to send each member
@@ -75,6 +109,7 @@ impl Core {
     /// refused.
     #[tactic(auto, using(crate::proofs::Lists::zeros))]
     pub(crate) fn become_leader(&mut self) -> Result<(), AllocError>
+        requires { 1 ≤ self.old.term }
         ensures node { OnOk result (node_of self.new ≡ crowned self.old.members (node_of self.old)) }
         ensures err { OnErr result (node_of self.new ≡ node_of self.old) }
         ensures seat { IsSameSeat self.old self.new }

@@ -5,6 +5,7 @@
 
 mod counted;
 mod following;
+pub mod forms;
 mod inputs;
 mod leading;
 mod logs;
@@ -13,4 +14,5 @@ pub mod state;
 mod step;
 mod voting;
 
+pub use forms::forms_log;
 pub use state::{Core, Effect, Taken, Work};

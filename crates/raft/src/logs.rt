@@ -1,10 +1,11 @@
 //! Logs, and entries that come to them.
 ghost use Rattle.std.specs.Prelude.{◌≡◌, ◌+◌, ◌-◌, ◌<◌, ◌≤◌, ◌^◌, length, take, slice_get, drop, vec_len, true, option_map, OnOk, OnErr, IfOk};
 ghost use Rattle.model.specs.Lists.{nth};
-ghost use Rattle.model.specs.Stamps.{above};
+ghost use Rattle.model.specs.Stamps.{TIME_LAST, above};
 ghost use Rattle.model.specs.Members.{agreed, has_term, last_term, stands, term_at};
 ghost use Rattle.model.specs.Steps.{accepted};
 ghost use Rattle.model.specs.Kept.{kept_under};
+ghost use Rattle.keep.specs.Log.{is_numbered};
 ghost use Rattle.raft.specs.Follows.{may_follow, go_on_from};
 
 use model::entry::Entry;
@@ -21,6 +22,18 @@ pub(crate) fn term_at(log: &[Entry], index: usize) -> u64
     match log.get(index - 1) {
         Some(entry) => entry.term,
         None => 0,
+    }
+}
+
+/// Its stamp is an instant, and its request's client and number are in their ranges, as their types keep.
+pub(crate) fn has_ranges(entry: &Entry)
+    ensures stamp { entry.now.stamp ≤ TIME_LAST }
+    ensures request { is_numbered entry.now.request ≡ true }
+{
+    let _ = entry.stamp.micros();
+    if let Some(request) = &entry.request {
+        let _ = request.client.get();
+        let _ = request.number.get();
     }
 }
 

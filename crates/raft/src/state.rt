@@ -1,13 +1,18 @@
 //! The state of a member, and what a step gives.
-ghost use Rattle.std.specs.Prelude.{◌≡◌, ℕ, ◌≤◌, vec_len};
+ghost use Rattle.std.specs.Prelude.{◌≡◌, ℕ, ◌≤◌, None, true, vec_len};
+ghost use Rattle.std.specs.List.{list_all};
 ghost use Rattle.model.specs.Lists.{nth_or};
+ghost use Rattle.model.specs.Members.{is_candidate, is_leader};
+ghost use Rattle.model.specs.Steps.{go_on};
+ghost use Rattle.keep.specs.Log.{IsLog, is_entry, is_vote};
+ghost use Rattle.sqlread.specs.Meaning.{schema_of};
 
 use fault::Refusal;
 use keep::change::Change;
 use keep::hard_state::HardState;
 use model::entry::Entry;
 use model::member::Member;
-use model::message::{Input, LAST_TERM, LOG_ROOM, Message, Role};
+use model::message::{Input, Message, Role};
 use schema::Schema;
 use std::alloc::Global;
 
@@ -55,6 +60,8 @@ pub(crate) struct Before {
     pub next: Vec<usize>,
     pub matched: Vec<usize>,
     ghost term_within: { term ≤ 9223372036854775807 },
+    ghost stands: { is_candidate role ≡ true → 1 ≤ term },
+    ghost leads: { is_leader role ≡ true → 1 ≤ term },
     ghost matches_within: { (m : ℕ) → nth_or matched.items m 0 ≤ 100000 },
 }
 
@@ -90,19 +97,24 @@ pub struct Core {
     ghost one_of_few: { members ≤ 7 },
     ghost is_member: { (1 ≤ me) × (me ≤ members) },
     ghost term_within: { term ≤ 9223372036854775807 },
+    ghost vote_within: { is_vote members vote ≡ true },
+    ghost stands: { is_candidate role ≡ true → 1 ≤ term },
+    ghost leads: { is_leader role ≡ true → 1 ≤ term },
     ghost log_within: { vec_len log ≤ 100000 },
+    ghost rises: { go_on None term log.items ≡ true },
+    ghost entries: { list_all (is_entry (schema_of schema)) log.items ≡ true },
     ghost commit_within: { commit ≤ vec_len log },
     ghost matches_within: { (m : ℕ) → nth_or matched.items m 0 ≤ 100000 },
 }
 
 impl Core {
-    ghost use Rattle.std.specs.Prelude.{◌≡◌, false, ◌≤◌, vec_len};
+    ghost use Rattle.std.specs.Prelude.{◌≡◌, false, ◌≤◌};
     ghost use Rattle.model.specs.Members.{applied};
     ghost use Rattle.raft.specs.View.{hard_of, node_of, opening};
 
     /// A member that starts with what was stored, as a follower that knows of no leader and of no
     /// committed entry. `me` is one of the group: from 1 to `members`, of which there are up to 7. The
-    /// caller sees to this, and to a term of at most `LAST_TERM` and a log of at most 100,000 entries.
+    /// caller sees to this, and to it that what was stored forms the log of such a member.
     pub fn start(
         alloc: Global,
         schema: Schema,
@@ -113,8 +125,7 @@ impl Core {
     ) -> Core
         requires few { members ≤ 7 }
         requires member { (1 ≤ me) × (me ≤ members) }
-        requires term { hard.term ≤ LAST_TERM }
-        requires log { vec_len log ≤ LOG_ROOM }
+        requires forms { IsLog members (schema_of schema) (record { hard = hard; log = log.items }) }
         ensures node { node_of result ≡ opening hard log.items }
         ensures group { (result.members ≡ members) × (result.me ≡ me) × (result.schema ≡ schema) × (result.is_spent ≡ false) }
     {

@@ -1,6 +1,7 @@
 //! One step of a member.
-ghost use Rattle.std.specs.Prelude.{◌≡◌, ◌+◌, ◌<◌, ◌≤◌, length, drop, vec_len, [], IfOk, OnOk, OnErr, IsOk, IsErr, MatchOption, nat_le, ◌&&◌, None, true, false};
+ghost use Rattle.std.specs.Prelude.{◌≡◌, ◌+◌, ◌<◌, ◌≤◌, length, drop, vec_len, [], IfOk, OnOk, OnErr, IsOk, IsErr, MatchOption, nat_le, ◌&&◌, None, true, false, is_ok};
 ghost use Rattle.std.specs.List.{list_all};
+ghost use Rattle.keep.specs.Log.{is_entry};
 ghost use Rattle.sqlread.specs.Meaning.{schema_of};
 ghost use Rattle.model.specs.Steps.{is_honest, entries_of, spells, on_message, on_body, go_on};
 ghost use Rattle.model.specs.Worlds.{hand};
@@ -11,69 +12,92 @@ ghost use Rattle.raft.specs.Memory.{spares_memory};
 ghost use Rattle.raft.specs.declared.state.Work.TheVariants.{Local};
 ghost use Rattle.raft.specs.View.{hard_of, node_of, after_of, works, kept_of, IsSameSeat, outcome_of, SameUnlessDone, effect_of, EffectFits, Grows};
 
-use crate::logs::{copies_of, go_on, kept_under, term_at};
+use crate::forms::reads;
+use crate::logs::{copies_of, go_on, has_ranges, kept_under, term_at};
 use crate::state::{Core, Effect, Taken, Work};
+use fault::Text;
 use keep::change::Change;
 use keep::hard_state::HardState;
 use model::entry::{Entry, Request};
 use model::member::Member;
 use model::message::{Body, CARRIED_MOST, Input, LAST_TERM, Message};
-use schema::Schema;
 use sqlread::transaction::misreading;
-use std::alloc::{AllocError, Global};
-
-/// The entry's text spells a transaction.
-fn spells(alloc: Global, schema: &Schema, request: &Option<Request>) -> Result<bool, AllocError>
-    ensures { IfOk result (λ yes. yes ≡ spells (schema_of schema.now) request.now) }
-{
-    match request {
-        None => Ok(true),
-        Some(request) => {
-            let refusal = misreading(alloc, schema, request.text.as_str())?;
-            Ok(refusal.is_none())
-        }
-    }
-}
-
-/// Each entry's text spells a transaction.
-fn all_spell(alloc: Global, schema: &Schema, entries: &[Entry]) -> Result<bool, AllocError>
-    ensures { IfOk result (λ yes. yes ≡ list_all (λ e. spells (schema_of schema.now) e.request) entries.now) }
-{
-    for entry in entries {
-        if !spells(alloc, schema, &entry.request)? {
-            return Ok(false);
-        }
-    }
-    Ok(true)
-}
-
-/// Entries that a message may carry.
-#[tactic(auto, using(crate::proofs::Lists::go_on_is))]
-fn may_carry(alloc: Global, schema: &Schema, term: u64, body: &Body) -> Result<bool, AllocError>
-    ensures value { IfOk result
-        (λ yes. yes
-        ≡ (nat_le (length (entries_of body.now)) 64 && go_on None term (entries_of body.now)
-        && list_all (λ e. spells (schema_of schema.now) e.request) (entries_of body.now))) }
-    ensures few { IfOk result (λ yes. yes ≡ true → length (entries_of body.now) ≤ 64) }
-{
-    match body {
-        Body::Append { entries, .. } => {
-            let entries = entries.as_slice();
-            if !(entries.len() <= CARRIED_MOST && go_on(0, 0, term, entries)) {
-                return Ok(false);
-            }
-            all_spell(alloc, schema, entries)
-        }
-        Body::RequestVote { .. } | Body::Vote { .. } | Body::Reply { .. } => Ok(true),
-    }
-}
+use std::alloc::AllocError;
 
 impl Core {
+    /// The log has a request with this text in the place that has so many others before it. Then the
+    /// text reads: it was read when the request came there.
+    fn has_read(&self, before: usize, text: &Text) -> bool
+        ensures { result ≡ true → is_ok ((schema_of self.now.schema).reads text.now) ≡ true }
+    {
+        let Some(entry) = self.log.get(before) else {
+            return false;
+        };
+        match &entry.request {
+            None => false,
+            Some(request) => request.text == *text,
+        }
+    }
+
+    /// The request's text spells a transaction, where its entry is to have so many others before it.
+    fn spells(&self, before: usize, request: &Option<Request>) -> Result<bool, AllocError>
+        ensures { IfOk result (λ yes. yes ≡ spells (schema_of self.now.schema) request.now) }
+    {
+        if let Some(request) = request {
+            if self.has_read(before, &request.text) {
+                return Ok(true);
+            }
+        }
+        reads(self.alloc, &self.schema, request)
+    }
+
+    /// Each entry's text spells a transaction, where the first is to have so many others before it.
+    fn all_spell(&self, before: usize, entries: &[Entry]) -> Result<bool, AllocError>
+        ensures value { IfOk result (λ yes. yes ≡ list_all (λ e. spells (schema_of self.now.schema) e.request) entries.now) }
+        ensures reads { IfOk result (λ yes. yes ≡ true → list_all (is_entry (schema_of self.now.schema)) entries.now ≡ true) }
+    {
+        for (i, entry) in entries.iter().enumerate() {
+            has_ranges(entry);
+            if !self.spells(before.saturating_add(i), &entry.request)? {
+                return Ok(false);
+            }
+        }
+        Ok(true)
+    }
+
+    /// Entries that a message may carry.
+    #[tactic(auto, using(crate::proofs::Lists::go_on_is))]
+    fn may_carry(&self, term: u64, body: &Body) -> Result<bool, AllocError>
+        ensures value { IfOk result
+            (λ yes. yes
+            ≡ (nat_le (length (entries_of body.now)) 64 && go_on None term (entries_of body.now)
+            && list_all (λ e. spells (schema_of self.now.schema) e.request) (entries_of body.now))) }
+        ensures few { IfOk result (λ yes. yes ≡ true → length (entries_of body.now) ≤ 64) }
+        ensures reads { IfOk result (λ yes. yes ≡ true → list_all (is_entry (schema_of self.now.schema)) (entries_of body.now) ≡ true) }
+    {
+        match body {
+            Body::Append {
+                prev_index,
+                entries,
+                ..
+            } => {
+                let entries = entries.as_slice();
+                if !(entries.len() <= CARRIED_MOST && go_on(0, 0, term, entries)) {
+                    return Ok(false);
+                }
+                self.all_spell(*prev_index, entries)
+            }
+            Body::RequestVote { .. } | Body::Vote { .. } | Body::Reply { .. } => Ok(true),
+        }
+    }
+
     /// Whether a member that keeps the rules can have sent this to me.
     fn is_honest(&self, message: &Message) -> Result<bool, AllocError>
         ensures value { IfOk result (λ yes. yes ≡ is_honest (schema_of self.now.schema) self.now.members self.now.me message.now) }
         ensures term { IfOk result (λ yes. yes ≡ true → message.now.term ≤ LAST_TERM) }
+        ensures member { IfOk result (λ yes. yes ≡ true → (1 ≤ message.now.sender) × (message.now.sender ≤ self.now.members)) }
         ensures few { IfOk result (λ yes. yes ≡ true → length (entries_of message.now.body) ≤ 64) }
+        ensures reads { IfOk result (λ yes. yes ≡ true → list_all (is_entry (schema_of self.now.schema)) (entries_of message.now.body) ≡ true) }
     {
         if !(message.addressee == self.me
             && 0 < message.sender
@@ -84,7 +108,7 @@ impl Core {
         {
             return Ok(false);
         }
-        may_carry(self.alloc, &self.schema, message.term, &message.body)
+        self.may_carry(message.term, &message.body)
     }
 
     /// Takes a message of its own term or an older one.
@@ -95,7 +119,10 @@ impl Core {
         term: u64,
         body: Body,
     ) -> Result<Effect<Vec<Message>>, AllocError>
-        requires { length (entries_of body) ≤ 64 }
+        requires few { length (entries_of body) ≤ 64 }
+        requires member { (1 ≤ sender) × (sender ≤ self.old.members) }
+        requires term { term ≤ self.old.term }
+        requires reads { list_all (is_entry (schema_of self.old.schema)) (entries_of body) ≡ true }
         ensures done { IfOk result
             (λ o. outcome_of self.new o
             ≡ on_body self.old.members self.old.me reading sender term body (node_of self.old)) }

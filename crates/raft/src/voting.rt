@@ -2,7 +2,7 @@
 ghost use Rattle.std.specs.Prelude.{◌≡◌, ◌<◌, ◌≤◌, IfOk};
 ghost use Rattle.model.specs.Members.{is_free_for, is_up_to_date, is_leader, is_candidate};
 ghost use Rattle.model.specs.Steps.{hears, grants, on_request_vote, on_vote, opened, stands_up};
-ghost use Rattle.raft.specs.View.{node_of, after_of, IsSameSeat, forgotten};
+ghost use Rattle.raft.specs.View.{node_of, after_of, CanForget, IsSameSeat, forgotten};
 
 use crate::counted::set_flag;
 use crate::logs::last_term;
@@ -56,6 +56,8 @@ impl Core {
     pub(crate) fn hear(&mut self, term: u64) -> Option<Before>
         requires { term ≤ LAST_TERM }
         ensures node { node_of self.new ≡ hears term (node_of self.old) }
+        ensures heard { term ≤ self.new.term }
+        ensures can { CanForget result self.new }
         ensures before { forgotten result (node_of self.new) ≡ node_of self.old }
         ensures seat { IsSameSeat self.old self.new }
     {
@@ -80,6 +82,7 @@ impl Core {
 
     /// Goes back to what it was before it heard of a term.
     pub(crate) fn forget(&mut self, heard: Option<Before>)
+        requires { CanForget heard self.old }
         ensures node { node_of self.new ≡ forgotten heard (node_of self.old) }
         ensures seat { IsSameSeat self.old self.new }
     {
@@ -123,6 +126,7 @@ impl Core {
         last_index: usize,
         last_term: u64,
     ) -> Result<Vec<Message>, AllocError>
+        requires { (1 ≤ sender) × (sender ≤ self.old.members) }
         ensures done { IfOk result
             (λ ms. after_of self.new ms.items
             ≡ on_request_vote self.old.me sender term last_index last_term (node_of self.old)) }
@@ -154,6 +158,7 @@ impl Core {
 
     /// A new leader's first entry, if a stamp and room are there.
     fn open(&mut self, reading: i64) -> Result<(), AllocError>
+        requires { 1 ≤ self.old.term }
         ensures done { IfOk result (λ _. node_of self.new ≡ opened reading (node_of self.old)) }
         ensures seat { IsSameSeat self.old self.new }
     {

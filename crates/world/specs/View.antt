@@ -16,6 +16,7 @@ use Rattle.model.specs.Worlds as model
 use Rattle.model.specs.Worlds.{World, Event, Output, done, effect_gives, fresh, new_world, run, stopped, tells}
 use Rattle.model.specs.Worlds.Output.{Sent, Applied, Refused, Answered}
 use Rattle.keep.specs.Durable.{Durable, stored_in}
+use Rattle.keep.specs.Log.{IsLog}
 use Rattle.node.specs.Answered.{stored_of}
 use Rattle.node.specs.View.{durable_of, IsGiven}
 use Rattle.node.specs.declared.node.Out.{Out as Taken}
@@ -114,9 +115,15 @@ pub record IsMember (tables : Tables) (n m : ℕ) (o : Occupant) : Type 0 where
   pub members : o.core.members ≡ n
   pub me : o.core.me ≡ m
 
--- the seat of member m of n
-abbrev pub IsSeat : Tables → ℕ → ℕ → Seat → Type 0
-IsSeat tables n m s = ForSome (occupant s) (IsMember tables n m)
+-- what a seat has of a member that is down
+abbrev pub rest : Seat → Option Durable
+rest (Up x) = None
+rest (Down image) = Some (stored_in image)
+
+-- the seat of member m of n: who is up is that member, and what one that is down has stored forms its log
+pub record IsSeat (tables : Tables) (n m : ℕ) (s : Seat) : Type 0 where
+  pub up : ForSome (occupant s) (IsMember tables n m)
+  pub down : ForSome (rest s) (IsLog n (schema_of tables))
 
 -- what the definitions say of this work at member m, which refuses all while it is down
 abbrev pub works_at : Tables → ℕ → ℕ → Work → Node → Effect

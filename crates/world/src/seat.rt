@@ -47,7 +47,7 @@ impl Seat {
 
     /// Stops the member, so that what it has stored is all that is left. One that is down stays as it is.
     pub(crate) fn stop(&mut self, alloc: Global)
-        ensures seat { (t : Tables) (n m : ℕ) → IsSeat t n m self.new }
+        ensures seat { (t : Tables) (n m : ℕ) → IsSeat t n m self.old → IsSeat t n m self.new }
         ensures node { (t : Tables) (n m : ℕ) → IsSeat t n m self.old → node_in self.new ≡ stopped (node_in self.old) }
     {
         match mem::replace(self, Seat::Down(MemImage::new(alloc))) {
@@ -89,7 +89,7 @@ impl Seat {
     /// Cuts a step of the member short: what it has stored from before the step, or from after it, is
     /// all that is left. One that is down stays as it is.
     pub(crate) fn tear(&mut self, alloc: Global, work: Work, left: Left) -> Result<(), AllocError>
-        ensures seat { OnOk result ((t : Tables) (n m : ℕ) → IsSeat t n m self.new) }
+        ensures seat { OnOk result ((t : Tables) (n m : ℕ) → IsSeat t n m self.old → IsSeat t n m self.new) }
         ensures node { OnOk result ((t : Tables) (n m : ℕ) → IsSeat t n m self.old →
             node_in self.new ≡ stopped (node_left (left_of left) (node_in self.old) (works_at t n m work (node_in self.old)))) }
     {

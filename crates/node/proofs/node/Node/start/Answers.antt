@@ -1,10 +1,17 @@
 use Rattle.std.proofs.Common.{subst, sym, ◌≡◌}
+use Rattle.std.proofs.lemmas.Grind.{merely}
 use Rattle.keep.specs.Durable.{Durable}
+use Rattle.sqlread.specs.Meaning.{schema_of}
 use Rattle.node.proofs.node.Node.start.Goals as goal
 
-pub returns-then-hard-gt-LAST_TERM-clause-back : goal.returns-then-hard-gt-LAST_TERM-clause-back
-returns-then-hard-gt-LAST_TERM-clause-back g c = λ d held.
-    let may = c.state.ensures.left d (c.close-then-hard-gt-LAST_TERM.ensures d held) in
-    let is : d ≡ g.K.Keeper.stored c.in_ok-keeper.keeper = g.met.K.Keeper.only_stored _ d c.in_ok-keeper.ensures.up may in
+pub invariant_of-result-clause-serves : goal.invariant_of-result-clause-serves
+invariant_of-result-clause-serves g c =
+    let group = c.start-core.ensures.group in
+    rw (group.0, group.2) (merely (c.read_stored.ensures.serves c.args.members (schema_of c.args.schema) c.in_ok-keeper.ensures.serves))
+
+pub returns-in-Err-clause-back : goal.returns-in-Err-clause-back
+returns-in-Err-clause-back g c = λ d held.
+    let may = c.read_stored.ensures.left d (c.close.ensures.holds d held) in
+    let is : d ≡ g.K.Shelf.stored c.in_ok-keeper.keeper = g.met.K.Shelf.only_stored _ d c.in_ok-keeper.ensures.up may in
     let P : Durable → Type 0 = g.K.Keeper.holds c.args.image in
-    subst P (sym is) (c.in_ok-keeper.ensures.found (g.met.K.Keeper.only_honest _ d may))
+    subst P (sym is) (c.in_ok-keeper.ensures.found (g.met.K.Shelf.only_honest _ d may))

@@ -9,7 +9,7 @@ pub returns-clause-group : goal.returns-clause-group
 returns-clause-group c =
     let self = c.args.self.now in
     let placed : IsPlaced self.schema self.members self.seats.items c.args.member c.in-Some.place c.index_mut.result.now = record { next = c.in-Some.ensures.0; within = omega (arith, self.seats.ok.0, c.in-Some.ensures.1); at = c.index_mut.ensures.value; group = c.requires.group } in
-    group_after placed c.stop.new.self (c.stop.ensures.seat self.schema self.members c.args.member)
+    group_after placed c.stop.new.self (c.stop.ensures.seat self.schema self.members c.args.member (seat placed))
 
 pub returns-clause-world : goal.returns-clause-world
 returns-clause-world c =

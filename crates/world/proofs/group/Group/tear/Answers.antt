@@ -13,7 +13,7 @@ returns-in-Some-2-clause-group c =
     let s = c.index_mut.result.now in
     let v = c.tear.new.self in
     let placed : IsPlaced self.schema self.members self.seats.items c.args.member c.in-Some.place s = record { next = c.in-Some.ensures.0; within = omega (arith, self.seats.ok.0, c.in-Some.ensures.1); at = c.index_mut.ensures.value; group = c.requires.group } in
-    IfOk-weaker c.tear.result _ _ (λ _ h. group_after placed v (h self.schema self.members c.args.member)) c.tear.ensures.seat
+    IfOk-weaker c.tear.result _ _ (λ _ h. group_after placed v (h self.schema self.members c.args.member (seat placed))) c.tear.ensures.seat
 
 pub returns-in-Some-2-clause-world : goal.returns-in-Some-2-clause-world
 returns-in-Some-2-clause-world c =

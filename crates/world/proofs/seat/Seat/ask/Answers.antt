@@ -10,7 +10,7 @@ use Rattle.world.proofs.seat.Seat.ask.Goals as goal
 pub returns-in-Up-clause-asked : goal.returns-in-Up-clause-asked
 returns-in-Up-clause-asked c t n m seat =
     let x = c.in-Up.node in
-    asked_there t n m c.args.self.now x.core x.is_up (ap occupant c.in-Up.is) (ap node_in c.in-Up.is) seat (query_of c.args.query.now) c.ask.result c.ask.ensures.asked
+    asked_there t n m c.args.self.now x.core x.is_up (ap occupant c.in-Up.is) (ap node_in c.in-Up.is) seat (query_of c.args.query.now) c.ask.result (λ up stamped. c.ask.ensures.asked up)
 
 pub returns-in-Up-clause-columns : goal.returns-in-Up-clause-columns
 returns-in-Up-clause-columns c =

@@ -1,4 +1,5 @@
-use Rattle.std.proofs.Common.{rules}
+use Rattle.std.proofs.Common.{rules, ap, sym}
+use Rattle.world.specs.View.{rest}
 use Rattle.world.proofs.seat.Seat.start.Goals as goal
 
 pub returns-in-Up-clause-seat : goal.returns-in-Up-clause-seat
@@ -18,3 +19,6 @@ returns-clause-seat c = search rules
 
 pub returns-clause-node : goal.returns-clause-node
 returns-clause-node c = search rules
+
+pub start-requires-clause-suits : goal.start-requires-clause-suits
+start-requires-clause-suits c = c.requires.seat.down _ (ap rest (sym c.in-Down.ensures.value))

@@ -1,7 +1,13 @@
 use Rattle.std.proofs.Common.{ap, sym}
 use Rattle.world.specs.View.{node_in, occupant}
-use Rattle.world.proofs.Seating.{stopped_there}
+use Rattle.world.proofs.Seating.{at_rest_there, stopped_there, suited_there}
 use Rattle.world.proofs.seat.Seat.stop.Goals as goal
+
+pub returns-in-Up-clause-seat : goal.returns-in-Up-clause-seat
+returns-in-Up-clause-seat c t n m seat =
+    let x = c.in-Up.node in
+    let is = sym c.in-Up.ensures.value in
+    at_rest_there t n m c.stop.result (suited_there t n m c.args.self.now x.core x.is_up (ap occupant is) (ap node_in is) seat c.stop.result c.stop.ensures.suits)
 
 pub returns-in-Up-clause-node : goal.returns-in-Up-clause-node
 returns-in-Up-clause-node c t n m seat =
