@@ -1,0 +1,79 @@
+-- From the rows to the log, and back.
+use Rattle.std.proofs.Common.{MatchOption, ◌≡◌, ℕ, suc, ◌+◌, ◌<◌, ◌≤◌, true, false, Option, Some, None, List, [], ◌∷◌, length, map, arith, refl, sym, ap, subst, ◌∙◌}
+use Rattle.std.proofs.lemmas.List.{length-map}
+use Rattle.sqlite.specs.Order.{Row}
+use Rattle.sqlite.specs.Effect.{Database, IsDatabase}
+use Rattle.sqlite_catalog.specs.Listing.{IsSound}
+use Rattle.model.specs.Transactions.{Schema as Tables}
+use Rattle.model.specs.Steps.{TERM_LAST}
+use Rattle.keep.specs.Durable.{Durable}
+use Rattle.keep.specs.Log.{is_vote}
+use Rattle.durable.specs.Contents.{Item, items_of, contents_of, number_of_vote, vote_in}
+use Rattle.durable.specs.Tables.{schema, meta}
+use Rattle.durable.specs.Rows.{meta_row, meta_values, shown_meta, Holds, shown_entry, shown_log, log_rows, in_order}
+use Rattle.durable.specs.Judging.{Forms, IsNoLog, IsFound}
+use Rattle.durable.proofs.Settling.{vote_back}
+use Rattle.std.specs.List.Sorted.{IsPermutation}
+use Rattle.sqlite.proofs.Callers.{one_permutation}
+use Rattle.keep.specs.declared.hard_state.HardState.{HardState}
+use Rattle.durable.proofs.WholeTables.{log_rows_are, log_typed, AreTyped, only_meta, meta_typed, meta_row_is}
+use Rattle.durable.proofs.Judged.{log_of, forms_of, goes, all_entries, go_from}
+
+shown_count : (i : ℕ) (es : List Item) → length (shown_log i es) ≡ length es
+shown_count i [] = refl
+shown_count i (e ∷ es) = ap suc (shown_count (i + 1) es)
+
+pub found_log : (db : Database) (members : ℕ) (tables : Tables) (t : ℕ) (v : Option ℕ) (rows : List Row) → db.schema ≡ schema → IsDatabase db → db.trees 0 ≡ meta_row t (number_of_vote v) ∷ [] → t ≤ TERM_LAST → is_vote members v ≡ true
+    → IsPermutation (map shown_entry (db.trees 1)) rows → length rows ≤ 100000 → Forms tables t 1 0 0 rows → IsFound db members tables (length rows)
+found_log db members tables t v rows has sound one_row low vote shown short forms =
+    let all = log_of tables t 1 0 0 rows forms in
+    let es = all.0 in
+    let sound_ours : IsSound schema db.trees = subst (λ s. IsSound s db.trees) has sound in
+    let log = log_rows_are (db.trees 1) rows (items_of es) (log_typed db.trees sound_ours) shown all.1 in
+    let counted : length rows ≡ length es = ap length all.1 ∙ shown_count 1 (items_of es) ∙ length-map es _ in
+    let passed = all_entries tables t 0 0 es all.2 in
+    record {
+      d = record { hard = record { term = t; vote = v }; log = es };
+      holds = record { tables = has; meta = one_row; log = log };
+      forms = record { term = low; vote = vote; room = omega (arith, counted); rises = goes tables t None es all.2; entries = passed.0 };
+      texts = passed.1;
+      counted = counted;
+    }
+
+-- one row tells the term and the vote
+same_meta : (t v t' v' : ℕ) → ◌≡◌ {A = List Row} (meta_row t v ∷ []) (meta_row t' v' ∷ []) → (t ≡ t') × (v ≡ v')
+same_meta t v t' v' is = (cc, cc)
+
+pub no_meta : (db : Database) (members : ℕ) (tables : Tables) → ((t v : ℕ) → db.trees 0 ≡ meta_row t v ∷ [] → t ≤ TERM_LAST → ⊥) → IsNoLog db members tables
+no_meta db members tables none d holds forms texts = none d.hard.term (number_of_vote d.hard.vote) holds.meta forms.term
+
+module _ (db : Database) (members : ℕ) (tables : Tables) (t : ℕ) (v : Option ℕ) (one_row : db.trees 0 ≡ meta_row t (number_of_vote v) ∷ []) (back : vote_in (number_of_vote v) ≡ v) where
+  pub no_vote : is_vote members v ≡ false → IsNoLog db members tables
+  no_vote other d holds forms texts =
+      let numbers = (same_meta d.hard.term (number_of_vote d.hard.vote) t (number_of_vote v) (sym holds.meta ∙ one_row)).1 in
+      let same : d.hard.vote ≡ v = sym (vote_back members d.hard.vote forms.vote) ∙ ap vote_in numbers ∙ back in
+      absurd (let yes = sym (ap (is_vote members) same) ∙ forms.vote in cc)
+
+  module _ (rows : List Row) (shown : (es : List Item) → in_order (db.trees 1) ≡ log_rows 1 es → rows ≡ shown_log 1 es) where
+    listed : (d : Durable) → Holds db (contents_of d) → rows ≡ shown_log 1 (items_of d.log)
+    listed d holds = shown (items_of d.log) holds.log
+
+    pub no_room : 100000 < length rows → IsNoLog db members tables
+    no_room long d holds forms texts =
+        let counted : length rows ≡ length d.log = ap length (listed d holds) ∙ shown_count 1 (items_of d.log) ∙ length-map d.log _ in
+        let room : length d.log ≤ 100000 = forms.room in
+        absurd (omega (arith, counted, room, long))
+
+    pub no_form : (Forms tables t 1 0 0 rows → ⊥) → IsNoLog db members tables
+    no_form none d holds forms texts =
+        let term = (same_meta d.hard.term (number_of_vote d.hard.vote) t (number_of_vote v) (sym holds.meta ∙ one_row)).0 in
+        none (subst (λ top. Forms tables top 1 0 0 rows) term (forms_of tables d.hard.term 1 0 0 rows d.log (listed d holds) (go_from tables d.hard.term None d.log forms.rises forms.entries texts)))
+
+pub meta_told : (db : Database) (rows : List Row) (o : Option HardState) → IsDatabase db → db.schema ≡ schema → IsPermutation (map shown_meta (db.trees 0)) rows
+    → MatchOption o ((t v : ℕ) → rows ≡ meta_values t v ∷ [] → t ≤ TERM_LAST → ⊥) (λ m. (rows ≡ meta_values m.term (number_of_vote m.vote) ∷ []) × (m.term ≤ TERM_LAST) × (vote_in (number_of_vote m.vote) ≡ m.vote))
+    → MatchOption o ((t v : ℕ) → db.trees 0 ≡ meta_row t v ∷ [] → t ≤ TERM_LAST → ⊥) (λ m. (db.trees 0 ≡ meta_row m.term (number_of_vote m.vote) ∷ []) × (m.term ≤ TERM_LAST) × (vote_in (number_of_vote m.vote) ≡ m.vote))
+meta_told db rows None sound has same told = λ t v is low. told t v (one_permutation (meta_values t v) rows (subst (λ l. IsPermutation l rows) (ap (map shown_meta) is) same)) low
+meta_told db rows (Some m) sound has same told =
+    let one = only_meta (db.trees 0) rows (meta_values m.term (number_of_vote m.vote)) same told.0 in
+    let typed = subst (AreTyped meta) one.1 (meta_typed db.trees (subst (λ s. IsSound s db.trees) has sound)) in
+    (one.1 ∙ ap (λ r. r ∷ []) (meta_row_is one.0 m.term (number_of_vote m.vote) typed.0 one.2), told.1, told.2)

@@ -1,0 +1,196 @@
+-- What each call leaves stored.
+use Rattle.std.proofs.Common.{length-append, ◌≡◌, ◌⊎◌, inl, inr, ℕ, zero, suc, ◌+◌, ◌≤◌, Bool, true, false, true≢false, ◌&&◌, nat_lt, Option, Some, None, List, [], ◌∷◌, ◌++◌, length, take, IsTrue, refl, sym, ap, subst, ◌∙◌}
+use Rattle.std.proofs.lemmas.List.{take-map, map-append, length-map, length-take-le}
+use Rattle.std.specs.List.{list_all}
+use Rattle.sqlite.specs.Effect.{Database}
+use Rattle.sqlite.specs.State.{State, HasCleanDisk, IsUnchanged, KeepsCommit}
+use Rattle.model.specs.declared.entry.Entry.{Entry}
+use Rattle.model.specs.declared.entry.Request.{Request}
+use Rattle.model.specs.Transactions.{Schema as Tables}
+use Rattle.keep.specs.declared.change.Change.{Change}
+use Rattle.keep.specs.Durable.{Durable, blank, after}
+use Rattle.keep.specs.Log.{IsLog, is_vote, is_numbered, is_entry}
+use Rattle.durable.specs.Contents.{Contents, none_yet, number_of_vote, client_of, number_of, body_of, item_of, items_of, contents_of, changed, vote_in, request_in, entry_in, entries_in, durable_in}
+use Rattle.durable.specs.Tables.{schema, no_schema}
+use Rattle.durable.specs.Rows.{Holds}
+use Rattle.durable.specs.Stored.{contents_in, stored_in, IsSettled, AreTexts, Offers}
+use Rattle.durable.specs.Found.{read_back, no_tables}
+use Rattle.durable.specs.Steps.{IsSaved, IsKept, IsMade}
+use Rattle.durable.specs.Judging.{IsNoLog, IsFound}
+
+-- ---- what is read is what was written
+
+pub both : (a b : Bool) → (a && b) ≡ true → (a ≡ true) × (b ≡ true)
+both true b h = (refl, h)
+both false b h = absurd cc
+
+pub not_both : (b : Bool) → b ≡ true → b ≡ false → ⊥
+not_both b p q = true≢false (sym p ∙ q)
+
+some_back : (client number : ℕ) (text : List ℕ) → nat_lt 0 client ≡ true → ◌≡◌ {A = Option Request} (request_in client number text) (Some (record { client = client; number = number; text = text }))
+some_back zero number text h = absurd cc
+some_back (suc client) number text h = refl
+
+request_back : (r : Option Request) → is_numbered r ≡ true → request_in (client_of r) (number_of r) (body_of r) ≡ r
+request_back None h = refl
+request_back (Some r) h = some_back r.client r.number r.text (both _ _ h).0
+
+pub entry_numbered : (e : Entry) → is_numbered e.request ≡ true → entry_in (item_of e) ≡ e
+entry_numbered e h = ap (λ r. record { term = e.term; stamp = e.stamp; request = r }) (request_back e.request h)
+
+pub entry_back : (schema : Tables) (e : Entry) → is_entry schema e ≡ true → entry_in (item_of e) ≡ e
+entry_back tables e h = ap (λ r. record { term = e.term; stamp = e.stamp; request = r }) (request_back e.request (both _ _ (both _ _ h).1).0)
+
+pub log_back : (schema : Tables) (es : List Entry) → list_all (is_entry schema) es ≡ true → entries_in (items_of es) ≡ es
+log_back tables [] h = refl
+log_back tables (e ∷ es) h =
+    let two = both _ _ h in
+    ap (λ x. x ∷ entries_in (items_of es)) (entry_back tables e two.0) ∙ ap (λ xs. e ∷ xs) (log_back tables es two.1)
+
+pub vote_back : (members : ℕ) (v : Option ℕ) → is_vote members v ≡ true → vote_in (number_of_vote v) ≡ v
+vote_back members None h = refl
+vote_back members (Some zero) h = absurd cc
+vote_back members (Some (suc v)) h = refl
+
+pub log_plain : (members : ℕ) (schema : Tables) (d : Durable) → IsLog members schema d → durable_in (contents_of d) ≡ d
+log_plain members tables d forms =
+    ap (λ v. record { hard = record { term = d.hard.term; vote = v }; log = entries_in (items_of d.log) }) (vote_back members d.hard.vote forms.vote)
+    ∙ ap (λ l. record { hard = d.hard; log = l }) (log_back tables d.log forms.entries)
+
+-- a change of the tables is the change of what is stored
+pub changed_is : (c : Change) (d : Durable) → contents_of (after c d) ≡ changed c (contents_of d)
+changed_is c d =
+    ap (λ l. record { term = c.hard.term; vote = number_of_vote c.hard.vote; log = l }) (map-append item_of (take c.kept d.log) c.entries.items ∙ ap (λ l. l ++ items_of c.entries.items) (sym (take-map item_of c.kept d.log)))
+
+pub stored_length : (s : State) → IsSettled s → length (stored_in s.now).log ≡ length (contents_in s.now).log
+stored_length s set = length-map (contents_in s.now).log entry_in
+
+-- ---- save
+
+pub saved_settles : (old new : State) (c : Change) → IsSettled old → durable_in (contents_of (after c (stored_in old.now))) ≡ after c (stored_in old.now) → IsSaved old new (changed c)
+    → IsSettled new × (stored_in new.now ≡ after c (stored_in old.now))
+saved_settles old new c set back it =
+    let has = it.now (contents_in old.now) set.holds in
+    let read = read_back new.now _ has in
+    let is : contents_in new.now ≡ contents_of (after c (stored_in old.now)) = read ∙ ap (changed c) (sym set.plain) ∙ sym (changed_is c (stored_in old.now)) in
+    let stored = ap durable_in is ∙ back in
+    (record { is_open = it.is_open; committed = it.committed; holds = subst (Holds new.now) (sym read) has; plain = ap contents_of stored ∙ sym is }, stored)
+
+pub kept_offers : (old new : State) (d : Durable) → IsSettled old → IsKept old new → Offers new d → d ≡ stored_in old.now
+kept_offers old new d set it offer =
+    let same = it.committed offer.is_open ∙ set.committed in
+    elim offer.found [
+      | inl has ↦ sym has.1 ∙ ap durable_in (sym (read_back new.committed (contents_of d) has.0) ∙ ap contents_in same)
+      | inr none ↦ absurd (no_tables old.now _ set.holds (ap (λ (b : Database). b.schema) (sym same) ∙ none.0))
+    ]
+
+-- ---- open
+
+pub made_settles : (old new : State) → old.now.schema ≡ no_schema → IsMade old new → IsSettled new × (stored_in new.now ≡ blank)
+made_settles old new none it =
+    let has = it.now none in
+    let read = read_back new.now none_yet has in
+    let stored = ap durable_in read in
+    (record { is_open = it.is_open; committed = it.committed; holds = subst (Holds new.now) (sym read) has; plain = ap contents_of stored ∙ sym read }, stored)
+
+-- an open of a connection that has no table finds what was never written
+pub made_offers : (old new : State) → HasCleanDisk old → old.in_transaction ≡ false → old.now.schema ≡ no_schema → (IsTrue old.is_open → old.now ≡ old.committed) → IsMade old new → Offers old (stored_in new.now)
+made_offers old new clean out none settled it =
+    let same = settled it.was_open in
+    let stored = (made_settles old new none it).1 in
+    record {
+      clean = clean;
+      is_open = it.was_open;
+      autocommit = out;
+      texts = subst (λ d. AreTexts d.log) (sym stored) tt;
+      found = inr (ap (λ (b : Database). b.schema) (sym same) ∙ none, stored);
+    }
+
+pub kept_back : (old new : State) (d : Durable) → HasCleanDisk old → old.in_transaction ≡ false → IsKept old new → Offers new d → Offers old d
+kept_back old new d clean out it offer =
+    let same = it.committed offer.is_open in
+    record {
+      clean = clean;
+      is_open = it.was_open offer.is_open;
+      autocommit = out;
+      texts = offer.texts;
+      found = subst (λ db. (Holds db (contents_of d) × (durable_in (contents_of d) ≡ d)) ⊎ ((db.schema ≡ no_schema) × (d ≡ blank))) same offer.found;
+    }
+
+-- ---- reading
+
+pub same_settles : (old new : State) → IsSettled old → IsUnchanged old new → IsSettled new × (stored_in new.now ≡ stored_in old.now)
+same_settles old new set same = (
+  record {
+    is_open = same.0.is_open;
+    committed = same.0.committed_is ∙ set.committed ∙ sym same.0.now_is;
+    holds = subst (λ db. Holds db (contents_in db)) (sym same.0.now_is) set.holds;
+    plain = subst (λ db. contents_of (stored_in db) ≡ contents_in db) (sym same.0.now_is) set.plain;
+  },
+  ap stored_in same.0.now_is,
+)
+
+pub keeps_offers : (old new : State) (d : Durable) → HasCleanDisk old → old.in_transaction ≡ false → KeepsCommit old new → Offers new d → Offers old d
+keeps_offers old new d clean out it offer = record {
+  clean = clean;
+  is_open = it.was_open offer.is_open;
+  autocommit = out;
+  texts = offer.texts;
+  found = subst (λ db. (Holds db (contents_of d) × (durable_in (contents_of d) ≡ d)) ⊎ ((db.schema ≡ no_schema) × (d ≡ blank))) (it.committed offer.is_open) offer.found;
+}
+
+-- ---- an open of tables that are there
+
+pub record Opened (old new : State) (d : Durable) : Type 0 where
+  pub settled : IsSettled new
+  pub stored : stored_in new.now ≡ d
+  pub offers : Offers old (stored_in new.now)
+  pub counted : length (contents_in new.now).log ≡ length d.log
+
+pub found_opens : (old new : State) (members : ℕ) (tables : Tables) (n : ℕ) → HasCleanDisk old → old.in_transaction ≡ false → (IsTrue old.is_open → old.now ≡ old.committed) → IsUnchanged old new → (found : IsFound old.now members tables n) → Opened old new found.d
+found_opens old new members tables n clean out settled same found =
+    let d = found.d in
+    let plain = log_plain members tables d found.forms in
+    let has = subst (λ db. Holds db (contents_of d)) (sym same.0.now_is) found.holds in
+    let read = read_back new.now (contents_of d) has in
+    let stored = ap durable_in read ∙ plain in
+    let was = settled same.0.was_open in
+    record {
+      settled = record {
+        is_open = same.0.is_open;
+        committed = same.0.committed_is ∙ sym was ∙ sym same.0.now_is;
+        holds = subst (Holds new.now) (sym read) has;
+        plain = ap contents_of stored ∙ sym read;
+      };
+      stored = stored;
+      offers = record {
+        clean = clean;
+        is_open = same.0.was_open;
+        autocommit = out;
+        texts = subst (λ x. AreTexts x.log) (sym stored) found.texts;
+        found = inl (subst (λ x. Holds old.committed (contents_of x) × (durable_in (contents_of x) ≡ x)) (sym stored) (subst (λ db. Holds db (contents_of d)) was found.holds, plain));
+      };
+      counted = ap (λ (c : Contents). length c.log) read ∙ length-map d.log item_of;
+    }
+
+-- ---- where nothing is found
+
+-- what is committed in a connection with another schema is no log
+pub other_schema : (s : State) (d : Durable) → (IsTrue s.is_open → s.now ≡ s.committed) → (s.now.schema ≡ schema → ⊥) → (s.now.schema ≡ no_schema → ⊥) → Offers s d → ⊥
+other_schema s d settled theirs some offer = elim offer.found [
+  | inl has ↦ theirs (ap (λ (b : Database). b.schema) (settled offer.is_open) ∙ has.0.tables)
+  | inr none ↦ some (ap (λ (b : Database). b.schema) (settled offer.is_open) ∙ none.0)
+]
+
+pub no_log_found : (old new : State) (members : ℕ) (tables : Tables) (d : Durable) → old.now.schema ≡ schema → (IsTrue old.is_open → old.now ≡ old.committed) → IsUnchanged old new → IsNoLog old.now members tables → Offers new d → IsLog members tables d → ⊥
+no_log_found old new members tables d has settled same none offer forms =
+    let was : new.committed ≡ old.now = same.0.committed_is ∙ sym (settled same.0.was_open) in
+    elim offer.found [
+      | inl held ↦ none d (subst (λ db. Holds db (contents_of d)) was held.0) forms offer.texts
+      | inr blank_one ↦ absurd (let e = ap (λ s. s.tables) (sym has ∙ ap (λ (b : Database). b.schema) (sym was) ∙ blank_one.0) in cc)
+    ]
+
+pub after_length : (c : Change) (d : Durable) → c.kept ≤ length d.log → length (after c d).log ≡ c.kept + length c.entries.items
+after_length c d low =
+    let kept = length-take-le c.kept d.log low in
+    length-append (take c.kept d.log) c.entries.items ∙ ap (λ n. n + length c.entries.items) kept

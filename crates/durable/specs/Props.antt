@@ -1,0 +1,54 @@
+-- That the tables are settled has one proof.
+use Rattle.std.specs.Prelude.{ℕ, List}
+use Rattle.std.specs.Coded.{Coded, Coded-set, code_by, coded×, coded_ℕ, coded_list}
+use Rattle.std.proofs.Common.{ap, refl}
+use mathlib.Core.Bool.{Bool-set}
+use Rattle.sqlite_schema.specs.contracts.schema.Schema as schema_row
+use Rattle.sqlite.specs.Schema.{Schema}
+use Rattle.sqlite_trees.specs.Props.{Trees-set, rows_set}
+use Rattle.sqlite.specs.Effect.{Database}
+use Rattle.sqlite.specs.State.{State}
+use Rattle.durable.specs.Contents.{Item, Contents}
+use Rattle.durable.specs.Rows.{Holds}
+use Rattle.durable.specs.Stored.{IsSettled, contents_in}
+
+pub Schema-set : IsSet Schema
+Schema-set = Coded-set schema_row.the_row.coded
+
+abbrev coded_item : Coded Item
+coded_item =
+    code_by (ℕ × (ℕ × (ℕ × (ℕ × List ℕ)))) (coded× coded_ℕ (coded× coded_ℕ (coded× coded_ℕ (coded× coded_ℕ (coded_list coded_ℕ)))))
+    (λ e. (e.term, (e.stamp, (e.client, (e.number, e.body)))))
+    (λ p. record { term = p.0; stamp = p.1.0; client = p.1.1.0; number = p.1.1.1.0; body = p.1.1.1.1 })
+    (λ _. refl)
+
+abbrev coded_contents : Coded Contents
+coded_contents =
+    code_by (ℕ × (ℕ × List Item)) (coded× coded_ℕ (coded× coded_ℕ (coded_list coded_item)))
+    (λ c. (c.term, (c.vote, c.log)))
+    (λ p. record { term = p.0; vote = p.1.0; log = p.1.1 })
+    (λ _. refl)
+
+pub Contents-set : IsSet Contents
+Contents-set = Coded-set coded_contents
+
+pub Database-set : IsSet Database
+Database-set a b p q = λ i j. record {
+  schema = Schema-set a.schema b.schema (ap (λ (v : Database). v.schema) p) (ap (λ (v : Database). v.schema) q) i j;
+  trees = Trees-set a.trees b.trees (ap (λ (v : Database). v.trees) p) (ap (λ (v : Database). v.trees) q) i j;
+}
+
+pub Holds-prop : (db : Database) (c : Contents) → IsProp (Holds db c)
+Holds-prop db c x y = λ i. record {
+  tables = Schema-set _ _ x.tables y.tables i;
+  meta = rows_set _ _ x.meta y.meta i;
+  log = rows_set _ _ x.log y.log i;
+}
+
+pub IsSettled-prop : (s : State) → IsProp (IsSettled s)
+IsSettled-prop s x y = λ i. record {
+  is_open = Bool-set _ _ x.is_open y.is_open i;
+  committed = Database-set _ _ x.committed y.committed i;
+  holds = Holds-prop s.now (contents_in s.now) x.holds y.holds i;
+  plain = Contents-set _ _ x.plain y.plain i;
+}

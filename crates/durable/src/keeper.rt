@@ -1,0 +1,227 @@
+//! A keeper over any store of `sqlite`.
+ghost use Rattle.std.specs.Prelude.{◌≡◌, ◌≢◌, ◌⊎◌, ◌≤◌, true, false, length};
+ghost use Rattle.sqlite.specs.State.{HasCleanDisk};
+ghost use Rattle.sqlite.specs.Held.{state};
+ghost use Rattle.std.specs.Coded.{Π_prop};
+ghost use Rattle.keep.specs.Durable.{Durable};
+ghost use Rattle.keep.specs.Log.{IsLog, log_prop};
+ghost use Rattle.durable.specs.Props.{IsSettled-prop};
+ghost use Rattle.durable.specs.Stored.{contents_in, stored_in, IsSettled, Offers};
+ghost use Rattle.durable.specs.Found.{offers_stored};
+
+use crate::finding::{judge, read_state};
+use crate::opening::{commit_tables, is_blank};
+use crate::ours::is_ours;
+use crate::reading::find_entry;
+use crate::saving::commit_change;
+use crate::whole::Whole;
+use keep::{Change, Keeper, Shelf, State, StoreError};
+use model::entry::Entry;
+use schema::Schema;
+use sqlite::{Alter, Connection, Error, ErrorCode};
+use std::alloc::Global;
+
+/// Keeps a member's hard state and log in two tables of a database, over every store that `sqlite` has.
+/// What it opens, and what is left of it, is the connection. It is honest while the store is clean:
+/// memory always is, and a file while it gave back what was written to it.
+///
+/// An open of a database that has no table makes both tables and the first row of meta in one commit.
+/// Of any other it reads all rows, and answers `BadStore` where the schema is not these two tables alone
+/// or the rows are not those of a log of the member. Each `save` is one commit: a crash within it, or an
+/// error of it, leaves the state before or after. `state` and `entry` read single rows by their number.
+#[derive(Drop)]
+pub struct SqlKeeper<S: Alter + Drop> {
+    conn: Connection<S>,
+    /// How many entries the log has.
+    count: usize,
+    failures: u64,
+    asked: u64,
+    is_up: bool,
+    ghost autocommit: { conn.in_transaction ≡ false },
+    ghost unfailed: { is_up ≡ true → failures ≡ 0 },
+    ghost short: { is_up ≡ true → count ≤ 100000 },
+    ghost settled: { is_up ≡ true → HasCleanDisk (state S.Store conn) → IsSettled (state S.Store conn) } by { Π_prop (λ _. Π_prop (λ _. IsSettled-prop (state S.Store conn))) },
+    ghost counted: { is_up ≡ true → HasCleanDisk (state S.Store conn) → count ≡ length (contents_in (state S.Store conn).now).log },
+}
+
+/// What an error of the database is told as: `NoMemory` where it is want of memory or of room on the
+/// disk, and else `StoreFault`.
+fn error_of(error: &Error) -> StoreError
+    ensures memory { error.now ≡ Error.SqliteFailure ErrorCode.OutOfMemory → result ≡ StoreError.NoMemory }
+    ensures room { error.now ≡ Error.SqliteFailure ErrorCode.DiskFull → result ≡ StoreError.NoMemory }
+    ensures fault { error.now ≢ Error.SqliteFailure ErrorCode.OutOfMemory → error.now ≢ Error.SqliteFailure ErrorCode.DiskFull → result ≡ StoreError.StoreFault }
+    ensures either { (result ≡ StoreError.NoMemory) ⊎ (result ≡ StoreError.StoreFault) }
+{
+    match error {
+        Error::SqliteFailure(ErrorCode::OutOfMemory) => StoreError::NoMemory,
+        Error::SqliteFailure(ErrorCode::DiskFull) => StoreError::NoMemory,
+        _ => StoreError::StoreFault,
+    }
+}
+
+impl<S: Alter + Drop> SqlKeeper<S> {
+    /// What an error of the database is told as; a fault of the store is counted.
+    fn refuse(&mut self, error: &Error) -> StoreError
+        requires { self.old.is_up ≡ false }
+        ensures down { self.new.is_up ≡ false }
+        ensures conn { self.new.conn ≡ self.old.conn }
+        ensures asked { self.new.asked ≡ self.old.asked }
+        ensures named { (result ≡ StoreError.NoMemory) ⊎ ((result ≡ StoreError.StoreFault) × (self.new.failures ≡ 1)) }
+        ensures counts { self.new.failures ≡ self.old.failures ⊎ (self.new.failures ≡ 1) }
+    {
+        let error = error_of(error);
+        if error == StoreError::StoreFault {
+            self.failures = 1;
+        }
+        error
+    }
+}
+
+impl<S: Alter + Drop> Shelf for SqlKeeper<S> {
+    ghost stored = { λ k. stored_in (state S.Store k.conn).now };
+
+    ghost is_honest = { λ k. HasCleanDisk (state S.Store k.conn) };
+
+    ghost is_up = { λ k. k.is_up };
+
+    ghost failed = { λ k. k.failures };
+
+    ghost asks = { λ k. k.asked };
+
+    ghost may_hold = { λ k d. Offers (state S.Store k.conn) d };
+
+    ghost serves = { λ k members tables. k.is_up ≡ true → HasCleanDisk (state S.Store k.conn) → IsLog members tables (stored_in (state S.Store k.conn).now) };
+
+    ghost only_honest = { λ _ _ h. h.clean };
+
+    ghost only_stored = { λ k d up h. offers_stored _ d (k.settled up h.clean) h };
+
+    ghost served_once = { λ _ members tables. Π_prop (λ _. Π_prop (λ _. log_prop members tables _)) };
+
+    ghost only_logs = { λ _ _ _ forms clean up. forms up clean };
+
+    fn entry(&mut self, alloc: Global, i: usize) -> Result<Option<Entry>, StoreError> {
+        let _ = alloc;
+        self.asked = self.asked.saturating_add(1);
+        if !self.is_up {
+            return Err(StoreError::NodeDown);
+        }
+        if i >= self.count {
+            return Ok(None);
+        }
+        self.is_up = false;
+        let number = Whole {
+            value: i as u64 + 1,
+        };
+        match find_entry(&mut self.conn, number) {
+            Ok(entry) => {
+                self.is_up = true;
+                Ok(entry)
+            }
+            Err(error) => Err(self.refuse(&error)),
+        }
+    }
+
+    fn failures(&self) -> u64 {
+        self.failures
+    }
+
+    fn asked(&self) -> u64 {
+        self.asked
+    }
+}
+
+impl<S: Alter + Drop> Keeper for SqlKeeper<S> {
+    type Image = Connection<S>;
+
+    ghost holds = { λ c d. Offers (state S.Store c) d };
+
+    ghost suits = { λ _ _ _. Unit {0} };
+
+    ghost is_bad = { λ c members tables. (d : Durable) → Offers (state S.Store c) d → IsLog members tables d → ⊥ };
+
+    fn open(
+        alloc: Global,
+        image: Connection<S>,
+        members: usize,
+        schema: &Schema,
+    ) -> Result<SqlKeeper<S>, (StoreError, Connection<S>)> {
+        let mut image = image;
+        if !image.is_autocommit() {
+            return Err((StoreError::BadStore, image));
+        }
+        if is_blank(image.schema()) {
+            return match commit_tables(&mut image) {
+                Ok(()) => Ok(SqlKeeper {
+                    conn: image,
+                    count: 0,
+                    failures: 0,
+                    asked: 0,
+                    is_up: true,
+                }),
+                Err(error) => {
+                    let error = error_of(&error);
+                    Err((error, image))
+                }
+            };
+        }
+        if !is_ours(image.schema()) {
+            return Err((StoreError::BadStore, image));
+        }
+        match judge(alloc, &mut image, members, schema) {
+            Ok(Some(count)) => Ok(SqlKeeper {
+                conn: image,
+                count,
+                failures: 0,
+                asked: 0,
+                is_up: true,
+            }),
+            Ok(None) => Err((StoreError::BadStore, image)),
+            Err(error) => {
+                let error = error_of(&error);
+                Err((error, image))
+            }
+        }
+    }
+
+    fn state(&mut self, alloc: Global) -> Result<State, StoreError> {
+        if !self.is_up {
+            return Err(StoreError::NodeDown);
+        }
+        self.is_up = false;
+        match read_state(alloc, &mut self.conn, self.count) {
+            Ok(state) => {
+                self.is_up = true;
+                Ok(state)
+            }
+            Err(error) => Err(self.refuse(&error)),
+        }
+    }
+
+    fn save(&mut self, alloc: Global, change: &Change) -> Result<(), StoreError> {
+        let _ = alloc;
+        if !self.is_up {
+            return Err(StoreError::NodeDown);
+        }
+        self.is_up = false;
+        match commit_change(&mut self.conn, change) {
+            Ok(()) => {
+                self.count = change.kept + change.entries.len();
+                self.is_up = true;
+                Ok(())
+            }
+            Err(error) => Err(self.refuse(&error)),
+        }
+    }
+
+    fn close(self) -> Connection<S> {
+        let SqlKeeper {
+            conn,
+            count: _,
+            failures: _,
+            asked: _,
+            is_up: _,
+        } = self;
+        conn
+    }
+}
