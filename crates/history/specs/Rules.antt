@@ -1,0 +1,16 @@
+-- The rule of a history, and what its step tells.
+use Rattle.std.specs.Prelude.{ℕ, ◌≡◌, ◌==◌, true, List, [], ◌∷◌, ◌++◌, length, MatchBool}
+use Rattle.logbook.specs.Pages.{Cell, Step, View, Book, Named}
+use Rattle.history.specs.declared.item.Item.{Item}
+
+-- the first word of the book is the length of the history. A book has two words, of which this one leaves the second at 0
+pub record IsKept (cells : List Cell) (log : List Item) : Type 0 where
+  pub words : cells ≡ (length log, true) ∷ (0, true) ∷ []
+
+-- the first word of a book
+abbrev pub head_of : Book → Named
+head_of b = record { tracked = true; key = 0; book = b }
+
+-- the item was added to all that had been seen; or the history was longer, and was seen
+abbrev pub Added : Step Item → View Item ℕ → ℕ → View Item ℕ → Type 0
+Added s v found w = MatchBool (found == s.old) (w.0 ≡ v.0 ++ s.ask ∷ []) (length w.0 ≡ found)

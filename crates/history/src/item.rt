@@ -1,0 +1,48 @@
+//! Items, of which a history is a list.
+ghost use Rattle.std.specs.Prelude.{◌≡◌};
+ghost use Rattle.history.specs.Items.{entry_of, mark_of};
+
+use crate::mark::Mark;
+use model::entry::Entry;
+use std::alloc::AllocError;
+
+/// What a node publishes, with the mark of the step that it comes of.
+#[derive(Debug, Drop)]
+pub enum Item {
+    /// An entry that became applied.
+    Applied { mark: Mark, entry: Entry },
+}
+
+impl Item {
+    /// The mark of the step that it comes of.
+    pub fn mark(&self) -> Mark
+        ensures { result ≡ mark_of self.now }
+    {
+        match self {
+            Item::Applied { mark, .. } => *mark,
+        }
+    }
+
+    /// The entry that became applied.
+    pub fn entry(&self) -> &Entry
+        ensures { result.now ≡ entry_of self.now }
+    {
+        match self {
+            Item::Applied { entry, .. } => entry,
+        }
+    }
+}
+
+/// The copy is the same item. Fails only for want of memory.
+impl Clone for Item {
+    ghost is_clone = { λ i copy. copy ≡ i };
+
+    fn clone(&self) -> Result<Item, AllocError> {
+        match self {
+            Item::Applied { mark, entry } => Ok(Item::Applied {
+                mark: *mark,
+                entry: entry.clone()?,
+            }),
+        }
+    }
+}

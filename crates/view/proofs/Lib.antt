@@ -1,0 +1,4 @@
+pub mod Turns
+pub mod Taking
+pub mod Parts
+pub mod Seeing

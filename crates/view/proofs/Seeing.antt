@@ -1,0 +1,21 @@
+-- What a question shows, where nothing more is seen.
+use Rattle.std.proofs.Common.{◌≡◌, ◌⊎◌, Err, ap, sym, subst, ⊎_elim}
+use mathlib.Core.List.{IsPrefix}
+use Rattle.fault.specs.declared.refusal.Refusal.{Refusal}
+use Rattle.fault.specs.declared.refusal.Refusal.TheVariants.{NoMemory, NoView}
+use Rattle.model.specs.Transactions.{Schema}
+use Rattle.sqlread.specs.Shapes.{QueryShape}
+use Rattle.history.specs.declared.front.Front.{Front}
+use Rattle.history.proofs.Fronts.{prefix_self}
+use Rattle.view.specs.Viewing.{Answers}
+
+-- the same list begins with itself
+pub same_grows : (f g : Front) → g ≡ f → IsPrefix f.seen.log g.seen.log
+same_grows f g same = subst (λ h. IsPrefix f.seen.log h.seen.log) (sym same) (prefix_self f.seen.log)
+
+-- there was no reading or no memory, and what is seen is the same
+pub refused : (schema : Schema) (q : QueryShape) (f g : Front) (e : Refusal) → (e ≡ NoView) ⊎ (e ≡ NoMemory) → g ≡ f → Answers schema q f.seen.log g.seen.log (Err e)
+refused schema q f g e why same =
+    let lists : g.seen.log ≡ f.seen.log = ap (λ h. h.seen.log) same in
+    ⊎_elim (λ (is : e ≡ NoView). subst (λ r. Answers schema q f.seen.log g.seen.log (Err r)) (sym is) lists)
+    (λ (is : e ≡ NoMemory). subst (λ r. Answers schema q f.seen.log g.seen.log (Err r)) (sym is) lists) why

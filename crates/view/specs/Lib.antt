@@ -1,0 +1,5 @@
+pub mod Rules
+pub mod Lists
+pub mod Publishing
+pub mod Viewing
+pub mod Replies

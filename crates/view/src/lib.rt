@@ -1,0 +1,14 @@
+//! What a node's life publishes, and views of it that wait for nobody.
+#![tactic(auto)]
+
+mod published;
+pub mod publisher;
+mod replay;
+mod rule;
+pub mod told;
+pub mod view;
+
+pub use history::{Item, Mark};
+pub use publisher::Publisher;
+pub use told::{Name, Told};
+pub use view::{Marked, View};

@@ -1,0 +1,116 @@
+//! Tables that are brought up to what a view reads.
+ghost use Rattle.std.specs.Prelude.{◌≡◌, ◌+◌, ◌<◌, ◌^◌, ◌≤◌, false, take, length, slice_get, Some, OnOk, IfOk};
+ghost use mathlib.Core.List.{IsPrefix};
+ghost use Rattle.std.specs.Coded.{→_prop};
+ghost use Rattle.model.specs.Logs.{IsStamped};
+ghost use Rattle.sqlread.specs.Meaning.{schema_of};
+ghost use Rattle.sqlread.specs.Shapes.{query_of};
+ghost use Rattle.answer.specs.Answers.{columns_in};
+ghost use Rattle.apply.specs.Once.{tables_prop};
+ghost use Rattle.apply.specs.View.{AreTables, IsAskedOf, is_failed};
+ghost use Rattle.history.specs.Items.{entries_of};
+ghost use Rattle.view.specs.Replies.{said, HasColumns};
+
+use crate::published::Published;
+use answer::Answer;
+use apply::Tables;
+use fault::{Refusal, Text};
+use history::{Front, Item};
+use schema::Schema;
+use sqlread::query::Query;
+use std::alloc::{AllocError, Global};
+
+/// What comes of a question, unless there is no memory.
+pub(crate) enum Reply {
+    Answered(Answer),
+    /// It is not closed in the list. The closed time, if there is one.
+    NotClosed(Option<Text>),
+}
+
+/// The tables that the first entries of the list read last leave. After a want of memory they have failed, and are made
+/// anew when the list is read again.
+#[derive(Drop)]
+pub(crate) struct Replay {
+    alloc: Global,
+    schema: Schema,
+    tables: Tables,
+    /// Of the list that was read last.
+    pub(crate) front: Front,
+    /// How many of its items the tables have taken in.
+    applied: usize,
+    ghost within: { applied ≤ length front.seen.log },
+    ghost current: { is_failed tables ≡ false → AreTables schema (entries_of (take applied front.seen.log)) tables } by { →_prop (tables_prop _ _ _) },
+}
+
+impl Replay {
+    /// Tables that have taken in nothing of this list. The error is want of memory.
+    pub(crate) fn new(alloc: Global, schema: Schema, front: Front) -> Result<Replay, AllocError>
+        ensures { IfOk result (λ r. (r.schema ≡ schema) × (r.front ≡ front)) }
+    {
+        let tables = Tables::new(alloc, &schema)?;
+        Ok(Replay {
+            alloc,
+            schema,
+            tables,
+            front,
+            applied: 0,
+        })
+    }
+
+    /// Makes the tables anew where they have failed. The error is want of memory.
+    fn renew(&mut self) -> Result<(), AllocError>
+        ensures same { (self.new.schema ≡ self.old.schema) × (self.new.front ≡ self.old.front) }
+        ensures up { OnOk result (is_failed self.new.tables ≡ false) }
+    {
+        if self.tables.has_failed() {
+            self.tables = Tables::new(self.alloc, &self.schema)?;
+            self.applied = 0;
+        }
+        Ok(())
+    }
+
+    /// Takes in the next item of the list. The error is want of memory.
+    fn apply(&mut self, item: &Item) -> Result<(), AllocError>
+        requires next { slice_get self.old.front.seen.log self.old.applied ≡ Some item.now }
+        requires room { self.old.applied + 1 < 2 ^ 64 }
+        requires up { is_failed self.old.tables ≡ false }
+        ensures same { (self.new.schema ≡ self.old.schema) × (self.new.front ≡ self.old.front) }
+        ensures up { OnOk result (is_failed self.new.tables ≡ false) }
+        ensures applied { OnOk result (self.new.applied ≡ self.old.applied + 1) }
+    {
+        let entry = item.entry();
+        self.tables.apply(entry)?;
+        self.applied += 1;
+        Ok(())
+    }
+
+    /// Reads a list that begins with the one read last, and takes in all that is new in it. The error is want of memory.
+    pub(crate) fn read(&mut self, published: &Published) -> Result<(), AllocError>
+        requires list { published.now.front.seen.log ≡ published.now.items.items }
+        requires before { IsPrefix self.old.front.seen.log published.now.items.items }
+        ensures same { (self.new.schema ≡ self.old.schema) × (self.new.front ≡ published.now.front) }
+        ensures up { OnOk result (is_failed self.new.tables ≡ false) }
+        ensures whole { OnOk result (take self.new.applied self.new.front.seen.log ≡ self.new.front.seen.log) }
+    {
+        self.front = published.front.again();
+        self.renew()?;
+        while let Some(item) = published.items.get(self.applied) {
+            self.apply(item)?;
+        }
+        Ok(())
+    }
+
+    /// Answers a question from the list that was read last, all of which has been taken in. The error is want of memory.
+    pub(crate) fn ask(&self, query: &Query) -> Result<Reply, AllocError>
+        requires up { is_failed self.now.tables ≡ false }
+        requires whole { take self.now.applied self.now.front.seen.log ≡ self.now.front.seen.log }
+        ensures asked { IfOk result (λ reply. IsStamped (entries_of self.now.front.seen.log) → IsAskedOf (schema_of self.now.schema) (query_of query.now) (entries_of self.now.front.seen.log) (said reply)) }
+        ensures columns { IfOk result (λ reply. HasColumns (columns_in self.now.schema query.now.table) reply) }
+    {
+        match self.tables.ask(query) {
+            Ok(answer) => Ok(Reply::Answered(answer)),
+            Err(Refusal::NotClosed(closed)) => Ok(Reply::NotClosed(closed)),
+            Err(_) => Err(AllocError),
+        }
+    }
+}
