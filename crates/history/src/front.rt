@@ -4,9 +4,9 @@ ghost use mathlib.Core.List.{IsPrefix};
 ghost use Rattle.history.specs.Items.{greatest_mark, last_mark};
 
 use crate::item::Item;
-use crate::mark::Mark;
 use crate::rule::Grows;
 use logbook::Seen;
+use model::mark::Mark;
 
 /// A history began with a list of items, and does so for good. It has the list's length and its greatest mark, and none
 /// of the items; contracts see the list as `seen.log`.

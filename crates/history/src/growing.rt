@@ -5,9 +5,9 @@ ghost use Rattle.history.specs.Rules.{head_of};
 
 use crate::front::Front;
 use crate::item::Item;
-use crate::mark::Mark;
 use crate::rule::{Adds, Grows, Nothing};
 use logbook::{Offer, Seen, Start, Word};
+use model::mark::Mark;
 
 /// The end at which a history grows, with the token for all of it.
 #[derive(Drop)]

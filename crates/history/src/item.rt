@@ -2,8 +2,8 @@
 ghost use Rattle.std.specs.Prelude.{◌≡◌};
 ghost use Rattle.history.specs.Items.{entry_of, mark_of};
 
-use crate::mark::Mark;
 use model::entry::Entry;
+use model::mark::Mark;
 use std::alloc::AllocError;
 
 /// What a node publishes, with the mark of the step that it comes of.

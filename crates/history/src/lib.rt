@@ -4,10 +4,8 @@
 pub mod front;
 pub mod growing;
 pub mod item;
-pub mod mark;
 pub mod rule;
 
 pub use front::Front;
 pub use growing::History;
 pub use item::Item;
-pub use mark::Mark;

@@ -5,6 +5,7 @@ ghost use Rattle.model.specs.TableRows.{TouchingRows, ReferenceGap, KeyTexts, Ro
 ghost use Rattle.model.specs.Rows.{FirstClose, FirstAnswer, TornVote, RepeatedAppend, DecidedInsert, RefusedSubmit, Numbers, ShorterLog, RetryAfterFailover, Conflict, Restart, Clocks, Asks, NoSuchEvent, DishonestMessage, StrangeMessage, StrangeEntries, KnownLeader, NoStampLeft, OlderTerm, NextFalls};
 
 pub mod entry;
+pub mod mark;
 pub mod member;
 pub mod message;
 pub mod request;

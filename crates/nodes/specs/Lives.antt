@@ -8,7 +8,7 @@ use Rattle.raft.specs.declared.state.Work.{Work}
 use Rattle.raft.specs.declared.state.Work.TheVariants as work
 use Rattle.raft.specs.View.{works}
 use Rattle.node.specs.View.{durable_of, started_from}
-use Rattle.nodes.specs.Marks.{mark_after}
+use Rattle.model.specs.Marks.{mark_after}
 use Rattle.nodes.specs.declared.life.Packet.{Packet}
 use Rattle.nodes.specs.declared.life.Packet.TheVariants.{Local, Delivered}
 use Rattle.nodes.specs.declared.life.Step.{Step}

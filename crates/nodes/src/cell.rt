@@ -5,16 +5,16 @@ ghost use Rattle.keep.specs.Durable.{Durable};
 ghost use Rattle.raft.specs.Memory.{spares_memory};
 ghost use Rattle.raft.specs.View.{node_of, works};
 ghost use Rattle.node.specs.View.{durable_of, Gave, IsKept, LeavesUp, HasCause, told_between};
-ghost use Rattle.nodes.specs.Marks.{mark_after};
+ghost use Rattle.model.specs.Marks.{mark_after};
 ghost use Rattle.nodes.specs.Lives.{work_of, opened_with, replay, IsLeft, torn_step, all_steps, marks_rise, mark_for};
 ghost use Rattle.nodes.specs.Feeds.{IsLifeWith, IsRecorded, given_of, IsTurnedAway, IsStartRefusal, ending_of};
 ghost use Rattle.nodes.specs.declared.life.Ending.TheVariants.{Up};
 
 use crate::copies::{copy_of_entries, work_of};
 use crate::life::{Ending, Life, Opening, Packet, Step};
-use crate::mark::Mark;
 use fault::Refusal;
 use keep::keeper::Keeper;
+use model::mark::Mark;
 use model::member::Member;
 use node::{Fault, Node, Out as NodeOut};
 use schema::Schema;

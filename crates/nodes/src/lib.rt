@@ -4,4 +4,3 @@
 pub mod cell;
 pub mod copies;
 pub mod life;
-pub mod mark;

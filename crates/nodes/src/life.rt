@@ -2,9 +2,9 @@
 ghost use Rattle.std.specs.Prelude.{◌≡◌};
 ghost use Rattle.nodes.specs.Lives.{last_mark, sent_at, mark_for};
 
-use crate::mark::Mark;
 use keep::hard_state::HardState;
 use model::entry::Entry;
+use model::mark::Mark;
 use model::message::{Input, Message};
 
 /// How many steps a life may have.

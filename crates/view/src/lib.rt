@@ -8,7 +8,8 @@ mod rule;
 pub mod told;
 pub mod view;
 
-pub use history::{Item, Mark};
+pub use history::Item;
+pub use model::mark::Mark;
 pub use publisher::Publisher;
 pub use told::{Name, Told};
 pub use view::{Marked, View};

@@ -1,5 +1,6 @@
 //! What a publisher tells of.
-use history::{Front, Mark};
+use history::Front;
+use model::mark::Mark;
 use model::member::Member;
 
 /// Which life of which node.

@@ -16,8 +16,9 @@ use crate::told::{Name, Told};
 use answer::Answer;
 use core::mem::replace_with;
 use fault::Refusal;
-use history::{Front, Mark};
+use history::Front;
 use left_right::reader::Reader;
+use model::mark::Mark;
 use sqlread::query::Query;
 
 /// An answer, and the mark by which it is known how much was seen.

@@ -1,5 +1,5 @@
 use Rattle.std.proofs.Common.{rules}
-use Rattle.nodes.proofs.mark.Mark.after.Goals as goal
+use Rattle.model.proofs.mark.Mark.after.Goals as goal
 
 pub returns-then-number-ge-LAST_MARK : goal.returns-then-number-ge-LAST_MARK
 returns-then-number-ge-LAST_MARK c = search rules

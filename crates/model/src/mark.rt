@@ -1,6 +1,6 @@
 //! Marks, which order the openings and steps of all nodes.
 ghost use Rattle.std.specs.Prelude.{◌≡◌, ◌<◌, ◌≤◌};
-ghost use Rattle.history.specs.Marks.{mark_after};
+ghost use Rattle.model.specs.Marks.{mark_after};
 
 use std::marker::Model;
 
