@@ -2,19 +2,14 @@
 use Rattle.std.proofs.Common.{◌≡◌, ℕ, ◌+◌, ◌/◌, ◌%◌, append_assoc, List, [], ◌∷◌, ◌++◌, Option, Some, None, IfSome, IfNone, IsOkAnd, refl, sym, ap, ◌∙◌, arith}
 use Rattle.std.specs.Option.{ok_or}
 use Rattle.fault.specs.declared.refusal.Refusal.{Refusal}
-use Rattle.jiff.specs.Types.{Date}
 use Rattle.period.specs.declared.parts.DateParts.{DateParts}
 use Rattle.period.specs.declared.parts.TimeParts.{TimeParts}
 use Rattle.period.specs.declared.parts.InstantParts.{InstantParts}
 use Rattle.period.specs.Day.{IsDateOf, IsDayText, day_text}
 use Rattle.period.specs.Instant.{IsInstant, IsTimeOfDay, IsDayAtTime, IsInstantText, microseconds_of, time_of, instant_text}
 use Rattle.period.specs.Places as places
-use Rattle.period.proofs.DayLemmas.{parts_of_date, parts_of_date-fit, date_text-parts, IsDayText-one_day, day_text-date_text}
+use Rattle.period.proofs.DayLemmas.{IsDateOf-fit, IsDayText-one_day, day_text-date_text}
 use Rattle.period.proofs.ReadingLemmas.{date_text_apart, time_text_apart}
-
--- the parts of an instant's text
-pub parts_of_instant : (n : ℕ) (text : List ℕ) → IsInstantText n text → InstantParts
-parts_of_instant n text h = record { date = parts_of_date h.date; time = h.time }
 
 -- what a text of these parts says
 pub record Names (n day : ℕ) (p : InstantParts) : Type 0 where
@@ -32,22 +27,18 @@ names_same n day d e t u same_date same_time a b c =
 
 pub names : (n : ℕ) (p : InstantParts) → places.AreDateParts p.date → places.AreTimeParts p.time → (h : IsInstantText n (places.instant_text p)) → Names n h.day p
 names n p d_fit t_fit h =
-    let own = parts_of_date-fit h.date h.day h.is_date in
-    let written = date_text-parts h.date (parts_of_date h.date) (sym own.1, refl, refl) in
+    let own = IsDateOf-fit h.date h.day h.is_date in
     let time_fit : places.AreTimeParts h.time = omega (arith, h.is_time) in
-    let spelled = h.spelled ∙ ap (λ (t : List ℕ). t ++ 32 ∷ places.time_text h.time) written in
-    let (date, rest) = date_text_apart p.date (parts_of_date h.date) (32 ∷ places.time_text p.time) (32 ∷ places.time_text h.time) d_fit own.0 spelled in
+    let (date, rest) = date_text_apart p.date h.date (32 ∷ places.time_text p.time) (32 ∷ places.time_text h.time) d_fit own h.spelled in
     let times : places.time_text p.time ≡ places.time_text h.time = cc in
     let time = (time_text_apart p.time h.time [] [] t_fit time_fit times).0 in
-    names_same n h.day p.date (parts_of_date h.date) p.time h.time date time (h.date, (h.is_date, sym written)) h.is_time h.is_instant
+    names_same n h.day p.date h.date p.time h.time date time (h.date, (h.is_date, refl)) h.is_time h.is_instant
 
 -- every text of an instant has the shape
 pub IsInstantText-shape : (n : ℕ) (text : List ℕ) → IsInstantText n text → places.HasInstantShape text
 IsInstantText-shape n text h =
-    let own = parts_of_date-fit h.date h.day h.is_date in
-    let written = date_text-parts h.date (parts_of_date h.date) (sym own.1, refl, refl) in
     let time_fit : places.AreTimeParts h.time = omega (arith, h.is_time) in
-    (record { date = parts_of_date h.date; time = h.time }, (own.0, time_fit, h.spelled ∙ ap (λ (t : List ℕ). t ++ 32 ∷ places.time_text h.time) written))
+    (record { date = h.date; time = h.time }, (IsDateOf-fit h.date h.day h.is_date, time_fit, h.spelled))
 
 -- an instant of a day at a time is one
 at_one : (a b day : ℕ) (t : TimeParts) → IsDayAtTime a day t → IsDayAtTime b day t → a ≡ b
@@ -114,7 +105,7 @@ IsInstantText-instant_text n text h =
     ∙ sym (append_assoc (day_text h.day) (32 ∷ []) clock_text)
     ∙ ap (λ (d : ℕ). day_text d ++ 32 ∷ [] ++ clock_text) (sym day)
 
-pub instant_text-is_text : (n : ℕ) (date : Date) → IsDateOf (n / 86_400_000_000 + 719_162) date → IsInstantText n (instant_text n)
+pub instant_text-is_text : (n : ℕ) (date : DateParts) → IsDateOf (n / 86_400_000_000 + 719_162) date → IsInstantText n (instant_text n)
 unfolding instant_text
 instant_text-is_text n date is =
     record {

@@ -1,19 +1,17 @@
 -- Days, their dates in the proleptic Gregorian calendar, and their texts. A day is counted from 0001-01-01; the last is
 -- 9999-12-31, number 3652058.
 use Rattle.std.specs.Prelude.{ℕ, zero, suc, ◌≡◌, ◌+◌, ◌-◌, nat_le, Bool, if◌then◌else◌, List, pos, ◌+ℤ◌}
-use Rattle.jiff.specs.Types.{Date}
-use Rattle.jiff.specs.Words.{epoch_day, date_text}
-use Rattle.jiff_core.specs.Calendar.{day_count}
+use Rattle.jiff_core.specs.Calendar.{IsCivilDate, day_count, days_from_civil}
 use Rattle.period.specs.declared.parts.DateParts.{DateParts}
 use Rattle.period.specs.Places as places
 
 -- this date of the proleptic Gregorian calendar is the day, where day 0 is 0001-01-01
-abbrev pub IsDateOf : ℕ → Date → Type 0
-IsDateOf day date = epoch_day date +ℤ pos 719_162 ≡ pos day
+abbrev pub IsDateOf : ℕ → DateParts → Type 0
+IsDateOf day p = IsCivilDate (pos p.year) p.month p.day × (days_from_civil (pos p.year) p.month p.day +ℤ pos 719_162 ≡ pos day)
 
 -- the text is the day's date as YYYY-MM-DD
 abbrev pub IsDayText : ℕ → List ℕ → Type 0
-IsDayText day text = (date : Date) × (IsDateOf day date × (text ≡ date_text date))
+IsDayText day text = (date : DateParts) × (IsDateOf day date × (text ≡ places.date_text date))
 
 -- the greatest number up to n that passes the test, or 0
 unfoldable pub greatest : (ℕ → Bool) → ℕ → ℕ

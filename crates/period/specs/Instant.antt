@@ -1,11 +1,10 @@
 -- Instants of UTC, their dates and times of day, and their texts. An instant is counted in microseconds from 1970-01-01
 -- 00:00:00; each day has 86,400 seconds.
 use Rattle.std.specs.Prelude.{ℕ, ◌≡◌, ◌+◌, ◌*◌, ◌/◌, ◌%◌, ◌<◌, ◌≤◌, List, [], ◌∷◌, ◌++◌}
-use Rattle.jiff.specs.Types.{Date}
-use Rattle.jiff.specs.Words.{date_text}
+use Rattle.period.specs.declared.parts.DateParts.{DateParts}
 use Rattle.period.specs.declared.parts.TimeParts.{TimeParts}
 use Rattle.period.specs.Day.{IsDateOf, day_text}
-use Rattle.period.specs.Places.{time_text}
+use Rattle.period.specs.Places.{date_text, time_text}
 
 -- a number of microseconds that stands for an instant: the last is 9999-12-30 23:59:59.999999
 abbrev pub IsInstant : ℕ → Type 0
@@ -26,7 +25,7 @@ IsDayAtTime n day t = n + 719_162 * 86_400_000_000 ≡ day * 86_400_000_000 + mi
 -- the text is the instant's date and time as YYYY-MM-DD hh:mm:ss.ffffff
 pub record IsInstantText (n : ℕ) (text : List ℕ) : Type 0 where
   pub day : ℕ
-  pub date : Date
+  pub date : DateParts
   pub time : TimeParts
   pub is_date : IsDateOf day date
   pub is_time : IsTimeOfDay time
