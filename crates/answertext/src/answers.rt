@@ -28,7 +28,7 @@ impl fmt::Display for Lines<'_> {
 }
 
 /// Writes an answer's text, as `Lines` prints it. Where the writer fails, its error is returned, and
-/// a beginning of the text was written. A name or a value that takes more than 1,023 bytes, which
+/// a beginning of the text was written. A name or a value that takes more than 2,047 bytes, which
 /// none of a table does, is an error too.
 pub fn write_answer<W: io::Write>(answer: &Answer, writer: &mut W) -> io::Result<()>
     ensures { WritesOrBegins (W.contents writer.old) (W.contents writer.new) result (answer_text answer.now) }

@@ -11,8 +11,9 @@ ghost use Rattle.answertext.specs.Appending.{has_written-nothing, has_written-mo
 use std::fmt::{InlineText, Write};
 use std::{fmt, io};
 
-// The most bytes of one piece: a value's text of 255 quotes takes 512.
-const PIECE_BYTES: usize = 1_024;
+// The most bytes of one piece: a value's text of 255 quotes takes 512, and the line of an outcome that names a key of
+// three of them less than 2,000.
+const PIECE_BYTES: usize = 2_048;
 
 /// What takes texts piece by piece.
 pub trait Sink {
@@ -62,7 +63,7 @@ impl<W: fmt::Write> Sink for fmt::Formatter<W> {
     ghost longer = { λ a b x y p. p };
 }
 
-/// A writer, which takes pieces of up to 1,024 bytes. A longer one is a fault, as the writer's own are.
+/// A writer, which takes pieces of up to 2,048 bytes. A longer one is a fault, as the writer's own are.
 pub struct Pen<'a, W> {
     pub writer: &'a mut W,
 }

@@ -2,7 +2,7 @@
 use anyhow::{Result, bail, ensure};
 use lines::line::{Line, read_line};
 use schema::Schema;
-use shell::player::Player;
+use script::player::Player;
 use std::alloc::Global;
 use std::rt::Clock;
 use std::time::Instant;

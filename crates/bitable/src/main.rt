@@ -2,8 +2,8 @@
 #![tactic(auto)]
 
 use fault::Refusal;
+use script::run_fault::RunFault;
 use shell::command::{Command, USAGE, read_command};
-use shell::run_fault::RunFault;
 use shell::sim::run_sim;
 use std::alloc::Global;
 use std::fs::File;

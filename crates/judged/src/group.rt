@@ -8,7 +8,7 @@ use anyhow::{Result, bail, ensure};
 use lines::line::{Line, read_line};
 use schema::Schema;
 use schemaread::schemas::read_schema;
-use shell::player::Player;
+use script::player::Player;
 use std::alloc::Global;
 
 /// A question, and what was printed of it.

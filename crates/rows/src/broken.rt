@@ -1,5 +1,5 @@
 //! Scripts whose reader or writer fails.
-use shell::run_fault::RunFault;
+use script::run_fault::RunFault;
 use shell::sim::run_sim;
 use std::alloc::{AllocError, Global};
 use std::io;

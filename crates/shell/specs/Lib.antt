@@ -1,3 +1,2 @@
-pub mod Player
-pub mod Printing
+pub mod Sim
 pub mod Command

@@ -2,7 +2,4 @@
 #![tactic(auto)]
 
 pub mod command;
-pub mod player;
-pub mod printing;
-pub mod run_fault;
 pub mod sim;

@@ -1,22 +1,23 @@
 //! The command `sim`.
-ghost use Rattle.std.specs.Prelude.{◌≡◌, ◌≢◌, ◌⊎◌, ℕ, List, string_bytes, IfSome, IfOk, IfErr, OnOk, Err};
+ghost use Rattle.std.specs.Prelude.{◌≡◌, ◌≢◌, ◌⊎◌, ℕ, List, string_bytes, IfSome, IfOk, IfErr, OnOk, OnErr, Err};
 ghost use Rattle.fault.specs.declared.refusal.Refusal.TheVariants.{NoMemory, BadScript};
 ghost use Rattle.fault.specs.declared.refusal.Refusal.{Refusal as AnyRefusal};
 ghost use Rattle.sqlchecks.specs.Columns.{Tables};
 ghost use Rattle.lines.specs.declared.line.Line.{Line};
-ghost use Rattle.shell.specs.Player.{IsSimFault};
+ghost use Rattle.shell.specs.Sim.{IsSimFault, IsOfText, PrintsScript, BeginsScript};
 ghost use Rattle.lines.specs.Script.{HasLines};
 
-use crate::player::Player;
-use crate::run_fault::RunFault;
 use fault::Refusal;
 use lines::script::{Script, read_script};
+use script::player::Player;
+use script::run_fault::RunFault;
 use std::alloc::Global;
 use std::io;
 
-/// Reads a script to its end, plays it, and prints what it gives. It gives the exit status 0, or
-/// what ended the command: want of memory, the writer's fault, or a bad script or the refusal of its
-/// schema, which print nothing. A script that cannot be read, or is not UTF-8, is bad at line 0.
+/// Reads a script to its end, plays it, and prints exactly what its lines give, from the opening of its group on. It
+/// gives the exit status 0, or what ended the command: want of memory, the writer's fault, or a bad script or the
+/// refusal of its schema. A bad script or schema prints nothing, and the others leave a beginning of what is printed. A
+/// script that cannot be read, or is not UTF-8, is bad at line 0.
 pub fn run_sim<R: io::Read, W: io::Write>(
     alloc: Global,
     reader: &mut R,
@@ -25,10 +26,14 @@ pub fn run_sim<R: io::Read, W: io::Write>(
     ensures status { IfOk result (λ status. status ≡ 0) }
     ensures script { OnOk result (IfSome (R.remaining reader.old)
         (λ bytes. (members : ℕ) × (schema : Tables) × (lines : List Line) × HasLines bytes members schema lines)) }
+    ensures printed { OnOk result (IsOfText (R.remaining reader.old) (λ text. PrintsScript text (W.contents writer.old) (W.contents writer.new))) }
+    ensures begun { OnErr result ((writer.new ≡ writer.old) ⊎ IsOfText (R.remaining reader.old) (λ text. BeginsScript text (W.contents writer.old) (W.contents writer.new))) }
     ensures err { IfErr result (IsSimFault (R.remaining reader.old)) }
     ensures bad { (line : ℕ) → result ≡ Err (RunFault.Refused (BadScript line)) → writer.new ≡ writer.old }
     ensures refused { (refusal : AnyRefusal) → result ≡ Err (RunFault.Refused refusal) → refusal ≢ NoMemory → writer.new ≡ writer.old }
 {
+    // Its contract says that all members agree about whatever happens.
+    safety::agreement();
     let text = read_text(alloc, reader)?;
     let script = read_script(alloc, text.as_str())?;
     let Script {
@@ -37,9 +42,7 @@ pub fn run_sim<R: io::Read, W: io::Write>(
         lines,
     } = script;
     let mut player = Player::new(alloc, members, schema)?;
-    for line in &lines {
-        player.play(line, writer)?;
-    }
+    player.play_all(&lines, writer)?;
     writer.flush()?;
     Ok(0)
 }

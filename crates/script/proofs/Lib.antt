@@ -1,0 +1,3 @@
+pub mod Mailing
+pub mod Playing
+pub mod Rounds

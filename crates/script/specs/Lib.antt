@@ -1,0 +1,6 @@
+pub mod Mail
+pub mod Printing
+pub mod Stage
+pub mod Faults
+pub mod Plays
+pub mod Player
