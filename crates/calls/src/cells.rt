@@ -17,6 +17,7 @@ use schema::Schema;
 use schemaread::schemas::read_schema;
 use std::alloc::Global;
 use std::process::Abort;
+use std::sync::Wait;
 use std::test::Fail;
 
 const NOTHING_STORED: HardState = HardState {
@@ -25,7 +26,8 @@ const NOTHING_STORED: HardState = HardState {
 };
 
 // A life of a member of three.
-fn start(
+pub(crate) fn start<R: Wait>(
+    rt: &R,
     alloc: Global,
     image: MemImage,
     schema: &Schema,
@@ -38,7 +40,7 @@ fn start(
     ensures log { IfErr result (λ e. IsLog 3 (schema_of schema.now) (stored_in e.1)) }
 {
     match schema.clone() {
-        Ok(schema) => Cell::start(alloc, image, schema, 3, me, last),
+        Ok(schema) => Cell::start(rt, alloc, image, schema, 3, me, last),
         Err(_) => Err((Refusal::NoMemory, image)),
     }
 }
@@ -71,24 +73,24 @@ fn steps_of(life: &Life) -> (u64, usize) {
 }
 
 // Stands for election and is given a vote.
-fn lead(cell: &mut Cell<MemKeeper>) -> Result<(), Fault>
+fn lead<R: Wait>(rt: &R, cell: &mut Cell<MemKeeper>) -> Result<(), Fault>
     ensures { (cell.new.node.core.members ≡ cell.old.node.core.members) × (cell.new.node.core.schema ≡ cell.old.node.core.schema) }
 {
-    let _ = cell.feed(timeout())?;
-    let _ = cell.feed(vote(Mark::new(5)))?;
+    let _ = cell.feed(rt, timeout())?;
+    let _ = cell.feed(rt, vote(Mark::new(5)))?;
     Ok(())
 }
 
 // The first life of member 1, of whose store this call fails, a save. How it goes down, and what it leaves.
-fn first_life(rt: &impl Abort, mut cell: Cell<MemKeeper>, call: u64) -> (MemImage, Life)
+fn first_life(rt: &(impl Abort + Wait), mut cell: Cell<MemKeeper>, call: u64) -> (MemImage, Life)
     ensures { IsLog cell.node.core.members (schema_of cell.node.core.schema) (stored_in result.0) }
 {
-    let down = lead(&mut cell);
-    let late = cell.feed(beat());
+    let down = lead(rt, &mut cell);
+    let late = cell.feed(rt, beat());
     assert!(rt; matches!(late, Err(Fault::Kept(Refusal::NodeDown))));
     assert!(rt; matches!(down, Err(Fault::Down(StoreError::StoreFault))));
     assert_eq!(rt; cell.node.commit(), None);
-    let (image, life) = cell.stop();
+    let (image, life) = cell.stop(rt);
     assert!(rt; matches!(life.ending, Ending::Torn(_)));
     let wanted = if call == 3 { (2, 0) } else { (6, 1) };
     assert_eq!(rt; steps_of(&life), wanted);
@@ -97,7 +99,7 @@ fn first_life(rt: &impl Abort, mut cell: Cell<MemKeeper>, call: u64) -> (MemImag
 
 // Member 1 starts again after a life with this last mark, and stops. What it leaves.
 fn next_life(
-    rt: &impl Abort,
+    rt: &(impl Abort + Wait),
     alloc: Global,
     image: MemImage,
     schema: &Schema,
@@ -106,22 +108,22 @@ fn next_life(
     requires { IsLog 3 (schema_of schema.now) (stored_in image) }
     ensures { IfOk result (λ image. IsLog 3 (schema_of schema.now) (stored_in image)) }
 {
-    let Ok(cell) = start(alloc, image, schema, 1, Some(last)) else {
+    let Ok(cell) = start(rt, alloc, image, schema, 1, Some(last)) else {
         return Err(Fail::from("it does not start again"));
     };
-    let (image, next) = cell.stop();
+    let (image, next) = cell.stop(rt);
     assert_eq!(rt; next.last_mark().number(), last.number() + 1);
     Ok(image)
 }
 
 // Two lives of member 1, the second after the first went down by this call of its store; or none, where the first did
 // not start. What they leave.
-fn lives(rt: &impl Abort, alloc: Global, schema: &Schema, call: u64) -> Result<MemImage, Fail>
+fn lives(rt: &(impl Abort + Wait), alloc: Global, schema: &Schema, call: u64) -> Result<MemImage, Fail>
     ensures { IfOk result (λ image. IsLog 3 (schema_of schema.now) (stored_in image)) }
 {
     let mut image = MemImage::new(alloc);
     image.fail_at(call);
-    match start(alloc, image, schema, 1, None) {
+    match start(rt, alloc, image, schema, 1, None) {
         Ok(cell) => {
             let (image, life) = first_life(rt, cell, call);
             next_life(rt, alloc, image, schema, life.last_mark())
@@ -155,14 +157,14 @@ fn goes_down_with_its_store(rt: HostRuntime) -> Result<(), Fail> {
 }
 
 // It follows, with the term, the vote and the log that it had. What it refuses, and what has no effect, is recorded.
-fn second_life(rt: &impl Abort, mut cell: Cell<MemKeeper>) -> Life {
-    let refused = cell.feed(Packet::Local(Input::Close { reading: 200 }));
+fn second_life(rt: &(impl Abort + Wait), mut cell: Cell<MemKeeper>) -> Life {
+    let refused = cell.feed(rt, Packet::Local(Input::Close { reading: 200 }));
     assert!(rt; matches!(refused, Err(Fault::Kept(Refusal::NotLeader(None)))));
-    let Ok(ignored) = cell.feed(beat()) else {
+    let Ok(ignored) = cell.feed(rt, beat()) else {
         panic!(rt; "a beat is refused");
     };
     assert!(rt; ignored.given.messages.is_empty() && ignored.given.told.is_empty());
-    let (_image, life) = cell.stop();
+    let (_image, life) = cell.stop(rt);
     life
 }
 
@@ -171,17 +173,17 @@ fn second_life(rt: &impl Abort, mut cell: Cell<MemKeeper>) -> Life {
 fn stops_and_starts_again(rt: HostRuntime) -> Result<(), Fail> {
     let alloc = rt.alloc();
     let schema = read_schema(alloc, SCHEMA)?;
-    let Ok(mut cell) = start(alloc, MemImage::new(alloc), &schema, 1, None) else {
+    let Ok(mut cell) = start(&rt, alloc, MemImage::new(alloc), &schema, 1, None) else {
         return Err(Fail::from("it does not start"));
     };
     assert_eq!(rt; steps_of(&cell.life), (1, 0));
-    lead(&mut cell)?;
-    let (image, life) = cell.stop();
+    lead(&rt, &mut cell)?;
+    let (image, life) = cell.stop(&rt);
     assert!(rt; matches!(life.ending, Ending::Stopped));
     assert_eq!(rt; steps_of(&life), (6, 2));
     let first = life.steps.first().map(|step| step.mark.number());
     assert_eq!(rt; first, Some(2));
-    let Ok(cell) = start(alloc, image, &schema, 1, Some(life.last_mark())) else {
+    let Ok(cell) = start(&rt, alloc, image, &schema, 1, Some(life.last_mark())) else {
         return Err(Fail::from("it does not start again"));
     };
     let life = second_life(&rt, cell);
@@ -198,14 +200,14 @@ fn stops_and_starts_again(rt: HostRuntime) -> Result<(), Fail> {
 }
 
 // Feeds it as many beats, and one that is refused since its life is full.
-fn fill(rt: &impl Abort, mut cell: Cell<MemKeeper>, beats: usize) -> Result<(MemImage, Life), Fail>
+fn fill(rt: &(impl Abort + Wait), mut cell: Cell<MemKeeper>, beats: usize) -> Result<(MemImage, Life), Fail>
     ensures { IfOk result (λ p. IsLog cell.node.core.members (schema_of cell.node.core.schema) (stored_in p.0)) }
 {
     for _ in 0..beats {
-        let _ = cell.feed(beat())?;
+        let _ = cell.feed(rt, beat())?;
     }
-    assert!(rt; matches!(cell.feed(beat()), Err(Fault::Kept(Refusal::LifeFull))));
-    let (image, life) = cell.stop();
+    assert!(rt; matches!(cell.feed(rt, beat()), Err(Fault::Kept(Refusal::LifeFull))));
+    let (image, life) = cell.stop(rt);
     assert_eq!(rt; life.steps.len(), beats);
     Ok((image, life))
 }
@@ -219,15 +221,15 @@ fn fills_a_life(rt: HostRuntime) -> Result<(), Fail> {
         (None, LIFE_STEPS, 200_001),
         (Mark::after(LAST_MARK - 3), 1, LAST_MARK),
     ] {
-        let Ok(cell) = start(alloc, MemImage::new(alloc), &schema, 2, last) else {
+        let Ok(cell) = start(&rt, alloc, MemImage::new(alloc), &schema, 2, last) else {
             return Err(Fail::from("it does not start"));
         };
         let (image, life) = fill(&rt, cell, beats)?;
         assert_eq!(rt; life.last_mark().number(), mark);
-        match start(alloc, image, &schema, 2, Some(life.last_mark())) {
+        match start(&rt, alloc, image, &schema, 2, Some(life.last_mark())) {
             Ok(cell) => {
                 assert_eq!(rt; cell.life.last_mark().number(), 200_002);
-                let _ = cell.stop();
+                let _ = cell.stop(&rt);
             }
             Err((refusal, image)) => {
                 assert_eq!(rt; (mark, refusal), (LAST_MARK, Refusal::LifeFull));
@@ -240,10 +242,10 @@ fn fills_a_life(rt: HostRuntime) -> Result<(), Fail> {
 
 // Each answer is that of a step that was made, or of want of memory: before the step, which changes nothing, or within
 // it, which tears the life.
-fn try_timeout(rt: &impl Abort, cell: &mut Cell<MemKeeper>) {
+fn try_timeout(rt: &(impl Abort + Wait), cell: &mut Cell<MemKeeper>) {
     let before = cell.life.steps.len();
     let was_up = cell.node.is_up();
-    let answer = cell.feed(timeout());
+    let answer = cell.feed(rt, timeout());
     let is_torn = matches!(cell.life.ending, Ending::Torn(_));
     let is_right = match answer {
         Ok(_out) => was_up && !is_torn && before < cell.life.steps.len(),
@@ -261,7 +263,7 @@ fn lacks_memory(rt: HostRuntime) {
     let Ok(schema) = read_schema(alloc, SCHEMA) else {
         return;
     };
-    match start(alloc, MemImage::new(alloc), &schema, 1, None) {
+    match start(&rt, alloc, MemImage::new(alloc), &schema, 1, None) {
         Ok(mut cell) => {
             for _ in 0..4 {
                 try_timeout(&rt, &mut cell);

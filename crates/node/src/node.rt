@@ -11,7 +11,7 @@ ghost use Rattle.model.specs.Kept.{node_after};
 ghost use Rattle.model.specs.Members.{applied};
 ghost use Rattle.keep.specs.Durable.{Durable, IsBeforeOrAfter};
 ghost use Rattle.raft.specs.Memory.{spares_memory};
-ghost use Rattle.raft.specs.View.{node_of, works};
+ghost use Rattle.raft.specs.View.{node_of, works, Grows};
 ghost use Rattle.node.specs.View.{durable_of, after_change, Fits, Gave, IsKept, IsSame, IsTorn, IsCause, HasCause, LeavesUp, started_from, told_between};
 
 use crate::reading::{Found, read_stored};
@@ -201,6 +201,7 @@ impl<K: Keeper> Node<K> {
     #[tactic(auto, using(crate::proofs::Stored::fits, crate::proofs::Stored::small, crate::proofs::Stored::synced))]
     pub fn step(&mut self, work: Work) -> Result<Out, Fault>
         ensures done { self.old.is_up ≡ true → Gave (node_of self.old.core) (node_of self.new.core) (works self.old.core.schema self.old.core.members self.old.core.me work (node_of self.old.core)) result }
+        ensures grows { OnOk result (Grows (node_of self.old.core) (node_of self.new.core)) }
         ensures applied { IfOk result (λ out. out.applied.items ≡ slice_range self.new.core.log.items self.old.core.commit self.new.core.commit) }
         ensures told { IfOk result (λ out. out.told.items ≡ told_between (schema_of self.old.core.schema) self.new.core.log.items self.old.core.commit self.new.core.commit) }
         ensures spares { spares_memory self.old.core.members self.old.core.me work (node_of self.old.core) ≡ true → IfErr result IsKept }

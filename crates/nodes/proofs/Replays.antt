@@ -22,7 +22,7 @@ abbrev pub taken_through : Core → Opening → List Step → Node
 taken_through c o steps = fold (stepped c.schema c.members c.me) (started_from (opened_with o)) steps
 
 -- the seat is the same
-same_seat : (old new : Core) (o : Opening) (steps : List Step) → new.schema ≡ old.schema → new.members ≡ old.members → new.me ≡ old.me → taken_through new o steps ≡ taken_through old o steps
+pub same_seat : (old new : Core) (o : Opening) (steps : List Step) → new.schema ≡ old.schema → new.members ≡ old.members → new.me ≡ old.me → taken_through new o steps ≡ taken_through old o steps
 same_seat old new o steps a b c = rw (a, b, c) refl
 
 -- one step more
@@ -30,16 +30,16 @@ replay_more : (c : Core) (o : Opening) (steps : List Step) (s : Step) → taken_
 replay_more c o steps s = fold-append (stepped c.schema c.members c.me) (started_from (opened_with o)) steps (s ∷ [])
 
 -- a step that was made whole
-stepped_given : (schema : Tables) (n me : ℕ) (x : Node) (s : Step) (w : Work) (c : Core) (out : Out) → w ≡ work_of s.packet → IsGiven x (node_of c) (works schema n me w x) out → stepped schema n me x s ≡ node_of c
+pub stepped_given : (schema : Tables) (n me : ℕ) (x : Node) (s : Step) (w : Work) (c : Core) (out : Out) → w ≡ work_of s.packet → IsGiven x (node_of c) (works schema n me w x) out → stepped schema n me x s ≡ node_of c
 unfolding stepped
 stepped_given schema n me x s w c out is gave = rw (← is) (⊎_elim (λ moved. ap (node_after x) (sym moved)) (λ ignored. ap (node_after x) (sym ignored.0) ∙ sym ignored.1) gave)
 
 -- a step that was refused
-stepped_refused : (schema : Tables) (n me : ℕ) (x : Node) (s : Step) (w : Work) (c : Core) (refusal : Refusal) → w ≡ work_of s.packet → Gave x (node_of c) (works schema n me w x) (Err (Kept refusal)) → node_of c ≡ x → stepped schema n me x s ≡ node_of c
+pub stepped_refused : (schema : Tables) (n me : ℕ) (x : Node) (s : Step) (w : Work) (c : Core) (refusal : Refusal) → w ≡ work_of s.packet → Gave x (node_of c) (works schema n me w x) (Err (Kept refusal)) → node_of c ≡ x → stepped schema n me x s ≡ node_of c
 unfolding stepped
 stepped_refused schema n me x s w c refusal is gave same = rw (← is) (ap (node_after x) (sym gave) ∙ sym same)
 
-replayed : (old new : Core) (o : Opening) (before after : List Step) (s : Step) → new.schema ≡ old.schema → new.members ≡ old.members → new.me ≡ old.me → after ≡ before ++ s ∷ [] → node_of old ≡ taken_through old o before → stepped old.schema old.members old.me (node_of old) s ≡ node_of new → node_of new ≡ taken_through new o after
+pub replayed : (old new : Core) (o : Opening) (before after : List Step) (s : Step) → new.schema ≡ old.schema → new.members ≡ old.members → new.me ≡ old.me → after ≡ before ++ s ∷ [] → node_of old ≡ taken_through old o before → stepped old.schema old.members old.me (node_of old) s ≡ node_of new → node_of new ≡ taken_through new o after
 replayed old new o before after s a b c e was is = sym is ∙ ap (λ v. stepped old.schema old.members old.me v s) was ∙ sym (replay_more old o before s) ∙ sym (same_seat old new o (before ++ s ∷ []) a b c) ∙ ap (taken_through new o) (sym e)
 
 -- after a step that was made whole the node is what the longer life replays to

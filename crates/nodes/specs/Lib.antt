@@ -1,2 +1,3 @@
 pub mod Lives
 pub mod Feeds
+pub mod Publishing

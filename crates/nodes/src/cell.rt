@@ -1,24 +1,34 @@
-//! A node with its life.
-ghost use Rattle.std.specs.Prelude.{◌≡◌, ◌≢◌, ◌≤◌, ◌⊎◌, [], ◌++◌, ◌∷◌, true, false, Some, None, IfOk, IfErr, OnOk, MatchOption, slice_range, unwrap_or};
+//! A node with its life, and with what it publishes of it.
+ghost use Rattle.std.specs.Prelude.{◌≡◌, ◌≢◌, ◌≤◌, ◌<◌, ◌+◌, ◌⊎◌, [], ◌++◌, ◌∷◌, true, false, Some, None, Err, IfOk, IfErr, OnOk, OnErr, MatchOption, MatchResult, slice_range, unwrap_or};
 ghost use Rattle.sqlread.specs.Meaning.{schema_of};
 ghost use Rattle.keep.specs.Durable.{Durable};
 ghost use Rattle.raft.specs.Memory.{spares_memory};
 ghost use Rattle.raft.specs.View.{node_of, works};
 ghost use Rattle.node.specs.View.{durable_of, Gave, IsKept, LeavesUp, HasCause, told_between};
 ghost use Rattle.model.specs.Marks.{mark_after};
+ghost use Rattle.model.specs.Members.{applied};
+ghost use Rattle.fault.specs.declared.refusal.Refusal.TheVariants.{NoMemory, NoView};
+ghost use Rattle.history.specs.Items.{entries_of};
+ghost use Rattle.view.specs.Publishing.{published, pending, given_of as views_of, book_of, IsSameLife};
+ghost use Rattle.view.specs.Viewing.{seen_by, name_seen, schema_seen, book_seen, IsTold};
 ghost use Rattle.nodes.specs.Lives.{work_of, opened_with, replay, IsLeft, torn_step, all_steps, marks_rise, mark_for};
 ghost use Rattle.nodes.specs.Feeds.{IsLifeWith, IsRecorded, given_of, IsTurnedAway, IsStartRefusal, ending_of};
+ghost use Rattle.nodes.specs.Publishing.{items_of, AreFirst, IsPublisherOf};
 ghost use Rattle.nodes.specs.declared.life.Ending.TheVariants.{Up};
 
 use crate::copies::{copy_of_entries, work_of};
 use crate::life::{Ending, Life, Opening, Packet, Step};
+use crate::publishing::{append_all, publish_all};
 use fault::Refusal;
+use keep::StoreError;
 use keep::keeper::Keeper;
 use model::mark::Mark;
 use model::member::Member;
 use node::{Fault, Node, Out as NodeOut};
 use schema::Schema;
-use std::alloc::Global;
+use std::alloc::{AllocError, Global};
+use std::sync::Wait;
+use view::{Name, Publisher, Told, View};
 
 /// What a step gives: its mark, and what the node gave.
 #[derive(Debug, Drop)]
@@ -27,17 +37,50 @@ pub struct Out {
     pub given: NodeOut,
 }
 
-/// A node and its life. While the node is up it is what its life replays to; its store never holds
-/// anything but what was stored before the last step or after it.
+/// A node, its life, and what it publishes of it. While the node is up it is what its life replays to, and what is
+/// published and what is pending are together the entries that it has applied, each with the mark of its step. Once it is
+/// down what is published are the first of those that it had applied before the torn step. Its store never holds anything
+/// but what was stored before the last step or after it.
+///
+/// End it by `stop`; one that is dropped keeps the memory of what it published.
 #[derive(Drop)]
 pub struct Cell<K: Keeper> {
     alloc: Global,
     pub node: Node<K>,
     pub life: Life,
+    pub publisher: Publisher,
     pub ghost replayed: { node.is_up ≡ true → (node_of node.core ≡ replay node.core.schema node.core.members node.core.me life) × (life.ending ≡ Up) },
     pub ghost torn: { node.is_up ≡ false → torn_step life.ending ≢ [] },
     pub ghost rising: { marks_rise life.opening.mark (all_steps life) ≡ true },
     pub ghost held: { node.is_up ≡ false → (d : Durable) → K.may_hold node.keeper d → ∥ IsLeft node.core.schema node.core.members node.core.me life d ∥₁ },
+    pub ghost listed: { entries_of (items_of node.core life) ≡ applied (replay node.core.schema node.core.members node.core.me life) },
+    pub ghost whole: { node.is_up ≡ true → published publisher ++ pending publisher ≡ items_of node.core life },
+    pub ghost shown: { node.is_up ≡ false → AreFirst (published publisher) (items_of node.core life) },
+    pub ghost named: { IsPublisherOf node.core.schema node.core.me life.opening.mark publisher },
+}
+
+/// A publisher of a life that opens. The error is want of memory.
+fn open_publisher<R: Wait>(
+    rt: &R,
+    alloc: Global,
+    node: Member,
+    opening: Mark,
+    schema: &Schema,
+) -> Result<Publisher, AllocError>
+    ensures life { IfOk result (λ p. IsPublisherOf schema.now node opening p) }
+    ensures none { IfOk result (λ p. (published p ≡ []) × (pending p ≡ [])) }
+    ensures given { IfOk result (λ p. views_of p ≡ 0) }
+{
+    Publisher::start(rt, alloc, Name { node, opening }, schema.clone()?)
+}
+
+/// Takes a node down that is up: what its store holds is then what is stored.
+fn take_down<K: Keeper>(node: &mut Node<K>)
+    ensures same { (node.new.core ≡ node.old.core) × (node.new.keeper ≡ node.old.keeper) }
+    ensures down { node.new.is_up ≡ false }
+    ensures held { node.old.is_up ≡ true → (d : Durable) → K.may_hold node.new.keeper d → d ≡ durable_of (node_of node.old.core) }
+{
+    node.is_up = false;
 }
 
 impl<K: Keeper> Cell<K> {
@@ -45,7 +88,8 @@ impl<K: Keeper> Cell<K> {
     /// none if it had none; the opening's is one more. `me` is one of the group: from 1 to `members`, of
     /// which there are up to 7; the caller sees to this, and to what the keeper asks of an image. 42 where
     /// no mark is left, else 40, 43 or 44; the image comes back with each.
-    pub fn start(
+    pub fn start<R: Wait>(
+        rt: &R,
         alloc: Global,
         image: K::Image,
         schema: Schema,
@@ -59,6 +103,7 @@ impl<K: Keeper> Cell<K> {
         ensures opened { IfOk result (λ c. (c.node.is_up ≡ true) × (c.life.steps.items ≡ []) × (Some c.life.opening.mark ≡ mark_after (unwrap_or last 0))) }
         ensures stored { IfOk result (λ c. K.is_honest c.node.keeper → K.holds image (opened_with c.life.opening)) }
         ensures group { IfOk result (λ c. (c.node.core.schema ≡ schema) × (c.node.core.members ≡ members) × (c.node.core.me ≡ me)) }
+        ensures none { IfOk result (λ c. (published c.publisher ≡ []) × (pending c.publisher ≡ []) × (views_of c.publisher ≡ 0)) }
         ensures refused { IfErr result (λ e. IsStartRefusal (mark_after (unwrap_or last 0)) e.0) }
         ensures back { IfErr result (λ e. (d : Durable) → K.holds e.1 d → K.holds image d) }
         ensures suits { IfErr result (λ e. K.suits e.1 members (schema_of schema)) }
@@ -73,6 +118,9 @@ impl<K: Keeper> Cell<K> {
         let Ok(entries) = copy_of_entries(alloc, &node.core.log) else {
             return Err((Refusal::NoMemory, node.stop()));
         };
+        let Ok(publisher) = open_publisher(rt, alloc, me, mark, &node.core.schema) else {
+            return Err((Refusal::NoMemory, node.stop()));
+        };
         let opening = Opening {
             mark,
             hard: node.core.hard_state(),
@@ -83,23 +131,34 @@ impl<K: Keeper> Cell<K> {
             steps: Vec::new(alloc),
             ending: Ending::Up,
         };
-        Ok(Cell { alloc, node, life })
+        Ok(Cell {
+            alloc,
+            node,
+            life,
+            publisher,
+        })
     }
 
     /// One step of the node by this packet, recorded with the mark that is one more than the greater of
-    /// the last mark and the packet's. A refused step and one without effect are recorded too.
+    /// the last mark and the packet's. A refused step and one without effect are recorded too. Then the entries that
+    /// became applied are published, for which it may wait for a view that reads; where there is no memory to publish
+    /// them they stay pending, and a later step publishes them.
     ///
     /// 41 where the node is down; 42 where the life has its last step or no mark is left; 43 where there is no
-    /// memory to record the step: these record and change nothing. A step that goes down is recorded as torn.
-    pub fn feed(&mut self, packet: Packet) -> Result<Out, Fault>
+    /// memory to record the step: these record and change nothing. A step that goes down is recorded as torn, and so is
+    /// one where there is no memory to append the entries that became applied; nothing is published then.
+    pub fn feed<R: Wait>(&mut self, rt: &R, packet: Packet) -> Result<Out, Fault>
         ensures fed { (IsTurnedAway self.old.node.is_up (mark_for self.old.life packet) result
             × IsLifeWith self.old.life self.new.life [] self.old.life.ending
-            × (self.new.node ≡ self.old.node))
+            × (self.new.node ≡ self.old.node) × (self.new.publisher ≡ self.old.publisher))
             ⊎ ((self.old.node.is_up ≡ true)
             × MatchOption (mark_for self.old.life packet) ⊥ (λ m. IsRecorded self.old.life self.new.life (record { mark = m; packet = packet }) result)
             × Gave (node_of self.old.node.core) (node_of self.new.node.core) (works self.old.node.core.schema self.old.node.core.members self.old.node.core.me (work_of packet) (node_of self.old.node.core)) (given_of result)) }
         ensures applied { IfOk result (λ out. out.given.applied.items ≡ slice_range self.new.node.core.log.items self.old.node.core.commit self.new.node.core.commit) }
         ensures told { IfOk result (λ out. out.given.told.items ≡ told_between (schema_of self.old.node.core.schema) self.new.node.core.log.items self.old.node.core.commit self.new.node.core.commit) }
+        ensures published { (published self.new.publisher ≡ published self.old.publisher) ⊎ (published self.new.publisher ≡ items_of self.new.node.core self.new.life) }
+        ensures silent { OnErr result (published self.new.publisher ≡ published self.old.publisher) }
+        ensures life { IsSameLife self.old.publisher self.new.publisher × (views_of self.new.publisher ≡ views_of self.old.publisher) }
         ensures spares { spares_memory self.old.node.core.members self.old.node.core.me (work_of packet) (node_of self.old.node.core) ≡ true → IfErr result IsKept }
         ensures up { OnOk result ((self.old.node.is_up ≡ true) × (self.new.node.is_up ≡ true)) }
         ensures leaves { IfErr result (LeavesUp self.old.node.is_up self.new.node.is_up) }
@@ -121,7 +180,13 @@ impl<K: Keeper> Cell<K> {
         let step = Step { mark, packet };
         match self.node.step(work) {
             Ok(given) => {
+                if append_all(&mut self.publisher, mark, &given.applied).is_err() {
+                    take_down(&mut self.node);
+                    self.life.ending = Ending::Torn(step);
+                    return Err(Fault::Down(StoreError::NoMemory));
+                }
                 self.life.steps.push_reserved(step);
+                publish_all(&mut self.publisher, rt);
                 Ok(Out { mark, given })
             }
             Err(Fault::Kept(refusal)) => {
@@ -135,10 +200,31 @@ impl<K: Keeper> Cell<K> {
         }
     }
 
-    /// Ends the life, and gives the store back: it holds what the life replays to or, after a torn
-    /// step, what was stored before that step or after it.
-    pub fn stop(self) -> (K::Image, Life)
-        ensures life { IsLifeWith self.life result.1 [] (ending_of self.node.is_up self.life.ending) }
+    /// Tells of what is published. Takes no memory.
+    pub fn told(&self) -> Told
+        ensures { IsTold (record { node = self.now.node.core.me; opening = self.now.life.opening.mark }) (book_of self.now.publisher) (published self.now.publisher) result }
+    {
+        self.publisher.told()
+    }
+
+    /// A view of this life that has seen what is published. 45 once eight were taken, of which none comes back, or where
+    /// there is no reader; 43 for want of memory. A refusal changes nothing.
+    pub fn take_view(&mut self) -> Result<View, Refusal>
+        ensures same { (self.new.node ≡ self.old.node) × (self.new.life ≡ self.old.life) }
+        ensures publisher { IsSameLife self.old.publisher self.new.publisher × (published self.new.publisher ≡ published self.old.publisher) × (pending self.new.publisher ≡ pending self.old.publisher) }
+        ensures given { MatchResult result (λ v. (views_of self.old.publisher < 8) × (views_of self.new.publisher ≡ views_of self.old.publisher + 1)) (λ e. views_of self.new.publisher ≡ views_of self.old.publisher) }
+        ensures ninth { 8 ≤ views_of self.old.publisher → result ≡ Err NoView }
+        ensures refused { IfErr result (λ e. (e ≡ NoView) ⊎ (e ≡ NoMemory)) }
+        ensures life { IfOk result (λ v. (name_seen v ≡ record { node = self.old.node.core.me; opening = self.old.life.opening.mark }) × (schema_seen v ≡ self.old.node.core.schema) × (book_seen v ≡ book_of self.old.publisher)) }
+        ensures seen { IfOk result (λ v. seen_by v ≡ published self.old.publisher) }
+    {
+        self.publisher.take_view()
+    }
+
+    /// Gives the store and the life back as they are: it holds what the life replays to or, after a torn step, what was
+    /// stored before that step or after it. It may wait for a view that reads; from then on views are refused 45.
+    pub(crate) fn leave<R: Wait>(self, rt: &R) -> (K::Image, Life)
+        ensures life { result.1 ≡ self.life }
         ensures suits { K.suits result.0 self.node.core.members (schema_of self.node.core.schema) }
         ensures stored { self.node.is_up ≡ true → (d : Durable) → K.holds result.0 d → d ≡ durable_of (replay self.node.core.schema self.node.core.members self.node.core.me self.life) }
         ensures torn { self.node.is_up ≡ false → (d : Durable) → K.holds result.0 d → ∥ IsLeft self.node.core.schema self.node.core.members self.node.core.me self.life d ∥₁ }
@@ -146,11 +232,27 @@ impl<K: Keeper> Cell<K> {
         let Cell {
             alloc: _,
             node,
-            mut life,
+            life,
+            publisher,
         } = self;
-        if node.is_up {
+        publisher.stop(rt);
+        (node.stop(), life)
+    }
+
+    /// Ends the life, and gives the store back: it holds what the life replays to or, after a torn
+    /// step, what was stored before that step or after it. It may wait for a view that reads; from then on views are
+    /// refused 45. Takes no memory.
+    pub fn stop<R: Wait>(self, rt: &R) -> (K::Image, Life)
+        ensures life { IsLifeWith self.life result.1 [] (ending_of self.node.is_up self.life.ending) }
+        ensures suits { K.suits result.0 self.node.core.members (schema_of self.node.core.schema) }
+        ensures stored { self.node.is_up ≡ true → (d : Durable) → K.holds result.0 d → d ≡ durable_of (replay self.node.core.schema self.node.core.members self.node.core.me self.life) }
+        ensures torn { self.node.is_up ≡ false → (d : Durable) → K.holds result.0 d → ∥ IsLeft self.node.core.schema self.node.core.members self.node.core.me self.life d ∥₁ }
+    {
+        let is_up = self.node.is_up;
+        let (image, mut life) = self.leave(rt);
+        if is_up {
             life.ending = Ending::Stopped;
         }
-        (node.stop(), life)
+        (image, life)
     }
 }

@@ -4,3 +4,5 @@
 pub mod cell;
 pub mod copies;
 pub mod life;
+pub mod locked;
+mod publishing;

@@ -1,5 +1,8 @@
 use Rattle.std.proofs.Common.{◌∙◌, refl}
+use Rattle.nodes.specs.declared.life.Opening.{Opening}
 use Rattle.nodes.specs.Lives.{marks_rise}
+use Rattle.view.specs.Publishing.{published, pending}
+use Rattle.nodes.proofs.Items.{listed_none, whole_none}
 use Rattle.nodes.proofs.cell.Cell.start.Goals as goal
 
 pub invariant_of-result-clause-replayed : goal.invariant_of-result-clause-replayed
@@ -10,3 +13,15 @@ invariant_of-result-clause-replayed g c = λ up.
 pub invariant_of-result-clause-rising : goal.invariant_of-result-clause-rising
 unfolding marks_rise
 invariant_of-result-clause-rising g c = rw c.new.ensures.items refl
+
+pub invariant_of-result-clause-listed : goal.invariant_of-result-clause-listed
+invariant_of-result-clause-listed g c =
+    let o : Opening = record { mark = c.in-Some.mark; hard = c.hard_state.result; entries = c.in-Ok-copy_of_entries.entries } in
+    listed_none c.in-Ok.node.core o c.new.result.items c.new.ensures.items
+
+pub invariant_of-result-clause-whole : goal.invariant_of-result-clause-whole
+invariant_of-result-clause-whole g c = λ up.
+    let o : Opening = record { mark = c.in-Some.mark; hard = c.hard_state.result; entries = c.in-Ok-copy_of_entries.entries } in
+    let p = c.in-Ok-open_publisher.publisher in
+    let none = c.in-Ok-open_publisher.ensures.none in
+    whole_none c.in-Ok.node.core o c.new.result.items (published p) (pending p) c.new.ensures.items none.0 none.1

@@ -1,0 +1,131 @@
+-- What a life with one step more publishes.
+use Rattle.std.proofs.Common.{◌≡◌, ◌∙◌, ℕ, zero, ◌+◌, ◌-◌, List, [], ◌∷◌, ◌++◌, length, take, drop, map, fold, refl, sym, ap, arith, append-nil, append_assoc, inl, inr, ⊎_elim, Result, Ok, Err, is_err, false, OnOk}
+use Rattle.std.specs.List.{slice_range}
+use Rattle.std.proofs.Math.Seq.{take-add}
+use Rattle.std.proofs.lemmas.List.{map-append}
+use Rattle.sqlchecks.specs.Columns.{Tables}
+use Rattle.model.specs.declared.entry.Entry.{Entry}
+use Rattle.model.specs.Members.{Node, applied}
+use Rattle.model.specs.Kept.{node_after}
+use Rattle.model.specs.Steps.{Effect}
+use Rattle.keep.specs.Durable.{Durable, IsBeforeOrAfter}
+use Rattle.raft.specs.declared.state.Core.{Core}
+use Rattle.raft.specs.declared.state.Work.{Work}
+use Rattle.raft.specs.View.{node_of, works, Grows}
+use Rattle.node.specs.declared.node.Out.{Out}
+use Rattle.node.specs.View.{IsGiven, durable_of, started_from}
+use Rattle.history.specs.declared.item.Item.{Item}
+use Rattle.history.specs.Items.{entry_of, entries_of}
+use Rattle.nodes.specs.declared.life.Step.{Step}
+use Rattle.nodes.specs.declared.life.Opening.{Opening}
+use Rattle.nodes.specs.Lives.{stepped, opened_with}
+use Rattle.view.specs.declared.publisher.Publisher.{Publisher}
+use Rattle.view.specs.Publishing.{IsSameLife}
+use Rattle.nodes.specs.Publishing.{marked, items_by, items_from, AreFirst, IsPublisherOf}
+use Rattle.nodes.proofs.Replays.{taken_through, replayed}
+
+-- what becomes applied in the steps from an opening on
+abbrev pub items_in : Core → Opening → List Step → List Item
+items_in c o steps = items_from c.schema c.members c.me (started_from (opened_with o)) steps
+
+-- the seat is the same
+pub same_items : (old new : Core) (o : Opening) (steps : List Step) → new.schema ≡ old.schema → new.members ≡ old.members → new.me ≡ old.me → items_in new o steps ≡ items_in old o steps
+same_items old new o steps a b c = rw (a, b, c) refl
+
+-- one step more
+items_more : (schema : Tables) (n me : ℕ) (x : Node) (steps : List Step) (s : Step) → items_from schema n me x (steps ++ s ∷ []) ≡ items_from schema n me x steps ++ items_by s.mark (fold (stepped schema n me) x steps) (stepped schema n me (fold (stepped schema n me) x steps) s)
+unfolding items_from
+items_more schema n me x [] s = append-nil (items_by s.mark x (stepped schema n me x s))
+items_more schema n me x (t ∷ steps) s =
+    let y : Node = stepped schema n me x t in
+    ap (λ (items : List Item). items_by t.mark x y ++ items) (items_more schema n me y steps s) ∙ sym (append_assoc (items_by t.mark x y) (items_from schema n me y steps) _)
+
+entries_marked : (mark : ℕ) (entries : List Entry) → entries_of (marked mark entries) ≡ entries
+entries_marked mark [] = refl
+entries_marked mark (e ∷ es) = ap (λ (rest : List Entry). e ∷ rest) (entries_marked mark es)
+
+-- what is applied after a step
+applied_more : (x y : Node) → Grows x y → applied y ≡ applied x ++ slice_range y.log x.commit y.commit
+applied_more x y g =
+    let n : x.commit + (y.commit - x.commit) ≡ y.commit = omega (arith, g.commit) in
+    ap (λ (k : ℕ). take k y.log) (sym n) ∙ take-add x.commit (y.commit - x.commit) y.log ∙ ap (λ (es : List Entry). es ++ slice_range y.log x.commit y.commit) g.log
+
+-- nothing becomes applied where nothing changes
+items_none : (mark : ℕ) (x y : Node) → y ≡ x → items_by mark x y ≡ []
+items_none mark x y e =
+    let none : x.commit - x.commit ≡ zero = omega arith in
+    ap (λ (v : Node). items_by mark x v) e ∙ ap (λ (k : ℕ). marked mark (take k (drop x.commit x.log))) none
+
+-- what a longer life publishes
+pub record OneMore (old new : Core) (o : Opening) (before after : List Step) (s : Step) : Type 0 where
+  pub items : items_in new o after ≡ items_in old o before ++ items_by s.mark (node_of old) (node_of new)
+  pub entries : entries_of (items_in new o after) ≡ applied (taken_through new o after)
+
+pub one_more : (old new : Core) (o : Opening) (before after : List Step) (s : Step) → new.schema ≡ old.schema → new.members ≡ old.members → new.me ≡ old.me → after ≡ before ++ s ∷ [] → node_of old ≡ taken_through old o before → stepped old.schema old.members old.me (node_of old) s ≡ node_of new → Grows (node_of old) (node_of new) → entries_of (items_in old o before) ≡ applied (taken_through old o before) → OneMore old new o before after s
+one_more old new o before after s a b c e was is grows had =
+    let x : Node = node_of old in
+    let y : Node = node_of new in
+    let items : items_in new o after ≡ items_in old o before ++ items_by s.mark x y =
+    same_items old new o after a b c
+    ∙ ap (items_in old o) e
+    ∙ items_more old.schema old.members old.me (started_from (opened_with o)) before s
+    ∙ ap (λ (v : Node). items_in old o before ++ items_by s.mark v (stepped old.schema old.members old.me v s)) (sym was)
+    ∙ ap (λ (v : Node). items_in old o before ++ items_by s.mark x v) is in
+    let entries : entries_of (items_in new o after) ≡ applied (taken_through new o after) =
+    ap entries_of items
+    ∙ map-append entry_of (items_in old o before) (items_by s.mark x y)
+    ∙ ap (λ (es : List Entry). es ++ entries_of (items_by s.mark x y)) (had ∙ ap applied (sym was))
+    ∙ ap (λ (es : List Entry). applied x ++ es) (entries_marked s.mark (slice_range y.log x.commit y.commit))
+    ∙ sym (applied_more x y grows)
+    ∙ ap applied (replayed old new o before after s a b c e was is) in
+    record { items = items; entries = entries }
+
+-- a step that changes nothing
+pub same_grows : (x y : Node) → y ≡ x → Grows x y
+same_grows x y e = record { commit = let n : y.commit ≡ x.commit = ap (λ (v : Node). v.commit) e in omega (arith, n); log = ap (λ (v : Node). take x.commit v.log) e }
+
+-- what is published and what is pending, after what became applied was appended and perhaps published
+pub all_listed : (before shown waits items by waits' all : List Item) → shown ++ waits ≡ before → waits' ≡ waits ++ by → items ≡ before ++ by → all ≡ shown ++ waits' → all ≡ items
+all_listed before shown waits items by waits' all was more is same = same ∙ ap (λ (xs : List Item). shown ++ xs) more ∙ sym (append_assoc shown waits by) ∙ ap (λ (xs : List Item). xs ++ by) was ∙ sym is
+
+-- what was published and pending is listed still where nothing became applied
+pub still_listed : (mark : ℕ) (x y : Node) (before items all : List Item) → y ≡ x → all ≡ before → items ≡ before ++ items_by mark x y → all ≡ items
+still_listed mark x y before items all same was is = was ∙ sym (append-nil before) ∙ ap (λ (xs : List Item). before ++ xs) (sym (items_none mark x y same)) ∙ sym is
+
+first_of : (xs ys : List Item) → take (length xs) (xs ++ ys) ≡ xs
+first_of [] ys = refl
+first_of (x ∷ xs) ys = ap (λ (zs : List Item). x ∷ zs) (first_of xs ys)
+
+-- what is published are the first of what is published and what is pending
+pub are_first : (shown waits items shown' items' : List Item) → shown ++ waits ≡ items → shown' ≡ shown → items' ≡ items → AreFirst shown' items'
+are_first shown waits items shown' items' was a b = rw (a, b, ← was) (first_of shown waits)
+
+-- a step that was made whole, of which what is stored is left
+pub whole_left : (x : Node) (schema : Tables) (n me : ℕ) (w : Work) (c : Core) (out : Out) (d : Durable) → IsGiven x (node_of c) (works schema n me w x) out → d ≡ durable_of (node_of c) → IsBeforeOrAfter (durable_of x) (durable_of (node_after x (works schema n me w x))) d
+whole_left x schema n me w c out d gave is = ⊎_elim
+    (λ moved. inr (is ∙ ap (λ (effect : Effect). durable_of (node_after x effect)) moved))
+    (λ ignored. inl (is ∙ ap durable_of ignored.1))
+    gave
+
+-- ---- where nothing was made
+
+pub listed_none : (c : Core) (o : Opening) (steps : List Step) → steps ≡ [] → entries_of (items_in c o steps) ≡ applied (taken_through c o steps)
+unfolding items_from
+listed_none c o steps e = rw e refl
+
+pub whole_none : (c : Core) (o : Opening) (steps : List Step) (shown waits : List Item) → steps ≡ [] → shown ≡ [] → waits ≡ [] → shown ++ waits ≡ items_in c o steps
+unfolding items_from
+whole_none c o steps shown waits e a b = rw (e, a, b) refl
+
+pub items_still : (old new : Core) (o : Opening) (before after : List Step) → new.schema ≡ old.schema → new.members ≡ old.members → new.me ≡ old.me → after ≡ before → items_in new o after ≡ items_in old o before
+items_still old new o before after a b c e = rw (a, b, c, e) refl
+
+pub listed_still : (old new : Core) (o : Opening) (before after : List Step) → new.schema ≡ old.schema → new.members ≡ old.members → new.me ≡ old.me → after ≡ before → entries_of (items_in old o before) ≡ applied (taken_through old o before) → entries_of (items_in new o after) ≡ applied (taken_through new o after)
+listed_still old new o before after a b c e was = rw (a, b, c, e) was
+
+pub named_still : (schema schema' : Tables) (me me' opening : ℕ) (p q : Publisher) → IsPublisherOf schema me opening p → IsSameLife p q → schema' ≡ schema → me' ≡ me → IsPublisherOf schema' me' opening q
+named_still schema schema' me me' opening p q was same a b = rw (a, b) (same.0 ∙ was.0, same.1 ∙ was.1)
+
+pub on_ok : {A E : Type 0} (r : Result A E) (P : Type 0) → is_err r ≡ false → OnOk r P → P
+on_ok (Ok x) P e h = h
+on_ok (Err x) P e h = absurd (cc e)

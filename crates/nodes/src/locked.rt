@@ -1,0 +1,128 @@
+//! A cell for several threads to feed under a lock, and the shares of those that feed it.
+ghost use Rattle.std.specs.Prelude.{◌≡◌, ◌≤◌, ◌<◌, ◌+◌, ◌⊎◌, [], ◌∷◌, length, true, Some, Err, IfOk, IfErr, OnOk, OnErr, MatchOption, MatchResult, slice_range};
+ghost use Rattle.sqlread.specs.Meaning.{schema_of};
+ghost use Rattle.raft.specs.View.{node_of, works};
+ghost use Rattle.node.specs.View.{Gave, LeavesUp, told_between};
+ghost use Rattle.fault.specs.declared.refusal.Refusal.TheVariants.{NoMemory, NoView};
+ghost use Rattle.view.specs.Publishing.{published, book_of, given_of};
+ghost use Rattle.view.specs.Viewing.{seen_by, name_seen, book_seen, book_told, IsTold};
+ghost use Rattle.nodes.specs.Lives.{work_of, all_steps, mark_for};
+ghost use Rattle.nodes.specs.Feeds.{IsLifeWith, IsRecorded, given_of as node_gave, IsTurnedAway};
+ghost use Rattle.nodes.specs.Publishing.{items_of};
+
+use crate::cell::{Cell, Out};
+use crate::life::{Ending, Life, Packet};
+use fault::Refusal;
+use keep::keeper::Keeper;
+use node::Fault;
+use std::marker::Brand;
+use std::sync::Wait;
+use std::sync::ledger::{Book, Ledger, Share};
+use view::{Told, View};
+
+/// Which life lies under a lock: the ledger of its steps, and the history that its tokens tell of. A call of a function that
+/// is generic in it picks both, so that all that is taken from under the lock is known to be of that life.
+pub trait Naming: Ledger {
+    ghost use Rattle.logbook.specs.Pages.{Book};
+
+    ghost history: { Book };
+}
+
+impl Naming for Brand {
+    ghost history = { record { number = 0; log_name = 0; cells_name = 0 } };
+}
+
+/// A cell and the book of its shares, to be kept in a `Mutex`. All shares of the book are together the number of steps
+/// recorded.
+#[derive(Drop)]
+pub struct LockedNode<K: Keeper, L: Naming> {
+    pub cell: Cell<K>,
+    book: Book<L>,
+    pub ghost counted: { length (all_steps cell.life) ≡ book.total },
+    pub ghost named: { book_of cell.publisher ≡ L.history },
+}
+
+// How many steps are recorded, a torn one too.
+fn recorded(life: &Life) -> usize
+    ensures { result ≡ length (all_steps life.now) }
+{
+    match life.ending {
+        Ending::Torn(_) => life.steps.len() + 1,
+        Ending::Up | Ending::Stopped => life.steps.len(),
+    }
+}
+
+impl<K: Keeper, L: Naming> LockedNode<K, L> {
+    /// A cell that has recorded no step, with a book of its own of which no share has anything.
+    pub fn new(cell: Cell<K>, book: Book<L>) -> LockedNode<K, L>
+        requires none { (all_steps cell.life ≡ []) × (book.total ≡ 0) }
+        requires named { book_of cell.publisher ≡ L.history }
+        ensures { result.cell ≡ cell }
+    {
+        LockedNode { cell, book }
+    }
+
+    /// One `Cell::feed` of this packet. Book and share rise by one exactly where it recorded a step.
+    pub fn feed<R: Wait>(
+        &mut self,
+        rt: &R,
+        share: &mut Share<L>,
+        packet: Packet,
+    ) -> Result<Out, Fault>
+        requires { 0 < share.old.parts }
+        ensures fed { (IsTurnedAway self.old.cell.node.is_up (mark_for self.old.cell.life packet) result
+            × IsLifeWith self.old.cell.life self.new.cell.life [] self.old.cell.life.ending
+            × (self.new.cell.node ≡ self.old.cell.node) × (self.new.cell.publisher ≡ self.old.cell.publisher))
+            ⊎ ((self.old.cell.node.is_up ≡ true)
+            × MatchOption (mark_for self.old.cell.life packet) ⊥ (λ m. IsRecorded self.old.cell.life self.new.cell.life (record { mark = m; packet = packet }) result)
+            × Gave (node_of self.old.cell.node.core) (node_of self.new.cell.node.core) (works self.old.cell.node.core.schema self.old.cell.node.core.members self.old.cell.node.core.me (work_of packet) (node_of self.old.cell.node.core)) (node_gave result)) }
+        ensures applied { IfOk result (λ out. out.given.applied.items ≡ slice_range self.new.cell.node.core.log.items self.old.cell.node.core.commit self.new.cell.node.core.commit) }
+        ensures told { IfOk result (λ out. out.given.told.items ≡ told_between (schema_of self.old.cell.node.core.schema) self.new.cell.node.core.log.items self.old.cell.node.core.commit self.new.cell.node.core.commit) }
+        ensures published { (published self.new.cell.publisher ≡ published self.old.cell.publisher) ⊎ (published self.new.cell.publisher ≡ items_of self.new.cell.node.core self.new.cell.life) }
+        ensures leaves { IfErr result (LeavesUp self.old.cell.node.is_up self.new.cell.node.is_up) }
+        ensures counted { share.new.amount + length (all_steps self.old.cell.life) ≡ share.old.amount + length (all_steps self.new.cell.life) }
+        ensures parts { share.new.parts ≡ share.old.parts }
+    {
+        let before = recorded(&self.cell.life);
+        let answer = self.cell.feed(rt, packet);
+        if before < recorded(&self.cell.life) {
+            self.book.add(share, 1);
+        }
+        answer
+    }
+
+    /// How many steps are recorded: as many as a share that has every part.
+    pub fn all_recorded(&mut self, all: &mut Share<L>) -> usize
+        requires { all.old.parts ≡ L.parts }
+        ensures { (result ≡ all.old.amount) × (result ≡ length (all_steps self.new.cell.life)) × (all.new.amount ≡ all.old.amount) × (self.new.cell ≡ self.old.cell) }
+    {
+        self.book.audit(all);
+        recorded(&self.cell.life)
+    }
+
+    /// `Cell::told`.
+    pub fn told(&self) -> Told
+        ensures told { IsTold (record { node = self.now.cell.node.core.me; opening = self.now.cell.life.opening.mark }) L.history (published self.now.cell.publisher) result }
+    {
+        self.cell.told()
+    }
+
+    /// `Cell::take_view`.
+    pub fn take_view(&mut self) -> Result<View, Refusal>
+        ensures same { (self.new.cell.node ≡ self.old.cell.node) × (self.new.cell.life ≡ self.old.cell.life) }
+        ensures given { MatchResult result (λ v. (given_of self.old.cell.publisher < 8) × (given_of self.new.cell.publisher ≡ given_of self.old.cell.publisher + 1)) (λ e. given_of self.new.cell.publisher ≡ given_of self.old.cell.publisher) }
+        ensures refused { IfErr result (λ e. (e ≡ NoView) ⊎ (e ≡ NoMemory)) }
+        ensures life { IfOk result (λ v. book_seen v ≡ L.history) }
+        ensures seen { IfOk result (λ v. seen_by v ≡ published self.old.cell.publisher) }
+    {
+        self.cell.take_view()
+    }
+
+    /// The cell, which no share counts any more.
+    pub fn into_cell(self) -> Cell<K>
+        ensures { result ≡ self.cell }
+    {
+        let LockedNode { cell, book: _book } = self;
+        cell
+    }
+}

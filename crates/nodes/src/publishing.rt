@@ -1,0 +1,41 @@
+//! What a step appends to a life's publisher and publishes.
+ghost use Rattle.std.specs.Prelude.{◌≡◌, ◌⊎◌, [], ◌++◌, OnOk, IsOk};
+ghost use Rattle.view.specs.Publishing.{published, pending, given_of, IsSameLife};
+ghost use Rattle.nodes.specs.Publishing.{marked};
+
+use model::entry::Entry;
+use model::mark::Mark;
+use std::alloc::AllocError;
+use std::sync::Wait;
+use view::{Item, Publisher};
+
+/// Puts the entries at the end of what is pending, in their order and each with this mark. The error is want of memory;
+/// some of them may be pending then.
+pub(crate) fn append_all(
+    publisher: &mut Publisher,
+    mark: Mark,
+    entries: &[Entry],
+) -> Result<(), AllocError>
+    ensures same { IsSameLife publisher.old publisher.new × (given_of publisher.new ≡ given_of publisher.old) × (published publisher.new ≡ published publisher.old) }
+    ensures pending { OnOk result (pending publisher.new ≡ pending publisher.old ++ marked mark entries.now) }
+    ensures none { entries.now ≡ [] → IsOk result }
+{
+    for entry in entries {
+        let entry = entry.clone()?;
+        publisher.append(Item::Applied { mark, entry })?;
+    }
+    Ok(())
+}
+
+/// Publishes all that is pending or, for want of memory, nothing. It may wait for a view that reads.
+pub(crate) fn publish_all<R: Wait>(publisher: &mut Publisher, rt: &R)
+    ensures same { IsSameLife publisher.old publisher.new × (given_of publisher.new ≡ given_of publisher.old) }
+    ensures all { published publisher.new ++ pending publisher.new ≡ published publisher.old ++ pending publisher.old }
+    ensures published { (published publisher.new ≡ published publisher.old) ⊎ (published publisher.new ≡ published publisher.old ++ pending publisher.old) }
+{
+    match publisher.publish(rt) {
+        Ok(()) => {}
+        // It stays pending, and a later call publishes it.
+        Err(_) => {}
+    }
+}
