@@ -1,8 +1,10 @@
 //! The lives of cells.
-ghost use Rattle.std.specs.Prelude.{◌≡◌, ◌≤◌, IfOk, IfErr};
+ghost use Rattle.std.specs.Prelude.{◌≡◌, ◌≤◌, [], IfOk, IfErr};
 ghost use Rattle.sqlread.specs.Meaning.{schema_of};
 ghost use Rattle.keep.specs.Durable.{stored_in};
 ghost use Rattle.keep.specs.Log.{IsLog};
+ghost use Rattle.view.specs.Publishing.{IsSameLife};
+ghost use Rattle.nodes.specs.Lives.{all_steps};
 
 use crate::stored::{SCHEMA, stored};
 use fault::Refusal;
@@ -37,6 +39,7 @@ pub(crate) fn start<R: Wait>(
     requires member { (1 ≤ me) × (me ≤ 3) }
     requires log { IsLog 3 (schema_of schema.now) (stored_in image) }
     ensures group { IfOk result (λ c. (c.node.core.members ≡ 3) × (c.node.core.schema ≡ schema.now)) }
+    ensures none { IfOk result (λ c. all_steps c.life ≡ []) }
     ensures log { IfErr result (λ e. IsLog 3 (schema_of schema.now) (stored_in e.1)) }
 {
     match schema.clone() {
@@ -45,16 +48,16 @@ pub(crate) fn start<R: Wait>(
     }
 }
 
-fn timeout() -> Packet {
+pub(crate) fn timeout() -> Packet {
     Packet::Local(Input::Timeout)
 }
 
-fn beat() -> Packet {
+pub(crate) fn beat() -> Packet {
     Packet::Local(Input::Beat)
 }
 
 // Member 2 gives member 1 its vote in term 1, in a step of this mark.
-fn vote(mark: Mark) -> Packet {
+pub(crate) fn vote(mark: Mark) -> Packet {
     Packet::Delivered {
         mark,
         reading: 100,
@@ -73,8 +76,9 @@ fn steps_of(life: &Life) -> (u64, usize) {
 }
 
 // Stands for election and is given a vote.
-fn lead<R: Wait>(rt: &R, cell: &mut Cell<MemKeeper>) -> Result<(), Fault>
-    ensures { (cell.new.node.core.members ≡ cell.old.node.core.members) × (cell.new.node.core.schema ≡ cell.old.node.core.schema) }
+pub(crate) fn lead<R: Wait>(rt: &R, cell: &mut Cell<MemKeeper>) -> Result<(), Fault>
+    ensures group { (cell.new.node.core.members ≡ cell.old.node.core.members) × (cell.new.node.core.schema ≡ cell.old.node.core.schema) }
+    ensures life { IsSameLife cell.old.publisher cell.new.publisher }
 {
     let _ = cell.feed(rt, timeout())?;
     let _ = cell.feed(rt, vote(Mark::new(5)))?;
@@ -118,7 +122,12 @@ fn next_life(
 
 // Two lives of member 1, the second after the first went down by this call of its store; or none, where the first did
 // not start. What they leave.
-fn lives(rt: &(impl Abort + Wait), alloc: Global, schema: &Schema, call: u64) -> Result<MemImage, Fail>
+fn lives(
+    rt: &(impl Abort + Wait),
+    alloc: Global,
+    schema: &Schema,
+    call: u64,
+) -> Result<MemImage, Fail>
     ensures { IfOk result (λ image. IsLog 3 (schema_of schema.now) (stored_in image)) }
 {
     let mut image = MemImage::new(alloc);
@@ -200,7 +209,11 @@ fn stops_and_starts_again(rt: HostRuntime) -> Result<(), Fail> {
 }
 
 // Feeds it as many beats, and one that is refused since its life is full.
-fn fill(rt: &(impl Abort + Wait), mut cell: Cell<MemKeeper>, beats: usize) -> Result<(MemImage, Life), Fail>
+fn fill(
+    rt: &(impl Abort + Wait),
+    mut cell: Cell<MemKeeper>,
+    beats: usize,
+) -> Result<(MemImage, Life), Fail>
     ensures { IfOk result (λ p. IsLog cell.node.core.members (schema_of cell.node.core.schema) (stored_in p.0)) }
 {
     for _ in 0..beats {

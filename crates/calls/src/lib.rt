@@ -10,3 +10,5 @@ mod indexes;
 mod keepers;
 #[cfg(test)]
 mod stored;
+#[cfg(test)]
+mod views;

@@ -1,3 +1,4 @@
 pub mod Replays
 pub mod Rising
 pub mod Items
+pub mod Carried

@@ -2,7 +2,10 @@
 #![tactic(auto)]
 
 pub mod cell;
+pub mod cluster;
 pub mod copies;
+pub mod gate;
 pub mod life;
 pub mod locked;
 mod publishing;
+pub mod seat;

@@ -1,0 +1,173 @@
+//! What runs on a node's thread.
+ghost use Rattle.std.specs.Prelude.{◌≡◌, ◌≤◌, IfOk, IfErr};
+ghost use Rattle.sqlread.specs.Meaning.{schema_of};
+
+use crate::cell::{Cell, Out};
+use crate::gate::{Gate, Point};
+use crate::life::{Life, Packet};
+use fault::Refusal;
+use keep::keeper::Keeper;
+use model::member::Member;
+use network::{Address, Inbox};
+use node::Fault;
+use schema::Schema;
+use std::alloc::Global;
+use std::sync::Wait;
+use view::View;
+
+/// What comes of one feed.
+pub type Report = Result<Out, Fault>;
+
+/// What is sent to a node that runs.
+#[derive(Drop)]
+pub(crate) enum Order {
+    Feed(Packet),
+    View(Address<Result<View, Refusal>>),
+}
+
+/// The ends of a life that is to open: what it is sent, what comes of that, and whether it opened.
+#[derive(Drop)]
+pub(crate) struct Start {
+    pub orders: Inbox<Order>,
+    pub reports: Address<Report>,
+    pub opened: Address<Result<(), Refusal>>,
+}
+
+/// What a thread is told beside its node's orders.
+#[derive(Drop)]
+pub(crate) enum Control {
+    Start(Start),
+    /// The life is to end as stopped, once it has done what it was ordered.
+    Stop,
+}
+
+/// Which node runs on a thread.
+#[derive(Drop)]
+pub(crate) struct Post {
+    pub schema: Schema,
+    pub members: usize,
+    pub me: Member,
+    ghost few: { members ≤ 7 },
+    ghost member: { (1 ≤ me) × (me ≤ members) },
+}
+
+// Feeds the cell what it is sent, till nothing is sent any more, or what comes of it can't be reported.
+fn serve<K: Keeper, G: Gate, R: Wait>(
+    rt: &R,
+    mut cell: Cell<K>,
+    orders: &Inbox<Order>,
+    reports: &Address<Report>,
+    gate: &G,
+) -> Cell<K>
+    ensures { (result.node.core.schema ≡ cell.node.core.schema) × (result.node.core.members ≡ cell.node.core.members) }
+{
+    let me = cell.node.core.me;
+    for _ in rt.forever() {
+        match orders.next(rt) {
+            Some(Order::Feed(packet)) => {
+                gate.pass(me, Point::Before);
+                let report = cell.feed(rt, packet);
+                gate.pass(me, Point::After);
+                if reports.send(rt, report).is_err() {
+                    break;
+                }
+            }
+            Some(Order::View(reply)) => {
+                let _ = reply.send(rt, cell.take_view());
+            }
+            None => break,
+        }
+    }
+    cell
+}
+
+// Opens a life, whose mark is above those of the lives before. The image comes back with each refusal.
+fn open<K: Keeper, R: Wait>(
+    rt: &R,
+    alloc: Global,
+    post: &Post,
+    image: K::Image,
+    lives: &[Life],
+) -> Result<Cell<K>, (Refusal, K::Image)>
+    requires suits { K.suits image post.now.members (schema_of post.now.schema) }
+    ensures group { IfOk result (λ c. (c.node.core.schema ≡ post.now.schema) × (c.node.core.members ≡ post.now.members)) }
+    ensures suits { IfErr result (λ e. K.suits e.1 post.now.members (schema_of post.now.schema)) }
+{
+    let last = lives.last().map(|life| life.last_mark());
+    match post.schema.clone() {
+        Ok(schema) => Cell::start(rt, alloc, image, schema, post.members, post.me, last),
+        Err(_) => Err((Refusal::NoMemory, image)),
+    }
+}
+
+// Ends a life: as stopped where that is told, else as it is.
+fn end<K: Keeper, R: Wait>(rt: &R, cell: Cell<K>, control: &Inbox<Control>) -> (K::Image, Life)
+    ensures { K.suits result.0 cell.node.core.members (schema_of cell.node.core.schema) }
+{
+    match control.next(rt) {
+        Some(_) => cell.stop(rt),
+        None => cell.leave(rt),
+    }
+}
+
+// Leads one life, if it opens, and gives the store back.
+fn lead<K: Keeper, G: Gate, R: Wait>(
+    rt: &R,
+    alloc: Global,
+    post: &Post,
+    image: K::Image,
+    start: Start,
+    control: &Inbox<Control>,
+    gate: &G,
+    lives: &mut Vec<Life>,
+) -> K::Image
+    requires { K.suits image post.now.members (schema_of post.now.schema) }
+    ensures { K.suits result post.now.members (schema_of post.now.schema) }
+{
+    let Start {
+        orders,
+        reports,
+        opened,
+    } = start;
+    if lives.reserve(1).is_err() {
+        let _ = opened.send(rt, Err(Refusal::NoMemory));
+        return image;
+    }
+    let cell = match open::<K, R>(rt, alloc, post, image, lives) {
+        Ok(cell) => cell,
+        Err((refusal, image)) => {
+            let _ = opened.send(rt, Err(refusal));
+            return image;
+        }
+    };
+    let _ = opened.send(rt, Ok(()));
+    let cell = serve(rt, cell, &orders, &reports, gate);
+    drop(orders);
+    drop(reports);
+    let (image, life) = end(rt, cell, control);
+    lives.push_reserved(life);
+    image
+}
+
+/// Leads one life after the other, as it is told to, and gives them all once it is told no more.
+pub(crate) fn tend<K: Keeper, G: Gate, R: Wait>(
+    rt: &R,
+    alloc: Global,
+    post: &Post,
+    mut image: K::Image,
+    control: &Inbox<Control>,
+    gate: &G,
+) -> Vec<Life>
+where
+    K::Image: Drop,
+    requires { K.suits image post.now.members (schema_of post.now.schema) }
+{
+    let mut lives = Vec::new(alloc);
+    for _ in rt.forever() {
+        let Some(Control::Start(start)) = control.next(rt) else {
+            break;
+        };
+        image = lead::<K, G, R>(rt, alloc, post, image, start, control, gate, &mut lives);
+    }
+    lives
+}
