@@ -100,8 +100,9 @@ fn inline_text<D: fmt::Display + Drop>(piece: D) -> Result<InlineText<PIECE_BYTE
     Ok(text)
 }
 
-// Writes until all of the text is written, also after a write that was interrupted.
-fn write_whole<W: io::Write>(text: &str, writer: &mut W) -> io::Result<()>
+/// Writes until all of the text is written, also after a write that was interrupted. Where the writer fails, its
+/// error is returned, and a beginning of the text was written.
+pub fn write_whole<W: io::Write>(text: &str, writer: &mut W) -> io::Result<()>
     ensures { WritesOrBegins (W.contents writer.old) (W.contents writer.new) result text.now }
 {
     let mut rest = text.as_bytes();

@@ -1,0 +1,125 @@
+-- What a value is spelled with stands before what follows it, so that a text is longer than what is left of it.
+use Rattle.std.proofs.Common.{ℕ, ◌+◌, ◌≤◌, ◌<◌, Bool, List, [], ◌∷◌, ◌++◌, length, arith, Option, None, Some, length-append}
+use Rattle.std.specs.Prelude.{codes, decimal}
+use Rattle.std.specs.Fmt.{signed_decimal}
+use Rattle.model.specs.declared.entry.Entry.{Entry}
+use Rattle.model.specs.declared.entry.Request.{Request}
+use Rattle.model.specs.declared.message.Body.{Body}
+use Rattle.model.specs.declared.message.Body.TheVariants.{RequestVote, Vote, Append, Reply}
+use Rattle.model.specs.declared.message.Input.TheVariants as input
+use Rattle.flight.specs.declared.life.Packet.{Packet}
+use Rattle.flight.specs.declared.life.Packet.TheVariants.{Local, Delivered}
+use Rattle.flight.specs.declared.life.Step.{Step}
+use Rattle.flight.specs.declared.life.Ending.{Ending}
+use Rattle.flight.specs.declared.life.Ending.TheVariants.{Up, Stopped, Torn}
+use Rattle.flight.specs.declared.flight.Recorded.{Recorded}
+use Rattle.flight.specs.Contents.{LifeContents}
+use Rattle.flight.specs.Spelling.{number_text, spaced, ended, reading_text, flag_number, flag_text, vote_number, vote_text, block_text, each_text, request_text, asked_text, entry_text, entries_text, body_text, message_text, packet_text, made_text, step_text, ending_text, life_text, answer_text}
+
+after_word : (word rest : List ℕ) → length rest ≤ length (word ++ rest)
+after_word word rest = omega (arith, length-append word rest)
+
+pub after_number : (end n : ℕ) (rest : List ℕ) → length rest < length (number_text end n rest)
+after_number end n rest = omega (arith, after_word (decimal n) (end ∷ rest))
+
+pub after_block : (bytes rest : List ℕ) → length rest < length (block_text bytes rest)
+after_block bytes rest = omega (arith, after_word bytes (10 ∷ rest), after_number 10 (length bytes) (bytes ++ 10 ∷ rest))
+
+after_request : (r : Request) (rest : List ℕ) → length rest < length (request_text r rest)
+after_request r rest = omega (arith, after_block r.text rest, after_number 32 r.number (block_text r.text rest), after_number 32 r.client (number_text 32 r.number (block_text r.text rest)))
+
+after_asked : (o : Option Request) (rest : List ℕ) → length rest < length (asked_text o rest)
+after_asked None rest = omega arith
+after_asked (Some r) rest = after_request r rest
+
+after_entry : (e : Entry) (rest : List ℕ) → length rest < length (entry_text e rest)
+after_entry e rest =
+    let asked = after_asked e.request rest in
+    let stamp = after_number 32 e.stamp (asked_text e.request rest) in
+    let term = after_number 32 e.term (number_text 32 e.stamp (asked_text e.request rest)) in
+    let word = after_word (codes "entry ") (number_text 32 e.term (number_text 32 e.stamp (asked_text e.request rest))) in
+    omega (arith, asked, stamp, term, word)
+
+-- a text has more bytes than the entries that it spells
+pub after_entries : (es : List Entry) (rest : List ℕ) → length es + length rest ≤ length (each_text entry_text es rest)
+after_entries [] rest = omega arith
+after_entries (e ∷ es) rest =
+    let later = after_entries es rest in
+    let first = after_entry e (each_text entry_text es rest) in
+    omega (arith, later, first)
+
+after_counted : (es : List Entry) (rest : List ℕ) → length rest < length (entries_text es rest)
+after_counted es rest = omega (arith, after_entries es rest, after_number 10 (length es) (each_text entry_text es rest))
+
+after_flag : (end : ℕ) (flag : Bool) (rest : List ℕ) → length rest < length (flag_text end flag rest)
+after_flag end flag rest = after_number end (flag_number flag) rest
+
+after_body : (t : ℕ) (b : Body) (rest : List ℕ) → length rest < length (body_text t b rest)
+after_body t (RequestVote i u) rest =
+    omega (arith, after_number 10 u rest, after_number 32 i (ended u rest), after_number 32 t (spaced i (ended u rest)), after_word (codes "votereq ") (spaced t (spaced i (ended u rest))))
+after_body t (Vote g) rest = omega (arith, after_flag 10 g rest, after_number 32 t (flag_text 10 g rest), after_word (codes "vote ") (spaced t (flag_text 10 g rest)))
+after_body t (Append i u es k) rest =
+    omega (
+      arith,
+      after_counted es rest,
+      after_number 32 k (entries_text es rest),
+      after_number 32 u (spaced k (entries_text es rest)),
+      after_number 32 i (spaced u (spaced k (entries_text es rest))),
+      after_number 32 t (spaced i (spaced u (spaced k (entries_text es rest)))),
+      after_word (codes "append ") (spaced t (spaced i (spaced u (spaced k (entries_text es rest))))),
+    )
+after_body t (Reply ok m) rest =
+    omega (arith, after_number 10 m rest, after_flag 32 ok (ended m rest), after_number 32 t (flag_text 32 ok (ended m rest)), after_word (codes "reply ") (spaced t (flag_text 32 ok (ended m rest))))
+
+after_packet : (p : Packet) (rest : List ℕ) → length rest < length (packet_text p rest)
+after_packet (Local input.Timeout) rest = omega arith
+after_packet (Local input.Beat) rest = omega arith
+after_packet (Local (input.Close reading)) rest = omega arith
+after_packet (Local (input.Submit reading request)) rest = omega (arith, after_request request rest, after_word (codes "submit ") (request_text request rest))
+after_packet (Delivered mark reading m) rest =
+    omega (arith, after_body m.term m.body rest, after_number 32 mark (body_text m.term m.body rest), after_number 32 m.sender (spaced mark (body_text m.term m.body rest)), after_word (codes "from ") (message_text mark m rest))
+
+after_made : (s : Step) (rest : List ℕ) → length rest < length (made_text s rest)
+after_made s rest =
+    omega (arith, after_packet s.packet rest, after_word (signed_decimal s.reading) (32 ∷ packet_text s.packet rest), after_number 32 s.mark (reading_text s.reading (packet_text s.packet rest)))
+
+pub after_step : (s : Step) (rest : List ℕ) → length rest < length (step_text s rest)
+after_step s rest = omega (arith, after_made s rest, after_word (codes "step ") (made_text s rest))
+
+after_ending : (e : Ending) (rest : List ℕ) → length rest < length (ending_text e rest)
+after_ending Up rest = omega arith
+after_ending Stopped rest = omega arith
+after_ending (Torn s) rest = omega (arith, after_made s rest, after_word (codes "torn ") (made_text s rest))
+
+after_steps : (steps : List Step) (rest : List ℕ) → length rest ≤ length (each_text step_text steps rest)
+after_steps [] rest = omega arith
+after_steps (s ∷ steps) rest = omega (arith, after_steps steps rest, after_step s (each_text step_text steps rest))
+
+pub after_life : (l : LifeContents) (rest : List ℕ) → length rest < length (life_text l rest)
+after_life l rest =
+    let course = each_text step_text l.steps (ending_text l.ending rest) in
+    let o = l.opening in
+    omega (
+      arith,
+      after_ending l.ending rest,
+      after_steps l.steps (ending_text l.ending rest),
+      after_counted o.entries course,
+      after_number 32 (vote_number o.hard.vote) (entries_text o.entries course),
+      after_number 32 o.hard.term (vote_text o.hard.vote (entries_text o.entries course)),
+      after_number 32 o.mark (spaced o.hard.term (vote_text o.hard.vote (entries_text o.entries course))),
+      after_word (codes "life ") (spaced o.mark (spaced o.hard.term (vote_text o.hard.vote (entries_text o.entries course)))),
+    )
+
+pub after_answer : (a : Recorded) (rest : List ℕ) → length rest < length (answer_text a rest)
+after_answer a rest =
+    let answer = codes "text " ++ block_text a.answer rest in
+    let query = codes "query " ++ block_text a.query answer in
+    omega (
+      arith,
+      after_block a.answer rest,
+      after_word (codes "text ") (block_text a.answer rest),
+      after_block a.query answer,
+      after_word (codes "query ") (block_text a.query answer),
+      after_number 10 a.mark query,
+      after_word (codes "answer ") (ended a.mark query),
+    )

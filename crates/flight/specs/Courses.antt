@@ -1,0 +1,30 @@
+-- Elements up to what ends them.
+use Rattle.std.specs.Prelude.{ℕ, List, All}
+use Rattle.flight.specs.declared.life.Step.{Step}
+use Rattle.flight.specs.declared.life.Ending.{Ending}
+use Rattle.flight.specs.declared.flight.Recorded.{Recorded}
+use Rattle.flight.specs.Contents.{LifeContents}
+use Rattle.sqlchecks.specs.Columns.{Tables}
+use Rattle.flight.specs.Spelling.{each_text, step_text, ending_text, life_text, closing_text}
+use Rattle.flight.specs.Ranges.{IsStep, IsEnding, IsLife, IsAnswer}
+
+-- the elements in turn, and then what ends them
+abbrev pub until_text : {A E : Type 0} → (A → List ℕ → List ℕ) → (E → List ℕ → List ℕ) → List A × E → List ℕ → List ℕ
+until_text spell last w rest = each_text spell w.0 (last w.1 rest)
+
+abbrev pub IsUntil : {A E : Type 0} → (A → Type 0) → (E → Type 0) → List A × E → Type 0
+IsUntil Is IsLast w = All Is w.0 × IsLast w.1
+
+-- the steps of a life and its ending
+abbrev pub course_text : List Step × Ending → List ℕ → List ℕ
+course_text w rest = until_text step_text ending_text w rest
+
+abbrev pub IsCourse : ℕ → List Step × Ending → Type 0
+IsCourse node w = IsUntil (IsStep node) (IsEnding node) w
+
+-- the lives, and the answers up to the end
+abbrev pub lives_text : List LifeContents × List Recorded → List ℕ → List ℕ
+lives_text w rest = until_text life_text closing_text w rest
+
+abbrev pub AreLives : ℕ → Tables → List LifeContents × List Recorded → Type 0
+AreLives node tables w = IsUntil (IsLife node) (All (IsAnswer tables)) w

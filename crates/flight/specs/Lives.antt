@@ -1,0 +1,50 @@
+-- The marks of a life, and what a step records of a packet.
+use Rattle.std.specs.Prelude.{ℕ, ℤ, pos, max, nat_le, Option, None, List, [], ◌∷◌, ◌++◌, length, if◌then◌else◌}
+use Rattle.model.specs.Marks.{mark_after}
+use Rattle.model.specs.declared.message.Input.TheVariants as input
+use Rattle.flight.specs.declared.life.Packet.{Packet}
+use Rattle.flight.specs.declared.life.Packet.TheVariants.{Local, Delivered}
+use Rattle.flight.specs.declared.life.Step.{Step}
+use Rattle.flight.specs.declared.life.Ending.{Ending}
+use Rattle.flight.specs.declared.life.Ending.TheVariants.{Up, Stopped, Torn}
+use Rattle.flight.specs.declared.life.Life.{Life}
+
+-- the torn step, if there is one
+abbrev pub torn_step : Ending → List Step
+torn_step Up = []
+torn_step Stopped = []
+torn_step (Torn s) = s ∷ []
+
+-- every step, a torn one too
+abbrev pub all_steps : Life → List Step
+all_steps life = life.steps.items ++ torn_step life.ending
+
+-- the mark of the last step, or this one where there is none
+unfoldable pub last_of : ℕ → List Step → ℕ
+last_of mark [] = mark
+last_of mark (s ∷ steps) = last_of s.mark steps
+
+-- the greatest mark of a life, since marks rise in it
+abbrev pub last_mark : Life → ℕ
+last_mark life = last_of life.opening.mark (all_steps life)
+
+-- the mark of the step that sent it, 0 for a local input
+abbrev pub sent_at : Packet → ℕ
+sent_at (Local input) = 0
+sent_at (Delivered mark reading message) = mark
+
+-- one more than the greater of the two marks, where a step and a mark are left
+abbrev pub mark_for : Life → Packet → Option ℕ
+mark_for life p = if nat_le 200000 (length life.steps.items) then None else mark_after (max (last_mark life) (sent_at p))
+
+-- what the clock shows in it, 0 for an input that bears no reading
+abbrev pub shown : Packet → ℤ
+shown (Local input.Timeout) = pos 0
+shown (Local input.Beat) = pos 0
+shown (Local (input.Close reading)) = reading
+shown (Local (input.Submit reading request)) = reading
+shown (Delivered mark reading message) = reading
+
+-- the step that this packet makes at this mark
+abbrev pub step_of : ℕ → Packet → Step
+step_of m p = record { mark = m; reading = shown p; packet = p }

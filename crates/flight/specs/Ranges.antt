@@ -1,0 +1,118 @@
+-- Which values a flight file can hold.
+use Rattle.std.specs.Prelude.{◌≡◌, ℕ, ℤ, ◌≤◌, ◌<◌, ◌^◌, Bool, true, false, not, ◌&&◌, List, [], ◌∷◌, ⊤, Option, None, Some, Ok, All}
+use Rattle.model.specs.declared.entry.Request.{Request}
+use Rattle.model.specs.declared.entry.Entry.{Entry}
+use Rattle.model.specs.declared.message.Body.{Body}
+use Rattle.model.specs.declared.message.Body.TheVariants.{RequestVote, Vote, Append, Reply}
+use Rattle.model.specs.declared.message.Input.TheVariants as input
+use Rattle.model.specs.declared.message.Message.{Message}
+use Rattle.lines.specs.Number.{IsSigned}
+use Rattle.sqlchecks.specs.Columns.{Tables}
+use Rattle.schemaread.specs.Schemas.{SchemaSays}
+use Rattle.sqlread.specs.Shapes.{QueryShape}
+use Rattle.sqlread.specs.Texts.{query_in}
+use Rattle.flight.specs.declared.life.Packet.{Packet}
+use Rattle.flight.specs.declared.life.Packet.TheVariants.{Local, Delivered}
+use Rattle.flight.specs.declared.life.Step.{Step}
+use Rattle.flight.specs.declared.life.Ending.{Ending}
+use Rattle.flight.specs.declared.life.Ending.TheVariants.{Up, Stopped, Torn}
+use Rattle.flight.specs.declared.flight.Recorded.{Recorded}
+use Rattle.flight.specs.Contents.{OpeningContents, LifeContents, FlightContents}
+
+abbrev pub IsNumber : ℕ → Type 0
+IsNumber n = n < 2 ^ 64
+
+abbrev pub IsMark : ℕ → Type 0
+IsMark n = (0 < n) × (n ≤ 9223372036854775807)
+
+-- ---- entries
+
+abbrev pub IsClient : ℕ → Type 0
+IsClient n = (0 < n) × (n < 2 ^ 16)
+
+abbrev pub IsRequestNumber : ℕ → Type 0
+IsRequestNumber n = (0 < n) × (n ≤ 2 ^ 62)
+
+-- an instant
+abbrev pub IsStamp : ℕ → Type 0
+IsStamp n = n ≤ 253402214399999999
+
+abbrev pub IsRequest : Request → Type 0
+IsRequest r = IsClient r.client × IsRequestNumber r.number
+
+abbrev pub IsAsked : Option Request → Type 0
+IsAsked None = ⊤
+IsAsked (Some r) = IsRequest r
+
+abbrev pub IsEntry : Entry → Type 0
+IsEntry e = IsNumber e.term × IsStamp e.stamp × IsAsked e.request
+
+-- ---- messages and steps
+
+abbrev pub IsBody : Body → Type 0
+IsBody (RequestVote last_index last_term) = IsNumber last_index × IsNumber last_term
+IsBody (Vote given) = ⊤
+IsBody (Append prev_index prev_term entries commit) = IsNumber prev_index × IsNumber prev_term × All IsEntry entries × IsNumber commit
+IsBody (Reply ok matched) = IsNumber matched
+
+-- a message to the node whose flight it is
+abbrev pub IsMessage : ℕ → Message → Type 0
+IsMessage node m = IsNumber m.sender × (m.addressee ≡ node) × IsNumber m.term × IsBody m.body
+
+-- a packet that bears this reading, if it bears one
+abbrev pub IsPacket : ℕ → ℤ → Packet → Type 0
+IsPacket node reading (Local input.Timeout) = ⊤
+IsPacket node reading (Local input.Beat) = ⊤
+IsPacket node reading (Local (input.Close own)) = own ≡ reading
+IsPacket node reading (Local (input.Submit own request)) = (own ≡ reading) × IsRequest request
+IsPacket node reading (Delivered mark own message) = (own ≡ reading) × IsMark mark × IsMessage node message
+
+abbrev pub IsStep : ℕ → Step → Type 0
+IsStep node s = IsMark s.mark × IsSigned s.reading × IsPacket node s.reading s.packet
+
+abbrev pub IsEnding : ℕ → Ending → Type 0
+IsEnding node Up = ⊤
+IsEnding node Stopped = ⊤
+IsEnding node (Torn s) = IsStep node s
+
+-- ---- lives, answers and the whole
+
+abbrev pub IsVote : Option ℕ → Type 0
+IsVote None = ⊤
+IsVote (Some member) = (0 < member) × IsNumber member
+
+abbrev pub IsOpening : OpeningContents → Type 0
+IsOpening o = IsMark o.mark × IsNumber o.hard.term × IsVote o.hard.vote × All IsEntry o.entries
+
+abbrev pub IsLife : ℕ → LifeContents → Type 0
+IsLife node l = IsOpening l.opening × All (IsStep node) l.steps × IsEnding node l.ending
+
+-- its query reads over these tables
+abbrev pub IsAnswer : Tables → Recorded → Type 0
+IsAnswer tables a = IsMark a.mark × ((query : QueryShape) × (query_in tables a.query ≡ Ok query))
+
+abbrev pub is_up : Ending → Bool
+is_up Up = true
+is_up Stopped = false
+is_up (Torn s) = false
+
+-- the life before, if there is one, ended, and none but the last ends up
+abbrev pub ends_go_on : Bool → List LifeContents → Bool
+ends_go_on is_before_up [] = true
+ends_go_on is_before_up (l ∷ lives) = not is_before_up && ends_go_on (is_up l.ending) lives
+
+-- there is a life, and none but the last ends up
+abbrev pub one_at_a_time : List LifeContents → Bool
+one_at_a_time [] = false
+one_at_a_time (l ∷ lives) = ends_go_on (is_up l.ending) lives
+
+-- a group has 3 to 7 members, of whom the node is one
+abbrev pub IsGroup : ℕ → ℕ → Type 0
+IsGroup node members = (3 ≤ members) × (members ≤ 7) × (1 ≤ node) × (node ≤ members)
+
+-- the text is that of tables, over which the queries read
+abbrev pub IsAsking : List ℕ → List Recorded → Type 0
+IsAsking schema answers = (tables : Tables) × SchemaSays schema (Ok tables) × All (IsAnswer tables) answers
+
+abbrev pub IsFlight : FlightContents → Type 0
+IsFlight f = IsGroup f.node f.members × IsAsking f.schema f.answers × All (IsLife f.node) f.lives × (one_at_a_time f.lives ≡ true)

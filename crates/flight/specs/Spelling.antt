@@ -1,0 +1,131 @@
+-- The one spelling of a flight file, part by part. A function spells a value and then what follows it in the file. Each line ends with
+-- LF, which is 10, and a space is 32.
+use Rattle.std.specs.Prelude.{ℕ, ℤ, Bool, true, false, List, [], ◌∷◌, ◌++◌, length, codes, decimal, Option, None, Some}
+use Rattle.std.specs.Fmt.{signed_decimal}
+use Rattle.model.specs.declared.entry.Request.{Request}
+use Rattle.model.specs.declared.entry.Entry.{Entry}
+use Rattle.model.specs.declared.message.Body.{Body}
+use Rattle.model.specs.declared.message.Body.TheVariants.{RequestVote, Vote, Append, Reply}
+use Rattle.model.specs.declared.message.Input.TheVariants as input
+use Rattle.model.specs.declared.message.Message.{Message}
+use Rattle.flight.specs.declared.life.Packet.{Packet}
+use Rattle.flight.specs.declared.life.Packet.TheVariants.{Local, Delivered}
+use Rattle.flight.specs.declared.life.Step.{Step}
+use Rattle.flight.specs.declared.life.Ending.{Ending}
+use Rattle.flight.specs.declared.life.Ending.TheVariants.{Up, Stopped, Torn}
+use Rattle.flight.specs.declared.flight.Recorded.{Recorded}
+use Rattle.flight.specs.Contents.{OpeningContents, LifeContents, FlightContents}
+
+-- ---- what lines are made of
+
+-- a number in decimal, and the byte that ends it
+abbrev pub number_text : ℕ → ℕ → List ℕ → List ℕ
+number_text end n rest = decimal n ++ end ∷ rest
+
+abbrev pub spaced : ℕ → List ℕ → List ℕ
+spaced n rest = number_text 32 n rest
+
+abbrev pub ended : ℕ → List ℕ → List ℕ
+ended n rest = number_text 10 n rest
+
+-- what a clock shows, with `-` where it is below zero
+abbrev pub reading_text : ℤ → List ℕ → List ℕ
+reading_text reading rest = signed_decimal reading ++ 32 ∷ rest
+
+abbrev pub flag_number : Bool → ℕ
+flag_number true = 1
+flag_number false = 0
+
+abbrev pub flag_text : ℕ → Bool → List ℕ → List ℕ
+flag_text end flag rest = number_text end (flag_number flag) rest
+
+-- the member that a vote went to, 0 for none
+abbrev pub vote_number : Option ℕ → ℕ
+vote_number None = 0
+vote_number (Some member) = member
+
+abbrev pub vote_text : Option ℕ → List ℕ → List ℕ
+vote_text vote rest = spaced (vote_number vote) rest
+
+-- how many bytes, and then these bytes
+abbrev pub block_text : List ℕ → List ℕ → List ℕ
+block_text bytes rest = ended (length bytes) (bytes ++ 10 ∷ rest)
+
+-- each in turn
+abbrev pub each_text : {A : Type 0} → (A → List ℕ → List ℕ) → List A → List ℕ → List ℕ
+each_text spell [] rest = rest
+each_text spell (x ∷ xs) rest = spell x (each_text spell xs rest)
+
+-- ---- entries
+
+abbrev pub request_text : Request → List ℕ → List ℕ
+request_text r rest = spaced r.client (spaced r.number (block_text r.text rest))
+
+abbrev pub asked_text : Option Request → List ℕ → List ℕ
+asked_text None rest = codes "close\n" ++ rest
+asked_text (Some r) rest = request_text r rest
+
+abbrev pub entry_text : Entry → List ℕ → List ℕ
+entry_text e rest = codes "entry " ++ spaced e.term (spaced e.stamp (asked_text e.request rest))
+
+-- how many entries, and then these entries
+abbrev pub entries_text : List Entry → List ℕ → List ℕ
+entries_text entries rest = ended (length entries) (each_text entry_text entries rest)
+
+-- ---- messages and steps
+
+-- what a message of this term says
+abbrev pub body_text : ℕ → Body → List ℕ → List ℕ
+body_text term (RequestVote last_index last_term) rest = codes "votereq " ++ spaced term (spaced last_index (ended last_term rest))
+body_text term (Vote given) rest = codes "vote " ++ spaced term (flag_text 10 given rest)
+body_text term (Append prev_index prev_term entries commit) rest =
+    codes "append " ++ spaced term (spaced prev_index (spaced prev_term (spaced commit (entries_text entries rest))))
+body_text term (Reply ok matched) rest = codes "reply " ++ spaced term (flag_text 32 ok (ended matched rest))
+
+-- a message that the step with this mark sent
+abbrev pub message_text : ℕ → Message → List ℕ → List ℕ
+message_text mark m rest = spaced m.sender (spaced mark (body_text m.term m.body rest))
+
+abbrev pub packet_text : Packet → List ℕ → List ℕ
+packet_text (Local input.Timeout) rest = codes "timeout\n" ++ rest
+packet_text (Local input.Beat) rest = codes "beat\n" ++ rest
+packet_text (Local (input.Close reading)) rest = codes "close\n" ++ rest
+packet_text (Local (input.Submit reading request)) rest = codes "submit " ++ request_text request rest
+packet_text (Delivered mark reading message) rest = codes "from " ++ message_text mark message rest
+
+abbrev pub made_text : Step → List ℕ → List ℕ
+made_text s rest = spaced s.mark (reading_text s.reading (packet_text s.packet rest))
+
+abbrev pub step_text : Step → List ℕ → List ℕ
+step_text s rest = codes "step " ++ made_text s rest
+
+abbrev pub ending_text : Ending → List ℕ → List ℕ
+ending_text Up rest = codes "up\n" ++ rest
+ending_text Stopped rest = codes "stopped\n" ++ rest
+ending_text (Torn s) rest = codes "torn " ++ made_text s rest
+
+-- ---- lives, answers and the whole
+
+abbrev pub opening_text : OpeningContents → List ℕ → List ℕ
+opening_text o rest = codes "life " ++ spaced o.mark (spaced o.hard.term (vote_text o.hard.vote (entries_text o.entries rest)))
+
+abbrev pub life_text : LifeContents → List ℕ → List ℕ
+life_text l rest = opening_text l.opening (each_text step_text l.steps (ending_text l.ending rest))
+
+abbrev pub answer_text : Recorded → List ℕ → List ℕ
+answer_text a rest = codes "answer " ++ ended a.mark (codes "query " ++ block_text a.query (codes "text " ++ block_text a.answer rest))
+
+-- the answers, and the line that ends the file
+abbrev pub closing_text : List Recorded → List ℕ → List ℕ
+closing_text answers rest = each_text answer_text answers (codes "end\n" ++ rest)
+
+-- the first line names the version
+abbrev pub head_text : ℕ → ℕ → List ℕ → List ℕ
+head_text node members rest = codes "bitable flight 1\n" ++ (codes "node " ++ spaced node (codes "of " ++ ended members rest))
+
+abbrev pub file_text : FlightContents → List ℕ → List ℕ
+file_text f rest = head_text f.node f.members (codes "schema " ++ block_text f.schema (each_text life_text f.lives (closing_text f.answers rest)))
+
+-- the whole file
+abbrev pub flight_text : FlightContents → List ℕ
+flight_text f = file_text f []

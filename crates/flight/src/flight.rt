@@ -1,0 +1,27 @@
+//! What is recorded of a node.
+use crate::life::Life;
+use fault::Text;
+use model::mark::Mark;
+use model::member::Member;
+
+/// A question that a view of the node was asked, and what it answered.
+#[derive(Debug, Drop)]
+pub struct Recorded {
+    /// That of the step or opening after which it was answered.
+    pub mark: Mark,
+    pub query: Text,
+    /// The answer's lines, or the line of a refusal.
+    pub answer: Text,
+}
+
+/// A node's record of its lives, in order, and of the questions that it answered.
+#[derive(Debug, Drop)]
+pub struct Flight {
+    pub node: Member,
+    /// How many members the group has.
+    pub members: usize,
+    /// The text of the group's schema.
+    pub schema: Text,
+    pub lives: Vec<Life>,
+    pub answers: Vec<Recorded>,
+}

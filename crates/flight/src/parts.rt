@@ -1,0 +1,181 @@
+//! Readers of what lines are made of. A reader gives a value and what follows it in the text.
+ghost use Rattle.std.specs.Prelude.{◌≡◌, ◌≢◌, ◌<◌, ℕ, List, ◌++◌, ◌∷◌, IfSome, IfNone, IfOk, IfErr, MatchBool, ⊤};
+ghost use Rattle.fault.specs.declared.refusal.Refusal.TheVariants.{BadFlight};
+ghost use Rattle.lines.specs.Number.{IsSigned};
+ghost use Rattle.flight.specs.Spelling.{number_text, reading_text, flag_text, vote_text, block_text};
+ghost use Rattle.flight.specs.Ranges.{IsNumber, IsMark, IsClient, IsRequestNumber, IsStamp, IsVote};
+ghost use Rattle.flight.specs.Reading.{Spells, SpellsOnly, IsUnread, IsAfter, IsNotBegun, Lacks};
+
+use fault::{Refusal, Text};
+use lines::number::{read_number as number_of, read_signed};
+use model::mark::{LAST_MARK, Mark};
+use model::member::Member;
+use model::request::{Client, RequestNumber};
+use model::stamp::{LAST_MICROS, Stamp};
+use std::alloc::Global;
+
+// What follows this word, if the text begins with it.
+pub(crate) fn after<'a>(text: &'a str, word: &str) -> Option<&'a str>
+    ensures some { IfSome result (λ rest. IsAfter word.now text.now rest.now) }
+    ensures none { IfNone result (IsNotBegun word.now text.now) }
+{
+    text.strip_prefix(word)
+}
+
+// What follows this word, with which the text has to begin.
+pub(crate) fn past<'a>(text: &'a str, word: &str) -> Result<&'a str, Refusal>
+    ensures ok { IfOk result (λ rest. IsAfter word.now text.now rest.now) }
+    ensures err { IfErr result (λ r. (r ≡ BadFlight) × IsNotBegun word.now text.now) }
+{
+    match after(text, word) {
+        Some(rest) => Ok(rest),
+        None => Err(Refusal::BadFlight),
+    }
+}
+
+// Whether the text begins with this word.
+pub(crate) fn begins(text: &str, word: &str) -> bool
+    ensures { MatchBool result ((rest : List ℕ) × (text.now ≡ word.now ++ rest)) (IsNotBegun word.now text.now) }
+{
+    after(text, word).is_some()
+}
+
+// What stands before this character, and what after it.
+fn split(text: &str, end: char) -> Option<(&str, &str)>
+    requires { end < 48 }
+    ensures parts { IfSome result (λ p. text.now ≡ p.0.now ++ end ∷ p.1.now) }
+    ensures only { IfSome result (λ p. (word other : List ℕ) → Lacks end word → text.now ≡ word ++ end ∷ other → (p.0.now ≡ word) × (p.1.now ≡ other)) }
+    ensures none { IfNone result ((word other : List ℕ) → Lacks end word → text.now ≢ word ++ end ∷ other) }
+{
+    text.split_once(end)
+}
+
+// A number, up to the character that ends it.
+pub(crate) fn read_number(text: &str, end: char) -> Result<(u64, &str), Refusal>
+    requires { end < 48 }
+    ensures ok { IfOk result (λ p. Spells IsNumber (number_text end) text.now p.0 p.1.now) }
+    ensures only { IfOk result (λ p. SpellsOnly IsNumber (number_text end) text.now p.0 p.1.now) }
+    ensures err { IfErr result (IsUnread IsNumber (number_text end) text.now) }
+{
+    let Some((word, rest)) = split(text, end) else {
+        return Err(Refusal::BadFlight);
+    };
+    match number_of(word) {
+        Some(number) => Ok((number, rest)),
+        None => Err(Refusal::BadFlight),
+    }
+}
+
+// What a clock showed, up to a space.
+pub(crate) fn read_reading(text: &str) -> Result<(i64, &str), Refusal>
+    ensures ok { IfOk result (λ p. Spells IsSigned reading_text text.now p.0 p.1.now) }
+    ensures only { IfOk result (λ p. SpellsOnly IsSigned reading_text text.now p.0 p.1.now) }
+    ensures err { IfErr result (IsUnread IsSigned reading_text text.now) }
+{
+    let Some((word, rest)) = split(text, ' ') else {
+        return Err(Refusal::BadFlight);
+    };
+    match read_signed(word) {
+        Some(reading) => Ok((reading, rest)),
+        None => Err(Refusal::BadFlight),
+    }
+}
+
+// 1 for yes or 0 for no, up to the character that ends it.
+pub(crate) fn read_flag(text: &str, end: char) -> Result<(bool, &str), Refusal>
+    requires { end < 48 }
+    ensures ok { IfOk result (λ p. Spells (λ _. ⊤) (flag_text end) text.now p.0 p.1.now) }
+    ensures only { IfOk result (λ p. SpellsOnly (λ _. ⊤) (flag_text end) text.now p.0 p.1.now) }
+    ensures err { IfErr result (IsUnread (λ _. ⊤) (flag_text end) text.now) }
+{
+    let (number, rest) = read_number(text, end)?;
+    match number {
+        0 => Ok((false, rest)),
+        1 => Ok((true, rest)),
+        _ => Err(Refusal::BadFlight),
+    }
+}
+
+// The mark of an opening or a step, up to the character that ends it.
+pub(crate) fn read_mark(text: &str, end: char) -> Result<(Mark, &str), Refusal>
+    requires { end < 48 }
+    ensures ok { IfOk result (λ p. Spells IsMark (number_text end) text.now p.0 p.1.now) }
+    ensures only { IfOk result (λ p. SpellsOnly IsMark (number_text end) text.now p.0 p.1.now) }
+    ensures err { IfErr result (IsUnread IsMark (number_text end) text.now) }
+{
+    let (number, rest) = read_number(text, end)?;
+    if number == 0 || number > LAST_MARK {
+        return Err(Refusal::BadFlight);
+    }
+    Ok((Mark::new(number), rest))
+}
+
+// A stamp, up to a space.
+pub(crate) fn read_stamp(text: &str) -> Result<(Stamp, &str), Refusal>
+    ensures ok { IfOk result (λ p. Spells IsStamp (number_text 32) text.now p.0 p.1.now) }
+    ensures only { IfOk result (λ p. SpellsOnly IsStamp (number_text 32) text.now p.0 p.1.now) }
+    ensures err { IfErr result (IsUnread IsStamp (number_text 32) text.now) }
+{
+    let (number, rest) = read_number(text, ' ')?;
+    if number > LAST_MICROS {
+        return Err(Refusal::BadFlight);
+    }
+    Ok((Stamp::new(number), rest))
+}
+
+// A client, up to a space.
+pub(crate) fn read_client(text: &str) -> Result<(Client, &str), Refusal>
+    ensures ok { IfOk result (λ p. Spells IsClient (number_text 32) text.now p.0 p.1.now) }
+    ensures only { IfOk result (λ p. SpellsOnly IsClient (number_text 32) text.now p.0 p.1.now) }
+    ensures err { IfErr result (IsUnread IsClient (number_text 32) text.now) }
+{
+    let (number, rest) = read_number(text, ' ')?;
+    if number > 65_535 {
+        return Err(Refusal::BadFlight);
+    }
+    let Some(client) = Client::new(number as u16) else {
+        return Err(Refusal::BadFlight);
+    };
+    Ok((client, rest))
+}
+
+// The number of a request, up to a space.
+pub(crate) fn read_request_number(text: &str) -> Result<(RequestNumber, &str), Refusal>
+    ensures ok { IfOk result (λ p. Spells IsRequestNumber (number_text 32) text.now p.0 p.1.now) }
+    ensures only { IfOk result (λ p. SpellsOnly IsRequestNumber (number_text 32) text.now p.0 p.1.now) }
+    ensures err { IfErr result (IsUnread IsRequestNumber (number_text 32) text.now) }
+{
+    let (number, rest) = read_number(text, ' ')?;
+    let Some(number) = RequestNumber::new(number) else {
+        return Err(Refusal::BadFlight);
+    };
+    Ok((number, rest))
+}
+
+// The member that a vote went to, or 0 for none, up to a space.
+pub(crate) fn read_vote(text: &str) -> Result<(Option<Member>, &str), Refusal>
+    ensures ok { IfOk result (λ p. Spells IsVote vote_text text.now p.0 p.1.now) }
+    ensures only { IfOk result (λ p. SpellsOnly IsVote vote_text text.now p.0 p.1.now) }
+    ensures err { IfErr result (IsUnread IsVote vote_text text.now) }
+{
+    let (number, rest) = read_number(text, ' ')?;
+    if number == 0 {
+        return Ok((None, rest));
+    }
+    Ok((Some(number as usize), rest))
+}
+
+// The length of a block, and then the block.
+pub(crate) fn read_block(alloc: Global, text: &str) -> Result<(Text, &str), Refusal>
+    ensures ok { IfOk result (λ p. Spells (λ _. ⊤) block_text text.now p.0 p.1.now) }
+    ensures only { IfOk result (λ p. SpellsOnly (λ _. ⊤) block_text text.now p.0 p.1.now) }
+    ensures err { IfErr result (IsUnread (λ _. ⊤) block_text text.now) }
+{
+    let (length, rest) = read_number(text, '\n')?;
+    let Some((bytes, rest)) = rest.split_at_checked(length as usize) else {
+        return Err(Refusal::BadFlight);
+    };
+    let rest = past(rest, "\n")?;
+    let bytes = Text::new(alloc, bytes)?;
+    Ok((bytes, rest))
+}

@@ -1,0 +1,234 @@
+//! The text of a flight file.
+ghost use Rattle.std.specs.Prelude.{◌≡◌, IfOk, OnOk, map, codes, ◌++◌, string_bytes};
+ghost use Rattle.flight.specs.Contents.{in_opening, in_life, in_flight};
+ghost use Rattle.flight.specs.Spelling.{spaced, ended, block_text, request_text, entry_text, entries_text, each_text, flag_number, body_text, packet_text, made_text, step_text, ending_text, opening_text, life_text, answer_text, flight_text};
+ghost use Rattle.flight.specs.Additions.{Adds};
+
+use crate::flight::{Flight, Recorded};
+use crate::life::{Ending, Life, Opening, Packet, Step};
+use model::entry::{Entry, Request};
+use model::message::{Body, Input};
+use std::alloc::{AllocError, Global};
+
+fn put_request(request: &Request, text: &mut String) -> Result<(), AllocError>
+    ensures { OnOk result (Adds (string_bytes text.old) (string_bytes text.new) (request_text request.now)) }
+{
+    let client = request.client.get();
+    let number = request.number.get();
+    let asked = request.text.as_str();
+    let length = asked.len();
+    write!(text, "{client} {number} {length}\n{asked}\n")
+}
+
+fn put_entry(entry: &Entry, text: &mut String) -> Result<(), AllocError>
+    ensures { OnOk result (Adds (string_bytes text.old) (string_bytes text.new) (entry_text entry.now)) }
+{
+    let term = entry.term;
+    let stamp = entry.stamp.micros();
+    write!(text, "entry {term} {stamp} ")?;
+    match &entry.request {
+        None => text.push_str("close\n"),
+        Some(request) => put_request(request, text),
+    }
+}
+
+fn put_each_entry(entries: &[Entry], text: &mut String) -> Result<(), AllocError>
+    ensures { OnOk result (Adds (string_bytes text.old) (string_bytes text.new) (each_text entry_text entries.now)) }
+{
+    for entry in entries {
+        put_entry(entry, text)?;
+    }
+    Ok(())
+}
+
+// How many entries, and then these entries.
+fn put_entries(entries: &[Entry], text: &mut String) -> Result<(), AllocError>
+    ensures { OnOk result (Adds (string_bytes text.old) (string_bytes text.new) (entries_text entries.now)) }
+{
+    let count = entries.len();
+    write!(text, "{count}\n")?;
+    put_each_entry(entries, text)
+}
+
+fn flag_number(flag: bool) -> u8
+    ensures { result ≡ flag_number flag }
+{
+    if flag { 1 } else { 0 }
+}
+
+// A message of this term.
+fn put_body(term: u64, body: &Body, text: &mut String) -> Result<(), AllocError>
+    ensures { OnOk result (Adds (string_bytes text.old) (string_bytes text.new) (body_text term body.now)) }
+{
+    match body {
+        Body::RequestVote {
+            last_index,
+            last_term,
+        } => write!(text, "votereq {term} {last_index} {last_term}\n"),
+        Body::Vote { given } => {
+            let given = flag_number(*given);
+            write!(text, "vote {term} {given}\n")
+        }
+        Body::Append {
+            prev_index,
+            prev_term,
+            entries,
+            commit,
+        } => {
+            write!(text, "append {term} {prev_index} {prev_term} {commit} ")?;
+            put_entries(entries.as_slice(), text)
+        }
+        Body::Reply { ok, matched } => {
+            let ok = flag_number(*ok);
+            write!(text, "reply {term} {ok} {matched}\n")
+        }
+    }
+}
+
+fn put_packet(packet: &Packet, text: &mut String) -> Result<(), AllocError>
+    ensures { OnOk result (Adds (string_bytes text.old) (string_bytes text.new) (packet_text packet.now)) }
+{
+    match packet {
+        Packet::Local(Input::Timeout) => text.push_str("timeout\n"),
+        Packet::Local(Input::Beat) => text.push_str("beat\n"),
+        Packet::Local(Input::Close { .. }) => text.push_str("close\n"),
+        Packet::Local(Input::Submit { request, .. }) => {
+            text.push_str("submit ")?;
+            put_request(request, text)
+        }
+        Packet::Delivered { mark, message, .. } => {
+            let sender = message.sender;
+            let mark = mark.number();
+            write!(text, "from {sender} {mark} ")?;
+            put_body(message.term, &message.body, text)
+        }
+    }
+}
+
+// A step after its word.
+fn put_made(step: &Step, text: &mut String) -> Result<(), AllocError>
+    ensures { OnOk result (Adds (string_bytes text.old) (string_bytes text.new) (made_text step.now)) }
+{
+    let mark = step.mark.number();
+    let reading = step.reading;
+    write!(text, "{mark} {reading} ")?;
+    put_packet(&step.packet, text)
+}
+
+fn put_step(step: &Step, text: &mut String) -> Result<(), AllocError>
+    ensures { OnOk result (Adds (string_bytes text.old) (string_bytes text.new) (step_text step.now)) }
+{
+    text.push_str("step ")?;
+    put_made(step, text)
+}
+
+fn put_steps(steps: &[Step], text: &mut String) -> Result<(), AllocError>
+    ensures { OnOk result (Adds (string_bytes text.old) (string_bytes text.new) (each_text step_text steps.now)) }
+{
+    for step in steps {
+        put_step(step, text)?;
+    }
+    Ok(())
+}
+
+fn put_ending(ending: &Ending, text: &mut String) -> Result<(), AllocError>
+    ensures { OnOk result (Adds (string_bytes text.old) (string_bytes text.new) (ending_text ending.now)) }
+{
+    match ending {
+        Ending::Up => text.push_str("up\n"),
+        Ending::Stopped => text.push_str("stopped\n"),
+        Ending::Torn(step) => {
+            text.push_str("torn ")?;
+            put_made(step, text)
+        }
+    }
+}
+
+fn put_opening(opening: &Opening, text: &mut String) -> Result<(), AllocError>
+    ensures { OnOk result (Adds (string_bytes text.old) (string_bytes text.new) (opening_text (in_opening opening.now))) }
+{
+    let mark = opening.mark.number();
+    let term = opening.hard.term;
+    let vote = match opening.hard.vote {
+        None => 0,
+        Some(member) => member,
+    };
+    write!(text, "life {mark} {term} {vote} ")?;
+    put_entries(&opening.entries, text)
+}
+
+fn put_life(life: &Life, text: &mut String) -> Result<(), AllocError>
+    ensures { OnOk result (Adds (string_bytes text.old) (string_bytes text.new) (life_text (in_life life.now))) }
+{
+    put_opening(&life.opening, text)?;
+    put_steps(&life.steps, text)?;
+    put_ending(&life.ending, text)
+}
+
+fn put_lives(lives: &[Life], text: &mut String) -> Result<(), AllocError>
+    ensures { OnOk result (Adds (string_bytes text.old) (string_bytes text.new) (each_text life_text (map in_life lives.now))) }
+{
+    for life in lives {
+        put_life(life, text)?;
+    }
+    Ok(())
+}
+
+fn put_answer(recorded: &Recorded, text: &mut String) -> Result<(), AllocError>
+    ensures { OnOk result (Adds (string_bytes text.old) (string_bytes text.new) (answer_text recorded.now)) }
+{
+    let mark = recorded.mark.number();
+    let query = recorded.query.as_str();
+    let query_length = query.len();
+    write!(text, "answer {mark}\nquery {query_length}\n{query}\n")?;
+    let answer = recorded.answer.as_str();
+    let answer_length = answer.len();
+    write!(text, "text {answer_length}\n{answer}\n")
+}
+
+fn put_answers(answers: &[Recorded], text: &mut String) -> Result<(), AllocError>
+    ensures { OnOk result (Adds (string_bytes text.old) (string_bytes text.new) (each_text answer_text answers.now)) }
+{
+    for answer in answers {
+        put_answer(answer, text)?;
+    }
+    Ok(())
+}
+
+// The line that names the version.
+fn put_version(text: &mut String) -> Result<(), AllocError>
+    ensures { OnOk result (Adds (string_bytes text.old) (string_bytes text.new) (λ rest. codes "bitable flight 1\n" ++ rest)) }
+{
+    text.push_str("bitable flight 1\n")
+}
+
+// The line that names the node and its group.
+fn put_group(flight: &Flight, text: &mut String) -> Result<(), AllocError>
+    ensures { OnOk result (Adds (string_bytes text.old) (string_bytes text.new) (λ rest. codes "node " ++ spaced flight.now.node (codes "of " ++ ended flight.now.members rest))) }
+{
+    let node = flight.node;
+    let members = flight.members;
+    write!(text, "node {node} of {members}\n")
+}
+
+fn put_schema(flight: &Flight, text: &mut String) -> Result<(), AllocError>
+    ensures { OnOk result (Adds (string_bytes text.old) (string_bytes text.new) (λ rest. codes "schema " ++ block_text flight.now.schema rest)) }
+{
+    let schema = flight.schema.as_str();
+    let length = schema.len();
+    write!(text, "schema {length}\n{schema}\n")
+}
+
+/// The text of a flight's file: of one that can be read, its one spelling. The error is want of memory.
+pub fn text_of_flight(alloc: Global, flight: &Flight) -> Result<String, AllocError>
+    ensures { IfOk result (λ text. string_bytes text ≡ flight_text (in_flight flight.now)) }
+{
+    let mut text = String::new(alloc);
+    put_version(&mut text)?;
+    put_group(flight, &mut text)?;
+    put_schema(flight, &mut text)?;
+    put_lives(&flight.lives, &mut text)?;
+    put_answers(&flight.answers, &mut text)?;
+    text.push_str("end\n")?;
+    Ok(text)
+}
