@@ -4,7 +4,7 @@ ghost use Rattle.sqlread.specs.Meaning.{schema_of};
 ghost use Rattle.keep.specs.Durable.{stored_in};
 ghost use Rattle.keep.specs.Log.{IsLog};
 ghost use Rattle.view.specs.Publishing.{IsSameLife};
-ghost use Rattle.nodes.specs.Lives.{all_steps};
+ghost use Rattle.flight.specs.Lives.{all_steps};
 
 use crate::stored::{SCHEMA, stored};
 use fault::Refusal;
@@ -14,7 +14,7 @@ use model::member::Member;
 use model::message::{Body, Input, Message};
 use node::Fault;
 use nodes::cell::Cell;
-use nodes::life::{Ending, LIFE_STEPS, Life, Packet};
+use flight::life::{Ending, LIFE_STEPS, Life, Packet};
 use schema::Schema;
 use schemaread::schemas::read_schema;
 use std::alloc::Global;

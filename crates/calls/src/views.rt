@@ -1,7 +1,7 @@
 //! What cells publish, and cells under a lock.
 ghost use Rattle.std.specs.Prelude.{◌≡◌, ◌<◌, []};
 ghost use Rattle.view.specs.Publishing.{book_of};
-ghost use Rattle.nodes.specs.Lives.{all_steps};
+ghost use Rattle.flight.specs.Lives.{all_steps};
 
 use crate::cells::{beat, lead, start};
 use crate::stored::SCHEMA;
@@ -13,7 +13,7 @@ use model::mark::Mark;
 use model::message::{Body, Input, Message};
 use model::request::{Client, RequestNumber};
 use nodes::cell::Cell;
-use nodes::life::Packet;
+use flight::life::Packet;
 use nodes::locked::{LockedNode, Naming};
 use schemaread::schemas::read_schema;
 use sqlread::query::read_query;

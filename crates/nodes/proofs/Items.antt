@@ -16,8 +16,8 @@ use Rattle.node.specs.declared.node.Out.{Out}
 use Rattle.node.specs.View.{IsGiven, durable_of, started_from}
 use Rattle.history.specs.declared.item.Item.{Item}
 use Rattle.history.specs.Items.{entry_of, entries_of}
-use Rattle.nodes.specs.declared.life.Step.{Step}
-use Rattle.nodes.specs.declared.life.Opening.{Opening}
+use Rattle.flight.specs.declared.life.Step.{Step}
+use Rattle.flight.specs.declared.life.Opening.{Opening}
 use Rattle.nodes.specs.Lives.{stepped, opened_with}
 use Rattle.view.specs.declared.publisher.Publisher.{Publisher}
 use Rattle.view.specs.Publishing.{IsSameLife}

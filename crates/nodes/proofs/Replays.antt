@@ -13,8 +13,8 @@ use Rattle.raft.specs.View.{node_of, works}
 use Rattle.node.specs.declared.node.Out.{Out}
 use Rattle.node.specs.declared.node.Fault.TheVariants.{Kept}
 use Rattle.node.specs.View.{Gave, IsGiven, durable_of, started_from}
-use Rattle.nodes.specs.declared.life.Step.{Step}
-use Rattle.nodes.specs.declared.life.Opening.{Opening}
+use Rattle.flight.specs.declared.life.Step.{Step}
+use Rattle.flight.specs.declared.life.Opening.{Opening}
 use Rattle.nodes.specs.Lives.{work_of, stepped, opened_with}
 
 -- the steps from an opening on

@@ -1,53 +1,17 @@
 -- Marks that rise.
-use Rattle.std.proofs.Common.{◌≡◌, ◌∙◌, ℕ, suc, ◌-◌, Bool, true, false, ◌&&◌, nat_lt, List, [], ◌∷◌, ◌++◌, length, slice_get, Some, None, refl, sym, ap, subst, arith, ◌⊎◌, ⊎_elim, append-nil, ◌+◌, max, if◌then◌else◌}
+use Rattle.std.proofs.Common.{◌≡◌, ◌∙◌, ℕ, Bool, true, false, ◌&&◌, nat_lt, List, [], ◌∷◌, ◌++◌, Some, None, refl, ap, arith, append-nil, ◌+◌, max, if◌then◌else◌}
 use Rattle.std.proofs.lemmas.Bool.Decides.{nat_tests}
-use Rattle.nodes.specs.declared.life.Step.{Step}
-use Rattle.nodes.specs.declared.life.Ending.{Ending}
-use Rattle.nodes.specs.declared.life.Ending.TheVariants.{Up, Stopped}
-use Rattle.nodes.specs.declared.life.Packet.{Packet}
-use Rattle.nodes.specs.declared.life.Life.{Life}
-use Rattle.nodes.specs.Lives.{last_of, last_mark, marks_rise, mark_for, sent_at, all_steps, torn_step}
-
-minus_one : (n : ℕ) → suc n - 1 ≡ n
-minus_one n = omega arith
-
--- the last of a list that has one
-pub last_some : (mark : ℕ) (xs : List Step) (s : Step) → slice_get xs (length xs - 1) ≡ Some s → last_of mark xs ≡ s.mark
-unfolding last_of
-last_some mark [] s e = absurd (cc e)
-last_some mark (x ∷ []) s e = let h : x ≡ s = cc e in ap (λ v. v.mark) h
-last_some mark (x ∷ y ∷ ys) s e =
-    let P : ℕ → Type 0 = λ k. slice_get (x ∷ y ∷ ys) k ≡ Some s in
-    let at : P (suc (length ys)) = subst P (minus_one (suc (length ys))) e in
-    let Q : ℕ → Type 0 = λ k. slice_get (y ∷ ys) k ≡ Some s in
-    last_some x.mark (y ∷ ys) s (subst Q (sym (minus_one (length ys))) at)
-
-nothing_there : (x : Step) (xs : List Step) → slice_get (x ∷ xs) (length xs) ≡ None → ⊥
-nothing_there x [] e = cc e
-nothing_there x (y ∷ ys) e = nothing_there y ys e
-
-pub last_none : (mark : ℕ) (xs : List Step) → slice_get xs (length xs - 1) ≡ None → last_of mark xs ≡ mark
-unfolding last_of
-last_none mark [] e = refl
-last_none mark (x ∷ xs) e =
-    let P : ℕ → Type 0 = λ k. slice_get (x ∷ xs) k ≡ None in
-    absurd (nothing_there x xs (subst P (minus_one (length xs)) e))
-
-pub last_torn : (mark : ℕ) (xs : List Step) (s : Step) → last_of mark (xs ++ s ∷ []) ≡ s.mark
-unfolding last_of
-last_torn mark [] s = refl
-last_torn mark (x ∷ xs) s = last_torn x.mark xs s
+use Rattle.flight.specs.declared.life.Step.{Step}
+use Rattle.flight.specs.declared.life.Ending.TheVariants.{Up}
+use Rattle.flight.specs.declared.life.Packet.{Packet}
+use Rattle.flight.specs.declared.life.Life.{Life}
+use Rattle.flight.specs.Lives.{last_of, last_mark, mark_for, sent_at, all_steps, torn_step, step_of}
+use Rattle.raft.specs.declared.state.Work.{Work}
+use Rattle.nodes.specs.Lives.{marks_rise, work_of}
 
 both : (a b : Bool) → (a && b) ≡ true → (a ≡ true) × (b ≡ true)
 both true b h = (refl, h)
 both false b h = absurd (cc h)
-
--- an ending that is not torn has no step
-pub no_torn_step : (e : Ending) → (e ≡ Up) ⊎ (e ≡ Stopped) → torn_step e ≡ []
-no_torn_step e h = ⊎_elim (λ p. ap torn_step p) (λ p. ap torn_step p) h
-
-pub last_whole : (mark : ℕ) (xs more : List Step) (m : ℕ) → more ≡ [] → last_of mark xs ≡ m → last_of mark (xs ++ more) ≡ m
-last_whole mark xs more m e h = rw (e, append-nil xs) h
 
 -- one step more, with a mark above the last one and above its envelope's
 pub marks_rise-append : (mark : ℕ) (xs : List Step) (s : Step) → marks_rise mark xs ≡ true → nat_lt (last_of mark xs) s.mark ≡ true → nat_lt (sent_at s.packet) s.mark ≡ true → marks_rise mark (xs ++ s ∷ []) ≡ true
@@ -84,3 +48,11 @@ rises_torn life steps s up rises m e =
     let no_more : torn_step life.ending ≡ [] = ap torn_step up in
     let all : all_steps life ≡ life.steps.items = ap (λ xs. life.steps.items ++ xs) no_more ∙ append-nil life.steps.items in
     rw e (marks_rise-append _ life.steps.items s (rw all at rises) (rw all at above.0) above.1)
+
+-- ---- the step that a packet makes
+
+pub made_for : (life : Life) (s : Step) (m : ℕ) (p : Packet) → s ≡ step_of m p → Some m ≡ mark_for life p → Some s.mark ≡ mark_for life s.packet
+made_for life s m p e for = rw e for
+
+pub made_of : (s : Step) (m : ℕ) (p : Packet) (w : Work) → s ≡ step_of m p → w ≡ work_of p → w ≡ work_of s.packet
+made_of s m p w e of = rw e of

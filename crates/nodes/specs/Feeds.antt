@@ -6,10 +6,10 @@ use Rattle.node.specs.declared.node.Out.{Out as NodeOut}
 use Rattle.node.specs.declared.node.Fault.{Fault}
 use Rattle.node.specs.declared.node.Fault.TheVariants.{Kept, Down}
 use Rattle.nodes.specs.declared.cell.Out.{Out}
-use Rattle.nodes.specs.declared.life.Step.{Step}
-use Rattle.nodes.specs.declared.life.Ending.{Ending}
-use Rattle.nodes.specs.declared.life.Ending.TheVariants.{Up, Stopped, Torn}
-use Rattle.nodes.specs.declared.life.Life.{Life}
+use Rattle.flight.specs.declared.life.Step.{Step}
+use Rattle.flight.specs.declared.life.Ending.{Ending}
+use Rattle.flight.specs.declared.life.Ending.TheVariants.{Up, Stopped, Torn}
+use Rattle.flight.specs.declared.life.Life.{Life}
 
 -- a life with other steps, or another ending
 pub record IsLifeWith (old new : Life) (more : List Step) (end : Ending) : Type 0 where

@@ -9,8 +9,8 @@ use Rattle.history.specs.declared.item.Item.{Item}
 use Rattle.history.specs.declared.item.Item.TheVariants.{Applied}
 use Rattle.view.specs.declared.publisher.Publisher.{Publisher}
 use Rattle.view.specs.Publishing.{name_of, schema_of}
-use Rattle.nodes.specs.declared.life.Step.{Step}
-use Rattle.nodes.specs.declared.life.Life.{Life}
+use Rattle.flight.specs.declared.life.Step.{Step}
+use Rattle.flight.specs.declared.life.Life.{Life}
 use Rattle.nodes.specs.Lives.{stepped, opened_with}
 
 -- entries, each with this mark

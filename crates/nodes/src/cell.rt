@@ -11,13 +11,14 @@ ghost use Rattle.fault.specs.declared.refusal.Refusal.TheVariants.{NoMemory, NoV
 ghost use Rattle.history.specs.Items.{entries_of};
 ghost use Rattle.view.specs.Publishing.{published, pending, given_of as views_of, book_of, IsSameLife};
 ghost use Rattle.view.specs.Viewing.{seen_by, name_seen, schema_seen, book_seen, IsTold};
-ghost use Rattle.nodes.specs.Lives.{work_of, opened_with, replay, IsLeft, torn_step, all_steps, marks_rise, mark_for};
+ghost use Rattle.flight.specs.Lives.{torn_step, all_steps, mark_for, step_of};
+ghost use Rattle.nodes.specs.Lives.{work_of, opened_with, replay, IsLeft, marks_rise};
 ghost use Rattle.nodes.specs.Feeds.{IsLifeWith, IsRecorded, given_of, IsTurnedAway, IsStartRefusal, ending_of};
 ghost use Rattle.nodes.specs.Publishing.{items_of, AreFirst, IsPublisherOf};
-ghost use Rattle.nodes.specs.declared.life.Ending.TheVariants.{Up};
+ghost use Rattle.flight.specs.declared.life.Ending.TheVariants.{Up};
 
 use crate::copies::{copy_of_entries, work_of};
-use crate::life::{Ending, Life, Opening, Packet, Step};
+use flight::life::{Ending, Life, Opening, Packet, Step};
 use crate::publishing::{append_all, publish_all};
 use fault::Refusal;
 use keep::StoreError;
@@ -152,7 +153,7 @@ impl<K: Keeper> Cell<K> {
             × IsLifeWith self.old.life self.new.life [] self.old.life.ending
             × (self.new.node ≡ self.old.node) × (self.new.publisher ≡ self.old.publisher))
             ⊎ ((self.old.node.is_up ≡ true)
-            × MatchOption (mark_for self.old.life packet) ⊥ (λ m. IsRecorded self.old.life self.new.life (record { mark = m; packet = packet }) result)
+            × MatchOption (mark_for self.old.life packet) ⊥ (λ m. IsRecorded self.old.life self.new.life (step_of m packet) result)
             × Gave (node_of self.old.node.core) (node_of self.new.node.core) (works self.old.node.core.schema self.old.node.core.members self.old.node.core.me (work_of packet) (node_of self.old.node.core)) (given_of result)) }
         ensures applied { IfOk result (λ out. out.given.applied.items ≡ slice_range self.new.node.core.log.items self.old.node.core.commit self.new.node.core.commit) }
         ensures told { IfOk result (λ out. out.given.told.items ≡ told_between (schema_of self.old.node.core.schema) self.new.node.core.log.items self.old.node.core.commit self.new.node.core.commit) }
@@ -177,7 +178,7 @@ impl<K: Keeper> Cell<K> {
         if self.life.steps.reserve(1).is_err() {
             return Err(Fault::Kept(Refusal::NoMemory));
         }
-        let step = Step { mark, packet };
+        let step = Step::new(mark, packet);
         match self.node.step(work) {
             Ok(given) => {
                 if append_all(&mut self.publisher, mark, &given.applied).is_err() {

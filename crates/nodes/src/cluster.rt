@@ -3,7 +3,7 @@ ghost use Rattle.std.specs.Prelude.{◌≡◌, ◌≤◌, All, vec_len};
 ghost use Rattle.sqlread.specs.Meaning.{schema_of};
 
 use crate::gate::Gate;
-use crate::life::{Life, Packet};
+use flight::life::{Life, Packet};
 use crate::seat::{Control, Order, Post, Report, Start, tend};
 use fault::Refusal;
 use keep::keeper::Keeper;

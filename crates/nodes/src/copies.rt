@@ -2,7 +2,7 @@
 ghost use Rattle.std.specs.Prelude.{◌≡◌, IfOk};
 ghost use Rattle.nodes.specs.Lives.{work_of};
 
-use crate::life::Packet;
+use flight::life::Packet;
 use model::entry::Entry;
 use raft::state::Work;
 use std::alloc::{AllocError, Global};

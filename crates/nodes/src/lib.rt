@@ -5,7 +5,6 @@ pub mod cell;
 pub mod cluster;
 pub mod copies;
 pub mod gate;
-pub mod life;
 pub mod locked;
 mod publishing;
 pub mod seat;

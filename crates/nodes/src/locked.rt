@@ -6,12 +6,13 @@ ghost use Rattle.node.specs.View.{Gave, LeavesUp, told_between};
 ghost use Rattle.fault.specs.declared.refusal.Refusal.TheVariants.{NoMemory, NoView};
 ghost use Rattle.view.specs.Publishing.{published, book_of, given_of};
 ghost use Rattle.view.specs.Viewing.{seen_by, name_seen, book_seen, book_told, IsTold};
-ghost use Rattle.nodes.specs.Lives.{work_of, all_steps, mark_for};
+ghost use Rattle.flight.specs.Lives.{all_steps, mark_for, step_of};
+ghost use Rattle.nodes.specs.Lives.{work_of};
 ghost use Rattle.nodes.specs.Feeds.{IsLifeWith, IsRecorded, given_of as node_gave, IsTurnedAway};
 ghost use Rattle.nodes.specs.Publishing.{items_of};
 
 use crate::cell::{Cell, Out};
-use crate::life::{Ending, Life, Packet};
+use flight::life::{Ending, Life, Packet};
 use fault::Refusal;
 use keep::keeper::Keeper;
 use node::Fault;
@@ -74,7 +75,7 @@ impl<K: Keeper, L: Naming> LockedNode<K, L> {
             × IsLifeWith self.old.cell.life self.new.cell.life [] self.old.cell.life.ending
             × (self.new.cell.node ≡ self.old.cell.node) × (self.new.cell.publisher ≡ self.old.cell.publisher))
             ⊎ ((self.old.cell.node.is_up ≡ true)
-            × MatchOption (mark_for self.old.cell.life packet) ⊥ (λ m. IsRecorded self.old.cell.life self.new.cell.life (record { mark = m; packet = packet }) result)
+            × MatchOption (mark_for self.old.cell.life packet) ⊥ (λ m. IsRecorded self.old.cell.life self.new.cell.life (step_of m packet) result)
             × Gave (node_of self.old.cell.node.core) (node_of self.new.cell.node.core) (works self.old.cell.node.core.schema self.old.cell.node.core.members self.old.cell.node.core.me (work_of packet) (node_of self.old.cell.node.core)) (node_gave result)) }
         ensures applied { IfOk result (λ out. out.given.applied.items ≡ slice_range self.new.cell.node.core.log.items self.old.cell.node.core.commit self.new.cell.node.core.commit) }
         ensures told { IfOk result (λ out. out.given.told.items ≡ told_between (schema_of self.old.cell.node.core.schema) self.new.cell.node.core.log.items self.old.cell.node.core.commit self.new.cell.node.core.commit) }

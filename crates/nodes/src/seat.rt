@@ -4,7 +4,7 @@ ghost use Rattle.sqlread.specs.Meaning.{schema_of};
 
 use crate::cell::{Cell, Out};
 use crate::gate::{Gate, Point};
-use crate::life::{Life, Packet};
+use flight::life::{Life, Packet};
 use fault::Refusal;
 use keep::keeper::Keeper;
 use model::member::Member;

@@ -1,5 +1,5 @@
 use Rattle.std.proofs.Common.{◌∙◌, refl}
-use Rattle.nodes.specs.declared.life.Opening.{Opening}
+use Rattle.flight.specs.declared.life.Opening.{Opening}
 use Rattle.nodes.specs.Lives.{marks_rise}
 use Rattle.view.specs.Publishing.{published, pending}
 use Rattle.nodes.proofs.Items.{listed_none, whole_none}
