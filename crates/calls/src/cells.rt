@@ -8,13 +8,13 @@ ghost use Rattle.flight.specs.Lives.{all_steps};
 
 use crate::stored::{SCHEMA, stored};
 use fault::Refusal;
+use flight::life::{Ending, LIFE_STEPS, Life, Packet};
 use keep::{HardState, MemImage, MemKeeper, StoreError};
 use model::mark::{LAST_MARK, Mark};
 use model::member::Member;
 use model::message::{Body, Input, Message};
 use node::Fault;
 use nodes::cell::Cell;
-use flight::life::{Ending, LIFE_STEPS, Life, Packet};
 use schema::Schema;
 use schemaread::schemas::read_schema;
 use std::alloc::Global;

@@ -18,9 +18,9 @@ ghost use Rattle.nodes.specs.Publishing.{items_of, AreFirst, IsPublisherOf};
 ghost use Rattle.flight.specs.declared.life.Ending.TheVariants.{Up};
 
 use crate::copies::{copy_of_entries, work_of};
-use flight::life::{Ending, Life, Opening, Packet, Step};
 use crate::publishing::{append_all, publish_all};
 use fault::Refusal;
+use flight::life::{Ending, Life, Opening, Packet, Step};
 use keep::StoreError;
 use keep::keeper::Keeper;
 use model::mark::Mark;

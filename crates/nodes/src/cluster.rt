@@ -3,9 +3,9 @@ ghost use Rattle.std.specs.Prelude.{◌≡◌, ◌≤◌, All, vec_len};
 ghost use Rattle.sqlread.specs.Meaning.{schema_of};
 
 use crate::gate::Gate;
-use flight::life::{Life, Packet};
 use crate::seat::{Control, Order, Post, Report, Start, tend};
 use fault::Refusal;
+use flight::life::{Life, Packet};
 use keep::keeper::Keeper;
 use model::member::Member;
 use network::inboxes::{open_inbox, open_inbox_of_one};

@@ -12,8 +12,8 @@ ghost use Rattle.nodes.specs.Feeds.{IsLifeWith, IsRecorded, given_of as node_gav
 ghost use Rattle.nodes.specs.Publishing.{items_of};
 
 use crate::cell::{Cell, Out};
-use flight::life::{Ending, Life, Packet};
 use fault::Refusal;
+use flight::life::{Ending, Life, Packet};
 use keep::keeper::Keeper;
 use node::Fault;
 use std::marker::Brand;

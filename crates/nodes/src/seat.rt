@@ -4,8 +4,8 @@ ghost use Rattle.sqlread.specs.Meaning.{schema_of};
 
 use crate::cell::{Cell, Out};
 use crate::gate::{Gate, Point};
-use flight::life::{Life, Packet};
 use fault::Refusal;
+use flight::life::{Life, Packet};
 use keep::keeper::Keeper;
 use model::member::Member;
 use network::{Address, Inbox};
