@@ -10,5 +10,3 @@ mod indexes;
 mod keepers;
 #[cfg(test)]
 mod stored;
-#[cfg(test)]
-mod views;
