@@ -177,25 +177,32 @@ fn second_life(rt: &(impl Abort + Wait), mut cell: Cell<MemKeeper>) -> Life {
     life
 }
 
-// Marks are one more than the greater of the last mark and the packet's.
-#[test]
-fn stops_and_starts_again(rt: HostRuntime) -> Result<(), Fail> {
-    let alloc = rt.alloc();
-    let schema = read_schema(alloc, SCHEMA)?;
-    let Ok(mut cell) = start(&rt, alloc, MemImage::new(alloc), &schema, 1, None) else {
+// Member 1 is elected in its first life, which then stops.
+fn led_life(
+    rt: &(impl Abort + Wait),
+    alloc: Global,
+    schema: &Schema,
+) -> Result<(MemImage, Life), Fail>
+    ensures { IfOk result (λ p. IsLog 3 (schema_of schema.now) (stored_in p.0)) }
+{
+    let Ok(mut cell) = start(rt, alloc, MemImage::new(alloc), schema, 1, None) else {
         return Err(Fail::from("it does not start"));
     };
     assert_eq!(rt; steps_of(&cell.life), (1, 0));
-    lead(&rt, &mut cell)?;
-    let (image, life) = cell.stop(&rt);
+    lead(rt, &mut cell)?;
+    Ok(cell.stop(rt))
+}
+
+// Marks are one more than the greater of the last mark and the packet's.
+fn judge_led(rt: &impl Abort, life: &Life) {
     assert!(rt; matches!(life.ending, Ending::Stopped));
-    assert_eq!(rt; steps_of(&life), (6, 2));
+    assert_eq!(rt; steps_of(life), (6, 2));
     let first = life.steps.first().map(|step| step.mark.number());
     assert_eq!(rt; first, Some(2));
-    let Ok(cell) = start(&rt, alloc, image, &schema, 1, Some(life.last_mark())) else {
-        return Err(Fail::from("it does not start again"));
-    };
-    let life = second_life(&rt, cell);
+}
+
+// The life after it opens with what it stored, and its marks go on.
+fn judge_next(rt: &impl Abort, life: &Life) {
     let opening = &life.opening;
     assert_eq!(rt;
         (opening.mark.number(), opening.hard.term, opening.hard.vote),
@@ -204,7 +211,20 @@ fn stops_and_starts_again(rt: HostRuntime) -> Result<(), Fail> {
     assert_eq!(rt; opening.entries.len(), 1);
     let stamp = opening.entries.first().map(|entry| entry.stamp.micros());
     assert_eq!(rt; stamp, Some(100));
-    assert_eq!(rt; steps_of(&life), (9, 2));
+    assert_eq!(rt; steps_of(life), (9, 2));
+}
+
+#[test]
+fn stops_and_starts_again(rt: HostRuntime) -> Result<(), Fail> {
+    let alloc = rt.alloc();
+    let schema = read_schema(alloc, SCHEMA)?;
+    let (image, life) = led_life(&rt, alloc, &schema)?;
+    judge_led(&rt, &life);
+    let Ok(cell) = start(&rt, alloc, image, &schema, 1, Some(life.last_mark())) else {
+        return Err(Fail::from("it does not start again"));
+    };
+    let life = second_life(&rt, cell);
+    judge_next(&rt, &life);
     Ok(())
 }
 
