@@ -3,6 +3,7 @@
 
 pub mod laws;
 mod named;
+mod parts;
 pub mod transactions;
 
 pub use answertext::{Lines, write_answer};

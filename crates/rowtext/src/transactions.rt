@@ -18,6 +18,7 @@ ghost use Rattle.rowtext.specs.Spacing.{Start, Sign, Word, token_text, line};
 ghost use Rattle.rowtext.specs.Transactions.{literal_of, cell_of, column_name, field_name, portion_of, value_of, assignment_of, comparison_of, conditions_of, insert_form, update_form, delete_form, given_columns, statement_text, transaction_text};
 
 use crate::named::has_named;
+use crate::parts::{Part, put_more};
 use answertext::sink::{Pen, Sink};
 use literals::Literal;
 use model::value::Value;
@@ -288,40 +289,23 @@ fn put_assignments<S: Sink>(
     ensures { Puts S.takes S.begins sink.old result (line Start (assignments_phrase.spell (map (assignment_of table.now) assignments.now))) sink.new }
 {
     let (first, others) = assignments.split_first().ok_or(fmt::Error)?;
-    put_assignment(table, first, sink)?;
-    put_more_assignments(table, others, sink)
+    first.put(table, sink)?;
+    put_more(table, ", ", others, sink)
 }
 
-// Each assignment, with a comma before it.
-fn put_more_assignments<S: Sink>(
-    table: &Table,
-    assignments: &[Assignment],
-    sink: &mut S,
-) -> Result<(), S::Fault>
-    ensures { Puts S.takes S.begins sink.old result (flat_map (λ a. codes ", " ++ line Start (assignment_phrase.spell (assignment_of table.now a))) assignments.now) sink.new }
-{
-    for assignment in assignments {
-        sink.put(", ")?;
-        put_assignment(table, assignment, sink)?;
-    }
-    Ok(())
-}
+impl Part for Assignment {
+    ghost text = { λ table a. line Start (assignment_phrase.spell (assignment_of table a)) };
 
-fn put_assignment<S: Sink>(
-    table: &Table,
-    assignment: &Assignment,
-    sink: &mut S,
-) -> Result<(), S::Fault>
-    ensures { Puts S.takes S.begins sink.old result (line Start (assignment_phrase.spell (assignment_of table.now assignment.now))) sink.new }
-{
-    let name = field_name(table, Field::Value(assignment.place)).ok_or(fmt::Error)?;
-    match &assignment.value {
-        NewValue::Literal(value) => {
-            let literal = SqlLiteral(value);
-            sink.put(format_args!("{name} = {literal}"))
+    fn put<S: Sink>(&self, table: &Table, sink: &mut S) -> Result<(), S::Fault> {
+        let name = field_name(table, Field::Value(self.place)).ok_or(fmt::Error)?;
+        match &self.value {
+            NewValue::Literal(value) => {
+                let literal = SqlLiteral(value);
+                sink.put(format_args!("{name} = {literal}"))
+            }
+            NewValue::Plus(more) => sink.put(format_args!("{name} = {name} + {more}")),
+            NewValue::Minus(less) => sink.put(format_args!("{name} = {name} - {less}")),
         }
-        NewValue::Plus(more) => sink.put(format_args!("{name} = {name} + {more}")),
-        NewValue::Minus(less) => sink.put(format_args!("{name} = {name} - {less}")),
     }
 }
 
@@ -353,36 +337,19 @@ fn put_conditions<S: Sink>(
         return Ok(());
     };
     sink.put(" WHERE ")?;
-    put_comparison(table, first, sink)?;
-    put_more_comparisons(table, others, sink)
+    first.put(table, sink)?;
+    put_more(table, " AND ", others, sink)
 }
 
-// Each comparison, with AND before it.
-fn put_more_comparisons<S: Sink>(
-    table: &Table,
-    comparisons: &[Comparison],
-    sink: &mut S,
-) -> Result<(), S::Fault>
-    ensures { Puts S.takes S.begins sink.old result (flat_map (λ c. codes " AND " ++ line Start (comparison_phrase.spell (comparison_of table.now c))) comparisons.now) sink.new }
-{
-    for comparison in comparisons {
-        sink.put(" AND ")?;
-        put_comparison(table, comparison, sink)?;
+impl Part for Comparison {
+    ghost text = { λ table c. line Start (comparison_phrase.spell (comparison_of table c)) };
+
+    fn put<S: Sink>(&self, table: &Table, sink: &mut S) -> Result<(), S::Fault> {
+        let name = field_name(table, self.field).ok_or(fmt::Error)?;
+        let operator = operator_text(self.operator);
+        let literal = SqlLiteral(&self.value);
+        sink.put(format_args!("{name} {operator} {literal}"))
     }
-    Ok(())
-}
-
-fn put_comparison<S: Sink>(
-    table: &Table,
-    comparison: &Comparison,
-    sink: &mut S,
-) -> Result<(), S::Fault>
-    ensures { Puts S.takes S.begins sink.old result (line Start (comparison_phrase.spell (comparison_of table.now comparison.now))) sink.new }
-{
-    let name = field_name(table, comparison.field).ok_or(fmt::Error)?;
-    let operator = operator_text(comparison.operator);
-    let literal = SqlLiteral(&comparison.value);
-    sink.put(format_args!("{name} {operator} {literal}"))
 }
 
 fn operator_text(operator: Operator) -> &'static str

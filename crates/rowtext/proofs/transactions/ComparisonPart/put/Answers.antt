@@ -1,9 +1,9 @@
 use Rattle.rowtext.proofs.Values.{comparison_written}
 use Rattle.answertext.proofs.Putting.{puts_same}
-use Rattle.rowtext.proofs.transactions.put_comparison.Goals as goal
+use Rattle.rowtext.proofs.transactions.ComparisonPart.put.Goals as goal
 
 pub returns : goal.returns
 returns g c =
     let name = rw c.in_ok-name.ensures.ok_part at c.field_name.ensures.name in
     puts_same g.S.Sink.takes g.S.Sink.begins _ _ c.put.result _ _
-    (comparison_written c.args.table.now c.args.comparison.now _ _ name c.operator_text-operator.ensures) c.put.ensures
+    (comparison_written c.args.table.now c.args.self.now _ _ name c.operator_text-operator.ensures) c.put.ensures
