@@ -2,10 +2,12 @@
 //! another.
 #![tactic(auto)]
 
+pub mod counted;
 pub mod index;
 pub mod key;
 pub mod laws;
 mod order;
 
+pub use counted::{Count, Counted};
 pub use index::{Found, KeyIndex};
 pub use key::Key;
