@@ -2,4 +2,3 @@ pub mod Reads
 pub mod Key
 pub mod Index
 pub mod Stored
-pub mod KeyIndex

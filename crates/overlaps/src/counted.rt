@@ -1,6 +1,6 @@
 //! Lists that are read item by item, and how many items were read.
 ghost use Rattle.std.specs.Prelude.{◌≡◌, ◌<◌, ◌≤◌, ◌==◌, ◌++◌, ◌∷◌, [], length, insert, remove, slice_index_or, OnOk, OnErr};
-ghost use Rattle.overlaps.specs.Reads.{one_more};
+ghost use Rattle.overlaps.specs.Reads.{one_more, more};
 
 use std::alloc::{AllocError, Global};
 use std::marker::Model;
@@ -37,12 +37,12 @@ impl Count {
         self.reads
     }
 
-    // One read more.
-    fn raise(&mut self)
-        ensures more { self.new ≡ one_more self.old }
+    // So many reads more.
+    fn raise_by(&mut self, reads: usize)
+        ensures more { self.new ≡ more reads self.old }
         ensures grows { self.old ≤ self.new }
     {
-        self.reads = self.reads.saturating_add(1);
+        self.reads = self.reads.saturating_add(reads as u64);
     }
 }
 
@@ -92,8 +92,17 @@ impl<T> Counted<T> {
         ensures counted { count.new ≡ one_more count.old }
         ensures grows { count.old ≤ count.new }
     {
-        count.raise();
+        count.raise_by(1);
         &self.items[place]
+    }
+
+    /// All items. It raises the count by how many there are, as reading each of them does. Takes no memory.
+    pub fn all(&self, count: &mut Count) -> &[T]
+        ensures items { result.now ≡ self.now }
+        ensures counted { count.new ≡ more (length self.now) count.old }
+    {
+        count.raise_by(self.items.len());
+        self.items.as_slice()
     }
 
     /// Takes the item at the place out, and gives it to the caller. This is no read. Takes no memory.
