@@ -2,7 +2,7 @@
 ghost use Rattle.std.specs.Prelude.{◌<◌, ◌≤◌};
 
 use model::value::Value;
-use overlaps::{Key, KeyIndex};
+use overlaps::{Count, Key, KeyIndex};
 use period::{Day, Period};
 use std::alloc::AllocError;
 use std::process::Abort;
@@ -18,32 +18,46 @@ fn days(start: u32, end: u32) -> Period
 }
 
 // Stores the period unless the key has a day of it.
-fn store(index: &mut KeyIndex, key: &Key, period: Period) -> Result<bool, AllocError> {
-    if index.find(key, period).period.is_some() {
+fn store(index: &mut KeyIndex<Period>, key: &Key, period: Period) -> Result<bool, AllocError> {
+    if index.find(key, period, &mut Count::new()).is_some() {
         return Ok(false);
     }
-    index.insert(key, period)?;
+    index.insert(key.clone()?, period)?;
     Ok(true)
 }
 
+// What a search finds, and how many stored periods it reads.
+fn found(index: &KeyIndex<Period>, key: &Key, period: Period) -> (Option<Period>, u64) {
+    let mut count = Count::new();
+    let first = index.find(key, period, &mut count).copied();
+    (first, count.reads())
+}
+
 // With 5 to 9, 12 to 20 and 0 to 5, stored in this order.
-fn finds_and_takes_out(rt: &impl Abort, index: &mut KeyIndex, key: &Key) -> Result<(), Fail> {
+fn finds_and_takes_out(
+    rt: &impl Abort,
+    index: &mut KeyIndex<Period>,
+    key: &Key,
+) -> Result<(), Fail> {
     for period in [days(5, 9), days(12, 20), days(0, 5)] {
         assert!(rt; store(index, key, period)?);
     }
-    for (period, first, probes) in [
-        (days(8, 13), Some(days(5, 9)), 2),
-        (days(9, 12), None, 3),
-        (days(19, 30), Some(days(12, 20)), 3),
-        (days(20, 30), None, 3),
+    for (period, first) in [
+        (days(8, 13), Some(days(5, 9))),
+        (days(9, 12), None),
+        (days(19, 30), Some(days(12, 20))),
+        (days(20, 30), None),
     ] {
-        let found = index.find(key, period);
-        assert_eq!(rt; (found.period, found.probes), (first, probes));
+        let (period, reads) = found(index, key, period);
+        assert!(rt; period == first && reads <= 3);
     }
     assert!(rt; !store(index, key, days(8, 13))? && store(index, key, days(9, 12))?);
-    assert!(rt; !index.remove(key, days(5, 8)) && index.remove(key, days(5, 9)));
-    let left = [days(0, 5), days(9, 12), days(12, 20)];
-    assert_eq!(rt; index.periods(key), left.as_slice());
+    assert!(rt; index.remove(key, days(5, 8)).is_none());
+    assert_eq!(rt; index.remove(key, days(5, 9)), Some(days(5, 9)));
+    for left in [days(0, 5), days(9, 12), days(12, 20)] {
+        assert_eq!(rt; found(index, key, left).0, Some(left));
+    }
+    assert_eq!(rt; found(index, key, days(5, 9)).0, None);
     Ok(())
 }
 
@@ -54,7 +68,6 @@ fn periods_of_a_key(rt: HostRuntime) -> Result<(), Fail> {
     let other = Key::new(vec![in alloc; Value::Number(-7)]?);
     let mut index = KeyIndex::new(alloc);
     finds_and_takes_out(&rt, &mut index, &key)?;
-    assert!(rt; index.periods(&other).is_empty());
-    assert_eq!(rt; index.find(&other, days(8, 13)).probes, 0);
+    assert_eq!(rt; found(&index, &other, days(8, 13)), (None, 0));
     Ok(())
 }

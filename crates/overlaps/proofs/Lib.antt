@@ -1,3 +1,4 @@
 pub mod Sharing
+pub mod Halves
 pub mod Ordered
 pub mod Changed

@@ -1,18 +1,15 @@
--- The periods in the map of an index.
-use Rattle.std.specs.Prelude.{Option, Some, None, List, [], map}
-use Rattle.std.specs.declared.alloc.Global.{Global}
-use Rattle.std.specs.declared.vec.Vec.{Vec}
+-- The items in the map of an index.
+use Rattle.std.specs.Prelude.{Option, Some, None, List, []}
 use Rattle.std.specs.BTreeMap.{BTreeMap, get}
-use Rattle.period.specs.declared.period.Period.{Period as Declared}
 use Rattle.model.specs.declared.value.Value.{Value}
 use Rattle.model.specs.Values.{key_cmp}
-use Rattle.model.specs.Tables.{Period}
-use Rattle.model.specs.Periods.{period_of}
 use Rattle.overlaps.specs.Index.{Index}
 
-abbrev pub periods_in : Option (Vec Declared Global) → List Period
-periods_in None = []
-periods_in (Some v) = map period_of v.items
+-- the items of a key that may have none
+abbrev pub items_in : {T : Type 0} → Option (List T) → List T
+items_in None = []
+items_in (Some items) = items
 
-abbrev pub stored : BTreeMap (List Value) (Vec Declared Global) → Index
-stored m = λ key. periods_in (get key_cmp m key)
+-- the items of each key, in the order of the starts of their periods
+abbrev pub items_of : {T : Type 0} → BTreeMap (List Value) (List T) → Index T
+items_of m = λ key. items_in (get key_cmp m key)

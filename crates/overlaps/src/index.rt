@@ -1,120 +1,116 @@
-//! An index of the periods of a table's rows.
-ghost use Rattle.std.specs.Prelude.{List};
+//! An index of what has periods, by key.
+ghost use Rattle.std.specs.Prelude.{List, map};
 ghost use Rattle.model.specs.declared.value.Value.{Value};
 ghost use Rattle.overlaps.specs.Index.{AreApart};
-ghost use Rattle.overlaps.specs.Stored.{stored};
+ghost use Rattle.overlaps.specs.Stored.{items_of};
 
+use crate::counted::{Count, Counted};
+use crate::has_period::HasPeriod;
 use crate::key::Key;
 use crate::order::{first_sharing, insert_in_order, remove_from};
 use period::Period;
 use std::alloc::{AllocError, Global};
 use std::collections::BTreeMap;
 
-/// What a search found.
+/// Items stored by key, those of a key in the order of the starts of their periods. No two of a key share a day. A
+/// contract sees what `items_of` gives of its map: the items of each key.
 #[derive(Debug, Drop)]
-pub struct Found {
-    /// The first stored period that was sought, if there is one.
-    pub period: Option<Period>,
-    /// How many stored periods of the key stand up to the first, in their order, that ends after the sought one starts,
-    /// that one included; all of them where none does. The search counts one for each that it compares. A contract says
-    /// the number, and not which periods are read.
-    pub probes: u64,
+pub struct KeyIndex<T: HasPeriod> {
+    /// The items of each key; a key without items may be there.
+    pub lines: BTreeMap<Key, Counted<T>>,
+    /// Where it takes its memory.
+    pub alloc: Global,
+    pub ghost apart: { (key : List Value) → AreApart (map T.period (items_of lines key)) },
 }
 
-/// Periods stored by key. A contract sees what `periods_of` gives: the periods of each key, in the
-/// order of their starts. No two periods of a key share a day.
-#[derive(Debug, Drop)]
-pub struct KeyIndex {
-    periods: BTreeMap<Key, Vec<Period>>,
-    alloc: Global,
-    ghost apart: { (key : List Value) → AreApart (stored periods key) },
-}
+impl<T: HasPeriod> KeyIndex<T> {
+    ghost use Rattle.std.specs.Prelude.{◌≡◌, ◌<◌, ◌≤◌, ◌+◌, ◌^◌, ℕ, [], length, map, find, option_copied};
+    ghost use Rattle.model.specs.Periods.{period_of};
+    ghost use Rattle.overlaps.specs.Index.{shares_day};
+    ghost use Rattle.overlaps.specs.Stored.{items_in, items_of};
 
-impl KeyIndex {
-    ghost use Rattle.std.specs.Prelude.{◌≡◌, ◌≤◌, [], length, map, find, None, OnOk, OnErr};
-    ghost use Rattle.std.specs.List.{list_any};
-    ghost use Rattle.std.specs.Option.{option_map};
-    ghost use Rattle.model.specs.Periods.{period_of, StartInOrder};
-    ghost use Rattle.overlaps.specs.Index.{shares_day, compared, with_period, same_period, without_period, changed_at};
-    ghost use Rattle.overlaps.specs.KeyIndex.{periods_of};
-
-    /// An index that has no period. Takes no memory.
-    pub fn new(alloc: Global) -> KeyIndex
-        ensures { periods_of result ≡ (λ key. []) }
+    /// An index without items. Takes no memory.
+    pub fn new(alloc: Global) -> KeyIndex<T>
+        ensures { items_of result.lines ≡ (λ key. []) }
     {
         KeyIndex {
-            periods: BTreeMap::new(alloc),
+            lines: BTreeMap::new(alloc),
             alloc,
         }
     }
 
-    /// The stored periods of a key. Takes no memory.
-    pub fn periods(&self, key: &Key) -> &[Period]
-        ensures periods { map period_of result.now ≡ periods_of self.now key.now }
-        ensures apart { AreApart (periods_of self.now key.now) }
-        ensures in_order { StartInOrder (periods_of self.now key.now) }
+    /// The items of a key; none where it has none, or a list without items. Takes no memory.
+    pub fn line(&self, key: &Key) -> Option<&Counted<T>>
+        ensures { items_in (option_copied result) ≡ items_of self.now.lines key.now }
     {
-        match self.periods.get(key) {
-            Some(periods) => periods.as_slice(),
-            None => &[],
+        self.lines.get(key)
+    }
+
+    /// The first item of the key, in the order of the starts, whose period has a day of `p`. It is searched for by
+    /// halves: of fewer items than two to the power of `digits`, which are as many as can be written in so many binary
+    /// digits, it reads `digits` and one more at most. Takes no memory.
+    pub fn find(&self, key: &Key, p: Period, count: &mut Count) -> Option<&T>
+        ensures item { option_copied result ≡ find (λ x. shares_day (period_of p) (T.period x)) (items_of self.now.lines key.now) }
+        ensures few { (digits : ℕ) → length (items_of self.now.lines key.now) < 2 ^ digits → count.new ≤ count.old + digits + 1 }
+        ensures grows { count.old ≤ count.new }
+    {
+        let line = self.lines.get(key)?;
+        first_sharing(line, p, count)
+    }
+}
+
+impl<T: HasPeriod + Drop> KeyIndex<T> {
+    ghost use Rattle.std.specs.Prelude.{◌≡◌, [], find, None, OnOk, OnErr};
+    ghost use Rattle.model.specs.Periods.{period_of};
+    ghost use Rattle.overlaps.specs.Index.{shares_day, same_period, with_item, without_period, changed_at};
+    ghost use Rattle.overlaps.specs.Stored.{items_of};
+
+    /// Stores an item of a key, which has no stored day of the item's period: `find` is the test. Want of memory
+    /// changes nothing.
+    pub fn insert(&mut self, key: Key, item: T) -> Result<(), AllocError>
+        requires { find (λ x. shares_day (T.period item) (T.period x)) (items_of self.old.lines key) ≡ None }
+        ensures ok { OnOk result (items_of self.new.lines ≡ changed_at key (with_item T.period item) (items_of self.old.lines)) }
+        ensures err { OnErr result (self.new.lines.entries ≡ self.old.lines.entries) }
+    {
+        match self.lines.get_mut(&key) {
+            Some(line) => insert_in_order(line, item),
+            None => self.insert_first(key, item),
         }
     }
 
-    /// The first stored period of the key, in the order of starts, that has a day of `p`, and how far a search in that
-    /// order goes for it. Takes no memory.
-    pub fn find(&self, key: &Key, p: Period) -> Found
-        ensures period { option_map period_of result.period ≡ find (shares_day (period_of p)) (periods_of self.now key.now) }
-        ensures probes { result.probes ≡ compared (period_of p) (periods_of self.now key.now) }
-        ensures at_most { result.probes ≤ length (periods_of self.now key.now) }
+    // Stores the first item of a key.
+    fn insert_first(&mut self, key: Key, item: T) -> Result<(), AllocError>
+        requires { items_of self.old.lines key ≡ [] }
+        ensures ok { OnOk result (items_of self.new.lines ≡ changed_at key (with_item T.period item) (items_of self.old.lines)) }
+        ensures err { OnErr result (self.new.lines.entries ≡ self.old.lines.entries) }
     {
-        first_sharing(self.periods(key), p)
-    }
-
-    /// Stores a period of a key, which has no stored day of the period: `find` is the test. Want of
-    /// memory changes nothing.
-    pub fn insert(&mut self, key: &Key, period: Period) -> Result<(), AllocError>
-        requires { find (shares_day (period_of period)) (periods_of self.old key.now) ≡ None }
-        ensures ok { OnOk result (periods_of self.new ≡ changed_at key.now (with_period (period_of period)) (periods_of self.old)) }
-        ensures err { OnErr result (periods_of self.new ≡ periods_of self.old) }
-    {
-        match self.periods.get_mut(key) {
-            Some(periods) => insert_in_order(periods, period),
-            None => self.insert_first(key, period),
-        }
-    }
-
-    // Stores the first period of a key.
-    fn insert_first(&mut self, key: &Key, period: Period) -> Result<(), AllocError>
-        requires { periods_of self.old key.now ≡ [] }
-        ensures ok { OnOk result (periods_of self.new ≡ changed_at key.now (with_period (period_of period)) (periods_of self.old)) }
-        ensures err { OnErr result (periods_of self.new ≡ periods_of self.old) }
-    {
-        let key = key.clone()?;
-        let periods = vec![in self.alloc; period]?;
-        self.periods.insert(key, periods)?;
+        let mut line = Counted::new(self.alloc);
+        line.push(item)?;
+        self.lines.insert(key, line)?;
         Ok(())
     }
 
-    /// Takes a period of a key out, and tells whether it was stored. Where it was not, nothing
-    /// changes. Takes no memory.
-    pub fn remove(&mut self, key: &Key, period: Period) -> bool
-        ensures found { result ≡ list_any (λ q. same_period q (period_of period)) (periods_of self.old key.now) }
-        ensures rest { periods_of self.new ≡ changed_at key.now (without_period (period_of period)) (periods_of self.old) }
+    // Keeps no memory for a key without items.
+    fn forget_if_empty(&mut self, key: &Key)
+        ensures { items_of self.new.lines ≡ items_of self.old.lines }
     {
-        let Some(periods) = self.periods.get_mut(key) else {
-            return false;
+        let Some(line) = self.lines.get(key) else {
+            return;
         };
-        let found = remove_from(periods, period);
-        self.forget_if_empty(key);
-        found
+        if line.is_empty() {
+            self.lines.remove(key);
+        }
     }
 
-    // Keeps no memory for a key without periods.
-    fn forget_if_empty(&mut self, key: &Key)
-        ensures { periods_of self.new ≡ periods_of self.old }
+    /// Takes the item of a key with this period out, and gives it. Where there is none, nothing changes. Takes no
+    /// memory.
+    pub fn remove(&mut self, key: &Key, period: Period) -> Option<T>
+        ensures found { result ≡ find (λ x. same_period (T.period x) (period_of period)) (items_of self.old.lines key.now) }
+        ensures rest { items_of self.new.lines ≡ changed_at key.now (without_period T.period (period_of period)) (items_of self.old.lines) }
     {
-        if self.periods(key).is_empty() {
-            self.periods.remove(key);
-        }
+        let line = self.lines.get_mut(key)?;
+        let found = remove_from(line, period);
+        self.forget_if_empty(key);
+        found
     }
 }

@@ -1,11 +1,15 @@
-//! The periods that the rows of a table have, by key, and the search for one that shares a day with
-//! another.
+//! What has periods, by key, and the search by halves for one that shares a day with another; lists that are read item
+//! by item, and how many items were read.
 #![tactic(auto)]
 
+pub mod counted;
+pub mod has_period;
 pub mod index;
 pub mod key;
 pub mod laws;
 mod order;
 
-pub use index::{Found, KeyIndex};
+pub use counted::{Count, Counted};
+pub use has_period::HasPeriod;
+pub use index::KeyIndex;
 pub use key::Key;

@@ -1,55 +1,86 @@
-//! Periods of one key, in the order of their starts.
-ghost use Rattle.std.specs.Prelude.{◌≡◌, map, find, OnOk, OnErr};
-ghost use Rattle.std.specs.List.{list_any};
-ghost use Rattle.std.specs.Option.{option_map};
+//! Items of one key, in the order of the starts of their periods, of which no two share a day.
+ghost use Rattle.std.specs.Prelude.{◌≡◌, ◌<◌, ◌≤◌, ◌+◌, ◌^◌, ℕ, None, map, find, length, nat_le, option_copied, OnOk, OnErr};
+ghost use Rattle.std.specs.List.{prefix_len};
 ghost use Rattle.model.specs.Periods.{period_of};
-ghost use Rattle.overlaps.specs.Index.{AreApart, shares_day, compared, with_period, same_period, without_period};
+ghost use Rattle.overlaps.specs.Index.{AreApart, shares_day, same_period, with_item, without_period};
 
-use crate::index::Found;
-use period::Period;
+use crate::counted::{Count, Counted};
+use crate::has_period::HasPeriod;
+use period::{Day, Period};
 use std::alloc::AllocError;
 
-/// The first of the periods that has a day of `p`.
-pub(crate) fn first_sharing(periods: &[Period], p: Period) -> Found
-    requires { AreApart (map period_of periods.now) }
-    ensures period { option_map period_of result.period ≡ find (shares_day (period_of p)) (map period_of periods.now) }
-    ensures probes { result.probes ≡ compared (period_of p) (map period_of periods.now) }
+/// The place of the first of the items that ends after the day; how many items there are, where none does. It is found
+/// by halves.
+pub(crate) fn first_after<T: HasPeriod>(items: &Counted<T>, day: Day, count: &mut Count) -> usize
+    requires { AreApart (map T.period items.now) }
+    ensures place { result ≡ prefix_len (λ x. nat_le (T.period x).end day.number) items.now }
+    ensures few { (digits : ℕ) → length items.now < 2 ^ digits → count.new ≤ count.old + digits }
+    ensures grows { count.old ≤ count.new }
 {
-    let mut probes = 0;
-    for stored in periods {
-        probes += 1;
-        if p.start < stored.end {
-            let period = if stored.start < p.end {
-                Some(*stored)
-            } else {
-                None
-            };
-            return Found { period, probes };
+    let mut low = 0;
+    let mut high = items.len();
+    while low < high {
+        let middle = low + (high - low) / 2;
+        if items.at(middle, count).period().end <= day {
+            low = middle + 1;
+        } else {
+            high = middle;
         }
     }
-    Found {
-        period: None,
-        probes,
+    low
+}
+
+/// The first of the items whose period has a day of `p`.
+pub(crate) fn first_sharing<'a, T: HasPeriod>(
+    items: &'a Counted<T>,
+    p: Period,
+    count: &mut Count,
+) -> Option<&'a T>
+    requires { AreApart (map T.period items.now) }
+    ensures item { option_copied result ≡ find (λ x. shares_day (period_of p) (T.period x)) items.now }
+    ensures few { (digits : ℕ) → length items.now < 2 ^ digits → count.new ≤ count.old + digits + 1 }
+    ensures grows { count.old ≤ count.new }
+{
+    let place = first_after(items, p.start, count);
+    if place >= items.len() {
+        return None;
+    }
+    let item = items.at(place, count);
+    if item.period().start < p.end {
+        Some(item)
+    } else {
+        None
     }
 }
 
-/// Adds a period, or is refused memory and changes nothing.
-pub(crate) fn insert_in_order(periods: &mut Vec<Period>, period: Period) -> Result<(), AllocError>
-    requires { AreApart (map period_of periods.old.items) }
-    ensures ok { OnOk result (map period_of periods.new.items ≡ with_period (period_of period) (map period_of periods.old.items)) }
-    ensures err { OnErr result (periods.new.items ≡ periods.old.items) }
+/// Adds an item, no day of which is in another, or is refused memory and changes nothing.
+pub(crate) fn insert_in_order<T: HasPeriod + Drop>(
+    items: &mut Counted<T>,
+    item: T,
+) -> Result<(), AllocError>
+    requires apart { AreApart (map T.period items.old) }
+    requires free { find (λ x. shares_day (T.period item) (T.period x)) items.old ≡ None }
+    ensures ok { OnOk result (items.new ≡ with_item T.period item items.old) }
+    ensures err { OnErr result (items.new ≡ items.old) }
 {
-    let place = periods.partition_point(|stored| stored.start < period.start);
-    periods.insert(place, period)?;
-    Ok(())
+    let mut count = Count::new();
+    let place = first_after(items, item.period().start, &mut count);
+    items.insert(place, item)
 }
 
-/// Takes a period out, and tells whether it was there.
-pub(crate) fn remove_from(periods: &mut Vec<Period>, period: Period) -> bool
-    ensures found { result ≡ list_any (λ q. same_period q (period_of period)) (map period_of periods.old.items) }
-    ensures rest { map period_of periods.new.items ≡ without_period (period_of period) (map period_of periods.old.items) }
+/// Takes the item with this period out, and gives it; none, and no change, where none has it.
+pub(crate) fn remove_from<T: HasPeriod>(items: &mut Counted<T>, period: Period) -> Option<T>
+    requires { AreApart (map T.period items.old) }
+    ensures found { result ≡ find (λ x. same_period (T.period x) (period_of period)) items.old }
+    ensures rest { items.new ≡ without_period T.period (period_of period) items.old }
 {
-    let found = periods.contains(&period);
-    periods.retain(|stored| *stored != period);
-    found
+    let mut count = Count::new();
+    let place = first_after(items, period.start, &mut count);
+    if place >= items.len() {
+        return None;
+    }
+    if items.at(place, &mut count).period() != period {
+        return None;
+    }
+    Some(items.remove(place))
 }

@@ -1,20 +1,21 @@
-use Rattle.std.proofs.Common.{◌≡◌, ◌≤◌, ◌∙◌, true, false, ap, map, length, sym, subst, rules, arith}
-use Rattle.std.specs.Prelude.{nat_lt}
-use Rattle.std.specs.List.Sorted.{IsNonDecreasingBy, IsPartitionPoint}
-use Rattle.std.proofs.lemmas.List.Sorted.{IsPartitionPoint-from_clause, IsPartitionedBy-ltb}
-use Rattle.period.specs.declared.period.Period.{Period}
-use Rattle.model.specs.Periods.{period_of}
-use Rattle.overlaps.proofs.Ordered.{map-insert, rising}
+use Rattle.std.proofs.Common.{◌≡◌, ◌≤◌, ◌∙◌, ap, sym, subst, arith}
+use Rattle.std.specs.Prelude.{find, None}
+use Rattle.std.specs.List.{insert, prefix_len}
+use Rattle.std.proofs.lemmas.List.Sums.{prefix_len-le-length}
+use Rattle.overlaps.proofs.Sharing.{ended}
+use Rattle.overlaps.proofs.Ordered.{insert-is}
+use Rattle.overlaps.proofs.Changed.{on_ok}
 use Rattle.overlaps.proofs.order.insert_in_order.Goals as goal
 
+pub insert-requires : goal.insert-requires
+insert-requires g c =
+    let bound = prefix_len-le-length (ended g.T.HasPeriod.period c.period.result.start.number) c.args.items.now in
+    let place = c.first_after-place.ensures.place in
+    omega arith
+
 pub returns-clause-ok : goal.returns-clause-ok
-returns-clause-ok c =
-    let place = c.partition_point-place.result in
-    let is_before = λ (q : Period). nat_lt q.start.number c.args.period.start.number in
-    let items = c.deref.ensures.value in
-    let order = subst (IsNonDecreasingBy (λ (q : Period). q.start.number)) (sym items) (rising c.args.periods.now.items c.requires) in
-    let parted = IsPartitionedBy-ltb (λ (q : Period). q.start.number) _ c.args.period.start.number order in
-    let found = IsPartitionPoint-from_clause is_before _ _ c.partition_point-place.ensures.partitioned parted (λ a r f k. search rules) in
-    let point = subst (λ qs. IsPartitionPoint (λ q. is_before q ≡ true) (λ q. is_before q ≡ false) qs place) items found in
-    let bound : place ≤ length c.args.periods.now.items = omega (arith, ap length items, c.partition_point-place.ensures.bound) in
-    ap (map period_of) c.in_ok-insert.ensures.items ∙ map-insert c.args.period c.args.periods.now.items place bound point.0 point.1
+returns-clause-ok g c =
+    let period = g.T.HasPeriod.period in
+    let start = ap (λ p. p.start) c.period.ensures in
+    let place = c.first_after-place.ensures.place ∙ ap (λ d. prefix_len (ended period d) c.args.items.now) start in
+    on_ok c.insert.result (λ e. e ∙ ap (λ n. insert c.args.items.now n c.args.item) place ∙ insert-is period g.met.T.HasPeriod.some_day c.args.item c.args.items.now c.requires.free) c.insert.ensures.ok
