@@ -4,18 +4,19 @@ use Rattle.sqlread.specs.Meaning.{select_of}
 use Rattle.rowlaws.specs.Sorting.{in_order}
 use Rattle.versionlaws.specs.Answering.{version_cmp}
 use Rattle.answer.specs.Answers.{answer_of, shown_of}
-use Rattle.sysversion.specs.Versions.{versions_of, version_of}
+use Rattle.sysversion.specs.Lists.{version_of}
+use Rattle.sysversion.specs.Versions.{versions_of}
 use Rattle.asof.specs.Asking.{read_with, is_found_by, show_by}
 use Rattle.asof.proofs.Answered.{shown, answered_is, kept_is}
-use Rattle.asof.proofs.ask.VersionsAsk.ask.Goals as goal
+use Rattle.asof.proofs.ask.VersionsAsk.ask_counted.Goals as goal
 
 pub returns-clause-ok : goal.returns-clause-ok
 returns-clause-ok c =
     let query = c.args.query.now in
     let versions = versions_of c.args.self.now query.table in
     let time = time_of c.args.time in
-    let found = c.in_ok-found.ensures ∙ (λ i. filter (is_found_by time (c.as_slice.ensures.value i)) (c.versions-versions.ensures i)) in
-    let sorted = ap (map (λ v. version_of v.now)) c.as_slice-2.ensures.value ∙ c.in_ok-sorted.ensures ∙ ap (in_order version_cmp) found in
+    let found = c.in_ok-found.ensures.found ∙ (λ i. filter (is_found_by time (c.as_slice-terms.ensures.value i)) versions) in
+    let sorted = ap (map (λ v. version_of v.now)) c.as_slice.ensures.value ∙ c.in_ok-sorted.ensures ∙ ap (in_order version_cmp) found in
     let rows : map shown_of c.in_ok-rows.rows.items ≡ shown time query.terms.items versions = c.in_ok-rows.ensures ∙ ap (map (show_by time.last)) sorted in
     answered_is query time versions (map shown_of c.in_ok-rows.rows.items) rows
 
