@@ -1,5 +1,5 @@
 //! Questions about the instants of a system time.
-ghost use Rattle.std.specs.Prelude.{◌≡◌, true, Err, IfOk, IfErr};
+ghost use Rattle.std.specs.Prelude.{◌≡◌, ◌≤◌, length, true, Err, IfOk, IfErr};
 ghost use Rattle.fault.specs.declared.refusal.Refusal.TheVariants.{NoMemory};
 ghost use Rattle.sqlread.specs.Shapes.{query_of, time_of};
 ghost use Rattle.sqlread.specs.Meaning.{select_of};
@@ -20,7 +20,7 @@ use sysversion::Versions;
 
 /// What answers questions about the instants of a system time.
 pub trait Ask {
-    ghost use Rattle.std.specs.Prelude.{◌≡◌, true, Err, IfOk, IfErr, ℕ, Bool, List};
+    ghost use Rattle.std.specs.Prelude.{◌≡◌, ◌≤◌, length, true, Err, IfOk, IfErr, ℕ, Bool, List};
     ghost use Rattle.fault.specs.declared.refusal.Refusal.TheVariants.{NoMemory};
     ghost use Rattle.sqlchecks.specs.Columns.{Tables};
     ghost use Rattle.sqlread.specs.Shapes.{query_of, time_of};
@@ -50,8 +50,8 @@ pub trait Ask {
         ensures err { IfErr result (λ refusal. refusal ≡ NoMemory) }
         ensures once_failed { failed_in self.now ≡ true → result ≡ Err NoMemory };
 
-    /// The same answer, and how many versions were tested for it. Where WHERE has `=` for each column of a key these are at
-    /// most the key's versions.
+    /// The same answer, and how many versions were tested for it: at least each that is in the answer. Where WHERE has `=`
+    /// for each column of a key, and so many columns have the versions' keys, these are at most the key's versions.
     ///
     /// Refused as `ask` is.
     fn ask_counted(
@@ -64,6 +64,7 @@ pub trait Ask {
         ensures kept { IfOk result (λ a. IsKept (read_with (time_of time) (select_of (query_of query.now))) (versions_in self.now query.now.table) (answer_of a.0)) }
         ensures columns { IfOk result (λ a. a.0.columns.items ≡ columns_in (tables_in self.now) query.now.table) }
         ensures few { IfOk result (λ a. IsFew query.now.terms.items (versions_in self.now query.now.table) a.1) }
+        ensures each { IfOk result (λ a. length a.0.rows.items ≤ a.1) }
         ensures err { IfErr result (λ refusal. refusal ≡ NoMemory) }
         ensures once_failed { failed_in self.now ≡ true → result ≡ Err NoMemory };
 }

@@ -63,6 +63,7 @@ fn add_found<'a>(
 ) -> Result<(), AllocError>
     ensures found { IfOk result (λ u. map (λ v. version_of v.now) found.new.items ≡ map (λ v. version_of v.now) found.old.items ++ filter (is_found_by (time_of time.now) terms.now) (map version_of list.now)) }
     ensures counted { count.new ≤ count.old + length list.now }
+    ensures each { length found.old.items ≤ count.old → length found.new.items ≤ count.new }
 {
     for place in 0..list.len() {
         let version = list.at(place, count);
@@ -84,6 +85,7 @@ fn found_of_key<'a>(
 ) -> Result<Vec<&'a Version>, AllocError>
     ensures found { IfOk result (λ found. map (λ v. version_of v.now) found.items ≡ filter (is_found_by (time_of time.now) terms.now) (filter (is_of key.now) (versions_of_table table.now))) }
     ensures counted { count.new ≤ count.old + length (filter (is_of key.now) (versions_of_table table.now)) }
+    ensures each { IfOk result (λ found. length found.items ≤ count.new) }
 {
     let mut found = Vec::new(alloc);
     if let Some(list) = table.of_key(key) {
@@ -100,7 +102,8 @@ fn found_of_all<'a>(
     terms: &[Term],
     count: &mut Count,
 ) -> Result<Vec<&'a Version>, AllocError>
-    ensures { IfOk result (λ found. map (λ v. version_of v.now) found.items ≡ filter (is_found_by (time_of time.now) terms.now) (versions_of_table table.now)) }
+    ensures found { IfOk result (λ found. map (λ v. version_of v.now) found.items ≡ filter (is_found_by (time_of time.now) terms.now) (versions_of_table table.now)) }
+    ensures each { IfOk result (λ found. length found.items ≤ count.new) }
 {
     let mut found = Vec::new(alloc);
     for (_, list) in table.lists() {
@@ -119,6 +122,7 @@ fn found_in<'a>(
 ) -> Result<Vec<&'a Version>, AllocError>
     ensures found { IfOk result (λ found. map (λ v. version_of v.now) found.items ≡ filter (is_found_by (time_of time.now) terms.now) (versions_of_table table.now)) }
     ensures few { IfOk result (λ found. count.old ≡ 0 → IsFew terms.now (versions_of_table table.now) count.new) }
+    ensures each { IfOk result (λ found. length found.items ≤ count.new) }
 {
     match named_key(alloc, terms, table.columns())? {
         Some(key) => found_of_key(alloc, table, &key, time, terms, count),
@@ -127,8 +131,8 @@ fn found_in<'a>(
 }
 
 /// The versions of a table whose rows pass each term, and whose system periods have one of the instants, by their keys,
-/// and those of a key in the order in which they came. The count, 0 before, becomes how many versions were tested: where
-/// WHERE names a key, only those of the key.
+/// and those of a key in the order in which they came. The count, 0 before, becomes how many versions were tested: each
+/// that is found, and where WHERE names a key, none but the key's.
 pub(crate) fn found<'a>(
     alloc: Global,
     versions: &'a Versions,
@@ -139,6 +143,7 @@ pub(crate) fn found<'a>(
 ) -> Result<Vec<&'a Version>, AllocError>
     ensures found { IfOk result (λ found. map (λ v. version_of v.now) found.items ≡ filter (is_found_by (time_of time.now) terms.now) (versions_of versions.now table)) }
     ensures few { IfOk result (λ found. count.old ≡ 0 → IsFew terms.now (versions_of versions.now table) count.new) }
+    ensures each { IfOk result (λ found. length found.items ≤ count.new) }
 {
     match versions.table(table) {
         Some(table) => found_in(alloc, table, time, terms, count),

@@ -29,4 +29,4 @@ pub returns-in-None-clause-few : goal.returns-in-None-clause-few
 returns-in-None-clause-few c =
     let versions = versions_of_table c.args.table.now in
     let none = c.in_ok-key.ensures.none c.in-None.is in
-    if_ok c.found_of_all.result (λ found h zero. few_of_all c.args.terms.now c.columns.result versions c.found_of_all.new.count none c.columns.ensures.least) c.found_of_all.ensures
+    if_ok c.found_of_all.result (λ found h zero. few_of_all c.args.terms.now c.columns.result versions c.found_of_all.new.count none c.columns.ensures.least) c.found_of_all.ensures.found
