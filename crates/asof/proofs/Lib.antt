@@ -1,3 +1,4 @@
 pub mod Sorting
 pub mod Conditions
+pub mod Naming
 pub mod Answered

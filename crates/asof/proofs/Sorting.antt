@@ -168,6 +168,23 @@ module _ {X : Type 0} (c : X → X → Ordering) (total : IsTotalOrder c) where
   pub sorted_is : (xs ys : List X) → IsSortedBy lt ys → IsStableBy lt xs ys → ys ≡ in_order c xs
   sorted_is xs ys sorted stable = same ys (in_order c xs) (up_far ys (sorted_far lt weak ys sorted)) (up_order xs) (λ w. stable w ∙ sym (filter_order w xs))
 
+-- ---- as many as before
+
+module _ {X : Type 0} (c : X → X → Ordering) where
+  at_length : (o : Ordering) (x y : X) (ys more : List X) → length more ≡ suc (length ys) → length (put_at o x y ys more) ≡ suc (suc (length ys))
+  at_length Less x y ys more e = refl
+  at_length Equal x y ys more e = refl
+  at_length Greater x y ys more e = ap suc e
+
+  put_length : (x : X) (ys : List X) → length (put c x ys) ≡ suc (length ys)
+  put_length x [] = refl
+  put_length x (y ∷ ys) = at_length (c x y) x y ys (put c x ys) (put_length x ys)
+
+  pub order_length : (xs : List X) → length (in_order c xs) ≡ length xs
+  unfolding in_order
+  order_length [] = refl
+  order_length (x ∷ xs) = put_length x (in_order c xs) ∙ ap suc (order_length xs)
+
 -- ---- elements that are seen as others
 
 module _ {X A : Type 0} (f : X → A) (c : A → A → Ordering) where

@@ -1,5 +1,5 @@
 //! Questions about the instants of a system time.
-ghost use Rattle.std.specs.Prelude.{◌≡◌, true, Err, IfOk, IfErr};
+ghost use Rattle.std.specs.Prelude.{◌≡◌, ◌≤◌, length, true, Err, IfOk, IfErr};
 ghost use Rattle.fault.specs.declared.refusal.Refusal.TheVariants.{NoMemory};
 ghost use Rattle.sqlread.specs.Shapes.{query_of, time_of};
 ghost use Rattle.sqlread.specs.Meaning.{select_of};
@@ -7,18 +7,20 @@ ghost use Rattle.versionlaws.specs.Answering.{answer_from};
 ghost use Rattle.answer.specs.Answers.{answer_of, columns_in};
 ghost use Rattle.sysversion.specs.Versions.{versions_of};
 ghost use Rattle.asof.specs.Asking.{read_with, IsKept};
+ghost use Rattle.asof.specs.Named.{IsFew};
 
 use crate::found::{found, in_order};
 use crate::shown::show_all;
 use answer::{Answer, columns_of};
 use fault::Refusal;
+use overlaps::Count;
 use sqlread::query::{Query, SystemTime};
 use std::alloc::Global;
 use sysversion::Versions;
 
 /// What answers questions about the instants of a system time.
 pub trait Ask {
-    ghost use Rattle.std.specs.Prelude.{◌≡◌, true, Err, IfOk, IfErr, ℕ, Bool, List};
+    ghost use Rattle.std.specs.Prelude.{◌≡◌, ◌≤◌, length, true, Err, IfOk, IfErr, ℕ, Bool, List};
     ghost use Rattle.fault.specs.declared.refusal.Refusal.TheVariants.{NoMemory};
     ghost use Rattle.sqlchecks.specs.Columns.{Tables};
     ghost use Rattle.sqlread.specs.Shapes.{query_of, time_of};
@@ -27,6 +29,7 @@ pub trait Ask {
     ghost use Rattle.versionlaws.specs.Versions.{Version};
     ghost use Rattle.answer.specs.Answers.{answer_of, columns_in};
     ghost use Rattle.asof.specs.Asking.{read_with, IsKept};
+    ghost use Rattle.asof.specs.Named.{IsFew};
 
     /// The versions of each table, by its number, that the answers come from.
     ghost versions_in: { Self → ℕ → List Version };
@@ -46,6 +49,24 @@ pub trait Ask {
         ensures columns { IfOk result (λ a. a.columns.items ≡ columns_in (tables_in self.now) query.now.table) }
         ensures err { IfErr result (λ refusal. refusal ≡ NoMemory) }
         ensures once_failed { failed_in self.now ≡ true → result ≡ Err NoMemory };
+
+    /// The same answer, and how many versions were tested for it: at least each that is in the answer. Where WHERE has `=`
+    /// for each column of a key, and so many columns have the versions' keys, these are at most the key's versions.
+    ///
+    /// Refused as `ask` is.
+    fn ask_counted(
+        &self,
+        alloc: Global,
+        query: &Query,
+        time: SystemTime,
+    ) -> Result<(Answer, u64), Refusal>
+        ensures ok { IfOk result (λ a. answer_of a.0 ≡ answer_from (read_with (time_of time) (select_of (query_of query.now))) (versions_in self.now query.now.table)) }
+        ensures kept { IfOk result (λ a. IsKept (read_with (time_of time) (select_of (query_of query.now))) (versions_in self.now query.now.table) (answer_of a.0)) }
+        ensures columns { IfOk result (λ a. a.0.columns.items ≡ columns_in (tables_in self.now) query.now.table) }
+        ensures few { IfOk result (λ a. IsFew query.now.terms.items (versions_in self.now query.now.table) a.1) }
+        ensures each { IfOk result (λ a. length a.0.rows.items ≤ a.1) }
+        ensures err { IfErr result (λ refusal. refusal ≡ NoMemory) }
+        ensures once_failed { failed_in self.now ≡ true → result ≡ Err NoMemory };
 }
 
 impl Ask for Versions {
@@ -58,19 +79,31 @@ impl Ask for Versions {
     ghost failed_in = { is_failed };
 
     fn ask(&self, alloc: Global, query: &Query, time: SystemTime) -> Result<Answer, Refusal> {
+        let (answer, _) = self.ask_counted(alloc, query, time)?;
+        Ok(answer)
+    }
+
+    fn ask_counted(
+        &self,
+        alloc: Global,
+        query: &Query,
+        time: SystemTime,
+    ) -> Result<(Answer, u64), Refusal> {
         if self.has_failed() {
             return Err(Refusal::NoMemory);
         }
         versionlaws::versions_give();
-        let versions = self.versions(query.table);
-        let found = found(alloc, versions, &time, query.terms.as_slice())?;
+        let mut count = Count::new();
+        let terms = query.terms.as_slice();
+        let found = found(alloc, self, query.table, &time, terms, &mut count)?;
         let sorted = in_order(found)?;
         let rows = show_all(alloc, sorted.as_slice(), time.last)?;
         let columns = columns_of(alloc, self.schema(), query.table)?;
-        Ok(Answer {
+        let answer = Answer {
             last: time.last,
             columns,
             rows,
-        })
+        };
+        Ok((answer, count.reads()))
     }
 }

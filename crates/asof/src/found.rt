@@ -1,20 +1,25 @@
 //! The versions that a question finds.
-ghost use Rattle.std.specs.Prelude.{◌≡◌, ◌&&◌, nat_le, map, filter, IfOk};
+ghost use Rattle.std.specs.Prelude.{◌≡◌, ◌≤◌, ◌+◌, ◌++◌, ◌&&◌, nat_le, map, filter, length, IfOk};
 ghost use Rattle.std.specs.List.{list_all};
 ghost use Rattle.sqlread.specs.Shapes.{time_of, term_of};
 ghost use Rattle.sqlread.specs.Meaning.{term_passes};
 ghost use Rattle.current.specs.Rows.{row_of};
 ghost use Rattle.rowlaws.specs.Sorting.{in_order};
 ghost use Rattle.versionlaws.specs.Answering.{is_before, version_cmp};
-ghost use Rattle.sysversion.specs.Versions.{version_of};
+ghost use Rattle.versionlaws.specs.ByKey.{is_of};
+ghost use Rattle.sysversion.specs.Lists.{version_of};
+ghost use Rattle.sysversion.specs.Versions.{versions_of, versions_of_table};
 ghost use Rattle.asof.specs.Asking.{is_found_by};
+ghost use Rattle.asof.specs.Named.{IsFew};
 
+use crate::named::named_key;
 use model::stamp::Stamp;
+use overlaps::{Count, Counted, Key};
 use sqlread::query::SystemTime;
 use sqlread::term::{Term, pass_all_terms};
 use std::alloc::{AllocError, Global};
 use std::cmp::Ordering;
-use sysversion::Version;
+use sysversion::{TableVersions, Version, Versions};
 
 // Whether the instant is before the end.
 fn is_before(at: Stamp, end: Option<Stamp>) -> bool
@@ -48,23 +53,102 @@ fn is_found(version: &Version, time: &SystemTime, terms: &[Term]) -> bool
     is_alive(version, time) && passes(version, terms)
 }
 
-/// The versions whose rows pass each term, and whose system periods have one of the instants, in the order in which
-/// they came.
-pub(crate) fn found<'a>(
-    alloc: Global,
-    versions: &'a [Version],
+// Adds the versions of a list that are found. The count rises by at most one for each of the list.
+fn add_found<'a>(
+    list: &'a Counted<Version>,
     time: &SystemTime,
     terms: &[Term],
-) -> Result<Vec<&'a Version>, AllocError>
-    ensures { IfOk result (λ found. map (λ v. version_of v.now) found.items ≡ filter (is_found_by (time_of time.now) terms.now) (map version_of versions.now)) }
+    found: &mut Vec<&'a Version>,
+    count: &mut Count,
+) -> Result<(), AllocError>
+    ensures found { IfOk result (λ u. map (λ v. version_of v.now) found.new.items ≡ map (λ v. version_of v.now) found.old.items ++ filter (is_found_by (time_of time.now) terms.now) (map version_of list.now)) }
+    ensures counted { count.new ≤ count.old + length list.now }
+    ensures each { length found.old.items ≤ count.old → length found.new.items ≤ count.new }
 {
-    let mut found = Vec::new(alloc);
-    for version in versions {
+    for place in 0..list.len() {
+        let version = list.at(place, count);
         if is_found(version, time, terms) {
             found.push(version)?;
         }
     }
+    Ok(())
+}
+
+// Those of a key that are found.
+fn found_of_key<'a>(
+    alloc: Global,
+    table: &'a TableVersions,
+    key: &Key,
+    time: &SystemTime,
+    terms: &[Term],
+    count: &mut Count,
+) -> Result<Vec<&'a Version>, AllocError>
+    ensures found { IfOk result (λ found. map (λ v. version_of v.now) found.items ≡ filter (is_found_by (time_of time.now) terms.now) (filter (is_of key.now) (versions_of_table table.now))) }
+    ensures counted { count.new ≤ count.old + length (filter (is_of key.now) (versions_of_table table.now)) }
+    ensures each { IfOk result (λ found. length found.items ≤ count.new) }
+{
+    let mut found = Vec::new(alloc);
+    if let Some(list) = table.of_key(key) {
+        add_found(list, time, terms, &mut found, count)?;
+    }
     Ok(found)
+}
+
+// Those of all keys that are found.
+fn found_of_all<'a>(
+    alloc: Global,
+    table: &'a TableVersions,
+    time: &SystemTime,
+    terms: &[Term],
+    count: &mut Count,
+) -> Result<Vec<&'a Version>, AllocError>
+    ensures found { IfOk result (λ found. map (λ v. version_of v.now) found.items ≡ filter (is_found_by (time_of time.now) terms.now) (versions_of_table table.now)) }
+    ensures each { IfOk result (λ found. length found.items ≤ count.new) }
+{
+    let mut found = Vec::new(alloc);
+    for (_, list) in table.lists() {
+        add_found(list, time, terms, &mut found, count)?;
+    }
+    Ok(found)
+}
+
+// Those of a table that are found. Where WHERE names a key only its versions are looked at.
+fn found_in<'a>(
+    alloc: Global,
+    table: &'a TableVersions,
+    time: &SystemTime,
+    terms: &[Term],
+    count: &mut Count,
+) -> Result<Vec<&'a Version>, AllocError>
+    ensures found { IfOk result (λ found. map (λ v. version_of v.now) found.items ≡ filter (is_found_by (time_of time.now) terms.now) (versions_of_table table.now)) }
+    ensures few { IfOk result (λ found. count.old ≡ 0 → IsFew terms.now (versions_of_table table.now) count.new) }
+    ensures each { IfOk result (λ found. length found.items ≤ count.new) }
+{
+    match named_key(alloc, terms, table.columns())? {
+        Some(key) => found_of_key(alloc, table, &key, time, terms, count),
+        None => found_of_all(alloc, table, time, terms, count),
+    }
+}
+
+/// The versions of a table whose rows pass each term, and whose system periods have one of the instants, by their keys,
+/// and those of a key in the order in which they came. The count, 0 before, becomes how many versions were tested: each
+/// that is found, and where WHERE names a key, none but the key's.
+pub(crate) fn found<'a>(
+    alloc: Global,
+    versions: &'a Versions,
+    table: usize,
+    time: &SystemTime,
+    terms: &[Term],
+    count: &mut Count,
+) -> Result<Vec<&'a Version>, AllocError>
+    ensures found { IfOk result (λ found. map (λ v. version_of v.now) found.items ≡ filter (is_found_by (time_of time.now) terms.now) (versions_of versions.now table)) }
+    ensures few { IfOk result (λ found. count.old ≡ 0 → IsFew terms.now (versions_of versions.now table) count.new) }
+    ensures each { IfOk result (λ found. length found.items ≤ count.new) }
+{
+    match versions.table(table) {
+        Some(table) => found_in(alloc, table, time, terms, count),
+        None => Ok(Vec::new(alloc)),
+    }
 }
 
 // By key, start and system start.

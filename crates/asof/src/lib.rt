@@ -3,6 +3,7 @@
 
 pub mod ask;
 mod found;
+mod named;
 mod shown;
 
 pub use ask::Ask;

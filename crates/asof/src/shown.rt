@@ -2,7 +2,7 @@
 ghost use Rattle.std.specs.Prelude.{◌≡◌, map, IfOk};
 ghost use Rattle.answer.specs.Answers.{shown_of};
 ghost use Rattle.versionlaws.specs.Answering.{shown_end};
-ghost use Rattle.sysversion.specs.Versions.{version_of};
+ghost use Rattle.sysversion.specs.Lists.{version_of};
 ghost use Rattle.asof.specs.Asking.{show_by};
 
 use answer::Shown;

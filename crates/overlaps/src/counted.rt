@@ -46,7 +46,7 @@ impl Count {
     }
 }
 
-/// A list whose items are read by `at` alone, which counts. A contract sees the list.
+/// A list whose items are read by `at`, `at_mut` and `all` alone, which count. A contract sees the list.
 #[derive(Debug, Drop)]
 pub struct Counted<T> {
     items: Vec<T>,
@@ -61,6 +61,10 @@ impl<T> Model for Counted<T> {
 }
 
 impl<T> Counted<T> {
+    ghost use Rattle.std.specs.Prelude.{slice_set};
+    ghost use Rattle.std.specs.Borrow.{Lends, sem};
+    ghost use Rattle.overlaps.specs.contracts.counted.Counted.{the_row};
+
     /// A list without items. Takes no memory.
     pub fn new(alloc: Global) -> Counted<T>
         ensures { result ≡ [] }
@@ -103,6 +107,19 @@ impl<T> Counted<T> {
     {
         count.raise_by(self.items.len());
         self.items.as_slice()
+    }
+
+    /// The item at a place, counted from 0, to be changed. It raises the count by one; at its greatest value that stays.
+    /// Takes no memory.
+    pub fn at_mut(&mut self, place: usize, count: &mut Count) -> &mut T
+        requires { place < length self.old }
+        ensures* writes_back { sem 𝓛 (Lends (the_row T.row) T.row self.entry result (slice_set self.old place)) }
+        ensures item { result.now ≡ slice_index_or self.old place result.now }
+        ensures counted { count.new ≡ one_more count.old }
+        ensures grows { count.old ≤ count.new }
+    {
+        count.raise_by(1);
+        &mut self.items[place]
     }
 
     /// Takes the item at the place out, and gives it to the caller. This is no read. Takes no memory.

@@ -1,2 +1,5 @@
 pub mod Ending
+pub mod Changed
+pub mod OfKey
+pub mod Kept
 pub mod Tabled

@@ -1,6 +1,6 @@
 -- What is touched of each table, one table after another.
-use Rattle.std.proofs.Common.{◌++◌, refl, ◌≡◌, ℕ, zero, suc, ◌+◌, ◌≤◌, List, [], ◌∷◌, length, drop, ap, arith}
-use Rattle.std.specs.Prelude.{slice_get}
+use Rattle.std.proofs.Common.{◌++◌, refl, ◌≡◌, ℕ, zero, suc, ◌+◌, ◌≤◌, List, [], ◌∷◌, length, drop, get_or, Some, sym, ap, ◌<◌, arith}
+use Rattle.std.specs.Prelude.{slice_get, slice_set}
 use Rattle.std.specs.Option.{option_map_or}
 use Rattle.model.specs.Tables.{Row}
 use Rattle.current.specs.Places.{rows_at}
@@ -31,3 +31,22 @@ none_more f [] x e h zero = e
 none_more f [] x e h (suc n) = refl
 none_more f (y ∷ xs) x e h zero = h zero
 none_more f (y ∷ xs) x e h (suc n) = none_more f xs x e (λ k. h (suc k)) n
+
+-- ---- one table changes
+
+pub set_here : {A B : Type 0} (f : A → List B) (xs : List A) (i : ℕ) (x w : A) → slice_get xs i ≡ Some x → option_map_or f (slice_get (slice_set xs i w) i) [] ≡ f w
+set_here f [] i x w h = cc
+set_here f (y ∷ xs) zero x w h = refl
+set_here f (y ∷ xs) (suc i) x w h = set_here f xs i x w h
+
+pub set_other : {A B : Type 0} (f : A → List B) (xs : List A) (i n : ℕ) (w : A) → (n ≡ i → ⊥) → option_map_or f (slice_get (slice_set xs i w) n) [] ≡ option_map_or f (slice_get xs n) []
+set_other f [] i n w h = refl
+set_other f (y ∷ xs) zero zero w h = absurd (h refl)
+set_other f (y ∷ xs) zero (suc n) w h = refl
+set_other f (y ∷ xs) (suc i) zero w h = refl
+set_other f (y ∷ xs) (suc i) (suc n) w h = set_other f xs i n w (λ e. h (ap suc e))
+
+pub got : {A : Type 0} (xs : List A) (i : ℕ) (x : A) → i < length xs → x ≡ get_or xs i x → slice_get xs i ≡ Some x
+got [] i x l e = absurd (omega arith)
+got (y ∷ xs) zero x l e = ap Some (sym e)
+got (y ∷ xs) (suc i) x l e = got xs i x (omega arith) e

@@ -1,9 +1,12 @@
 //! Versions of all rows that ever were current, with their system times.
 #![tactic(auto)]
 
-mod table;
+pub mod lists;
+pub mod table;
 pub mod version;
 pub mod versions;
 
+pub use lists::Lists;
+pub use table::TableVersions;
 pub use version::Version;
 pub use versions::Versions;

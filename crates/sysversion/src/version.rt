@@ -1,9 +1,8 @@
 //! Versions of rows.
-ghost use Rattle.std.specs.Prelude.{◌≡◌, map};
-ghost use Rattle.std.specs.List.{list_any};
+ghost use Rattle.std.specs.Prelude.{◌≡◌, ◌∷◌, []};
 ghost use Rattle.current.specs.Rows.{row_of};
 ghost use Rattle.versionlaws.specs.Committing.{is_at, ended};
-ghost use Rattle.sysversion.specs.Versions.{version_of};
+ghost use Rattle.sysversion.specs.Lists.{version_of};
 
 use current::Row;
 use model::stamp::Stamp;
@@ -24,18 +23,11 @@ fn is_at(row: &Row, other: &Row) -> bool
 }
 
 impl Version {
-    // Whether one of the rows has its row's key and start.
-    fn is_among(&self, rows: &[Row]) -> bool
-        ensures { result ≡ list_any (λ row. is_at (row_of self.now.row) (row_of row)) rows.now }
+    /// Ends the version at an instant if it is open and the row that goes has its row's key and start.
+    pub(crate) fn end_with(&mut self, removed: &Row, t: Stamp)
+        ensures { version_of self.new ≡ ended t (row_of removed.now ∷ []) (version_of self.old) }
     {
-        rows.iter().any(|row| is_at(&self.row, row))
-    }
-
-    /// Ends the version at an instant if it is open and one of the rows that go has its row's key and start.
-    pub(crate) fn end_with(&mut self, removed: &[Row], t: Stamp)
-        ensures { version_of self.new ≡ ended t (map row_of removed.now) (version_of self.old) }
-    {
-        if self.end.is_none() && self.is_among(removed) {
+        if self.end.is_none() && is_at(&self.row, removed) {
             self.end = Some(t);
         }
     }

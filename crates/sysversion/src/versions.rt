@@ -1,28 +1,29 @@
 //! The versions of all tables.
-ghost use Rattle.std.specs.Prelude.{◌≡◌, ◌≢◌, ℕ, ◌<◌, [], true, false, map, length, Err, alloc_error, OnOk, OnErr, IfOk};
+ghost use Rattle.std.specs.Prelude.{◌≡◌, ◌≢◌, ℕ, ◌<◌, [], true, false, length, Err, alloc_error, OnOk, OnErr, IfOk};
+ghost use Rattle.std.specs.Option.{option_map_or};
 ghost use Rattle.current.specs.Touched.{removed_of, added_of, removed_in, added_in};
+ghost use Rattle.versionlaws.specs.ByKey.{SameByKey};
 ghost use Rattle.versionlaws.specs.Committing.{committed};
 
-use crate::table::commit_changes;
-use crate::version::Version;
+use crate::table::TableVersions;
 use current::{Changes, Touched};
 use model::stamp::Stamp;
 use schema::Schema;
 use std::alloc::{AllocError, Global};
 
 /// The versions of all tables of a schema, which it keeps. A contract sees what `versions_of` gives: of each table, by
-/// its number from 0, its versions in the order in which they came.
+/// its number from 0, its versions key by key, and those of a key in the order in which they came.
 #[derive(Drop)]
 pub struct Versions {
     pub(crate) schema: Schema,
-    pub(crate) tables: Vec<Vec<Version>>,
+    pub(crate) tables: Vec<TableVersions>,
     pub(crate) alloc: Global,
     pub(crate) failed: bool,
     ghost counted: { length tables.items ≡ length schema },
 }
 
 impl Versions {
-    ghost use Rattle.sysversion.specs.Versions.{versions_of, version_of, schema_in, table_count, is_failed};
+    ghost use Rattle.sysversion.specs.Versions.{versions_of, versions_of_table, schema_in, table_count, is_failed};
 
     /// The tables of a schema, without versions.
     pub fn new(alloc: Global, schema: &Schema) -> Result<Versions, AllocError>
@@ -33,7 +34,7 @@ impl Versions {
         let schema = schema.clone()?;
         let mut tables = Vec::new(alloc);
         for _ in 0..schema.len() {
-            tables.push(Vec::new(alloc))?;
+            tables.push(TableVersions::new(alloc))?;
         }
         Ok(Versions {
             schema,
@@ -45,19 +46,19 @@ impl Versions {
 
     // Takes in what was touched of a table, if it is there.
     fn commit_table(&mut self, table: usize, changes: Changes, t: Stamp) -> Result<(), AllocError>
-        ensures here { OnOk result (table < table_count self.old → versions_of self.new table ≡ committed t (removed_of changes) (added_of changes) (versions_of self.old table)) }
+        ensures here { OnOk result (table < table_count self.old → SameByKey (versions_of self.new table) (committed t (removed_of changes) (added_of changes) (versions_of self.old table))) }
         ensures others { OnOk result ((n : ℕ) → n ≢ table → versions_of self.new n ≡ versions_of self.old n) }
         ensures schema { schema_in self.new ≡ schema_in self.old }
     {
-        if table >= self.tables.len() {
+        let Some(found) = self.tables.get_mut(table) else {
             return Ok(());
-        }
-        commit_changes(&mut self.tables[table], changes, t)
+        };
+        found.commit(changes, t)
     }
 
     // Takes in what was touched of each table.
     fn commit_tables(&mut self, touched: Touched, t: Stamp) -> Result<(), AllocError>
-        ensures ok { OnOk result ((n : ℕ) → n < table_count self.old → versions_of self.new n ≡ committed t (removed_in touched n) (added_in touched n) (versions_of self.old n)) }
+        ensures ok { OnOk result ((n : ℕ) → n < table_count self.old → SameByKey (versions_of self.new n) (committed t (removed_in touched n) (added_in touched n) (versions_of self.old n))) }
         ensures schema { schema_in self.new ≡ schema_in self.old }
     {
         current::laws::nothing_beyond();
@@ -68,11 +69,12 @@ impl Versions {
     }
 
     /// Takes in what a transaction at an instant touched: the versions of the rows that went end then, and the rows
-    /// that came begin as open versions. What is touched of a table that is not there is passed over.
+    /// that came begin as open versions. Only versions of their keys are looked at. What is touched of a table that is
+    /// not there is passed over.
     ///
     /// Want of memory may leave some of it out: the value has then failed, and each later commit is refused.
     pub fn commit(&mut self, touched: Touched, t: Stamp) -> Result<(), AllocError>
-        ensures ok { OnOk result ((n : ℕ) → n < table_count self.old → versions_of self.new n ≡ committed t (removed_in touched n) (added_in touched n) (versions_of self.old n)) }
+        ensures ok { OnOk result ((n : ℕ) → n < table_count self.old → SameByKey (versions_of self.new n) (committed t (removed_in touched n) (added_in touched n) (versions_of self.old n))) }
         ensures err { OnErr result (is_failed self.new ≡ true) }
         ensures up { OnOk result ((is_failed self.old ≡ false) × (is_failed self.new ≡ false)) }
         ensures schema { schema_in self.new ≡ schema_in self.old }
@@ -86,17 +88,14 @@ impl Versions {
         committed
     }
 
-    /// The versions of a table in the order in which they came; none of a table that is not there. Takes no memory.
+    /// The versions of a table, if it is there. Takes no memory.
     ///
     /// Of a value that has failed, as `has_failed` tells, those that it has: of the transaction at which it failed some
     /// may be missing.
-    pub fn versions(&self, table: usize) -> &[Version]
-        ensures { map version_of result.now ≡ versions_of self.now table }
+    pub fn table(&self, table: usize) -> Option<&TableVersions>
+        ensures { option_map_or (λ found. versions_of_table found.now) result [] ≡ versions_of self.now table }
     {
-        match self.tables.get(table) {
-            Some(versions) => versions.as_slice(),
-            None => &[],
-        }
+        self.tables.get(table)
     }
 
     /// The schema whose tables they are.

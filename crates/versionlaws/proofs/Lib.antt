@@ -5,3 +5,4 @@ mod Found
 mod Answered
 mod Existing
 mod Unanswered
+mod Keyed

@@ -1,4 +1,5 @@
 pub mod Versions
+pub mod ByKey
 pub mod Committing
 pub mod Answering
 pub mod WorkedRows

@@ -5,6 +5,7 @@
 #![tactic(auto)]
 
 ghost use Rattle.versionlaws.specs.Versions.{NoVersions, HeldBefore, HeldOn, HeldKept};
+ghost use Rattle.versionlaws.specs.ByKey.{HeldByKey, FewVersions};
 ghost use Rattle.versionlaws.specs.Committing.{Commit, CommitEntry, EntryStays, Lasts, HoldsAfter, KeepsAfter};
 ghost use Rattle.versionlaws.specs.Answering.{VersionsRows, VersionsEnds, VersionsGive, VersionsAnswer, SomeAnswer, ClosedAnswer};
 ghost use Rattle.versionlaws.specs.Unanswered.{NoAnswer};
@@ -28,6 +29,16 @@ pub fn held_on()
 /// What is held is kept up to each instant until which the current rows stay.
 pub fn held_kept()
     ensures { HeldKept }
+{}
+
+/// What holds does so in whatever order the versions of different keys stand.
+pub fn held_by_key()
+    ensures { HeldByKey }
+{}
+
+/// A key has at most as many versions as different rows over all instants.
+pub fn few_versions()
+    ensures { FewVersions }
 {}
 
 /// A commit of what a transaction at an instant touches: versions that held what the table was before

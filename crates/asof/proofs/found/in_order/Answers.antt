@@ -8,7 +8,7 @@ use Rattle.rowlaws.specs.Rows.{KeysOrdered}
 use Rattle.versionlaws.specs.Versions.{Version}
 use Rattle.versionlaws.specs.Answering.{version_cmp}
 use Rattle.sysversion.specs.declared.version.Version.{Version as Declared}
-use Rattle.sysversion.specs.Versions.{version_of}
+use Rattle.sysversion.specs.Lists.{version_of}
 use Rattle.asof.proofs.Sorting.{sorted_is, order_map}
 use Rattle.asof.proofs.found.in_order.Goals as goal
 use denote.Ref.{Bor}

@@ -1,6 +1,6 @@
 use Rattle.std.proofs.Common.{◌≡◌, ◌++◌, map, drop}
 use Rattle.answer.specs.Answers.{shown_of}
-use Rattle.sysversion.specs.Versions.{version_of}
+use Rattle.sysversion.specs.Lists.{version_of}
 use Rattle.asof.specs.Asking.{show_by}
 use Rattle.asof.proofs.shown.show_all.Given as goal
 

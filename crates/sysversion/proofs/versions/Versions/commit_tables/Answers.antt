@@ -1,7 +1,8 @@
-use Rattle.std.proofs.Common.{◌≡◌, ◌∙◌, ◌≤◌, ◌∷◌, drop, length, sym, ap, subst, arith, inl, inr}
+use Rattle.std.proofs.Common.{◌≡◌, ◌∙◌, ◌≤◌, ◌∷◌, drop, filter, length, sym, ap, subst, arith, inl, inr}
 use Rattle.std.proofs.lemmas.Bool.{cases_lt}
 use Rattle.std.specs.Vec.Iter.{into_iter_items}
 use Rattle.current.specs.Touched.{removed_of, added_of, removed_in, added_in}
+use Rattle.versionlaws.specs.ByKey.{is_of, SameByKey}
 use Rattle.versionlaws.specs.Committing.{committed}
 use Rattle.sysversion.specs.Versions.{versions_of}
 use Rattle.sysversion.proofs.Ending.{none_committed}
@@ -26,12 +27,12 @@ loop-table-preserved c =
       schema = one.schema ∙ inv.schema;
       rest = drop_next touched.tables.items table c.next.new.self.count c.in-Some.changes (into_iter_items c.next.new.self.iter) (omega (arith, here, steps.2)) head;
       done = λ n l b. elim (cases_lt n table) [
-        | inl before ↦ one.others n (omega (arith, before)) ∙ inv.done n (omega (arith, before, here)) b
+        | inl before ↦ λ key. ap (filter (is_of key)) (one.others n (omega (arith, before))) ∙ inv.done n (omega (arith, before, here)) b key
         | inr from ↦
             let e : n ≡ table = omega (arith, l, from, here, steps.2) in
-            let is : versions_of new table ≡ committed t (removed_in touched table) (added_in touched table) (versions_of start table) =
-            one.here (let long = ap length inv.schema in omega (arith, b, e, long)) ∙ (λ i. committed t (sym removed i) (sym added i) (inv.left table (omega (arith, here)) i)) in
-            subst (λ m. versions_of new m ≡ committed t (removed_in touched m) (added_in touched m) (versions_of start m)) (sym e) is
+            let is : SameByKey (versions_of new table) (committed t (removed_in touched table) (added_in touched table) (versions_of start table)) =
+            λ key. one.here (let long = ap length inv.schema in omega (arith, b, e, long)) key ∙ (λ i. filter (is_of key) (committed t (sym removed i) (sym added i) (inv.left table (omega (arith, here)) i))) in
+            subst (λ m. SameByKey (versions_of new m) (committed t (removed_in touched m) (added_in touched m) (versions_of start m))) (sym e) is
       ];
       left = λ n l. one.others n (omega (arith, l, here, steps.2)) ∙ inv.left n (omega (arith, l, here, steps.2));
     }
@@ -49,5 +50,5 @@ returns-clause-ok c n l =
           let none : length (drop c.loop-table.table-iterator.count touched.tables.items) ≡ 0 = let rest = ap length inv.rest in omega (arith, rest, c.loop-table.table-iterator.iter.rest.ok.0, steps.0.0) in
           let all : length touched.tables.items ≤ n = let most = drop_all touched.tables.items c.loop-table.table-iterator.count none in omega (arith, most, from) in
           let (removed, added) = c.nothing_beyond.ensures touched n all in
-          inv.left n from ∙ sym (none_committed t old) ∙ (λ i. committed t (sym removed i) (sym added i) old)
+          λ key. ap (filter (is_of key)) (inv.left n from ∙ sym (none_committed t old) ∙ (λ i. committed t (sym removed i) (sym added i) old))
     ]

@@ -1,6 +1,7 @@
 use Rattle.std.proofs.Common.{◌≡◌, ℕ, ◌<◌, ◌≤◌, drop}
 use Rattle.std.specs.Vec.Iter.{into_iter_items}
 use Rattle.current.specs.Touched.{removed_in, added_in}
+use Rattle.versionlaws.specs.ByKey.{SameByKey}
 use Rattle.versionlaws.specs.Committing.{committed}
 use Rattle.sysversion.specs.Versions.{versions_of, schema_in, table_count}
 use Rattle.sysversion.proofs.versions.Versions.commit_tables.Given as goal
@@ -9,6 +10,6 @@ abbrev pub invariant-loop-table : goal.invariant-loop-table
 invariant-loop-table l = record {
   schema : schema_in l.self ≡ schema_in l.fn.self;
   rest : into_iter_items l.table-iterator.iter ≡ drop l.table-iterator.count l.fn.touched.tables.items;
-  done : (n : ℕ) → n < l.table-iterator.count → n < table_count l.fn.self → versions_of l.self n ≡ committed l.t (removed_in l.fn.touched n) (added_in l.fn.touched n) (versions_of l.fn.self n);
+  done : (n : ℕ) → n < l.table-iterator.count → n < table_count l.fn.self → SameByKey (versions_of l.self n) (committed l.t (removed_in l.fn.touched n) (added_in l.fn.touched n) (versions_of l.fn.self n));
   left : (n : ℕ) → l.table-iterator.count ≤ n → versions_of l.self n ≡ versions_of l.fn.self n;
 }

@@ -1,8 +1,8 @@
-use Rattle.std.proofs.Common.{◌∙◌, [], ◌∷◌, length, map, ap, arith}
+use Rattle.std.proofs.Common.{◌∙◌, [], ◌∷◌, length, ap, arith}
 use Rattle.std.specs.Prelude.{slice_get}
 use Rattle.std.specs.Option.{option_map_or}
 use Rattle.std.proofs.lemmas.List.{length-append}
-use Rattle.sysversion.specs.Versions.{version_of}
+use Rattle.sysversion.specs.Versions.{versions_of_table}
 use Rattle.sysversion.proofs.Tabled.{none_more}
 use Rattle.sysversion.proofs.versions.Versions.new.Goals as goal
 
@@ -14,6 +14,6 @@ loop-preserved c =
     let was = c.loop.invariant.long in
     record {
       long = omega (arith, long, was);
-      versions = λ n. ap (λ xs. option_map_or (λ table. map version_of table.items) (slice_get xs n) []) items
-          ∙ none_more (λ table. map version_of table.items) old c.new.result (ap (map version_of) c.new.ensures.items) c.loop.invariant.versions n;
+      versions = λ n. ap (λ xs. option_map_or versions_of_table (slice_get xs n) []) items
+          ∙ none_more versions_of_table old c.new.result c.new.ensures c.loop.invariant.versions n;
     }

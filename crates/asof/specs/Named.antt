@@ -1,0 +1,38 @@
+-- The key that a WHERE names, and how many versions a question tests.
+use Rattle.std.specs.Prelude.{◌≡◌, ℕ, ◌<◌, ◌≤◌, ◌==◌, Option, Some, None, List, [], ◌∷◌, length, filter, slice_get, if◌then◌else◌}
+use Rattle.model.specs.declared.value.Value.{Value}
+use Rattle.rowlaws.specs.Rows.{Has}
+use Rattle.sqlsyntax.specs.declared.forms.Operator.{Operator}
+use Rattle.sqlsyntax.specs.declared.forms.Operator.TheVariants.{Equal}
+use Rattle.sqlchecks.specs.declared.field.Field.{Field}
+use Rattle.sqlchecks.specs.declared.field.Field.TheVariants.{Key}
+use Rattle.sqlread.specs.declared.term.Term.{Term}
+use Rattle.sqlread.specs.declared.term.Term.TheVariants.{Compares}
+use Rattle.versionlaws.specs.Versions.{Version}
+use Rattle.versionlaws.specs.ByKey.{is_of}
+
+-- what the key column at this place is to be equal to, if a comparison says so
+abbrev pub equal_at : ℕ → Operator → Field → Value → Option Value
+equal_at place Equal (Key column) v = if column == place then Some v else None
+equal_at place _ _ v = None
+
+abbrev pub said_by : ℕ → Term → Option Value
+said_by place (Compares c) = equal_at place c.operator c.field c.value
+said_by place _ = None
+
+abbrev pub or_else : Option Value → Option Value → Option Value
+or_else None o = o
+or_else (Some v) o = Some v
+
+-- the first term of WHERE that says it counts
+abbrev pub said_at : ℕ → List Term → Option Value
+said_at place [] = None
+said_at place (t ∷ ts) = or_else (said_by place t) (said_at place ts)
+
+-- WHERE has `=` for each column of the key
+abbrev pub IsNamed : List Term → List Value → Type 0
+IsNamed terms key = (place : ℕ) → place < length key → said_at place terms ≡ slice_get key place
+
+-- where WHERE names a key with as many columns as the versions' keys have, there are at most as many tests as versions of it
+abbrev pub IsFew : List Term → List Version → ℕ → Type 0
+IsFew terms versions tests = (key : List Value) → IsNamed terms key → ((v : Version) → Has versions v → length v.row.key ≡ length key) → tests ≤ length (filter (is_of key) versions)
