@@ -20,4 +20,5 @@ pub mod OfKey
 pub mod Naming
 pub mod Orphans
 pub mod Checked
+pub mod Suspected
 pub mod States

@@ -8,4 +8,5 @@ pub mod Current
 pub mod Run
 pub mod Places
 pub mod Orphans
+pub mod Suspects
 pub mod Laws

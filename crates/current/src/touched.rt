@@ -1,11 +1,11 @@
 //! What statements touch.
-ghost use Rattle.std.specs.Prelude.{◌≡◌, ℕ, ◌+◌, ◌<◌, ◌==◌, [], map, max, length, slice_get, if◌then◌else◌, IfOk};
+ghost use Rattle.std.specs.Prelude.{◌≡◌, ℕ, ◌+◌, ◌<◌, ◌≤◌, ◌==◌, ◌++◌, [], map, max, length, slice_get, if◌then◌else◌, IfOk, OnOk};
 ghost use Rattle.std.specs.Option.{option_copied};
 ghost use Rattle.rowlaws.specs.Touching.{removed_both, added_both};
 ghost use Rattle.current.specs.Rows.{row_of};
 ghost use Rattle.current.specs.Touched.{removed_of, added_of, removed_in, added_in};
 
-use crate::compare::{added_both, removed_both};
+use crate::compare::{added_both, append, clone_rows, removed_both};
 use crate::line::Changes;
 use crate::row::Row;
 use std::alloc::{AllocError, Global};
@@ -16,6 +16,20 @@ use std::alloc::{AllocError, Global};
 pub struct Touched {
     /// By the tables' numbers. In a table that is not there nothing is touched.
     pub tables: Vec<Changes>,
+}
+
+// Adds copies of rows. After an error some of them may be there.
+fn add_rows(
+    alloc: Global,
+    changes: &mut Changes,
+    removed: &[Row],
+    added: &[Row],
+) -> Result<(), AllocError>
+    ensures removed { OnOk result (removed_of changes.new ≡ removed_of changes.old ++ map row_of removed.now) }
+    ensures added { OnOk result (added_of changes.new ≡ added_of changes.old ++ map row_of added.now) }
+{
+    append(&mut changes.removed, clone_rows(alloc, removed)?)?;
+    append(&mut changes.added, clone_rows(alloc, added)?)
 }
 
 impl Touched {
@@ -70,6 +84,51 @@ impl Touched {
             Some(changes) => changes.added.as_slice(),
             None => &[],
         }
+    }
+
+    // The same, with an entry for each of so many tables.
+    fn with_room(self, alloc: Global, count: usize) -> Result<Touched, AllocError>
+        ensures removed { IfOk result (λ touched. (n : ℕ) → removed_in touched n ≡ removed_in self n) }
+        ensures added { IfOk result (λ touched. (n : ℕ) → added_in touched n ≡ added_in self n) }
+        ensures room { IfOk result (λ touched. count ≤ length touched.tables.items) }
+    {
+        let Touched { mut tables } = self;
+        for _ in tables.len()..count {
+            tables.push(Changes::none(alloc))?;
+        }
+        Ok(Touched { tables })
+    }
+
+    // Adds copies of rows to those of a table that it has an entry for.
+    fn add(
+        self,
+        alloc: Global,
+        table: usize,
+        removed: &[Row],
+        added: &[Row],
+    ) -> Result<Touched, AllocError>
+        requires { table < length self.tables.items }
+        ensures removed { IfOk result (λ touched. (n : ℕ) → removed_in touched n ≡ (if n == table then removed_in self n ++ map row_of removed.now else removed_in self n)) }
+        ensures added { IfOk result (λ touched. (n : ℕ) → added_in touched n ≡ (if n == table then added_in self n ++ map row_of added.now else added_in self n)) }
+        ensures room { IfOk result (λ touched. length touched.tables.items ≡ length self.tables.items) }
+    {
+        let Touched { mut tables } = self;
+        add_rows(alloc, &mut tables[table], removed, added)?;
+        Ok(Touched { tables })
+    }
+
+    /// The rows that go and those that come with either, where a row that came and went stays in both
+    /// parts. Copies the rows of the later ones alone.
+    pub fn joined(self, alloc: Global, later: &Touched) -> Result<Touched, AllocError>
+        ensures removed { IfOk result (λ all. (n : ℕ) → removed_in all n ≡ removed_in self n ++ removed_in later.now n) }
+        ensures added { IfOk result (λ all. (n : ℕ) → added_in all n ≡ added_in self n ++ added_in later.now n) }
+    {
+        let count = later.tables.len();
+        let mut all = self.with_room(alloc, count)?;
+        for n in 0..count {
+            all = all.add(alloc, n, later.removed(n), later.added(n))?;
+        }
+        Ok(all)
     }
 
     /// What is touched by these statements and then by later ones of the same transaction: a row that
