@@ -21,4 +21,5 @@ pub mod Naming
 pub mod Orphans
 pub mod Checked
 pub mod Suspected
+pub mod Sets
 pub mod States

@@ -1,4 +1,5 @@
 pub mod Rows
+pub mod RowOrder
 pub mod Cuts
 pub mod Stored
 pub mod Table

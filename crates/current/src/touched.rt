@@ -3,12 +3,15 @@ ghost use Rattle.std.specs.Prelude.{◌≡◌, ℕ, ◌+◌, ◌<◌, ◌≤◌,
 ghost use Rattle.std.specs.Option.{option_copied};
 ghost use Rattle.rowlaws.specs.Touching.{removed_both, added_both};
 ghost use Rattle.current.specs.Rows.{row_of};
+ghost use Rattle.std.specs.Vec.Iter.{into_iter_items};
+ghost use Rattle.current.specs.Places.{rows_at};
 ghost use Rattle.current.specs.Touched.{removed_of, added_of, removed_in, added_in};
 
-use crate::compare::{added_both, append, clone_rows, removed_both};
+use crate::compare::{append, changes_both, clone_rows};
 use crate::line::Changes;
 use crate::row::Row;
 use std::alloc::{AllocError, Global};
+use std::vec::IntoIter;
 
 /// The rows that go and those that come, table by table. A contract sees what `removed_in` and
 /// `added_in` give.
@@ -132,19 +135,34 @@ impl Touched {
     }
 
     /// What is touched by these statements and then by later ones of the same transaction: a row that
-    /// came and went is in neither part.
+    /// came and went is in neither part. Costs what both touch, and not its square.
     pub fn then(self, alloc: Global, later: Touched) -> Result<Touched, AllocError>
         ensures removed { IfOk result (λ both. (n : ℕ) → removed_in both n ≡ removed_both (removed_in self n) (added_in self n) (removed_in later n)) }
         ensures added { IfOk result (λ both. (n : ℕ) → added_in both n ≡ added_both (added_in self n) (removed_in later n) (added_in later n)) }
         ensures tables { IfOk result (λ both. length both.tables.items ≡ max (length self.tables.items) (length later.tables.items)) }
     {
         let count = self.tables.len().max(later.tables.len());
+        let mut firsts = self.tables.into_iter();
+        let mut laters = later.tables.into_iter();
         let mut tables = Vec::new(alloc);
-        for n in 0..count {
-            let removed = removed_both(alloc, self.removed(n), self.added(n), later.removed(n))?;
-            let added = added_both(alloc, self.added(n), later.removed(n), later.added(n))?;
-            tables.push(Changes { removed, added })?;
+        for _ in 0..count {
+            let first = next_changes(alloc, &mut firsts);
+            let later = next_changes(alloc, &mut laters);
+            tables.push(changes_both(alloc, first, later)?)?;
         }
         Ok(Touched { tables })
+    }
+}
+
+// The next changes, none where none are left.
+fn next_changes(alloc: Global, rest: &mut IntoIter<Changes>) -> Changes
+    ensures removed { removed_of result ≡ rows_at removed_of (into_iter_items rest.old) 0 }
+    ensures added { added_of result ≡ rows_at added_of (into_iter_items rest.old) 0 }
+    ensures removed_left { (n : ℕ) → rows_at removed_of (into_iter_items rest.new) n ≡ rows_at removed_of (into_iter_items rest.old) (n + 1) }
+    ensures added_left { (n : ℕ) → rows_at added_of (into_iter_items rest.new) n ≡ rows_at added_of (into_iter_items rest.old) (n + 1) }
+{
+    match rest.next() {
+        Some(changes) => changes,
+        None => Changes::none(alloc),
     }
 }
