@@ -1,5 +1,5 @@
 -- A transaction, statement by statement.
-use Rattle.std.proofs.Common.{◌≡◌, ℕ, zero, suc, ◌<◌, ◌≤◌, ◌⊎◌, inl, inr, List, [], ◌∷◌, map, length, None, Result, Ok, Err, refl, sym, ap, ◌∙◌, subst, arith}
+use Rattle.std.proofs.Common.{◌≡◌, ℕ, zero, suc, ◌<◌, ◌≤◌, ◌⊎◌, inl, inr, List, [], ◌∷◌, ◌++◌, map, length, None, Result, Ok, Err, refl, sym, ap, ◌∙◌, subst, arith}
 use Rattle.std.specs.Prelude.{slice_get}
 use Rattle.std.specs.Option.{option_map_or}
 use Rattle.std.proofs.lemmas.Bool.{cases_lt}
@@ -11,6 +11,7 @@ use Rattle.rowlaws.specs.Changes.{IsFine}
 use Rattle.rowlaws.specs.Touching.{removed_both, added_both}
 use Rattle.rowlaws.specs.Statements.{Rows, AllListed, AllFollow}
 use Rattle.rowlaws.specs.Transactions.{TransactionsFollow}
+use Rattle.rowlaws.specs.Whole.{ComesFromWhole, WholeThen}
 use Rattle.versionlaws.specs.Committing.{committed}
 use Rattle.current.specs.Touched.{removed_in, added_in}
 use Rattle.current.specs.declared.touched.Touched.{Touched}
@@ -23,7 +24,7 @@ use Rattle.sqlread.specs.declared.statement.Statement.{Statement as Read}
 use Rattle.sqlread.specs.Shapes.{statement_of}
 use Rattle.sqlread.specs.Meaning.{meaning, meanings, schema_of}
 use Rattle.sqlread.specs.Texts.{transaction_in}
-use Rattle.apply.specs.Executing.{IsTurned, IsTransacted, IsRefusedWhole, IsExecuted}
+use Rattle.apply.specs.Executing.{IsTurned, IsTransacted, IsRefusedWhole, AreBack, IsExecuted}
 use Rattle.apply.proofs.Turned.{stays, turned_both}
 
 -- ---- the definitions, statement by statement
@@ -67,9 +68,18 @@ pub checked : (schema : Schema) (t : ℕ) (rows : Rows) (removed added : Rows) �
 checked schema t rows removed added g c ok state listed =
     (state, none_is schema t state ∙ ok state listed, listed, (λ n. subst (λ x. IsTurned t (state n) (state n) x (added n)) (sym (g n)) (subst (λ x. IsTurned t (state n) (state n) [] x) (sym (c n)) (stays t (state n)))))
 
-pub unchecked : (schema : Schema) (t : ℕ) (rows : Rows) (r : Refusal) → (r ≡ refusals.NoMemory) ⊎ ((state : State) → AllListed rows state → unless_orphan schema state (first_orphan schema state) ≡ Err r) → IsRefusedWhole schema t [] rows rows r
-unchecked schema t rows r (inl e) = inl e
-unchecked schema t rows r (inr h) = inr (λ state listed. (none_is schema t state ∙ h state listed, listed))
+pub unchecked : (P : Type 0) (schema : Schema) (t : ℕ) (rows : Rows) (r : Refusal) → (r ≡ refusals.NoMemory) ⊎ (P → (state : State) → AllListed rows state → unless_orphan schema state (first_orphan schema state) ≡ Err r) → P → IsRefusedWhole schema t [] rows rows r
+unchecked P schema t rows r (inl e) p = inl e
+unchecked P schema t rows r (inr h) p = inr (λ state listed. (none_is schema t state ∙ h p state listed, listed))
+
+-- what one more statement touches is joined to what was touched before
+pub whole_more : WholeThen → (schema : Schema) (t : ℕ) (s : Statement) (rows mid removed added later_removed later_added all_removed all_added : Rows) → ComesFromWhole schema rows removed added → IsRun t s rows mid later_removed later_added
+    → ((n : ℕ) → all_removed n ≡ removed n ++ later_removed n) → ((n : ℕ) → all_added n ≡ added n ++ later_added n) → ComesFromWhole schema mid all_removed all_added
+whole_more law schema t s rows mid removed added later_removed later_added all_removed all_added whole run g c =
+    let r : (λ (n : ℕ). removed n ++ later_removed n) ≡ all_removed = λ i n. sym (g n) i in
+    let a : (λ (n : ℕ). added n ++ later_added n) ≡ all_added = λ i n. sym (c n) i in
+    let both' = law schema rows mid removed added later_removed later_added whole (λ state listed. let x = run state listed in (x.0, x.2, x.3)) in
+    subst (λ x. ComesFromWhole schema mid x all_added) r (subst (λ x. ComesFromWhole schema mid (λ n. removed n ++ later_removed n) x) a both')
 
 pub then_rest : TransactionsFollow → (schema : Schema) (t : ℕ) (s : Statement) (ss : List Statement) (rows mid more removed added later_removed later_added both_removed both_added : Rows) → IsFine s.change
     → IsRun t s rows mid removed added → IsTransacted schema t ss mid more later_removed later_added
@@ -93,9 +103,9 @@ pub stopped : (schema : Schema) (t : ℕ) (s : Statement) (ss : List Statement) 
 stopped schema t s ss rows more r e (inl h) = inl h
 stopped schema t s ss rows more r e (inr h) = inr (λ state listed. (stopped_is schema t s ss state r (h state listed), subst (λ x. AllListed x state) (sym e) listed))
 
-pub undoable : (schema : Schema) (t : ℕ) (s : Statement) (ss : List Statement) (rows mid more removed added : Rows) (r : Refusal) → (r ≡ refusals.NoMemory → ⊥) → (state : State) × AllListed rows state → IsRun t s rows mid removed added → IsRefusedWhole schema t ss mid more r → AllUndoable more removed added
-undoable schema t s ss rows mid more removed added r n start run (inl e) = absurd (n e)
-undoable schema t s ss rows mid more removed added r n start run (inr h) = let x = run start.0 start.1 in (start.0, x.0, rows, start.1, (h x.0 x.2).1, x.3)
+pub undoable : (t : ℕ) (s : Statement) (rows mid more removed added : Rows) (r : Refusal) → (r ≡ refusals.NoMemory → ⊥) → (state : State) × AllListed rows state → IsRun t s rows mid removed added → (r ≡ refusals.NoMemory) ⊎ AreBack mid more → AllUndoable more removed added
+undoable t s rows mid more removed added r n start run (inl e) = absurd (n e)
+undoable t s rows mid more removed added r n start run (inr h) = let x = run start.0 start.1 in (start.0, x.0, rows, start.1, h x.0 x.2, x.3)
 
 pub undone : (schema : Schema) (t : ℕ) (s : Statement) (ss : List Statement) (rows mid more back removed added : Rows) (r : Refusal) → IsRun t s rows mid removed added → IsRefusedWhole schema t ss mid more r → IsUndone more back removed added → IsRefusedWhole schema t (s ∷ ss) rows back r
 undone schema t s ss rows mid more back removed added r run (inl e) undo = inl e
@@ -103,6 +113,10 @@ undone schema t s ss rows mid more back removed added r run (inr h) undo = inr (
     let x = run state listed in
     let y = h x.0 x.2 in
     (more_is schema t s ss state x.0 x.1 ∙ y.0, undo state x.0 rows listed y.1 x.3))
+
+pub back_again : (t : ℕ) (s : Statement) (rows mid more back removed added : Rows) (r : Refusal) → IsRun t s rows mid removed added → (r ≡ refusals.NoMemory) ⊎ AreBack mid more → IsUndone more back removed added → (r ≡ refusals.NoMemory) ⊎ AreBack rows back
+back_again t s rows mid more back removed added r run (inl e) undo = inl e
+back_again t s rows mid more back removed added r run (inr h) undo = inr (λ state listed. let x = run state listed in undo state x.0 rows listed (h x.0 x.2) x.3)
 
 -- ---- execute
 

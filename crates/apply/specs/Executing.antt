@@ -33,6 +33,10 @@ abbrev pub IsRefusedWhole : Schema → ℕ → List Statement → Rows → Rows 
 IsRefusedWhole schema t ss rows more refusal =
     (refusal ≡ refusals.NoMemory) ⊎ ((state : State) → AllListed rows state → (transacted schema t ss state ≡ Err refusal) × AllListed more state)
 
+-- each state that the older rows are of is one of the newer
+abbrev pub AreBack : Rows → Rows → Type 0
+AreBack rows more = (state : State) → AllListed rows state → AllListed more state
+
 -- the table stays with its versions, or what the transaction at t turned is committed
 abbrev pub IsCommitted : ℕ → Table → Table → List Version → List Version → Type 0
 IsCommitted t old new versions more =

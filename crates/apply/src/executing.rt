@@ -1,9 +1,10 @@
 //! Transactions on the current rows and on the versions.
-ghost use Rattle.std.specs.Prelude.{◌≡◌, ◌≤◌, ◌↔◌, ℕ, IsTrue, map, length, OnOk, OnErr, IfOk, IfErr};
+ghost use Rattle.std.specs.Prelude.{◌≡◌, ◌≤◌, ◌⊎◌, ◌↔◌, ℕ, None, IsTrue, map, length, OnOk, OnErr, IfOk, IfErr};
 ghost use Rattle.fault.specs.declared.refusal.Refusal.TheVariants.{NoMemory};
-ghost use Rattle.model.specs.Transactions.{State, read_statements};
+ghost use Rattle.model.specs.Transactions.{State, read_statements, first_orphan};
 ghost use Rattle.rowlaws.specs.Statements.{AllListed};
 ghost use Rattle.rowlaws.specs.Transactions.{TransactionsFollow};
+ghost use Rattle.rowlaws.specs.Whole.{ComesFromWhole, WholeItself, WholeThen};
 ghost use Rattle.sqlread.specs.Meaning.{schema_of, meaning};
 ghost use Rattle.sqlread.specs.Shapes.{statement_of};
 ghost use Rattle.current.specs.Current.{rows_of, schema_in, table_count};
@@ -11,7 +12,7 @@ ghost use Rattle.current.specs.Touched.{removed_in, added_in};
 ghost use Rattle.current.specs.Laws.{OfSomeState};
 ghost use Rattle.sysversion.specs.Versions.{versions_of};
 ghost use Rattle.sysversion.specs.Versions as stored;
-ghost use Rattle.apply.specs.Executing.{IsTransacted, IsRefusedWhole, IsExecuted};
+ghost use Rattle.apply.specs.Executing.{IsTransacted, IsRefusedWhole, AreBack, IsExecuted};
 
 use current::{Current, Touched, laws};
 use fault::Refusal;
@@ -23,13 +24,15 @@ use sqlread::transaction::read_transaction;
 use std::alloc::{AllocError, Global};
 use sysversion::Versions;
 
-// What states rows are of, and which rows a transaction leaves.
+// What states rows are of, which rows a transaction leaves, and what was touched since no day was without a parent.
 fn row_laws()
     ensures follows { TransactionsFollow }
     ensures state { OfSomeState }
+    ensures whole { WholeThen }
 {
     rowlaws::transactions_follow();
     laws::of_some_state();
+    rowlaws::whole_then();
 }
 
 // Whether it tells of no more than that there was no memory.
@@ -39,27 +42,31 @@ fn is_no_memory(refusal: &Refusal) -> bool
     matches!(refusal, Refusal::NoMemory)
 }
 
-// Runs statements in order, and after the last one checks the references; tells what all of them touched. At a refusal
-// the statements that ran are undone, from the last back to the first. After `NoMemory` the rows may be any.
+// Runs statements in order, and after the last one checks the references, by what was touched before and by these; tells
+// what all of these touched. At a refusal the statements that ran are undone, from the last back to the first. After
+// `NoMemory` the rows may be any.
 fn transact(
     alloc: Global,
     current: &mut Current,
     statements: &[Statement],
     t: Stamp,
+    before: Touched,
 ) -> Result<Touched, Refusal>
-    ensures ok { IfOk result (λ touched. IsTransacted (schema_of (schema_in current.old)) t (map meaning (map statement_of statements.now)) (rows_of current.old) (rows_of current.new) (removed_in touched) (added_in touched)) }
-    ensures err { IfErr result (λ refusal. IsRefusedWhole (schema_of (schema_in current.old)) t (map meaning (map statement_of statements.now)) (rows_of current.old) (rows_of current.new) refusal) }
+    ensures ok { IfOk result (λ touched. ComesFromWhole (schema_of (schema_in current.old)) (rows_of current.old) (removed_in before) (added_in before) → IsTransacted (schema_of (schema_in current.old)) t (map meaning (map statement_of statements.now)) (rows_of current.old) (rows_of current.new) (removed_in touched) (added_in touched)) }
+    ensures err { IfErr result (λ refusal. ComesFromWhole (schema_of (schema_in current.old)) (rows_of current.old) (removed_in before) (added_in before) → IsRefusedWhole (schema_of (schema_in current.old)) t (map meaning (map statement_of statements.now)) (rows_of current.old) (rows_of current.new) refusal) }
+    ensures back { IfErr result (λ refusal. (refusal ≡ NoMemory) ⊎ AreBack (rows_of current.old) (rows_of current.new)) }
     ensures schema { schema_in current.new ≡ schema_in current.old }
     ensures tables { IfOk result (λ touched. length touched.tables.items ≤ table_count current.old) }
 {
     row_laws();
     let Some((statement, rest)) = statements.split_first() else {
-        current.check()?;
+        current.check_touched(&before)?;
         let tables = Vec::new(alloc);
         return Ok(Touched { tables });
     };
     let touched = current.run(statement, t)?;
-    match transact(alloc, current, rest, t) {
+    let all = before.joined(alloc, &touched)?;
+    match transact(alloc, current, rest, t, all) {
         Ok(later) => Ok(touched.then(alloc, later)?),
         Err(refusal) => {
             if !is_no_memory(&refusal) {
@@ -85,8 +92,8 @@ fn statements(alloc: Global, schema: &Schema, text: &str) -> Result<Vec<Statemen
     }
 }
 
-/// Executes a transaction's text at an instant, and gives its outcome. A refused transaction changes no row and no
-/// version. After an error for want of memory both may be any.
+/// Executes a transaction's text at an instant, and gives its outcome, of rows in which no day is without a parent. A
+/// refused transaction changes no row and no version. After an error for want of memory both may be any.
 pub(crate) fn execute(
     alloc: Global,
     current: &mut Current,
@@ -94,13 +101,15 @@ pub(crate) fn execute(
     text: &str,
     t: Stamp,
 ) -> Result<Outcome, AllocError>
-    ensures executed { IfOk result (λ outcome. (state : State) → AllListed (rows_of current.old) state → stored.schema_in versions.old ≡ schema_in current.old → IsExecuted (schema_of (schema_in current.old)) t text.now state (rows_of current.new) (versions_of versions.old) (versions_of versions.new) outcome) }
+    ensures executed { IfOk result (λ outcome. (state : State) → AllListed (rows_of current.old) state → stored.schema_in versions.old ≡ schema_in current.old → first_orphan (schema_of (schema_in current.old)) state ≡ None → IsExecuted (schema_of (schema_in current.old)) t text.now state (rows_of current.new) (versions_of versions.old) (versions_of versions.new) outcome) }
     ensures current_schema { schema_in current.new ≡ schema_in current.old }
     ensures versions_schema { stored.schema_in versions.new ≡ stored.schema_in versions.old }
 {
     laws::nothing_beyond();
+    rowlaws::whole_itself();
     let statements = statements(alloc, current.schema(), text)?;
-    match transact(alloc, current, statements.as_slice(), t) {
+    let tables = Vec::new(alloc);
+    match transact(alloc, current, statements.as_slice(), t, Touched { tables }) {
         Ok(touched) => {
             versions.commit(touched, t)?;
             Ok(Ok(t))

@@ -13,6 +13,7 @@ ghost use Rattle.retry.specs.Judging.{latest_of, judged};
 ghost use Rattle.apply.specs.Executing.{unless_new};
 ghost use Rattle.apply.specs.View.{AreTables, IsAskedOf, is_failed};
 ghost use Rattle.rowlaws.specs.Logs.{LogsOnRows, FineLogs};
+ghost use Rattle.rowlaws.specs.Whole.{NoOrphanAfter};
 ghost use Rattle.versionlaws.specs.Versions.{NoVersions, HeldBefore, HeldKept};
 ghost use Rattle.versionlaws.specs.Committing.{CommitEntry, EntryStays};
 
@@ -42,9 +43,11 @@ pub struct Tables {
     pub(crate) failed: bool,
 }
 
-// What a log leaves before any entry, what one more entry does to versions, and that what is read is of the calendar.
+// What a log leaves before any entry, that its references hold, what one more entry does to versions, and that what is
+// read is of the calendar.
 fn log_laws()
     ensures rows { LogsOnRows }
+    ensures parents { NoOrphanAfter }
     ensures fine { FineLogs }
     ensures none { NoVersions }
     ensures before { HeldBefore }
@@ -54,6 +57,7 @@ fn log_laws()
     ensures calendar { LiteralsInCalendar }
 {
     rowlaws::logs_on_rows();
+    rowlaws::no_orphan_after();
     rowlaws::fine_logs();
     versionlaws::no_versions();
     versionlaws::held_before();

@@ -34,3 +34,10 @@ none_both removed added later g l = rw (g, l) refl
 pub none_added : (added removed later : List Row) → added ≡ [] → later ≡ [] → added_both added removed later ≡ []
 unfolding rows_without
 none_added added removed later c l = rw (c, l) refl
+
+-- one more table without rows
+pub none_pushed : {A : Type 0} (f : A → List Row) (xs : List A) (y : A) → f y ≡ [] → (n : ℕ) → rows_at f (xs ++ y ∷ []) n ≡ rows_at f xs n
+none_pushed f [] y e zero = e
+none_pushed f [] y e (suc n) = refl
+none_pushed f (x ∷ xs) y e zero = refl
+none_pushed f (x ∷ xs) y e (suc n) = none_pushed f xs y e n

@@ -20,4 +20,6 @@ pub mod OfKey
 pub mod Naming
 pub mod Orphans
 pub mod Checked
+pub mod Suspected
+pub mod Sets
 pub mod States

@@ -50,3 +50,7 @@ drop_none [] zero h = refl
 drop_none [] (suc i) h = refl
 drop_none (x ∷ xs) zero h = absurd (omega arith)
 drop_none (x ∷ xs) (suc i) h = drop_none xs i (omega arith)
+
+pub no_items : {A : Type 0} (xs : List A) → length xs ≡ 0 → xs ≡ []
+no_items [] h = refl
+no_items (x ∷ xs) h = absurd (omega arith)

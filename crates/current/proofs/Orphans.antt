@@ -141,7 +141,7 @@ none_in_entry fs all n e rest es total split h none =
 
 -- ---- tables in turn
 
-range_more : (n end : ℕ) → n < end → range_with_len n (end - n) ≡ n ∷ range_with_len (n + 1) (end - (n + 1))
+pub range_more : (n end : ℕ) → n < end → range_with_len n (end - n) ≡ n ∷ range_with_len (n + 1) (end - (n + 1))
 range_more n end l = by (end - n) (omega arith)
   where
     by : (more : ℕ) → more ≡ suc (end - (n + 1)) → range_with_len n more ≡ n ∷ range_with_len (n + 1) (end - (n + 1))

@@ -1,5 +1,5 @@
 -- Rows by the number of their table, after one of them changed.
-use Rattle.std.proofs.Common.{◌≡◌, ℕ, zero, suc, ◌<◌, ◌==◌, cond, List, [], ◌∷◌, ◌++◌, length, get_or, refl, sym, ap, subst, inl, inr, arith, eq-eqb}
+use Rattle.std.proofs.Common.{◌≡◌, ℕ, zero, suc, ◌<◌, ◌==◌, Bool, true, false, cond, List, [], ◌∷◌, ◌++◌, length, get_or, refl, sym, ap, ◌∙◌, subst, inl, inr, arith, eq-eqb}
 use Rattle.std.proofs.lemmas.Bool.{cases_Bool, eqb-true}
 use Rattle.std.proofs.Math.ListN.{set}
 use Rattle.std.specs.Prelude.{slice_get}
@@ -43,3 +43,12 @@ module _ {A : Type 0} (f : A → List Row) where
   rows_at-got [] n = refl
   rows_at-got (x ∷ xs) zero = refl
   rows_at-got (x ∷ xs) (suc n) = rows_at-got xs n
+
+-- more rows in one of them
+module _ {A : Type 0} (f : A → List Row) (xs : List A) (n : ℕ) (x y : A) (more : List Row) (below : n < length xs) (here : x ≡ get_or xs n x) (added : f y ≡ f x ++ more) where
+  pub rows_at-more : (m : ℕ) → rows_at f (set xs n y) m ≡ cond (m == n) (rows_at f xs m ++ more) (rows_at f xs m)
+  rows_at-more m = rows_at-set f xs n y m below ∙ by (m == n) (λ e. eqb-true m n e)
+    where
+      by : (b : Bool) → (b ≡ true → m ≡ n) → cond b (f y) (rows_at f xs m) ≡ cond b (rows_at f xs m ++ more) (rows_at f xs m)
+      by true e = added ∙ ap (λ rows. rows ++ more) (ap f here ∙ sym (rows_at-is f xs n x below) ∙ sym (ap (rows_at f xs) (e refl)))
+      by false e = refl

@@ -1,4 +1,5 @@
 pub mod Rows
+pub mod RowOrder
 pub mod Cuts
 pub mod Stored
 pub mod Table
@@ -8,4 +9,5 @@ pub mod Current
 pub mod Run
 pub mod Places
 pub mod Orphans
+pub mod Suspects
 pub mod Laws

@@ -4,11 +4,7 @@ use Rattle.fault.specs.declared.refusal.Refusal.{Refusal}
 use Rattle.fault.specs.declared.refusal.Refusal.TheVariants.{NoMemory}
 use Rattle.model.specs.Transactions.{State, Statement, run_statement}
 use Rattle.rowlaws.specs.Statements.{Rows, AllListed}
-use Rattle.rowlaws.specs.Touching.{IsTouched}
-
--- the rows gone and come, of each table, are what was touched between the states
-abbrev pub AllTouched : State → State → Rows → Rows → Type 0
-AllTouched state next removed added = (n : ℕ) → IsTouched (state n) (next n) (removed n) (added n)
+use Rattle.rowlaws.specs.Whole.{AllTouched}
 
 -- whatever state the rows were of, it takes the statement, the new rows are those of the state after it, and this was touched
 abbrev pub IsRun : ℕ → Statement → Rows → Rows → Rows → Rows → Type 0

@@ -1,11 +1,17 @@
 //! Lists of rows against each other.
-ghost use Rattle.std.specs.Prelude.{◌≡◌, ◌++◌, map, IfOk};
+ghost use Rattle.std.specs.Prelude.{◌≡◌, ◌++◌, map, filter, not, IfOk, OnOk};
+ghost use Rattle.std.specs.BTreeSet.{contains};
 ghost use Rattle.std.specs.List.{list_any};
 ghost use Rattle.rowlaws.specs.Touching.{same_row, rows_without, removed_both, added_both};
 ghost use Rattle.current.specs.Rows.{row_of};
+ghost use Rattle.current.specs.RowOrder.{row_order, is_same};
+ghost use Rattle.current.specs.Touched.{removed_of, added_of};
+ghost use Rattle.current.specs.declared.row.Row.{Row as DeclaredRow};
 
+use crate::line::Changes;
 use crate::row::Row;
 use std::alloc::{AllocError, Global};
+use std::collections::BTreeSet;
 
 pub(crate) fn has_row(rows: &[Row], row: &Row) -> bool
     ensures { result ≡ list_any (λ other. same_row (row_of row.now) (row_of other)) rows.now }
@@ -50,31 +56,63 @@ pub(crate) fn append(rows: &mut Vec<Row>, more: Vec<Row>) -> Result<(), AllocErr
     rows.append(&mut more)
 }
 
-/// The rows that go with two statements: what comes with the first and goes with the second does not
-/// count.
-pub(crate) fn removed_both(
-    alloc: Global,
-    removed: &[Row],
-    added: &[Row],
-    later_removed: &[Row],
-) -> Result<Vec<Row>, AllocError>
-    ensures { IfOk result (λ both. map row_of both.items ≡ removed_both (map row_of removed.now) (map row_of added.now) (map row_of later_removed.now)) }
+// These rows, for a search that does not go through all of them.
+fn row_set(alloc: Global, rows: &[Row]) -> Result<BTreeSet<Row>, AllocError>
+    ensures { IfOk result (λ set. (row : DeclaredRow) → contains row_order set row ≡ list_any (is_same row) rows.now) }
 {
-    let mut both = clone_rows(alloc, removed)?;
-    append(&mut both, rows_without(alloc, later_removed, added)?)?;
-    Ok(both)
+    let mut set = BTreeSet::new(alloc);
+    for row in rows {
+        set.insert(row.clone()?)?;
+    }
+    Ok(set)
 }
 
-/// The rows that come with two statements.
-pub(crate) fn added_both(
-    alloc: Global,
-    added: &[Row],
-    later_removed: &[Row],
-    later_added: &[Row],
-) -> Result<Vec<Row>, AllocError>
-    ensures { IfOk result (λ both. map row_of both.items ≡ added_both (map row_of added.now) (map row_of later_removed.now) (map row_of later_added.now)) }
+// Takes the rows of a set out.
+fn take_out(rows: &mut Vec<Row>, set: &BTreeSet<Row>)
+    ensures { rows.new.items ≡ filter (λ row. not (contains row_order set.now row)) rows.old.items }
 {
-    let mut both = rows_without(alloc, added, later_removed)?;
-    append(&mut both, clone_rows(alloc, later_added)?)?;
-    Ok(both)
+    rows.retain(|row| !set.contains(row));
+}
+
+// Takes those rows out of both lists that each has. After an error both are of no use.
+fn cancel(
+    alloc: Global,
+    added: &mut Vec<Row>,
+    later_removed: &mut Vec<Row>,
+) -> Result<(), AllocError>
+    ensures added { OnOk result (map row_of added.new.items ≡ rows_without (map row_of added.old.items) (map row_of later_removed.old.items)) }
+    ensures removed { OnOk result (map row_of later_removed.new.items ≡ rows_without (map row_of later_removed.old.items) (map row_of added.old.items)) }
+{
+    if added.is_empty() || later_removed.is_empty() {
+        return Ok(());
+    }
+    let came = row_set(alloc, added.as_slice())?;
+    let went = row_set(alloc, later_removed.as_slice())?;
+    take_out(added, &went);
+    take_out(later_removed, &came);
+    Ok(())
+}
+
+/// What two statements touch of one table: what comes with the first and goes with the second does not
+/// count.
+pub(crate) fn changes_both(
+    alloc: Global,
+    first: Changes,
+    later: Changes,
+) -> Result<Changes, AllocError>
+    ensures removed { IfOk result (λ both. removed_of both ≡ removed_both (removed_of first) (added_of first) (removed_of later)) }
+    ensures added { IfOk result (λ both. added_of both ≡ added_both (added_of first) (removed_of later) (added_of later)) }
+{
+    let Changes {
+        mut removed,
+        mut added,
+    } = first;
+    let Changes {
+        removed: mut later_removed,
+        added: later_added,
+    } = later;
+    cancel(alloc, &mut added, &mut later_removed)?;
+    append(&mut removed, later_removed)?;
+    append(&mut added, later_added)?;
+    Ok(Changes { removed, added })
 }

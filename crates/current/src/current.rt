@@ -8,6 +8,7 @@ ghost use Rattle.sqlread.specs.Meaning.{meaning, all_days, name_of, schema_of};
 ghost use Rattle.model.specs.Texts.{key_text, day_text};
 ghost use Rattle.model.specs.Transactions.{State, first_orphan, unless_orphan};
 ghost use Rattle.rowlaws.specs.Statements.{AllListed};
+ghost use Rattle.rowlaws.specs.Whole.{ComesFromWhole};
 ghost use Rattle.current.specs.Table.{HaveSame};
 ghost use Rattle.rowlaws.specs.Touching.{rows_without};
 ghost use Rattle.current.specs.Touched.{removed_in, added_in};
@@ -23,6 +24,7 @@ use crate::cut::Cut;
 use crate::line::Changes;
 use crate::references::{Place, first_orphan};
 use crate::row::Row;
+use crate::suspects::first_touched_orphan;
 use crate::table::TableRows;
 use crate::touched::Touched;
 use fault::{Refusal, Text};
@@ -234,6 +236,26 @@ impl Current {
         }
         rowlaws::orphan_on_rows();
         match first_orphan(self.alloc, self.tables.as_slice(), &self.schema)? {
+            Some(place) => Err(no_parent(self.alloc, &self.schema, &place)?),
+            None => Ok(()),
+        }
+    }
+
+    /// What `check` says, of tables in which no day was without a parent before these rows went and came. Rows that came and
+    /// went again may be among them. It looks at rows of keys that came, and where a key lost a day at all rows of each
+    /// table that may refer to it; tables without foreign keys cost nothing.
+    ///
+    /// `NoParent` with the first table in declared order, then its least key, then its least day without a parent;
+    /// `NoMemory`, always once it has failed.
+    pub fn check_touched(&self, touched: &Touched) -> Result<(), Refusal>
+        ensures ok { OnOk result (ComesFromWhole (schema_of (schema_in self.now)) (rows_of self.now) (removed_in touched.now) (added_in touched.now) → (state : State) → AllListed (rows_of self.now) state → unless_orphan (schema_of (schema_in self.now)) state (first_orphan (schema_of (schema_in self.now)) state) ≡ Ok state) }
+        ensures err { IfErr result (λ refusal. (refusal ≡ NoMemory) ⊎ (ComesFromWhole (schema_of (schema_in self.now)) (rows_of self.now) (removed_in touched.now) (added_in touched.now) → (state : State) → AllListed (rows_of self.now) state → unless_orphan (schema_of (schema_in self.now)) state (first_orphan (schema_of (schema_in self.now)) state) ≡ Err refusal)) }
+        ensures once_failed { is_failed self.now ≡ true → result ≡ Err NoMemory }
+    {
+        if self.failed {
+            return Err(Refusal::NoMemory);
+        }
+        match first_touched_orphan(self.alloc, self.tables.as_slice(), &self.schema, touched)? {
             Some(place) => Err(no_parent(self.alloc, &self.schema, &place)?),
             None => Ok(()),
         }

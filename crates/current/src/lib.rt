@@ -11,6 +11,7 @@ mod named;
 mod plan;
 mod references;
 pub mod row;
+mod suspects;
 mod table;
 pub mod touched;
 

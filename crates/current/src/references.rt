@@ -64,7 +64,7 @@ fn referred_key(
 }
 
 // The periods of rows.
-fn periods(alloc: Global, rows: &[Row]) -> Result<Vec<Period>, AllocError>
+pub(crate) fn periods(alloc: Global, rows: &[Row]) -> Result<Vec<Period>, AllocError>
     ensures { IfOk result (λ periods. map period_of periods.items ≡ map (λ r. r.period) (map row_of rows.now)) }
 {
     let mut periods = Vec::new(alloc);
@@ -75,14 +75,14 @@ fn periods(alloc: Global, rows: &[Row]) -> Result<Vec<Period>, AllocError>
 }
 
 // The rows of a table, which may not be there.
-fn table_at(tables: &[TableRows], place: usize) -> Option<&TableRows>
+pub(crate) fn table_at(tables: &[TableRows], place: usize) -> Option<&TableRows>
     ensures { option_copied result ≡ slice_get tables.now place }
 {
     tables.get(place)
 }
 
 // The rows of a key, of a table that may not be there.
-fn rows_of_key<'a>(tables: &'a [TableRows], table: usize, key: &Key) -> &'a [Row]
+pub(crate) fn rows_of_key<'a>(tables: &'a [TableRows], table: usize, key: &Key) -> &'a [Row]
     ensures periods { map (λ r. r.period) (map row_of result.now) ≡ periods_of (rows_at rows_of_table tables.now table) key.now }
     ensures in_order { StartInOrder (map (λ r. r.period) (map row_of result.now)) }
 {
@@ -138,7 +138,7 @@ fn missing(
 }
 
 // The first such day of these rows.
-fn missing_in_rows<'a>(
+pub(crate) fn missing_in_rows<'a>(
     alloc: Global,
     tables: &[TableRows],
     place: usize,
@@ -182,7 +182,7 @@ fn missing_in_lines<'a>(
 }
 
 // The first such day of the table at this place, which may have no rows yet.
-fn missing_in_table<'a>(
+pub(crate) fn missing_in_table<'a>(
     alloc: Global,
     tables: &'a [TableRows],
     schema: &Schema,

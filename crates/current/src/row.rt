@@ -1,12 +1,13 @@
 //! Rows of tables.
 ghost use Rattle.std.specs.Prelude.{◌≡◌, IfOk};
-ghost use Rattle.model.specs.Values.{same_key};
+ghost use Rattle.model.specs.Values.{same_key, key_cmp};
 
 use model::stamp::Stamp;
 use model::value::Value;
 use overlaps::Key;
 use period::Period;
 use std::alloc::AllocError;
+use std::cmp::Ordering;
 
 /// A current row: a key has these values on the days of a period, since an instant. A contract sees
 /// what `row_of` gives.
@@ -40,6 +41,68 @@ fn same_values(values: &[Value], others: &[Value]) -> bool
     ensures { result ≡ same_key values.now others.now }
 {
     values.cmp(&others).is_eq()
+}
+
+#[tactic(auto, unfolding(model::specs::Values::key_cmp))]
+fn compare_values(values: &[Value], others: &[Value]) -> Ordering
+    ensures { result ≡ key_cmp values.now others.now }
+{
+    values.cmp(&others)
+}
+
+impl PartialEq for Row {
+    ghost use Rattle.std.specs.Cmp.{partial_equiv_from_equiv};
+    ghost use Rattle.current.specs.RowOrder.{is_same, is_same_equiv};
+
+    ghost eq = { is_same };
+
+    ghost laws = { partial_equiv_from_equiv is_same_equiv };
+
+    fn eq(&self, other: &Row) -> bool {
+        self.is_same(other)
+    }
+}
+
+impl Eq for Row {
+    ghost use Rattle.current.specs.RowOrder.{is_same_equiv};
+
+    ghost laws = { is_same_equiv };
+}
+
+impl PartialOrd for Row {
+    ghost use Rattle.std.specs.Ordering.{as_partial_cmp};
+    ghost use Rattle.current.specs.RowOrder.{row_order, row_order_partial};
+
+    ghost partial_cmp = { as_partial_cmp row_order };
+
+    ghost laws = { row_order_partial };
+
+    fn partial_cmp(&self, other: &Row) -> Option<Ordering> {
+        Some(self.cmp(other))
+    }
+}
+
+impl Ord for Row {
+    ghost use Rattle.std.specs.Prelude.{refl};
+    ghost use Rattle.current.specs.RowOrder.{row_order, row_order_total, is_same-ties};
+
+    ghost cmp = { row_order };
+
+    ghost total = { row_order_total };
+
+    ghost matches_partial_cmp = { λ x y. refl };
+
+    ghost matches_eq = { is_same-ties };
+
+    fn cmp(&self, other: &Row) -> Ordering {
+        let (period, after) = (self.period, other.period);
+        self.key
+            .cmp(&other.key)
+            .then(period.start.number.cmp(&after.start.number))
+            .then(period.end.number.cmp(&after.end.number))
+            .then(compare_values(self.values.as_slice(), other.values.as_slice()))
+            .then(self.system_start.micros().cmp(&other.system_start.micros()))
+    }
 }
 
 impl Row {

@@ -20,4 +20,6 @@ mod Touches
 mod Orphaned
 mod Referring
 mod Transacted
+mod Losing
+mod Suspected
 mod Parts

@@ -58,13 +58,13 @@ less_not_back k l h g = let q : Less ≡ Greater = sym h ∙ key_total.antisymm 
 
 -- ---- the first place of a table
 
-abbrev place : ℕ → List Value → ℕ → Place
+abbrev pub place : ℕ → List Value → ℕ → Place
 place n k d = record { table = n; key = k; day = d }
 
-abbrev NotAfter : List Value → ℕ → List Value → ℕ → Type 0
+abbrev pub NotAfter : List Value → ℕ → List Value → ℕ → Type 0
 NotAfter k d l e = (key_cmp k l ≡ Less) ⊎ ((k ≡ l) × (d ≤ e))
 
-abbrev IsFirst : (Place → Bool) → ℕ → Option Place → Type 0
+abbrev pub IsFirst : (Place → Bool) → ℕ → Option Place → Type 0
 IsFirst f n None = (k : List Value) (d : ℕ) → f (place n k d) ≡ false
 IsFirst f n (Some q) = (q.table ≡ n) × (f q ≡ true) × ((k : List Value) (d : ℕ) → f (place n k d) ≡ true → NotAfter q.key q.day k d)
 
@@ -77,7 +77,7 @@ same_day k l d e (inr a) (inr b) = let x = a.1 in let y = b.1 in (a.0, omega ari
 at_place : (f : Place → Bool) (n : ℕ) (q : Place) → q.table ≡ n → f q ≡ true → f (place n q.key q.day) ≡ true
 at_place f n q e h = subst (λ m. f (record { table = m; key = q.key; day = q.day }) ≡ true) e h
 
-first_one : (f : Place → Bool) (n : ℕ) (a b : Option Place) → IsFirst f n a → IsFirst f n b → a ≡ b
+pub first_one : (f : Place → Bool) (n : ℕ) (a b : Option Place) → IsFirst f n a → IsFirst f n b → a ≡ b
 first_one f n None None h g = refl
 first_one f n None (Some b) h g = absurd (both (at_place f n b g.0 g.1) (h b.key b.day))
 first_one f n (Some a) None h g = absurd (both (at_place f n a h.0 h.1) (g a.key a.day))
@@ -88,7 +88,7 @@ first_one f n (Some a) (Some b) h g =
 
 -- ---- over keys and days
 
-abbrev of_table : ℕ → ℕ → List (List Value) → List Place
+abbrev pub of_table : ℕ → ℕ → List (List Value) → List Place
 of_table m n ks = flat_map (λ k. map (λ d. place n k d) (range_with_len 0 m)) ks
 
 abbrev InKeys : (Place → Bool) → ℕ → ℕ → List (List Value) → Option Place → Type 0
@@ -108,7 +108,7 @@ one_more_key f m n k ks s (Some x) h later r = (
   ]),
 )
 
-keys_first : (f : Place → Bool) (m n : ℕ) (ks : List (List Value)) → IsStrictlySortedBy key_cmp ks → InKeys f m n ks (find f (of_table m n ks))
+pub keys_first : (f : Place → Bool) (m n : ℕ) (ks : List (List Value)) → IsStrictlySortedBy key_cmp ks → InKeys f m n ks (find f (of_table m n ks))
 keys_first f m n [] s = λ k d h. absurd h
 keys_first f m n (k ∷ ks) s =
     let g : ℕ → Place = λ d. place n k d in
@@ -116,18 +116,18 @@ keys_first f m n (k ∷ ks) s =
     let more = one_more_key f m n k ks (sorted_head key_cmp k ks s) (find (λ d. f (place n k d)) (range_with_len 0 m)) least (find f (of_table m n ks)) (keys_first f m n ks (sorted_tail key_cmp k ks s)) in
     subst (λ o. InKeys f m n (k ∷ ks) o) (sym (find-append f (map g (range_with_len 0 m)) (of_table m n ks) ∙ ap (λ o. option_or o (find f (of_table m n ks))) (find-map f g (range_with_len 0 m)))) more
 
-keys_all : (f : Place → Bool) (m n : ℕ) (ks : List (List Value)) → ((k : List Value) (d : ℕ) → f (place n k d) ≡ true → Has ks k × (d < m)) → (o : Option Place) → InKeys f m n ks o → IsFirst f n o
+pub keys_all : (f : Place → Bool) (m n : ℕ) (ks : List (List Value)) → ((k : List Value) (d : ℕ) → f (place n k d) ≡ true → Has ks k × (d < m)) → (o : Option Place) → InKeys f m n ks o → IsFirst f n o
 keys_all f m n ks all None h = λ k d. elim (cases_Bool (f (place n k d))) [ inl y ↦ let a = all k d y in absurd (both y (h k d a.0 a.1)) | inr x ↦ x ]
 keys_all f m n ks all (Some q) h = (h.0, h.1, (λ k d t. let a = all k d t in h.2 k d a.0 a.1 t))
 
 -- ---- over rows
 
-abbrev InRows : (Place → Bool) → ℕ → List Row → Option Place → Type 0
+abbrev pub InRows : (Place → Bool) → ℕ → List Row → Option Place → Type 0
 InRows f n rows None = (r : Row) (d : ℕ) → Has rows r → r.period.start ≤ d → d < r.period.end → f (place n r.key d) ≡ false
 InRows f n rows (Some q) = (q.table ≡ n) × (f q ≡ true) × ((r : Row) (d : ℕ) → Has rows r → r.period.start ≤ d → d < r.period.end → f (place n r.key d) ≡ true → NotAfter q.key q.day r.key d)
 
 -- rows of one key have no day in common
-abbrev AreParted : List Row → Type 0
+abbrev pub AreParted : List Row → Type 0
 AreParted rows = (r s : Row) → Has rows r → Has rows s → r.key ≡ s.key → r.period.start < s.period.start → r.period.end ≤ s.period.start
 
 row_before : (r s : Row) (d e : ℕ) → place_cmp r s ≡ Less → (r.key ≡ s.key → r.period.start < s.period.start → r.period.end ≤ s.period.start) → d < r.period.end → s.period.start ≤ e → NotAfter r.key d s.key e
@@ -156,13 +156,13 @@ one_more_row f n r rows s parted (Some y) h later i = (
   ]),
 )
 
-rows_first : (f : Place → Bool) (n : ℕ) (fs : List Reference) (all : Rows) (rows : List Row) → IsStrictlySortedBy place_cmp rows → AreParted rows → ((r : Row) → Has rows r → IsLeast (λ d. f (place n r.key d)) r.period.start r.period.end (missing fs all n r)) → InRows f n rows (missing_in_rows fs all n rows)
+pub rows_first : (f : Place → Bool) (n : ℕ) (fs : List Reference) (all : Rows) (rows : List Row) → IsStrictlySortedBy place_cmp rows → AreParted rows → ((r : Row) → Has rows r → IsLeast (λ d. f (place n r.key d)) r.period.start r.period.end (missing fs all n r)) → InRows f n rows (missing_in_rows fs all n rows)
 rows_first f n fs all [] s parted least = λ r d h. absurd h
 rows_first f n fs all (r ∷ rows) s parted least =
     one_more_row f n r rows (sorted_head place_cmp r rows s) parted (missing fs all n r) (least r (inl refl)) (missing_in_rows fs all n rows)
     (rows_first f n fs all rows (sorted_tail place_cmp r rows s) (λ x y h g. parted x y (inr h) (inr g)) (λ x h. least x (inr h)))
 
-rows_all : (f : Place → Bool) (n : ℕ) (rows : List Row) → ((k : List Value) (d : ℕ) → f (place n k d) ≡ true → (r : Row) × Has rows r × (r.key ≡ k) × (r.period.start ≤ d) × (d < r.period.end)) → (o : Option Place) → InRows f n rows o → IsFirst f n o
+pub rows_all : (f : Place → Bool) (n : ℕ) (rows : List Row) → ((k : List Value) (d : ℕ) → f (place n k d) ≡ true → (r : Row) × Has rows r × (r.key ≡ k) × (r.period.start ≤ d) × (d < r.period.end)) → (o : Option Place) → InRows f n rows o → IsFirst f n o
 rows_all f n rows all None h = λ k d. elim (cases_Bool (f (place n k d))) [ inl y ↦ let a = all k d y in absurd (both y (subst (λ x. f (place n x d) ≡ false) a.2 (h a.0 d a.1 a.3 a.4))) | inr x ↦ x ]
 rows_all f n rows all (Some q) h = (h.0, h.1, (λ k d t. let a = all k d t in subst (λ x. NotAfter q.key q.day x d) a.2 (h.2 a.0 d a.1 a.3 a.4 (subst (λ x. f (place n x d) ≡ true) (sym a.2) t))))
 
@@ -185,7 +185,7 @@ periods_in_order (r ∷ rows) k s =
       | inr x ↦ rw x rest
     ]
 
-filled_by : (rows : List Row) (table : Table) → Lists rows table → (k : List Value) (d : ℕ) → is_some (table.cell k d) ≡ list_any (λ p. inside p d) (periods_of rows k)
+pub filled_by : (rows : List Row) (table : Table) → Lists rows table → (k : List Value) (d : ℕ) → is_some (table.cell k d) ≡ list_any (λ p. inside p d) (periods_of rows k)
 filled_by rows table l k d = same_test _ _
     (λ h.
     let c = some_cell (table.cell k d) h in
@@ -201,9 +201,9 @@ filled_by rows table l k d = same_test _ _
 
 -- ---- orphans
 
-module _ (schema : Schema) (all : Rows) (state : State) (l : AllListed all state) (sorted : AllInOrder all) where
+module _ (schema : Schema) (all : Rows) (state : State) (l : AllListed all state) where
   -- the day of the row has no parent by the foreign key
-  abbrev row_lacks : ℕ → Row → ℕ → Reference → Bool
+  abbrev pub row_lacks : ℕ → Row → ℕ → Reference → Bool
   row_lacks n r d f = f.child == n && is_free (periods_of (all f.parent) (f.refers r.key r.values)) d
 
   lacks_is : (n : ℕ) (r : Row) (d : ℕ) (f : Reference) → (state n).cell r.key d ≡ Some (record { values = r.values; system_start = r.system_start }) → lacks state (place n r.key d) f ≡ row_lacks n r d f
@@ -211,7 +211,7 @@ module _ (schema : Schema) (all : Rows) (state : State) (l : AllListed all state
       ap (λ (o : Option Cell). elim o [ Some c ↦ f.child == n && not (is_some ((state f.parent).cell (f.refers r.key c.values) d)) | None ↦ false ]) h
       ∙ ap (λ b. f.child == n && not b) (filled_by (all f.parent) (state f.parent) (l f.parent) (f.refers r.key r.values) d)
 
-  orphan_is : (n : ℕ) (r : Row) → IsRow (state n) r → (d : ℕ) → r.period.start ≤ d → d < r.period.end → list_any (row_lacks n r d) schema.references ≡ is_orphan schema state (place n r.key d)
+  pub orphan_is : (n : ℕ) (r : Row) → IsRow (state n) r → (d : ℕ) → r.period.start ≤ d → d < r.period.end → list_any (row_lacks n r d) schema.references ≡ is_orphan schema state (place n r.key d)
   orphan_is n r row d a b = any_same (row_lacks n r d) (lacks state (place n r.key d)) schema.references (λ f. sym (lacks_is n r d f (row.filled d a b)))
 
   lacks_some : (p : Place) (f : Reference) → lacks state p f ≡ true → is_some ((state p.table).cell p.key p.day) ≡ true
@@ -221,7 +221,7 @@ module _ (schema : Schema) (all : Rows) (state : State) (l : AllListed all state
       by (Some c) g = refl
       by None g = g
 
-  orphan_row : (n : ℕ) (k : List Value) (d : ℕ) → is_orphan schema state (place n k d) ≡ true → (r : Row) × Has (all n) r × (r.key ≡ k) × (r.period.start ≤ d) × (d < r.period.end)
+  pub orphan_row : (n : ℕ) (k : List Value) (d : ℕ) → is_orphan schema state (place n k d) ≡ true → (r : Row) × Has (all n) r × (r.key ≡ k) × (r.period.start ≤ d) × (d < r.period.end)
   orphan_row n k d h =
       let f = any_has (lacks state (place n k d)) schema.references h in
       let c = some_cell ((state n).cell k d) (lacks_some (place n k d) f.0 f.2) in
@@ -234,11 +234,11 @@ module _ (schema : Schema) (all : Rows) (state : State) (l : AllListed all state
       by true = find_day (is_free (periods_of (all f.parent) (f.refers r.key r.values))) r.period le
       by false = λ d a b. refl
 
-  missing_least : (n : ℕ) (r : Row) (fs : List Reference) → r.period.start ≤ r.period.end → IsLeast (λ d. list_any (row_lacks n r d) fs) r.period.start r.period.end (missing fs all n r)
+  pub missing_least : (n : ℕ) (r : Row) (fs : List Reference) → r.period.start ≤ r.period.end → IsLeast (λ d. list_any (row_lacks n r d) fs) r.period.start r.period.end (missing fs all n r)
   missing_least n r [] le = λ d a b. refl
   missing_least n r (f ∷ fs) le = least_or (λ d. row_lacks n r d f) (λ d. list_any (row_lacks n r d) fs) r.period.start r.period.end (missing_by all n r f) (missing fs all n r) (missing_by_least n r f le) (missing_least n r fs le)
 
-  parted : (n : ℕ) → AreParted (all n)
+  pub parted : (n : ℕ) → AreParted (all n)
   parted n r s h g e lt = elim (cases_lt s.period.start r.period.end) [
     | inl m ↦
         let some = ((l n).each s g).some in
@@ -248,21 +248,22 @@ module _ (schema : Schema) (all : Rows) (state : State) (l : AllListed all state
     | inr m ↦ m
   ]
 
-  table_orphan : (n : ℕ) → find (is_orphan schema state) (of_table days n (state n).keys) ≡ missing_in_rows schema.references all n (all n)
-  table_orphan n =
-      let f : Place → Bool = is_orphan schema state in
-      first_one f n (find f (of_table days n (state n).keys)) (missing_in_rows schema.references all n (all n))
-      (keys_all f days n (state n).keys (λ k d h. let r = orphan_row n k d h in let a = (l n).within r.0 r.1 in let b = r.4 in (subst (λ x. Has (state n).keys x) r.2 ((l n).keyed r.0 r.1), omega arith)) _ (keys_first f days n (state n).keys (l n).keys))
-      (rows_all f n (all n) (orphan_row n) _ (rows_first f n schema.references all (all n) (sorted n) (parted n) (λ r h.
-      least_same (λ d. list_any (row_lacks n r d) schema.references) (λ d. f (place n r.key d)) r.period.start r.period.end (missing schema.references all n r) (orphan_is n r ((l n).each r h)) (missing_least n r schema.references (let s = ((l n).each r h).some in omega arith)))))
+  module _ (sorted : AllInOrder all) where
+    table_orphan : (n : ℕ) → find (is_orphan schema state) (of_table days n (state n).keys) ≡ missing_in_rows schema.references all n (all n)
+    table_orphan n =
+        let f : Place → Bool = is_orphan schema state in
+        first_one f n (find f (of_table days n (state n).keys)) (missing_in_rows schema.references all n (all n))
+        (keys_all f days n (state n).keys (λ k d h. let r = orphan_row n k d h in let a = (l n).within r.0 r.1 in let b = r.4 in (subst (λ x. Has (state n).keys x) r.2 ((l n).keyed r.0 r.1), omega arith)) _ (keys_first f days n (state n).keys (l n).keys))
+        (rows_all f n (all n) (orphan_row n) _ (rows_first f n schema.references all (all n) (sorted n) (parted n) (λ r h.
+        least_same (λ d. list_any (row_lacks n r d) schema.references) (λ d. f (place n r.key d)) r.period.start r.period.end (missing schema.references all n r) (orphan_is n r ((l n).each r h)) (missing_least n r schema.references (let s = ((l n).each r h).some in omega arith)))))
 
-  tables_orphan : (ns : List ℕ) → find (is_orphan schema state) (flat_map (λ n. of_table days n (state n).keys) ns) ≡ missing_in_tables schema.references all ns
-  tables_orphan [] = refl
-  tables_orphan (n ∷ ns) =
-      find-append (is_orphan schema state) (of_table days n (state n).keys) (flat_map (λ n. of_table days n (state n).keys) ns)
-      ∙ ap (λ o. option_or o (find (is_orphan schema state) (flat_map (λ n. of_table days n (state n).keys) ns))) (table_orphan n)
-      ∙ ap (option_or (missing_in_rows schema.references all n (all n))) (tables_orphan ns)
+    tables_orphan : (ns : List ℕ) → find (is_orphan schema state) (flat_map (λ n. of_table days n (state n).keys) ns) ≡ missing_in_tables schema.references all ns
+    tables_orphan [] = refl
+    tables_orphan (n ∷ ns) =
+        find-append (is_orphan schema state) (of_table days n (state n).keys) (flat_map (λ n. of_table days n (state n).keys) ns)
+        ∙ ap (λ o. option_or o (find (is_orphan schema state) (flat_map (λ n. of_table days n (state n).keys) ns))) (table_orphan n)
+        ∙ ap (option_or (missing_in_rows schema.references all n (all n))) (tables_orphan ns)
 
-  pub orphan_on_rows : rows_orphan schema all ≡ first_orphan schema state
-  unfolding rows_orphan first_orphan
-  orphan_on_rows = sym (tables_orphan (range_with_len 0 schema.tables))
+    pub orphan_on_rows : rows_orphan schema all ≡ first_orphan schema state
+    unfolding rows_orphan first_orphan
+    orphan_on_rows = sym (tables_orphan (range_with_len 0 schema.tables))

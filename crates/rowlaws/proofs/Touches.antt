@@ -153,7 +153,7 @@ module _ (test : Row → Bool) (g : Row → List Row) (old new : Table) (rows : 
 
 -- ---- each statement
 
-ok_if : (b : Bool) (e : Refusal) (x y : Table) → cond b (Err e) (Ok x) ≡ Ok y → (b ≡ false) × (x ≡ y)
+pub ok_if : (b : Bool) (e : Refusal) (x y : Table) → cond b (Err e) (Ok x) ≡ Ok y → (b ≡ false) × (x ≡ y)
 ok_if true e x y h = cc
 ok_if false e x y h = (refl, cc)
 

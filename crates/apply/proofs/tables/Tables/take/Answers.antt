@@ -1,5 +1,6 @@
-use Rattle.std.proofs.Common.{reverse, Some, option_map, refl, sym, ap, ◌∙◌, subst}
+use Rattle.std.proofs.Common.{◌≡◌, reverse, Some, None, option_map, refl, sym, ap, ◌∙◌, subst}
 use Rattle.model.specs.declared.entry.Request.{Request}
+use Rattle.model.specs.Transactions.{first_orphan}
 use Rattle.model.specs.Logs.{state_after, outcome}
 use Rattle.sqlread.specs.Meaning.{schema_of}
 use Rattle.current.specs.Current.{rows_of}
@@ -39,7 +40,7 @@ returns-clause-kept c = λ schema list are.
     let new : Tables = record { alloc = old.alloc; current = c.execute.new.current; versions = c.execute.new.versions; requests = c.keep.new.self; last = Some e.stamp; failed = old.failed } in
     let unknown = sym c.in_ok-outcome.ensures ∙ c.in_default-2.is in
     let state = state_after (schema_of schema) (reverse list) in
-    let ran = c.in_ok-outcome-2.ensures.executed state are.rows (are.versions_schema ∙ sym are.current_schema) in
+    let ran = c.in_ok-outcome-2.ensures.executed state are.rows (are.versions_schema ∙ sym are.current_schema) (subst (λ s. first_orphan (schema_of s) state ≡ None) (sym are.current_schema) (c.log_laws.ensures.parents (schema_of schema) (reverse list))) in
     let done = subst (λ text. IsExecuted (schema_of schema) e.stamp text state (rows_of new.current) (versions_of old.versions) (versions_of new.versions) o) c.as_str.ensures
     (subst (λ s. IsExecuted (schema_of s) e.stamp c.as_str.result.now state (rows_of new.current) (versions_of old.versions) (versions_of new.versions) o) are.current_schema ran) in
     executed_first schema list e laws.stays old are r c.in-Some.is unknown o done.is laws.commit laws.before laws.fine (reads_fine laws.calendar schema) new done.rows done.committed
@@ -53,7 +54,7 @@ returns-clause-outcome c = λ schema list are.
     let o = c.in_ok-outcome-2.outcome in
     let unknown = sym c.in_ok-outcome.ensures ∙ c.in_default-2.is in
     let state = state_after (schema_of schema) (reverse list) in
-    let ran = c.in_ok-outcome-2.ensures.executed state are.rows (are.versions_schema ∙ sym are.current_schema) in
+    let ran = c.in_ok-outcome-2.ensures.executed state are.rows (are.versions_schema ∙ sym are.current_schema) (subst (λ s. first_orphan (schema_of s) state ≡ None) (sym are.current_schema) (c.log_laws.ensures.parents (schema_of schema) (reverse list))) in
     let done = subst (λ text. IsExecuted (schema_of schema) e.stamp text state (rows_of c.execute.new.current) (versions_of old.versions) (versions_of c.execute.new.versions) o) c.as_str.ensures
     (subst (λ s. IsExecuted (schema_of s) e.stamp c.as_str.result.now state (rows_of c.execute.new.current) (versions_of old.versions) (versions_of c.execute.new.versions) o) are.current_schema ran) in
     ap (λ x. Some x) (outcome_first schema list e c.log_laws.ensures.stays old are r c.in-Some.is unknown o done.is)
