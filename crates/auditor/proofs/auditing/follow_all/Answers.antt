@@ -1,0 +1,23 @@
+use Rattle.std.proofs.Common.{rules, ◌≡◌, ◌∙◌, ◌+◌, ◌<◌, List, [], ◌∷◌, ◌++◌, take, length, ap, sym, subst, refl, append-nil}
+use Rattle.std.proofs.lemmas.List.{take_more}
+use Rattle.model.specs.Worlds.{Event}
+use Rattle.world.specs.Run.{tables_in, members_in, events_of}
+use Rattle.auditor.specs.declared.moment.Moment.{Moment}
+use Rattle.auditor.specs.View.{IsLed}
+use Rattle.auditor.proofs.Leading.{led_more}
+use Rattle.auditor.proofs.auditing.follow_all.Goals as goal
+
+pub loop-moment-init : goal.loop-moment-init
+loop-moment-init c = ([], record { kept = sym (append-nil (events_of c.args.replay.now.world)); leads = (refl, refl); tables = refl; members = refl; live = c.requires.live })
+
+pub loop-moment-preserved : goal.loop-moment-preserved
+loop-moment-preserved c =
+    let i = c.loop-moment.moment-index in
+    let ms = c.args.moments.now in
+    let m = c.moment-item.result in
+    let old = c.args.replay.now in
+    let within : i < length ms = search rules in
+    let inv = c.loop-moment.invariant in
+    let next : take i ms ++ m ∷ [] ≡ take (i + 1) ms = ap (λ (x : Moment). take i ms ++ x ∷ []) c.moment-item.is ∙ sym (take_more ms i m within) in
+    let P : List Moment → Type 0 = λ xs. (events : List Event) × IsLed (record { tables = tables_in old.world; lives = c.args.lives.now; answers = c.args.answers.now }) (members_in old.world) old c.follow.new.self xs events in
+    subst P next (led_more c.args.lives.now c.args.answers.now old c.loop-moment.replay c.follow.new.self (take i ms) m inv.0 inv.1 c.in_ok-follow.ensures.ok)

@@ -1,0 +1,88 @@
+//! The audit.
+ghost use Rattle.std.specs.Prelude.{◌≡◌, ◌≤◌, List, length, map, IfOk, IfErr, OnOk};
+ghost use Rattle.model.specs.Agreement.{Agree};
+ghost use Rattle.model.specs.Worlds.{Event as ModelEvent, new_world};
+ghost use Rattle.sqlread.specs.Meaning.{schema_of};
+ghost use Rattle.world.specs.Run.{tables_in, members_in};
+ghost use Rattle.world.specs.View.{event_of};
+ghost use Rattle.auditor.specs.Audited.{Explains};
+ghost use Rattle.auditor.specs.Faults.{IsNoOrderFault};
+ghost use Rattle.auditor.specs.Rising.{IsOrderFault, Rise};
+ghost use Rattle.auditor.specs.View.{IsLed, IsLive};
+
+use crate::listing::timeline;
+use crate::moment::Moment;
+use crate::order::{check_marked, check_order};
+use crate::recorded::{AuditFault, Recorded};
+use crate::replay::Replay;
+use crate::running::events_in;
+use flight::life::Life;
+use schema::Schema;
+use std::alloc::Global;
+use world::event::Event;
+
+// Each moment in turn.
+fn follow_all(
+    replay: &mut Replay,
+    schema: &Schema,
+    lives: &[Vec<Life>],
+    answers: &[Recorded],
+    moments: &[Moment],
+) -> Result<(), AuditFault>
+    requires live { IsLive replay.old }
+    requires tables { schema.now ≡ tables_in replay.old.world }
+    ensures ok { OnOk result ((events : List ModelEvent) × IsLed (record { tables = tables_in replay.old.world; lives = lives.now; answers = answers.now }) (members_in replay.old.world) replay.old replay.new moments.now events) }
+    ensures fault { IfErr result IsNoOrderFault }
+{
+    for moment in moments {
+        replay.follow(schema, lives, answers, moment)?;
+    }
+    Ok(())
+}
+
+// The events of a run that explains what was recorded.
+fn explain(
+    alloc: Global,
+    schema: &Schema,
+    lives: &[Vec<Life>],
+    answers: &[Recorded],
+) -> Result<Vec<Event>, AuditFault>
+    requires least { 3 ≤ length lives.now }
+    requires most { length lives.now ≤ 7 }
+    ensures ok { IfOk result (λ events. Explains (record { tables = schema.now; lives = lives.now; answers = answers.now }) (map event_of events.items)) }
+    ensures fault { IfErr result IsNoOrderFault }
+{
+    check_marked(lives, answers)?;
+    let moments = timeline(alloc, lives, answers)?;
+    let mut replay = Replay::new(alloc, lives.len(), schema.clone()?)?;
+    follow_all(&mut replay, schema, lives, answers, &moments)?;
+    Ok(events_in(alloc, &replay.world)?)
+}
+
+/// Audits what was recorded of a group of 3 to 7 nodes: the lives of each, in the order of the nodes, and the answers
+/// that they gave. The lives are joined, moment by moment in order of marks and then of nodes, to the events of one
+/// run from its opening; a moment that the run does not have ends the audit.
+///
+/// The events are those of a run that explains all of it: each node begins, takes what it took, is cut short, answers
+/// and ends as was recorded. All members agree about them, as `World::run` says.
+///
+/// A fault is 53 exactly where the marks of a node do not rise over its openings and steps, or a message's is not
+/// below that of the step that takes it; 43 aside. Else it is 51 of a life that begins with what the run does not have
+/// there, 52 of a message that was not sent then, or 54 of an answer that the run does not give.
+pub fn audit(
+    alloc: Global,
+    schema: &Schema,
+    lives: &[Vec<Life>],
+    answers: &[Recorded],
+) -> Result<Vec<Event>, AuditFault>
+    requires least { 3 ≤ length lives.now }
+    requires most { length lives.now ≤ 7 }
+    ensures rise { OnOk result (Rise lives.now) }
+    ensures ok { IfOk result (λ events. Explains (record { tables = schema.now; lives = lives.now; answers = answers.now }) (map event_of events.items)) }
+    ensures agree { IfOk result (λ events. Agree (schema_of schema.now) (length lives.now) (new_world (length lives.now)) (map event_of events.items)) }
+    ensures order { IfErr result (IsOrderFault lives.now) }
+{
+    safety::agreement();
+    check_order(lives)?;
+    explain(alloc, schema, lives, answers)
+}

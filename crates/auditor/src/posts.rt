@@ -1,0 +1,74 @@
+//! The messages of a run, with the marks at which they were sent.
+ghost use Rattle.std.specs.Prelude.{◌≡◌, ◌++◌, ◌∷◌, [], map, IfSome, OnOk, Some};
+ghost use Rattle.model.specs.Lists.{nth};
+ghost use Rattle.auditor.specs.Posts.{messages_in, posted, IsPosted};
+
+use crate::same::is_same_message;
+use model::mark::Mark;
+use model::member::Member;
+use model::message::Message;
+use std::alloc::AllocError;
+use world::output::Output;
+
+/// A message, with the mark of the step that sent it.
+#[derive(Drop)]
+pub(crate) struct Post {
+    pub mark: Mark,
+    pub message: Message,
+}
+
+// Adds the message of an output, if it is one.
+fn post_one(posts: &mut Vec<Post>, mark: Mark, output: &Output) -> Result<(), AllocError>
+    ensures { OnOk result (posts.new.items ≡ posts.old.items ++ map (posted mark) (messages_in (output.now ∷ []))) }
+{
+    match output {
+        Output::Sent(_, message) => {
+            posts.push(Post {
+                mark,
+                message: message.clone()?,
+            })?;
+            Ok(())
+        }
+        _ => Ok(()),
+    }
+}
+
+/// Adds the messages among outputs, which were sent at this mark.
+pub(crate) fn post_all(
+    posts: &mut Vec<Post>,
+    mark: Mark,
+    outputs: &[Output],
+) -> Result<(), AllocError>
+    ensures { OnOk result (posts.new.items ≡ posts.old.items ++ map (posted mark) (messages_in outputs.now)) }
+{
+    for output in outputs {
+        post_one(posts, mark, output)?;
+    }
+    Ok(())
+}
+
+/// Which message this is, of those sent to the node at this mark, counted from 1 among all. Marks do not fall from
+/// one message to the next, so those of the mark are found by halves.
+pub(crate) fn number_of(
+    posts: &[Post],
+    mark: Mark,
+    node: Member,
+    message: &Message,
+) -> Option<usize>
+    ensures { IfSome result (IsPosted posts.now mark node message.now) }
+{
+    if message.addressee != node {
+        return None;
+    }
+    let first = posts.partition_point(|post| post.mark.number() < mark.number());
+    for place in first..posts.len() {
+        let post = &posts[place];
+        if post.mark.number() != mark.number() {
+            return None;
+        }
+        if is_same_message(&post.message, message) {
+            return Some(place + 1);
+        }
+    }
+    None
+}

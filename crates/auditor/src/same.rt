@@ -1,0 +1,94 @@
+//! Whether two messages or two entries are the same.
+ghost use Rattle.std.specs.Prelude.{◌≡◌, ◌↔◌, IsTrue};
+
+use model::entry::{Entry, Request};
+use model::message::{Body, Message};
+
+fn is_same_request(one: &Request, other: &Request) -> bool
+    ensures { IsTrue result ↔ (one.now ≡ other.now) }
+{
+    one.client.get() == other.client.get()
+        && one.number.get() == other.number.get()
+        && one.text.as_str() == other.text.as_str()
+}
+
+pub(crate) fn is_same_entry(one: &Entry, other: &Entry) -> bool
+    ensures { IsTrue result ↔ (one.now ≡ other.now) }
+{
+    if one.term != other.term || one.stamp.micros() != other.stamp.micros() {
+        return false;
+    }
+    match (&one.request, &other.request) {
+        (Some(request), Some(another)) => is_same_request(request, another),
+        (None, None) => true,
+        _ => false,
+    }
+}
+
+pub(crate) fn are_same_entries(some: &[Entry], others: &[Entry]) -> bool
+    ensures { IsTrue result ↔ (some.now ≡ others.now) }
+{
+    if some.len() != others.len() {
+        return false;
+    }
+    for (place, entry) in some.iter().enumerate() {
+        if !is_same_entry(entry, &others[place]) {
+            return false;
+        }
+    }
+    true
+}
+
+fn is_same_body(one: &Body, other: &Body) -> bool
+    ensures { IsTrue result ↔ (one.now ≡ other.now) }
+{
+    match (one, other) {
+        (
+            Body::RequestVote {
+                last_index,
+                last_term,
+            },
+            Body::RequestVote {
+                last_index: index,
+                last_term: term,
+            },
+        ) => last_index == index && last_term == term,
+        (Body::Vote { given }, Body::Vote { given: another }) => given == another,
+        (
+            Body::Append {
+                prev_index,
+                prev_term,
+                entries,
+                commit,
+            },
+            Body::Append {
+                prev_index: index,
+                prev_term: term,
+                entries: others,
+                commit: committed,
+            },
+        ) => {
+            prev_index == index
+                && prev_term == term
+                && commit == committed
+                && are_same_entries(entries.as_slice(), others.as_slice())
+        }
+        (
+            Body::Reply { ok, matched },
+            Body::Reply {
+                ok: another,
+                matched: other,
+            },
+        ) => { ok == another && matched == other }
+        _ => false,
+    }
+}
+
+pub(crate) fn is_same_message(one: &Message, other: &Message) -> bool
+    ensures { IsTrue result ↔ (one.now ≡ other.now) }
+{
+    one.sender == other.sender
+        && one.addressee == other.addressee
+        && one.term == other.term
+        && is_same_body(&one.body, &other.body)
+}
