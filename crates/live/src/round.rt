@@ -1,0 +1,230 @@
+//! One round: what is sent to the nodes, and what comes of it.
+ghost use Rattle.std.specs.Prelude.{◌≡◌, ◌≤◌};
+
+use crate::driver::Driver;
+use fault::Refusal;
+use flight::life::Packet;
+use model::member::Member;
+use model::message::{Body, Input, Message};
+use node::{Fault, Out as Given};
+use nodes::cell::Out;
+use nodes::seat::Report;
+use std::sync::Wait;
+
+// What a packet was, for when its report comes.
+#[derive(Clone, Copy, PartialEq, Eq, Debug, Drop)]
+pub(crate) enum Note {
+    /// A timeout or a beat.
+    Tick,
+    /// The request that is on its way.
+    Errand,
+    /// A message of this term.
+    Letter { term: u64, is_append: bool },
+}
+
+// A packet that was sent to a node.
+#[derive(Clone, Copy, Drop)]
+pub(crate) struct Sent {
+    node: Member,
+    note: Note,
+}
+
+fn note_of(message: &Message) -> Note {
+    Note::Letter {
+        term: message.term,
+        is_append: matches!(message.body, Body::Append { .. }),
+    }
+}
+
+impl Driver {
+    /// Plays one round: each node that runs is sent the timeout or beat that it is due for, then the messages that come
+    /// now, then the request that is to go to it; what comes of them is taken in the order of the nodes.
+    pub(crate) fn round<R: Wait>(&mut self, rt: &R) -> Result<(), Refusal> {
+        let mut sent = Vec::new(self.alloc);
+        let count = self.rounds.saturating_add(1);
+        self.send_ticks(rt, count, &mut sent)?;
+        self.send_letters(rt, &mut sent)?;
+        self.send_errand(rt, &mut sent)?;
+        self.take_reports(rt, &sent)?;
+        let members = self.stations.len().max(1);
+        if let Some(errand) = &mut self.errand {
+            errand.end_round(members);
+        }
+        self.rounds = count;
+        Ok(())
+    }
+
+    // Sends a packet to a node; to one that does not run nothing is sent.
+    fn send<R: Wait>(
+        &mut self,
+        rt: &R,
+        sent: &mut Vec<Sent>,
+        node: Member,
+        note: Note,
+        packet: Packet,
+    ) -> Result<(), Refusal> {
+        match self.cluster.send(rt, node, packet) {
+            Ok(()) => {
+                sent.push(Sent { node, note })?;
+                Ok(())
+            }
+            Err(Refusal::NoMemory) => Err(Refusal::NoMemory),
+            Err(_) => Ok(()),
+        }
+    }
+
+    // What the node is due for after one more tick, if it runs.
+    fn tick(&mut self, at: usize, round: u64) -> Option<Input> {
+        let station = self.stations.get_mut(at)?;
+        if station.runs {
+            station.pulse.tick(round)
+        } else {
+            None
+        }
+    }
+
+    fn send_ticks<R: Wait>(
+        &mut self,
+        rt: &R,
+        round: u64,
+        sent: &mut Vec<Sent>,
+    ) -> Result<(), Refusal> {
+        for at in 0..self.stations.len() {
+            if let Some(input) = self.tick(at, round) {
+                self.send(rt, sent, at + 1, Note::Tick, Packet::Local(input))?;
+            }
+        }
+        Ok(())
+    }
+
+    // What the node's clock shows now, if it runs.
+    fn reading(&self, node: Member) -> Option<i64> {
+        let station = self.stations.get(node.checked_sub(1)?)?;
+        if station.runs {
+            Some(station.reading(self.rounds))
+        } else {
+            None
+        }
+    }
+
+    fn send_letters<R: Wait>(&mut self, rt: &R, sent: &mut Vec<Sent>) -> Result<(), Refusal> {
+        for letter in self.mail.take_due()? {
+            let node = letter.message.addressee;
+            let Some(reading) = self.reading(node) else {
+                continue;
+            };
+            let note = note_of(&letter.message);
+            let packet = Packet::Delivered {
+                mark: letter.mark,
+                reading,
+                message: letter.message,
+            };
+            self.send(rt, sent, node, note, packet)?;
+        }
+        Ok(())
+    }
+
+    // A request whose node does not run goes to the next one.
+    fn send_errand<R: Wait>(&mut self, rt: &R, sent: &mut Vec<Sent>) -> Result<(), Refusal> {
+        let members = self.stations.len().max(1);
+        let Some(node) = self.errand_node() else {
+            return Ok(());
+        };
+        let reading = self.reading(node);
+        let Some(errand) = &mut self.errand else {
+            return Ok(());
+        };
+        let Some(reading) = reading else {
+            errand.refused(Refusal::NodeDown, members);
+            return Ok(());
+        };
+        let input = errand.input(reading)?;
+        self.send(rt, sent, node, Note::Errand, Packet::Local(input))
+    }
+
+    // The node to which a request is to go in this round.
+    fn errand_node(&self) -> Option<Member> {
+        match &self.errand {
+            Some(errand) if errand.is_due => Some(errand.to),
+            _ => None,
+        }
+    }
+
+    fn take_reports<R: Wait>(&mut self, rt: &R, sent: &[Sent]) -> Result<(), Refusal> {
+        for at in 0..self.stations.len() {
+            self.take_reports_of(rt, at + 1, sent)?;
+            self.end_if_fallen(rt, at)?;
+        }
+        Ok(())
+    }
+
+    fn take_reports_of<R: Wait>(
+        &mut self,
+        rt: &R,
+        node: Member,
+        sent: &[Sent],
+    ) -> Result<(), Refusal> {
+        for packet in sent {
+            if packet.node == node {
+                let report = self.cluster.report(rt, node)?;
+                self.take_report(node, packet.note, report)?;
+            }
+        }
+        Ok(())
+    }
+
+    fn take_report(&mut self, node: Member, note: Note, report: Report) -> Result<(), Refusal> {
+        let members = self.stations.len().max(1);
+        let refusal = match report {
+            Ok(out) => return self.take_out(node, note, out),
+            Err(Fault::Kept(refusal)) => refusal,
+            Err(Fault::Down(_)) => {
+                if let Some(station) = self.stations.get_mut(node.saturating_sub(1)) {
+                    station.fell = true;
+                }
+                Refusal::NodeDown
+            }
+        };
+        if let (Note::Errand, Some(errand)) = (note, &mut self.errand) {
+            errand.refused(refusal, members);
+        }
+        Ok(())
+    }
+
+    // What a step gives: its messages go on their way, and what it tells is heard.
+    fn take_out(&mut self, node: Member, note: Note, out: Out) -> Result<(), Refusal> {
+        let Out { mark, given } = out;
+        let Given {
+            messages,
+            applied: _,
+            told,
+        } = given;
+        if let Some(station) = self.stations.get_mut(node.saturating_sub(1)) {
+            if let Note::Letter { term, is_append } = note {
+                station.pulse.took(term, is_append);
+            }
+            for message in &messages {
+                station.pulse.sent(message);
+            }
+        }
+        for told in &told {
+            if let Some(errand) = &mut self.errand {
+                errand.hear(told)?;
+            }
+            self.told = self.told.max(told.index);
+        }
+        self.mail.send_all(mark, messages)?;
+        Ok(())
+    }
+
+    // A life that went down is over: it ends as it is.
+    fn end_if_fallen<R: Wait>(&mut self, rt: &R, at: usize) -> Result<(), Refusal> {
+        match self.stations.get_mut(at) {
+            Some(station) if station.fell => {
+                station.stopped();
+                self.cluster.stop_node(rt, at.saturating_add(1))
+            }
+            _ => Ok(()),
+        }
+    }
+}

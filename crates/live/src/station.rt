@@ -1,0 +1,99 @@
+//! What a driver keeps of one node.
+ghost use Rattle.std.specs.Prelude.{◌≡◌};
+
+use crate::pulse::Pulse;
+use answertext::Lines;
+use fault::{Refusal, Text};
+use flight::flight::Recorded;
+use model::mark::Mark;
+use schema::Schema;
+use sqlread::query::read_query;
+use std::alloc::{AllocError, Global};
+use view::View;
+
+/// One node, as its driver sees it.
+#[derive(Drop)]
+pub struct Station {
+    alloc: Global,
+    pub pulse: Pulse,
+    /// What its clock was set to.
+    pub clock: i64,
+    /// Whether it was started and not stopped since.
+    pub runs: bool,
+    /// Whether a step of the life that runs went down.
+    pub fell: bool,
+    /// The view of the life that runs, once one was asked for.
+    pub view: Option<View>,
+    /// What its views answered.
+    pub answers: Vec<Recorded>,
+}
+
+impl Station {
+    /// A node that runs, whose clock is 0 and whose words are those of this seed.
+    pub fn new(alloc: Global, seed: u64) -> Station {
+        Station {
+            alloc,
+            pulse: Pulse::new(seed),
+            clock: 0,
+            runs: true,
+            fell: false,
+            view: None,
+            answers: Vec::new(alloc),
+        }
+    }
+
+    /// What its clock shows after so many rounds: at most the greatest number of 64 bits.
+    pub fn reading(&self, rounds: u64) -> i64 {
+        self.clock.saturating_add_unsigned(rounds)
+    }
+
+    /// Its life ended.
+    pub fn stopped(&mut self) {
+        self.runs = false;
+        self.fell = false;
+        self.view = None;
+    }
+
+    /// A life of it began.
+    pub fn started(&mut self) {
+        self.runs = true;
+        self.fell = false;
+        self.view = None;
+        self.pulse.restart();
+    }
+
+    fn record(&mut self, mark: Mark, query: &Text, answer: &str) -> Result<(), AllocError> {
+        let query = query.clone()?;
+        let answer = Text::new(self.alloc, answer)?;
+        self.answers.push(Recorded {
+            mark,
+            query,
+            answer,
+        })?;
+        Ok(())
+    }
+
+    /// The lines with which its view answers a text, which are recorded, as the refusal 33 is. 10 to 17 of the text; 41
+    /// where it has no view; 33, 43 or 45 of the view.
+    pub fn ask(&mut self, schema: &Schema, text: &Text) -> Result<String, Refusal> {
+        let query = read_query(self.alloc, schema, text.as_str())?;
+        let Some(view) = &mut self.view else {
+            return Err(Refusal::NodeDown);
+        };
+        match view.ask(&query) {
+            Ok(marked) => {
+                let lines = format!(in self.alloc; "{}", Lines(&marked.answer))?;
+                self.record(marked.mark, text, lines.as_str())?;
+                Ok(lines)
+            }
+            Err(Refusal::NotClosed(closed)) => {
+                let mark = view.mark();
+                let refusal = Refusal::NotClosed(closed);
+                let line = format!(in self.alloc; "{refusal}")?;
+                self.record(mark, text, line.as_str())?;
+                Err(refusal)
+            }
+            Err(refusal) => Err(refusal),
+        }
+    }
+}
