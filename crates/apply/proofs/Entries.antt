@@ -17,7 +17,8 @@ use Rattle.rowlaws.specs.Statements.{AllListed}
 use Rattle.rowlaws.specs.Logs.{FineLogs, ReadsFine, LogsOnRows, rows_after}
 use Rattle.rowlaws.proofs.RowFacts.{both}
 use Rattle.versionlaws.specs.Versions.{Version, Holds, HeldBefore, NoVersions}
-use Rattle.versionlaws.specs.Committing.{CommitEntry, EntryStays}
+use Rattle.versionlaws.specs.ByKey.{HeldByKey}
+use Rattle.versionlaws.specs.Committing.{committed, CommitEntry, EntryStays}
 use Rattle.current.specs.declared.current.Current.{Current}
 use Rattle.current.specs.Current as current
 use Rattle.sqlchecks.specs.Columns as columns
@@ -235,13 +236,13 @@ module _ (tables : columns.Tables) (list : List Entry) (e : Entry) where
               rw (n, z) (are.outcomes c)
         ]
 
-        pub executed_first : CommitEntry → HeldBefore → FineLogs → ReadsFine schema → (new : Tables)
+        pub executed_first : CommitEntry → HeldByKey → HeldBefore → FineLogs → ReadsFine schema → (new : Tables)
             → AllListed (current.rows_of new.current) next
             → ((n : ℕ) → IsCommitted e.stamp (state_after schema before n) (next n) (versions.versions_of old.versions n) (versions.versions_of new.versions n))
             → ((c : ℕ) → latest_of new.requests c ≡ with_latest r.client r.number o (latest_of old.requests) c)
             → new.last ≡ Some e.stamp → current.schema_in new.current ≡ current.schema_in old.current → versions.schema_in new.versions ≡ versions.schema_in old.versions
             → AreTables tables all new
-        executed_first commit held_before fine reads new rows versioned latest last made made' = record {
+        executed_first commit by_key held_before fine reads new rows versioned latest last made made' = record {
           rows = subst (λ (s : State). AllListed (current.rows_of new.current) s) (sym state) rows;
           numbers = λ c. ap number_of (latest c) ∙ number_more c ∙ sym (executed_is (Some r) c asks);
           outcomes = λ c. ap (λ x. option_map outcome_of x) (latest c) ∙ kept_more c ∙ sym (kept_is (Some r) c asks);
@@ -265,8 +266,8 @@ module _ (tables : columns.Tables) (list : List Entry) (e : Entry) where
                 let born : (row : Row) → IsRow (state_after schema before n) row → row.system_start < e.stamp = λ row h. let b = held_before (versions.versions_of old.versions n) (λ u. state_at schema list u n) (least_stamp list) (state_after schema before n) row held h in omega arith in
                 let touched = whole e.stamp (state_after schema before n) (next n) turned.0 turned.1 turned.2 born in
                 let now : IsTouched (state_after schema before n) (state_after schema (reverse all) n) turned.0 turned.1 = subst (λ (x : State). IsTouched (state_after schema before n) (x n) turned.0 turned.1) (sym state) touched in
-                subst (λ (x : List Version). Holds x (λ u. state_at schema all u n) (least_stamp all) (state_after schema (reverse all) n)) (sym turned.3)
-                (commit schema n list e (versions.versions_of old.versions n) turned.0 turned.1 s (fine schema all reads) held now)
+                by_key (committed e.stamp turned.0 turned.1 (versions.versions_of old.versions n)) (versions.versions_of new.versions n) (λ u. state_at schema all u n) (least_stamp all) (state_after schema (reverse all) n)
+                (commit schema n list e (versions.versions_of old.versions n) turned.0 turned.1 s (fine schema all reads) held now) turned.3
 
 -- ---- before any entry
 

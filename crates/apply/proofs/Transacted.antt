@@ -1,5 +1,5 @@
 -- A transaction, statement by statement.
-use Rattle.std.proofs.Common.{◌≡◌, ℕ, zero, suc, ◌<◌, ◌≤◌, ◌⊎◌, inl, inr, List, [], ◌∷◌, ◌++◌, map, length, None, Result, Ok, Err, refl, sym, ap, ◌∙◌, subst, arith}
+use Rattle.std.proofs.Common.{◌≡◌, ℕ, zero, suc, ◌<◌, ◌≤◌, ◌⊎◌, inl, inr, List, [], ◌∷◌, ◌++◌, map, filter, length, None, Result, Ok, Err, refl, sym, ap, ◌∙◌, subst, arith}
 use Rattle.std.specs.Prelude.{slice_get}
 use Rattle.std.specs.Option.{option_map_or}
 use Rattle.std.proofs.lemmas.Bool.{cases_lt}
@@ -12,13 +12,14 @@ use Rattle.rowlaws.specs.Touching.{removed_both, added_both}
 use Rattle.rowlaws.specs.Statements.{Rows, AllListed, AllFollow}
 use Rattle.rowlaws.specs.Transactions.{TransactionsFollow}
 use Rattle.rowlaws.specs.Whole.{ComesFromWhole, WholeThen}
+use Rattle.versionlaws.specs.ByKey.{is_of, SameByKey}
 use Rattle.versionlaws.specs.Committing.{committed}
 use Rattle.current.specs.Touched.{removed_in, added_in}
 use Rattle.current.specs.declared.touched.Touched.{Touched}
 use Rattle.current.specs.Run.{IsRun, IsRefused, AllUndoable, IsUndone}
 use Rattle.current.specs.Laws.{NothingBeyond}
 use Rattle.sysversion.specs.declared.Versions.{Versions}
-use Rattle.sysversion.specs.Versions.{versions_of, version_of, table_count}
+use Rattle.sysversion.specs.Versions.{versions_of, versions_of_table, table_count}
 use Rattle.sqlchecks.specs.Columns.{Tables}
 use Rattle.sqlread.specs.declared.statement.Statement.{Statement as Read}
 use Rattle.sqlread.specs.Shapes.{statement_of}
@@ -126,15 +127,15 @@ none_beyond (x ∷ xs) zero h = absurd (omega arith)
 none_beyond (x ∷ xs) (suc n) h = none_beyond xs n (omega arith)
 
 beyond : (v : Versions) (n : ℕ) → table_count v ≤ n → versions_of v n ≡ []
-beyond v n h = ap (λ o. option_map_or (λ table. map version_of table.items) o []) (none_beyond v.tables.items n (omega (arith, h, v.counted)))
+beyond v n h = ap (λ o. option_map_or versions_of_table o []) (none_beyond v.tables.items n (omega (arith, h, v.counted)))
 
 nothing_committed : (t : ℕ) → committed t [] [] [] ≡ []
 unfolding committed
 nothing_committed t = refl
 
 all_committed : NothingBeyond → (t : ℕ) (touched : Touched) (old new : Versions) → table_count new ≡ table_count old → length touched.tables.items ≤ table_count old
-    → ((n : ℕ) → n < table_count old → versions_of new n ≡ committed t (removed_in touched n) (added_in touched n) (versions_of old n))
-    → (n : ℕ) → versions_of new n ≡ committed t (removed_in touched n) (added_in touched n) (versions_of old n)
+    → ((n : ℕ) → n < table_count old → SameByKey (versions_of new n) (committed t (removed_in touched n) (added_in touched n) (versions_of old n)))
+    → (n : ℕ) → SameByKey (versions_of new n) (committed t (removed_in touched n) (added_in touched n) (versions_of old n))
 all_committed nothing t touched old new count few each n = elim (cases_lt n (table_count old)) [
   | inl l ↦ each n l
   | inr g ↦
@@ -143,7 +144,7 @@ all_committed nothing t touched old new count few each n = elim (cases_lt n (tab
       let (c, d) = nothing touched n (omega arith) in
       let e : committed t (removed_in touched n) (added_in touched n) (versions_of old n) ≡ [] =
       ap (λ x. committed t x (added_in touched n) (versions_of old n)) c ∙ ap (λ x. committed t [] x (versions_of old n)) d ∙ ap (λ x. committed t [] [] x) a ∙ nothing_committed t in
-      b ∙ sym e
+      λ key. ap (filter (is_of key)) (b ∙ sym e)
 ]
 
 text_is : (schema : Schema) (t : ℕ) (text : List ℕ) (ss : List Statement) (state : State) → ss ≡ read_statements (schema.reads text) → transacted schema t ss state ≡ executed_text schema t text state
@@ -152,7 +153,7 @@ text_is schema t text ss state e = ap (λ x. transacted schema t x state) e
 
 pub accepted : NothingBeyond → (schema : Schema) (t : ℕ) (text : List ℕ) (ss : List Statement) (rows more : Rows) (touched : Touched) (old new : Versions) (tables : ℕ) → ss ≡ read_statements (schema.reads text)
     → IsTransacted schema t ss rows more (removed_in touched) (added_in touched) → length touched.tables.items ≤ tables → table_count new ≡ table_count old
-    → ((n : ℕ) → n < table_count old → versions_of new n ≡ committed t (removed_in touched n) (added_in touched n) (versions_of old n))
+    → ((n : ℕ) → n < table_count old → SameByKey (versions_of new n) (committed t (removed_in touched n) (added_in touched n) (versions_of old n)))
     → (state : State) → AllListed rows state → table_count old ≡ tables → IsExecuted schema t text state more (versions_of old) (versions_of new) (Ok t)
 accepted nothing schema t text ss rows more touched old new tables e done few count each state listed same =
     let d = done state listed in

@@ -8,6 +8,7 @@ use Rattle.model.specs.Logs.{Outcome, outcome_at, next_state}
 use Rattle.rowlaws.specs.Rows.{Has, Apart}
 use Rattle.rowlaws.specs.Statements.{Rows, AllListed}
 use Rattle.versionlaws.specs.Versions.{Version}
+use Rattle.versionlaws.specs.ByKey.{SameByKey}
 use Rattle.versionlaws.specs.Committing.{committed}
 use Rattle.retry.specs.Judging.{Verdict, New, Kept, Old, Gap}
 
@@ -37,10 +38,10 @@ IsRefusedWhole schema t ss rows more refusal =
 abbrev pub AreBack : Rows → Rows → Type 0
 AreBack rows more = (state : State) → AllListed rows state → AllListed more state
 
--- the table stays with its versions, or what the transaction at t turned is committed
+-- the table stays with its versions, or what the transaction at t turned is committed: of each key the same versions
 abbrev pub IsCommitted : ℕ → Table → Table → List Version → List Version → Type 0
 IsCommitted t old new versions more =
-    ((new ≡ old) × (more ≡ versions)) ⊎ ((removed : List Row) × (added : List Row) × IsTurned t old new removed added × (more ≡ committed t removed added versions))
+    ((new ≡ old) × (more ≡ versions)) ⊎ ((removed : List Row) × (added : List Row) × IsTurned t old new removed added × SameByKey more (committed t removed added versions))
 
 -- the outcome of a text that is executed at t in a state, and the rows and versions after it
 pub record IsExecuted (schema : Schema) (t : ℕ) (text : List ℕ) (state : State) (more : Rows) (versions later : ℕ → List Version) (outcome : Outcome) : Type 0 where

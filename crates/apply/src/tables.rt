@@ -15,6 +15,7 @@ ghost use Rattle.apply.specs.View.{AreTables, IsAskedOf, is_failed};
 ghost use Rattle.rowlaws.specs.Logs.{LogsOnRows, FineLogs};
 ghost use Rattle.rowlaws.specs.Whole.{NoOrphanAfter};
 ghost use Rattle.versionlaws.specs.Versions.{NoVersions, HeldBefore, HeldKept};
+ghost use Rattle.versionlaws.specs.ByKey.{HeldByKey};
 ghost use Rattle.versionlaws.specs.Committing.{CommitEntry, EntryStays};
 
 use crate::asking;
@@ -52,6 +53,7 @@ fn log_laws()
     ensures none { NoVersions }
     ensures before { HeldBefore }
     ensures commit { CommitEntry }
+    ensures by_key { HeldByKey }
     ensures stays { EntryStays }
     ensures kept { HeldKept }
     ensures calendar { LiteralsInCalendar }
@@ -62,6 +64,7 @@ fn log_laws()
     versionlaws::no_versions();
     versionlaws::held_before();
     versionlaws::commit_entry();
+    versionlaws::held_by_key();
     versionlaws::entry_stays();
     versionlaws::held_kept();
     sqlread::laws::literals_in_calendar();

@@ -1,6 +1,7 @@
 -- The key that a WHERE names, and how many versions a question tests.
 use Rattle.std.specs.Prelude.{◌≡◌, ℕ, ◌<◌, ◌≤◌, ◌==◌, Option, Some, None, List, [], ◌∷◌, length, filter, slice_get, if◌then◌else◌}
 use Rattle.model.specs.declared.value.Value.{Value}
+use Rattle.model.specs.Tables.{Table, Row, IsRow}
 use Rattle.rowlaws.specs.Rows.{Has}
 use Rattle.sqlsyntax.specs.declared.forms.Operator.{Operator}
 use Rattle.sqlsyntax.specs.declared.forms.Operator.TheVariants.{Equal}
@@ -8,7 +9,7 @@ use Rattle.sqlchecks.specs.declared.field.Field.{Field}
 use Rattle.sqlchecks.specs.declared.field.Field.TheVariants.{Key}
 use Rattle.sqlread.specs.declared.term.Term.{Term}
 use Rattle.sqlread.specs.declared.term.Term.TheVariants.{Compares}
-use Rattle.versionlaws.specs.Versions.{Version}
+use Rattle.versionlaws.specs.Versions.{Version, Holds}
 use Rattle.versionlaws.specs.ByKey.{is_of}
 
 -- what the key column at this place is to be equal to, if a comparison says so
@@ -36,3 +37,10 @@ IsNamed terms key = (place : ℕ) → place < length key → said_at place terms
 -- where WHERE names a key with as many columns as the versions' keys have, there are at most as many tests as versions of it
 abbrev pub IsFew : List Term → List Version → ℕ → Type 0
 IsFew terms versions tests = (key : List Value) → IsNamed terms key → ((v : Version) → Has versions v → length v.row.key ≡ length key) → tests ≤ length (filter (is_of key) versions)
+
+-- and then at most as many tests as different rows of the key over all instants, where the versions hold these: as any list
+-- has that has each of these rows
+abbrev pub IsFewRows : List Term → List Version → ℕ → Type 0
+IsFewRows terms versions tests = (key : List Value) → IsNamed terms key → ((v : Version) → Has versions v → length v.row.key ≡ length key) →
+    (history : ℕ → Table) (bound : ℕ) (current : Table) (rows : List Row) → Holds versions history bound current →
+    ((u : ℕ) (row : Row) → u < bound → IsRow (history u) row → row.key ≡ key → Has rows row) → tests ≤ length rows

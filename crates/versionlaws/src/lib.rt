@@ -9,7 +9,7 @@ ghost use Rattle.versionlaws.specs.ByKey.{HeldByKey, FewVersions};
 ghost use Rattle.versionlaws.specs.Committing.{Commit, CommitEntry, EntryStays, Lasts, HoldsAfter, KeepsAfter};
 ghost use Rattle.versionlaws.specs.Answering.{VersionsRows, VersionsEnds, VersionsGive, VersionsAnswer, SomeAnswer, ClosedAnswer};
 ghost use Rattle.versionlaws.specs.Unanswered.{NoAnswer};
-ghost use Rattle.versionlaws.specs.WorkedRows.{DeletedVersion, CutVersion};
+ghost use Rattle.versionlaws.specs.WorkedRows.{DeletedVersion, CutVersion, MovedVersions};
 
 /// Before the first instant no versions are held, whatever comes.
 pub fn no_versions()
@@ -142,8 +142,9 @@ pub fn no_answer()
 }
 
 /// Rows by computation: the versions of a row that is deleted, and of one that is cut, and what
-/// they answer.
+/// they answer; how many versions a key has after a portion of its days has changed.
 pub fn rows_of_versions()
     ensures deleted_version { DeletedVersion }
     ensures cut_version { CutVersion }
+    ensures moved_versions { MovedVersions }
 {}

@@ -12,3 +12,7 @@ returns-clause-deleted_version c = (refl, refl, refl, refl)
 pub returns-clause-cut_version : goal.returns-clause-cut_version
 unfolding same_key key_cmp in_order committed answer_from
 returns-clause-cut_version c = (refl, refl, refl, refl)
+
+pub returns-clause-moved_versions : goal.returns-clause-moved_versions
+unfolding same_key key_cmp committed
+returns-clause-moved_versions c = (refl, refl)

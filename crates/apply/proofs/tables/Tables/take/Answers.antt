@@ -43,7 +43,7 @@ returns-clause-kept c = λ schema list are.
     let ran = c.in_ok-outcome-2.ensures.executed state are.rows (are.versions_schema ∙ sym are.current_schema) (subst (λ s. first_orphan (schema_of s) state ≡ None) (sym are.current_schema) (c.log_laws.ensures.parents (schema_of schema) (reverse list))) in
     let done = subst (λ text. IsExecuted (schema_of schema) e.stamp text state (rows_of new.current) (versions_of old.versions) (versions_of new.versions) o) c.as_str.ensures
     (subst (λ s. IsExecuted (schema_of s) e.stamp c.as_str.result.now state (rows_of new.current) (versions_of old.versions) (versions_of new.versions) o) are.current_schema ran) in
-    executed_first schema list e laws.stays old are r c.in-Some.is unknown o done.is laws.commit laws.before laws.fine (reads_fine laws.calendar schema) new done.rows done.committed
+    executed_first schema list e laws.stays old are r c.in-Some.is unknown o done.is laws.commit laws.by_key laws.before laws.fine (reads_fine laws.calendar schema) new done.rows done.committed
     (λ k. c.in_ok-keep.ensures.ok k ∙ ap (λ x. with_latest r.client r.number x (latest_of old.requests) k) c.in_ok-kept.ensures) refl c.execute.ensures.current_schema c.execute.ensures.versions_schema
 
 pub returns-clause-outcome : goal.returns-clause-outcome

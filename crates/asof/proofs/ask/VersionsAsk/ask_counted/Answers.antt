@@ -1,4 +1,4 @@
-use Rattle.std.proofs.Common.{◌≡◌, ◌∙◌, map, filter, length, ap, arith}
+use Rattle.std.proofs.Common.{◌≡◌, ◌∙◌, map, filter, length, sym, ap, subst, arith}
 use Rattle.std.proofs.lemmas.List.{length-map}
 use Rattle.sqlread.specs.Shapes.{query_of, time_of}
 use Rattle.sqlread.specs.Meaning.{select_of}
@@ -8,8 +8,9 @@ use Rattle.answer.specs.Answers.{answer_of, shown_of}
 use Rattle.sysversion.specs.Lists.{version_of}
 use Rattle.sysversion.specs.Versions.{versions_of}
 use Rattle.asof.specs.Asking.{read_with, is_found_by, show_by}
+use Rattle.asof.specs.Named.{IsFew}
 use Rattle.asof.proofs.Sorting.{order_length}
-use Rattle.asof.proofs.Answered.{shown, answered_is, kept_is}
+use Rattle.asof.proofs.Answered.{shown, answered_is, kept_is, few_rows}
 use Rattle.asof.proofs.ask.VersionsAsk.ask_counted.Goals as goal
 
 pub returns-clause-ok : goal.returns-clause-ok
@@ -42,3 +43,12 @@ returns-clause-each c =
     let each = c.in_ok-found.ensures.each in
     let reads = c.reads.ensures in
     omega (arith, shown, rows, by, seen, slice, sorted, order, whole, found, each, reads)
+
+pub returns-clause-few_rows : goal.returns-clause-few_rows
+returns-clause-few_rows c =
+    let terms = c.args.query.now.terms.items in
+    let versions = versions_of c.args.self.now c.args.query.now.table in
+    let tests = c.reads.result in
+    let counted = subst (λ n. IsFew c.as_slice-terms.result.now versions n) (sym c.reads.ensures) (c.in_ok-found.ensures.few c.new-count.ensures) in
+    let few : IsFew terms versions tests = subst (λ ts. IsFew ts versions tests) c.as_slice-terms.ensures.value counted in
+    few_rows c.few_versions.ensures terms versions tests few
