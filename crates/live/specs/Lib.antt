@@ -1,1 +1,4 @@
 pub mod Letters
+pub mod Errands
+pub mod Taken
+pub mod Printing

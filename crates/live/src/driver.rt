@@ -1,5 +1,6 @@
 //! What drives a cluster through a script.
-ghost use Rattle.std.specs.Prelude.{◌≡◌};
+ghost use Rattle.std.specs.Prelude.{◌≡◌, string_bytes, IfOk};
+ghost use Rattle.live.specs.Printing.{outcome_text};
 
 use crate::errand::Errand;
 use crate::mail::Mail;
@@ -188,21 +189,32 @@ impl Driver {
     }
 }
 
-// What is printed of a request.
+// What is said of an outcome, or that there is none.
+fn outcome_words(
+    alloc: Global,
+    outcome: &Option<Result<Stamp, Refusal>>,
+) -> Result<String, AllocError>
+    ensures { IfOk result (λ text. string_bytes text ≡ outcome_text outcome.now) }
+{
+    match outcome {
+        None => format!(in alloc; "unanswered"),
+        Some(Ok(stamp)) => {
+            let instant = stamp.instant();
+            format!(in alloc; "accepted {instant}")
+        }
+        Some(Err(refusal)) => format!(in alloc; "refused {refusal}"),
+    }
+}
+
+// The line that is printed of a request.
 fn outcome_line(
     alloc: Global,
     client: Client,
     number: RequestNumber,
     outcome: &Option<Result<Stamp, Refusal>>,
 ) -> Result<String, AllocError> {
+    let words = outcome_words(alloc, outcome)?;
     let client = client.get();
     let number = number.get();
-    match outcome {
-        None => format!(in alloc; "request {client} {number} unanswered\n"),
-        Some(Ok(stamp)) => {
-            let instant = stamp.instant();
-            format!(in alloc; "request {client} {number} accepted {instant}\n")
-        }
-        Some(Err(refusal)) => format!(in alloc; "request {client} {number} refused {refusal}\n"),
-    }
+    format!(in alloc; "request {client} {number} {words}\n")
 }

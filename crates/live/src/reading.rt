@@ -1,4 +1,8 @@
 //! Reading a script for a group of so many nodes.
+ghost use Rattle.std.specs.Prelude.{◌≡◌, ◌↔◌, All, IfOk, IsTrue};
+ghost use Rattle.lines.specs.Script.{HasLines};
+ghost use Rattle.live.specs.Taken.{IsTaken};
+
 use fault::{Refusal, Text};
 use lines::line::Line;
 use lines::script::{Script, read_script};
@@ -100,28 +104,56 @@ fn schema_block(alloc: Global, text: &str) -> Result<String, AllocError> {
     Ok(block)
 }
 
+// Whether a line is one that is taken.
+fn is_taken_line(line: &Line) -> bool
+    ensures { IsTrue result ↔ IsTaken line.now }
+{
+    matches!(
+        line,
+        Line::Clock { .. }
+            | Line::ClockAll { .. }
+            | Line::Submit { .. }
+            | Line::Settle { .. }
+            | Line::Stop { .. }
+            | Line::Start { .. }
+            | Line::Ask { .. }
+    )
+}
+
 /// A script for a group of so many nodes, 3 to 7. Its lines are those of a script, of which `clock`, `submit`, `settle`,
 /// `stop`, `start` and `ask` are taken.
 ///
 /// 60 at the first line that is no line of a script, is not taken, or names another number of members; 10 to 18 where the
 /// schema is refused, unless a line before it is bad; 43 for want of memory.
-pub fn read_live(alloc: Global, text: &str, nodes: u8) -> Result<LiveScript, Refusal> {
-    if let Some(line) = first_untaken(text, nodes, Part::Members) {
-        return match read_script(alloc, text) {
-            Err(Refusal::BadScript(bad)) => Err(Refusal::BadScript(bad.min(line))),
-            _ => Err(Refusal::BadScript(line)),
-        };
-    }
-    let untaken = first_untaken(text, nodes, Part::Lines);
-    match (read_script(alloc, text), untaken) {
-        (Err(Refusal::BadScript(bad)), Some(line)) => Err(Refusal::BadScript(bad.min(line))),
-        (Err(refusal), _) => Err(refusal),
-        (Ok(_), Some(line)) => Err(Refusal::BadScript(line)),
-        (Ok(script), None) => with_text(alloc, text, script),
+pub fn read_live(alloc: Global, text: &str, nodes: u8) -> Result<LiveScript, Refusal>
+    ensures lines { IfOk result (λ script. HasLines text.now nodes script.schema script.lines.items) }
+    ensures taken { IfOk result (λ script. All IsTaken script.lines.items) }
+{
+    match read_script(alloc, text) {
+        Ok(script) => {
+            let is_whole = script.members == usize::from(nodes)
+                && script.lines.iter().all(is_taken_line);
+            if is_whole {
+                with_text(alloc, text, script)
+            } else {
+                Err(Refusal::BadScript(first_untaken(text, nodes, Part::Lines).unwrap_or(0)))
+            }
+        }
+        Err(Refusal::NoMemory) => Err(Refusal::NoMemory),
+        Err(Refusal::BadScript(bad)) => {
+            let untaken = first_untaken(text, nodes, Part::Lines).unwrap_or(bad);
+            Err(Refusal::BadScript(untaken.min(bad)))
+        }
+        Err(refusal) => match first_untaken(text, nodes, Part::Members) {
+            Some(line) => Err(Refusal::BadScript(line)),
+            None => Err(refusal),
+        },
     }
 }
 
-fn with_text(alloc: Global, text: &str, script: Script) -> Result<LiveScript, Refusal> {
+fn with_text(alloc: Global, text: &str, script: Script) -> Result<LiveScript, Refusal>
+    ensures { IfOk result (λ read. (read.schema ≡ script.schema) × (read.lines ≡ script.lines)) }
+{
     let block = schema_block(alloc, text)?;
     let Script {
         members: _,

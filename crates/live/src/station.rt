@@ -1,5 +1,6 @@
 //! What a driver keeps of one node.
-ghost use Rattle.std.specs.Prelude.{◌≡◌};
+ghost use Rattle.std.specs.Prelude.{◌≡◌, true, false, None, pos, ◌+ℤ◌};
+ghost use Rattle.std.specs.Int.{w64, saturate_signed};
 
 use crate::pulse::Pulse;
 use answertext::Lines;
@@ -43,19 +44,28 @@ impl Station {
     }
 
     /// What its clock shows after so many rounds: at most the greatest number of 64 bits.
-    pub fn reading(&self, rounds: u64) -> i64 {
+    pub fn reading(&self, rounds: u64) -> i64
+        ensures { result ≡ saturate_signed w64 (self.now.clock +ℤ pos rounds) }
+    {
         self.clock.saturating_add_unsigned(rounds)
     }
 
     /// Its life ended.
-    pub fn stopped(&mut self) {
+    pub fn stopped(&mut self)
+        ensures down { (self.new.runs ≡ false) × (self.new.view ≡ None) }
+        ensures same { (self.new.pulse ≡ self.old.pulse) × (self.new.clock ≡ self.old.clock) × (self.new.answers ≡ self.old.answers) }
+    {
         self.runs = false;
         self.fell = false;
         self.view = None;
     }
 
     /// A life of it began.
-    pub fn started(&mut self) {
+    pub fn started(&mut self)
+        ensures up { (self.new.runs ≡ true) × (self.new.view ≡ None) }
+        ensures follows { (self.new.pulse.leads ≡ false) × (self.new.pulse.term ≡ self.old.pulse.term) }
+        ensures same { (self.new.clock ≡ self.old.clock) × (self.new.answers ≡ self.old.answers) }
+    {
         self.runs = true;
         self.fell = false;
         self.view = None;
