@@ -4,7 +4,7 @@ ghost use Rattle.model.specs.Values.{same_key};
 
 use model::stamp::Stamp;
 use model::value::Value;
-use overlaps::Key;
+use overlaps::{HasPeriod, Key};
 use period::Period;
 use std::alloc::AllocError;
 
@@ -32,6 +32,18 @@ impl Clone for Row {
             values: self.clone_values()?,
             system_start: self.system_start,
         })
+    }
+}
+
+impl HasPeriod for Row {
+    ghost use Rattle.model.specs.Periods.{period_of};
+
+    ghost period = { λ row. period_of row.period };
+
+    ghost some_day = { λ row. row.period.ordered };
+
+    fn period(&self) -> Period {
+        self.period
     }
 }
 
