@@ -1,8 +1,6 @@
 -- What becomes of the lines where the map changes at one key.
 use Rattle.std.proofs.Common.{◌≡◌, Result, Ok, Err, Bool, true, false, ◌++◌, ◌==◌, ◌∷◌, length, List, [], Option, Some, refl, sym, ap, ◌∙◌, subst, inl, inr, map, arith, cond}
 use Rattle.std.specs.BTreeMap.{get, get_by, UpdatesBy, WritesThrough}
-use Rattle.std.specs.declared.alloc.Global.{Global}
-use Rattle.std.specs.declared.vec.Vec.{Vec}
 use Rattle.std.specs.Map.{lookup, set_value}
 use Rattle.std.specs.Ordering.{is_eq}
 use Rattle.std.specs.Option.{IsSome}
@@ -19,14 +17,17 @@ use Rattle.current.specs.Plans.{instead}
 use Rattle.current.specs.Stored.{Map, line_in, lines_of, rows_in, with_line}
 
 -- equal keys have the same rows
-pub same_lines : (m : Map) (key k : List Value) → same_key key k ≡ true → lines_of m key ≡ lines_of m k
+pub same_got : (m : Map) (key k : List Value) → same_key key k ≡ true → get key_cmp m key ≡ get key_cmp m k
 unfolding same_key
-same_lines m key k same =
+same_got m key k same =
     let equal = (Equal-is (key_cmp key k)).0 same in
     let alike : key_cmp key ≡ key_cmp k = λ i q. key_cmp_total.congr key k q equal i in
-    ap (λ compare. line_in (get_by compare m)) alike
+    ap (λ compare. get_by compare m) alike
 
-pub lines_changed : (m n : Map) (key : List Value) (w : Option (Vec Declared Global)) (rows : List Row) → UpdatesBy key_cmp (key_cmp key) m n w → line_in w ≡ rows → lines_of n ≡ with_line key rows (lines_of m)
+pub same_lines : (m : Map) (key k : List Value) → same_key key k ≡ true → lines_of m key ≡ lines_of m k
+same_lines m key k same = ap line_in (same_got m key k same)
+
+pub lines_changed : (m n : Map) (key : List Value) (w : Option (List Declared)) (rows : List Row) → UpdatesBy key_cmp (key_cmp key) m n w → line_in w ≡ rows → lines_of n ≡ with_line key rows (lines_of m)
 unfolding same_key
 lines_changed m n key w rows updates here = λ i k. at k i
   where
@@ -46,18 +47,18 @@ lines_same m key rows here = λ i k. at k i
       | inr other ↦ sym (ap (λ b. cond b rows (lines_of m k)) other)
     ]
 
-pub lines_kept : (m n : Map) (key : List Value) (w : Option (Vec Declared Global)) → UpdatesBy key_cmp (key_cmp key) m n w → line_in w ≡ lines_of m key → lines_of n ≡ lines_of m
+pub lines_kept : (m n : Map) (key : List Value) (w : Option (List Declared)) → UpdatesBy key_cmp (key_cmp key) m n w → line_in w ≡ lines_of m key → lines_of n ≡ lines_of m
 lines_kept m n key w updates here = lines_changed m n key w (lines_of m key) updates here ∙ sym (lines_same m key (lines_of m key) refl)
 
 -- ---- what `get_mut` lent was written
 
-updates_from_write : (m n : Map) (key : List Value) (v w : Vec Declared Global) → Some v ≡ get key_cmp m key → WritesThrough key_cmp (key_cmp key) m w n → UpdatesBy key_cmp (key_cmp key) m n (Some w)
+updates_from_write : (m n : Map) (key : List Value) (v w : List Declared) → Some v ≡ get key_cmp m key → WritesThrough key_cmp (key_cmp key) m w n → UpdatesBy key_cmp (key_cmp key) m n (Some w)
 updates_from_write m n key v w value writes = writes.3 (subst IsSome value refl)
 
-pub lines_written : (m n : Map) (key : List Value) (v w : Vec Declared Global) (rows : List Row) → Some v ≡ get key_cmp m key → WritesThrough key_cmp (key_cmp key) m w n → map row_of w.items ≡ rows → lines_of n ≡ with_line key rows (lines_of m)
+pub lines_written : (m n : Map) (key : List Value) (v w : List Declared) (rows : List Row) → Some v ≡ get key_cmp m key → WritesThrough key_cmp (key_cmp key) m w n → map row_of w ≡ rows → lines_of n ≡ with_line key rows (lines_of m)
 lines_written m n key v w rows value writes here = lines_changed m n key (Some w) rows (updates_from_write m n key v w value writes) here
 
-pub lines_written_back : (m n : Map) (key : List Value) (v w : Vec Declared Global) → Some v ≡ get key_cmp m key → WritesThrough key_cmp (key_cmp key) m w n → w.items ≡ v.items → lines_of n ≡ lines_of m
+pub lines_written_back : (m n : Map) (key : List Value) (v w : List Declared) → Some v ≡ get key_cmp m key → WritesThrough key_cmp (key_cmp key) m w n → w ≡ v → lines_of n ≡ lines_of m
 lines_written_back m n key v w value writes here = lines_kept m n key (Some w) (updates_from_write m n key v w value writes) (ap (map row_of) here ∙ ap line_in value)
 
 pub none_from_is_empty : (rows : List Declared) → (length rows == 0) ≡ true → map row_of rows ≡ []
@@ -74,15 +75,15 @@ pub on_err : {A E : Type 0} (r : Result A E) {P Q : Type 0} → (P → Q) → On
 on_err (Ok a) f err = err
 on_err (Err e) f err = f err
 
-set_back : (test : List Value → Bool) (es : List (List Value × Vec Declared Global)) (v w : Vec Declared Global) → lookup test es ≡ Some v → w.items ≡ v.items → rows_in (set_value test es w) ≡ rows_in es
+set_back : (test : List Value → Bool) (es : List (List Value × List Declared)) (v w : List Declared) → lookup test es ≡ Some v → w ≡ v → rows_in (set_value test es w) ≡ rows_in es
 set_back test [] v w h same = refl
 set_back test (e ∷ es) v w h same = by (test e.0) h (set_back test es v w)
   where
-    by : (b : Bool) → cond b (Some e.1) (lookup test es) ≡ Some v → (lookup test es ≡ Some v → w.items ≡ v.items → rows_in (set_value test es w) ≡ rows_in es) → rows_in (cond b ((e.0, w) ∷ es) (e ∷ set_value test es w)) ≡ rows_in (e ∷ es)
-    by true g more = let f : e.1 ≡ v = cc in ap (λ rs. map row_of rs ++ rows_in es) (same ∙ sym (ap (λ x. x.items) f))
-    by false g more = ap (λ rs. map row_of e.1.items ++ rs) (more g same)
+    by : (b : Bool) → cond b (Some e.1) (lookup test es) ≡ Some v → (lookup test es ≡ Some v → w ≡ v → rows_in (set_value test es w) ≡ rows_in es) → rows_in (cond b ((e.0, w) ∷ es) (e ∷ set_value test es w)) ≡ rows_in (e ∷ es)
+    by true g more = let f : e.1 ≡ v = cc in ap (λ rs. map row_of rs ++ rows_in es) (same ∙ sym f)
+    by false g more = ap (λ rs. map row_of e.1 ++ rs) (more g same)
 
-pub rows_written_back : (m n : Map) (key : List Value) (v w : Vec Declared Global) → Some v ≡ get key_cmp m key → WritesThrough key_cmp (key_cmp key) m w n → w.items ≡ v.items → rows_in n.entries ≡ rows_in m.entries
+pub rows_written_back : (m n : Map) (key : List Value) (v w : List Declared) → Some v ≡ get key_cmp m key → WritesThrough key_cmp (key_cmp key) m w n → w ≡ v → rows_in n.entries ≡ rows_in m.entries
 rows_written_back m n key v w value writes same = ap rows_in writes.0 ∙ set_back (λ q. is_eq (key_cmp key q)) m.entries v w (sym value) same
 
 pub instead_none : (rows : List Declared) (more : List Row) → (length rows == 0) ≡ true → map row_of rows ≡ instead (map row_of rows) more

@@ -55,28 +55,28 @@ later_differs k l less = elim (cases_Bool (same_key l k)) [
   | inr n ↦ n
 ]
 
-none_later : (k : List Value) (es : List Entry) → AllByRecursion (λ l. key_cmp k l ≡ Less) (map (λ e. e.0) es) → ((e : Entry) → Has es e → in_line e.0 0 (map row_of e.1.items) ≡ true) → filter (of_key k) (rows_in es) ≡ []
+none_later : (k : List Value) (es : List Entry) → AllByRecursion (λ l. key_cmp k l ≡ Less) (map (λ e. e.0) es) → ((e : Entry) → Has es e → in_line e.0 0 (map row_of e.1) ≡ true) → filter (of_key k) (rows_in es) ≡ []
 none_later k [] less h = refl
 none_later k (e ∷ es) less h =
-    filter-append (of_key k) (map row_of e.1.items) (rows_in es)
-    ∙ ap (λ rs. rs ++ filter (of_key k) (rows_in es)) (none_of_line k e.0 0 (map row_of e.1.items) (later_differs k e.0 less.0) (h e (inl refl)))
+    filter-append (of_key k) (map row_of e.1) (rows_in es)
+    ∙ ap (λ rs. rs ++ filter (of_key k) (rows_in es)) (none_of_line k e.0 0 (map row_of e.1) (later_differs k e.0 less.0) (h e (inl refl)))
     ∙ none_later k es less.1 (λ x i. h x (inr i))
 
-found : (k : List Value) (es : List Entry) → IsStrictlySortedBy key_cmp (map (λ e. e.0) es) → ((e : Entry) → Has es e → in_line e.0 0 (map row_of e.1.items) ≡ true) → filter (of_key k) (rows_in es) ≡ line_in (lookup (λ q. is_eq (key_cmp k q)) es)
+found : (k : List Value) (es : List Entry) → IsStrictlySortedBy key_cmp (map (λ e. e.0) es) → ((e : Entry) → Has es e → in_line e.0 0 (map row_of e.1) ≡ true) → filter (of_key k) (rows_in es) ≡ line_in (lookup (λ q. is_eq (key_cmp k q)) es)
 unfolding IsStrictlySortedBy same_key
 found k [] s h = refl
 found k (e ∷ es) s h = elim (cases_Bool (same_key k e.0)) [
   | inl same ↦
       let equal = same_key-true k e.0 same in
       rw same
-      (filter-append (of_key k) (map row_of e.1.items) (rows_in es)
-      ∙ ap (λ rs. rs ++ filter (of_key k) (rows_in es)) (all_of_line k e.0 0 (map row_of e.1.items) (turned k e.0 true same) (h e (inl refl)))
-      ∙ ap (λ rs. map row_of e.1.items ++ rs) (none_later k es (subst (λ l. AllByRecursion (λ m. key_cmp l m ≡ Less) (map (λ x. x.0) es)) (sym equal) s.0) (λ x i. h x (inr i)))
-      ∙ append-nil (map row_of e.1.items))
+      (filter-append (of_key k) (map row_of e.1) (rows_in es)
+      ∙ ap (λ rs. rs ++ filter (of_key k) (rows_in es)) (all_of_line k e.0 0 (map row_of e.1) (turned k e.0 true same) (h e (inl refl)))
+      ∙ ap (λ rs. map row_of e.1 ++ rs) (none_later k es (subst (λ l. AllByRecursion (λ m. key_cmp l m ≡ Less) (map (λ x. x.0) es)) (sym equal) s.0) (λ x i. h x (inr i)))
+      ∙ append-nil (map row_of e.1))
   | inr other ↦
       rw other
-      (filter-append (of_key k) (map row_of e.1.items) (rows_in es)
-      ∙ ap (λ rs. rs ++ filter (of_key k) (rows_in es)) (none_of_line k e.0 0 (map row_of e.1.items) (turned k e.0 false other) (h e (inl refl)))
+      (filter-append (of_key k) (map row_of e.1) (rows_in es)
+      ∙ ap (λ rs. rs ++ filter (of_key k) (rows_in es)) (none_of_line k e.0 0 (map row_of e.1) (turned k e.0 false other) (h e (inl refl)))
       ∙ found k es s.1 (λ x i. h x (inr i)))
 ]
 

@@ -125,17 +125,17 @@ found_first o p x e = rw e refl
 pub found_later : {A : Type 0} (o p : Option A) → o ≡ None → option_or o p ≡ p
 found_later o p e = rw e refl
 
-pub found_in_entry : (fs : List Reference) (all : Rows) (n : ℕ) (e : Entry) (rest es : List Entry) (p : Place) (total : Option Place) → es ≡ e ∷ rest → missing_in_rows fs all n (rows_in es) ≡ total → Some p ≡ missing_in_rows fs all n (map row_of e.1.items) → Some p ≡ total
+pub found_in_entry : (fs : List Reference) (all : Rows) (n : ℕ) (e : Entry) (rest es : List Entry) (p : Place) (total : Option Place) → es ≡ e ∷ rest → missing_in_rows fs all n (rows_in es) ≡ total → Some p ≡ missing_in_rows fs all n (map row_of e.1) → Some p ≡ total
 found_in_entry fs all n e rest es p total split h found =
-    sym (found_first (missing_in_rows fs all n (map row_of e.1.items)) (missing_in_rows fs all n (rows_in rest)) p (sym found))
-    ∙ sym (rows_both fs all n (map row_of e.1.items) (rows_in rest))
+    sym (found_first (missing_in_rows fs all n (map row_of e.1)) (missing_in_rows fs all n (rows_in rest)) p (sym found))
+    ∙ sym (rows_both fs all n (map row_of e.1) (rows_in rest))
     ∙ ap (λ xs. missing_in_rows fs all n (rows_in xs)) (sym split)
     ∙ h
 
-pub none_in_entry : (fs : List Reference) (all : Rows) (n : ℕ) (e : Entry) (rest es : List Entry) (total : Option Place) → es ≡ e ∷ rest → missing_in_rows fs all n (rows_in es) ≡ total → None ≡ missing_in_rows fs all n (map row_of e.1.items) → missing_in_rows fs all n (rows_in rest) ≡ total
+pub none_in_entry : (fs : List Reference) (all : Rows) (n : ℕ) (e : Entry) (rest es : List Entry) (total : Option Place) → es ≡ e ∷ rest → missing_in_rows fs all n (rows_in es) ≡ total → None ≡ missing_in_rows fs all n (map row_of e.1) → missing_in_rows fs all n (rows_in rest) ≡ total
 none_in_entry fs all n e rest es total split h none =
-    sym (found_later (missing_in_rows fs all n (map row_of e.1.items)) (missing_in_rows fs all n (rows_in rest)) (sym none))
-    ∙ sym (rows_both fs all n (map row_of e.1.items) (rows_in rest))
+    sym (found_later (missing_in_rows fs all n (map row_of e.1)) (missing_in_rows fs all n (rows_in rest)) (sym none))
+    ∙ sym (rows_both fs all n (map row_of e.1) (rows_in rest))
     ∙ ap (λ xs. missing_in_rows fs all n (rows_in xs)) (sym split)
     ∙ h
 
@@ -172,5 +172,5 @@ orphan_is ts all = refl
 pub all_in_order : (ts : List TableRows) → AllInOrder (rows_at rows_of_table ts)
 unfolding IsStrictlySortedBy
 all_in_order [] n = tt
-all_in_order (t ∷ ts) zero = map_sorted t.lines t.ordered t.in_lines
+all_in_order (t ∷ ts) zero = map_sorted t.index.lines t.ordered t.in_lines
 all_in_order (t ∷ ts) (suc n) = all_in_order ts n

@@ -11,8 +11,6 @@ use Rattle.std.specs.List.{list_any}
 use Rattle.std.specs.Map.{keys_of, lookup}
 use Rattle.std.specs.Ordering.{is_eq}
 use Rattle.std.specs.BTreeMap.{IsOrdered, get}
-use Rattle.std.specs.declared.alloc.Global.{Global}
-use Rattle.std.specs.declared.vec.Vec.{Vec}
 use Rattle.model.specs.declared.value.Value.{Value}
 use Rattle.model.specs.Values.{key_cmp, same_key}
 use Rattle.model.specs.Tables.{Row}
@@ -28,24 +26,24 @@ use Rattle.current.specs.Stored.{Map, lines_of, line_in, rows_in}
 use Rattle.current.specs.Plans.{IsPlanned}
 
 abbrev pub Entry : Type 0
-Entry = List Value × Vec Declared Global
+Entry = List Value × List Declared
 
 -- the rest, after one entry
-pub flat_entry : {C : Type 0} (g : Row → List C) (e : Entry) (rest : List Entry) (front next all : List C) → next ≡ front ++ flat_map g (map row_of e.1.items) → front ++ flat_map g (rows_in (e ∷ rest)) ≡ all → next ++ flat_map g (rows_in rest) ≡ all
+pub flat_entry : {C : Type 0} (g : Row → List C) (e : Entry) (rest : List Entry) (front next all : List C) → next ≡ front ++ flat_map g (map row_of e.1) → front ++ flat_map g (rows_in (e ∷ rest)) ≡ all → next ++ flat_map g (rows_in rest) ≡ all
 flat_entry g e rest front next all n h =
     ap (λ f. f ++ flat_map g (rows_in rest)) n
-    ∙ append_assoc front (flat_map g (map row_of e.1.items)) (flat_map g (rows_in rest))
-    ∙ ap (λ more. front ++ more) (sym (flat_map-append g (map row_of e.1.items) (rows_in rest)))
+    ∙ append_assoc front (flat_map g (map row_of e.1)) (flat_map g (rows_in rest))
+    ∙ ap (λ more. front ++ more) (sym (flat_map-append g (map row_of e.1) (rows_in rest)))
     ∙ h
 
-pub any_entry : (p : Row → Bool) (e : Entry) (rest : List Entry) (all : Bool) → list_any p (map row_of e.1.items) ≡ false → list_any p (rows_in (e ∷ rest)) ≡ all → list_any p (rows_in rest) ≡ all
-any_entry p e rest all n h = sym (ap (λ b. b || list_any p (rows_in rest)) n) ∙ sym (list_any-append p (map row_of e.1.items) (rows_in rest)) ∙ h
+pub any_entry : (p : Row → Bool) (e : Entry) (rest : List Entry) (all : Bool) → list_any p (map row_of e.1) ≡ false → list_any p (rows_in (e ∷ rest)) ≡ all → list_any p (rows_in rest) ≡ all
+any_entry p e rest all n h = sym (ap (λ b. b || list_any p (rows_in rest)) n) ∙ sym (list_any-append p (map row_of e.1) (rows_in rest)) ∙ h
 
-pub any_entry_found : (p : Row → Bool) (e : Entry) (rest : List Entry) (all : Bool) → list_any p (map row_of e.1.items) ≡ true → list_any p (rows_in (e ∷ rest)) ≡ all → all ≡ true
-any_entry_found p e rest all y h = sym h ∙ list_any-append p (map row_of e.1.items) (rows_in rest) ∙ ap (λ b. b || list_any p (rows_in rest)) y
+pub any_entry_found : (p : Row → Bool) (e : Entry) (rest : List Entry) (all : Bool) → list_any p (map row_of e.1) ≡ true → list_any p (rows_in (e ∷ rest)) ≡ all → all ≡ true
+any_entry_found p e rest all y h = sym h ∙ list_any-append p (map row_of e.1) (rows_in rest) ∙ ap (λ b. b || list_any p (rows_in rest)) y
 
-pub length_entry : (g : Row → List Row) (e : Entry) (rest : List Entry) → length (flat_map g (rows_in (e ∷ rest))) ≡ length (flat_map g (map row_of e.1.items)) + length (flat_map g (rows_in rest))
-length_entry g e rest = ap length (flat_map-append g (map row_of e.1.items) (rows_in rest)) ∙ length-append (flat_map g (map row_of e.1.items)) (flat_map g (rows_in rest))
+pub length_entry : (g : Row → List Row) (e : Entry) (rest : List Entry) → length (flat_map g (rows_in (e ∷ rest))) ≡ length (flat_map g (map row_of e.1)) + length (flat_map g (rows_in rest))
+length_entry g e rest = ap length (flat_map-append g (map row_of e.1) (rows_in rest)) ∙ length-append (flat_map g (map row_of e.1)) (flat_map g (rows_in rest))
 
 -- ---- what is planned for the keys so far
 
@@ -71,8 +69,8 @@ module _ (c : Change) (t : ℕ) (m : Map) where
     | inr h ↦ inr (inr h)
   ]
 
-  module _ (ordered : IsOrdered key_cmp m) (e : Entry) (rest : List Entry) (old new : List Line) (there : Has m.entries e) (step : IsPlanned c t e.0 (map row_of e.1.items) old new) where
-    entry_line : lines_of m e.0 ≡ map row_of e.1.items
+  module _ (ordered : IsOrdered key_cmp m) (e : Entry) (rest : List Entry) (old new : List Line) (there : Has m.entries e) (step : IsPlanned c t e.0 (map row_of e.1) old new) where
+    entry_line : lines_of m e.0 ≡ map row_of e.1
     entry_line =
         let at = has_contains m.entries e there in
         let found : get key_cmp m e.0 ≡ Some e.1 = subst (λ x. get key_cmp m x.0 ≡ Some x.1) at.2 (All-found key_total m ordered at.0 e at.1) in

@@ -14,8 +14,6 @@ use Rattle.rowlaws.specs.Covering.{place_cmp}
 use Rattle.rowlaws.proofs.Keys.{key_total, key_itself}
 use Rattle.std.specs.BTreeMap.{IsOrdered, get}
 use Rattle.std.specs.Map.{lookup}
-use Rattle.std.specs.declared.alloc.Global.{Global}
-use Rattle.std.specs.declared.vec.Vec.{Vec}
 use Rattle.std.proofs.lemmas.Map.Views.{All-found}
 use Rattle.rowlaws.proofs.Members.{has_flat, flat_has, pigeon}
 use Rattle.rowlaws.proofs.Contents.{has_contains}
@@ -103,31 +101,31 @@ lookup_has {X} test (e ∷ es) v h = by (test e.0) h (lookup_has test es v)
     by false g more = let m = more g in (m.0, inr m.1, m.2)
 
 module _ (m : Map) (ordered : IsOrdered key_cmp m) (in_lines : (k : List Value) → in_line k 0 (lines_of m k) ≡ true) where
-  pub entry_found : (e : List Value × Vec Declared Global) → Has m.entries e → get key_cmp m e.0 ≡ Some e.1
+  pub entry_found : (e : List Value × List Declared) → Has m.entries e → get key_cmp m e.0 ≡ Some e.1
   entry_found e h =
       let at = has_contains m.entries e h in
       subst (λ x. get key_cmp m x.0 ≡ Some x.1) at.2 (All-found key_total m ordered at.0 e at.1)
 
-  pub entry_line : (e : List Value × Vec Declared Global) → Has m.entries e → lines_of m e.0 ≡ map row_of e.1.items
+  pub entry_line : (e : List Value × List Declared) → Has m.entries e → lines_of m e.0 ≡ map row_of e.1
   entry_line e h = ap line_in (entry_found e h)
 
-  pub entry_in_line : (e : List Value × Vec Declared Global) → Has m.entries e → in_line e.0 0 (map row_of e.1.items) ≡ true
+  pub entry_in_line : (e : List Value × List Declared) → Has m.entries e → in_line e.0 0 (map row_of e.1) ≡ true
   entry_in_line e h = subst (λ rs. in_line e.0 0 rs ≡ true) (entry_line e h) (in_lines e.0)
 
   pub map_sorted : IsStrictlySortedBy place_cmp (rows_in m.entries)
-  map_sorted = lines_sorted (λ e. e.0) (λ e. map row_of e.1.items) m.entries ordered entry_in_line
+  map_sorted = lines_sorted (λ e. e.0) (λ e. map row_of e.1) m.entries ordered entry_in_line
 
   pub in_its_line : (r : Row) → Has (rows_in m.entries) r → Has (lines_of m r.key) r
   in_its_line r h =
-      let f = flat_has (λ e. map row_of e.1.items) m.entries r h in
+      let f = flat_has (λ e. map row_of e.1) m.entries r h in
       let there : Has (lines_of m f.0.0) r = subst (λ rs. Has rs r) (sym (entry_line f.0 f.1)) f.2 in
       subst (λ k. Has (lines_of m k) r) (sym (each_in_line f.0.0 0 (lines_of m f.0.0) r (in_lines f.0.0) there).key) there
 
-  in_option : (k : List Value) (r : Row) (o : Option (Vec Declared Global)) → get key_cmp m k ≡ o → Has (line_in o) r → Has (rows_in m.entries) r
+  in_option : (k : List Value) (r : Row) (o : Option (List Declared)) → get key_cmp m k ≡ o → Has (line_in o) r → Has (rows_in m.entries) r
   in_option k r None e h = absurd h
   in_option k r (Some v) e h =
       let l = lookup_has (λ q. is_eq (key_cmp k q)) m.entries v e in
-      has_flat (λ x. map row_of x.1.items) m.entries l.0 r l.1 (subst (λ w. Has (map row_of w.items) r) (sym l.2) h)
+      has_flat (λ x. map row_of x.1) m.entries l.0 r l.1 (subst (λ w. Has (map row_of w) r) (sym l.2) h)
 
   pub in_all : (k : List Value) (r : Row) → Has (lines_of m k) r → Has (rows_in m.entries) r
   in_all k r h = in_option k r (get key_cmp m k) refl h

@@ -32,7 +32,7 @@ use Rattle.current.proofs.Running.{ran, stopped, too_many}
 use Rattle.current.proofs.Apart.{IsOfRows, removed_is, added_is}
 
 pub table_apart : (y : TableRows) → Apart (rows_of_table y)
-table_apart y = apart_sorted (rows_of_table y) (map_sorted y.lines y.ordered y.in_lines)
+table_apart y = apart_sorted (rows_of_table y) (map_sorted y.index.lines y.ordered y.in_lines)
 
 here_is : (n : ℕ) (a b : List Row) → cond (n == n) a b ≡ a
 here_is n a b = ap (λ c. cond c a b) (eq-eqb n n refl)

@@ -88,13 +88,13 @@ module _ (insert : InsertOnRows) (overlaps : OverlapsOnRows) (same : SameRows) (
 
   table_fits : (t : TableRows) → Fits (rows_of_table t)
   table_fits t = fits_from (rows_of_table t) (table_apart t)
-      (λ r h. let i = each_in_line r.key 0 (lines_of t.lines r.key) r (t.in_lines r.key) (in_its_line t.lines t.ordered t.in_lines r h) in (i.some, i.short))
+      (λ r h. let i = each_in_line r.key 0 (lines_of t.index.lines r.key) r (t.in_lines r.key) (in_its_line t.index.lines t.ordered t.in_lines r h) in (i.some, i.short))
       (λ r s h g c.
       let ps = and_parts _ _ c in
       let qs = and_parts _ _ ps.0 in
       let key = same_key-true s.key r.key qs.0 in
-      let there : Has (lines_of t.lines r.key) s = subst (λ k. Has (lines_of t.lines k) s) key (in_its_line t.lines t.ordered t.in_lines s g) in
-      one_in_line r.key 0 (lines_of t.lines r.key) r s (t.in_lines r.key) (in_its_line t.lines t.ordered t.in_lines r h) there (ltb-true _ _ ps.1) (ltb-true _ _ qs.1))
+      let there : Has (lines_of t.index.lines r.key) s = subst (λ k. Has (lines_of t.index.lines k) s) key (in_its_line t.index.lines t.ordered t.in_lines s g) in
+      one_in_line r.key 0 (lines_of t.index.lines r.key) r s (t.in_lines r.key) (in_its_line t.index.lines t.ordered t.in_lines r h) there (ltb-true _ _ ps.1) (ltb-true _ _ qs.1))
 
   table_at : (tables : List TableRows) (n : ℕ) → (table : Table) × Lists (rows_at rows_of_table tables n) table
   table_at [] n = (empty_table, none)

@@ -3,8 +3,6 @@ use Rattle.std.proofs.Common.{◌≡◌, ℕ, true, List, [], ◌∷◌, ◌++�
 use Rattle.std.proofs.lemmas.Grind.{flat_map-append}
 use Rattle.std.specs.BTreeMap.{IsOrdered}
 use Rattle.std.specs.List.Sorted.{IsStrictlySortedBy}
-use Rattle.std.specs.declared.alloc.Global.{Global}
-use Rattle.std.specs.declared.vec.Vec.{Vec}
 use Rattle.model.specs.declared.value.Value.{Value}
 use Rattle.model.specs.Values.{key_cmp}
 use Rattle.model.specs.Tables.{Row}
@@ -36,9 +34,9 @@ module _ (c : Change) (t : ℕ) (fine : HasPortion c) (m n : Map) (om : IsOrdere
 
   kept_apart : Apart (flat_map (kept c t) (rows_in m.entries))
   kept_apart =
-      let rows : (List Value × Vec Declared Global) → List Row = λ x. flat_map (kept c t) (map row_of x.1.items) in
-      let sorted : IsStrictlySortedBy place_cmp (flat_map rows m.entries) = lines_sorted (λ x. x.0) rows m.entries om (λ x h. cut_in_line c t x.0 0 (map row_of x.1.items) fine (entry_in_line m om im x h)) in
-      apart_sorted _ (subst (λ rs. IsStrictlySortedBy place_cmp rs) (flat_flat (kept c t) (λ x. map row_of x.1.items) m.entries) sorted)
+      let rows : (List Value × List Declared) → List Row = λ x. flat_map (kept c t) (map row_of x.1) in
+      let sorted : IsStrictlySortedBy place_cmp (flat_map rows m.entries) = lines_sorted (λ x. x.0) rows m.entries om (λ x h. cut_in_line c t x.0 0 (map row_of x.1) fine (entry_in_line m om im x h)) in
+      apart_sorted _ (subst (λ rs. IsStrictlySortedBy place_cmp rs) (flat_flat (kept c t) (λ x. map row_of x.1) m.entries) sorted)
 
   module _ (on : IsOrdered key_cmp n) where
     kept_there : (r : Row) → Has (rows_in n.entries) r → Has (flat_map (kept c t) (rows_in m.entries)) r

@@ -14,7 +14,7 @@ use Rattle.current.specs.Stored.{rows_in}
 
 -- its rows, in the order of key and start
 abbrev pub rows_of_table : TableRows → List Row
-rows_of_table t = rows_in t.lines.entries
+rows_of_table t = rows_in t.index.lines.entries
 
 -- the same rows and one more
 abbrev pub IsWith : Row → List Row → List Row → Type 0

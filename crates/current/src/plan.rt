@@ -18,7 +18,7 @@ use crate::line::{Changes, cut_line};
 use crate::lines::{Lines, line, replace_line};
 use crate::row::Row;
 use fault::Refusal;
-use overlaps::Key;
+use overlaps::{Count, Key};
 use std::alloc::Global;
 
 /// A key whose rows change, and its new rows.
@@ -83,8 +83,9 @@ pub(crate) fn plan_cut(alloc: Global, cut: &Cut, lines: &Lines) -> Result<Plan, 
         count: 0,
         changes,
     };
+    let mut count = Count::new();
     for (key, rows) in lines {
-        plan.add(alloc, cut, key, rows.as_slice())?;
+        plan.add(alloc, cut, key, rows.all(&mut count))?;
     }
     Ok(plan)
 }

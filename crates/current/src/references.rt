@@ -17,7 +17,7 @@ use crate::lines::Lines;
 use crate::row::Row;
 use crate::table::TableRows;
 use model::value::Value;
-use overlaps::Key;
+use overlaps::{Count, Key};
 use period::{Day, Period};
 use refer::covered;
 use schema::{Reference, Schema, Table};
@@ -173,8 +173,10 @@ fn missing_in_lines<'a>(
     if table.references().is_empty() {
         return Ok(None);
     }
+    let mut count = Count::new();
     for (_, rows) in lines {
-        if let Some(found) = missing_in_rows(alloc, tables, place, table, rows.as_slice())? {
+        let rows = rows.all(&mut count);
+        if let Some(found) = missing_in_rows(alloc, tables, place, table, rows)? {
             return Ok(Some(found));
         }
     }
@@ -193,7 +195,7 @@ pub(crate) fn missing_in_table<'a>(
 {
     let (_, table) = schema.table(place);
     match table_at(tables, place) {
-        Some(rows) => missing_in_lines(alloc, tables, place, table, &rows.lines),
+        Some(rows) => missing_in_lines(alloc, tables, place, table, &rows.index.lines),
         None => Ok(None),
     }
 }

@@ -4,7 +4,7 @@ ghost use Rattle.model.specs.Values.{same_key, key_cmp};
 
 use model::stamp::Stamp;
 use model::value::Value;
-use overlaps::Key;
+use overlaps::{HasPeriod, Key};
 use period::Period;
 use std::alloc::AllocError;
 use std::cmp::Ordering;
@@ -33,6 +33,18 @@ impl Clone for Row {
             values: self.clone_values()?,
             system_start: self.system_start,
         })
+    }
+}
+
+impl HasPeriod for Row {
+    ghost use Rattle.model.specs.Periods.{period_of};
+
+    ghost period = { λ row. period_of row.period };
+
+    ghost some_day = { λ row. row.period.ordered };
+
+    fn period(&self) -> Period {
+        self.period
     }
 }
 

@@ -11,14 +11,13 @@ ghost use Rattle.current.specs.Stored.{lines_of, rows_in, in_line};
 use crate::compare::has_row;
 use crate::cut::Cut;
 use crate::line::Changes;
-use crate::lines::{Lines, clashes, keys_in_order, line, put_row, take_row};
+use crate::lines::{keys_in_order, line, put_row, take_row};
 use crate::named::named_key;
 use crate::plan::{Plan, plan_cut, plan_key, replace_lines};
 use crate::row::Row;
 use fault::Refusal;
-use overlaps::Key;
+use overlaps::{Count, Key, KeyIndex};
 use std::alloc::{AllocError, Global};
-use std::collections::BTreeMap;
 
 /// How many current rows a table may have.
 const ROWS_MOST: usize = 20_000;
@@ -26,19 +25,19 @@ const ROWS_MOST: usize = 20_000;
 /// The rows of a table. A contract sees what `rows_of_table` gives.
 #[derive(Debug, Drop)]
 pub(crate) struct TableRows {
-    pub lines: Lines,
+    pub index: KeyIndex<Row>,
     pub count: usize,
     /// No row's key has more columns.
     pub columns: usize,
     pub alloc: Global,
-    pub ghost ordered: { IsOrdered key_cmp lines } by { IsStrictlySortedBy-prop _ _ },
-    pub ghost in_lines: { (key : List Value) → IsTrue (in_line key 0 (lines_of lines key)) },
-    pub ghost short: { (row : TableRow) → Has (rows_in lines.entries) row → length row.key ≤ columns },
-    pub ghost counted: { count ≡ length (rows_in lines.entries) },
+    pub ghost ordered: { IsOrdered key_cmp index.lines } by { IsStrictlySortedBy-prop _ _ },
+    pub ghost in_lines: { (key : List Value) → IsTrue (in_line key 0 (lines_of index.lines key)) },
+    pub ghost short: { (row : TableRow) → Has (rows_in index.lines.entries) row → length row.key ≤ columns },
+    pub ghost counted: { count ≡ length (rows_in index.lines.entries) },
 }
 
 impl TableRows {
-    ghost use Rattle.std.specs.Prelude.{◌≡◌, ◌⊎◌, ◌+◌, ◌<◌, ◌≤◌, ◌++◌, ◌∷◌, [], true, false, map, flat_map, min, OnOk, OnErr, IfOk, IfErr, length};
+    ghost use Rattle.std.specs.Prelude.{◌≡◌, ◌⊎◌, ◌+◌, ◌^◌, ◌<◌, ◌≤◌, ◌++◌, ◌∷◌, [], true, false, map, flat_map, min, OnOk, OnErr, IfOk, IfErr, length};
     ghost use Rattle.std.specs.List.{list_any};
     ghost use Rattle.fault.specs.declared.refusal.Refusal.TheVariants.{NoMemory, KeyOverlap, RowLimit, NumberRange};
     ghost use Rattle.rowlaws.specs.Changes.{clashes};
@@ -55,20 +54,25 @@ impl TableRows {
     pub(crate) fn new(alloc: Global) -> TableRows
         ensures { rows_of_table result ≡ [] }
     {
+        let index = KeyIndex::new(alloc);
+        keys_in_order(&index);
         TableRows {
-            lines: BTreeMap::new(alloc),
+            index,
             count: 0,
             columns: 0,
             alloc,
         }
     }
 
-    /// Whether a row of the key has a day of the period. Takes no memory.
-    pub(crate) fn has_clash(&self, row: &Row) -> bool
-        ensures line { result ≡ list_any (clashes row.now.key (period_of row.now.period)) (lines_of self.now.lines row.now.key) }
+    /// Whether a row of the key has a day of the period. It is searched for by halves, as `KeyIndex::find` does. Takes
+    /// no memory.
+    pub(crate) fn has_clash(&self, row: &Row, count: &mut Count) -> bool
+        ensures line { result ≡ list_any (clashes row.now.key (period_of row.now.period)) (lines_of self.now.index.lines row.now.key) }
         ensures rows { result ≡ list_any (clashes row.now.key (period_of row.now.period)) (rows_of_table self.now) }
+        ensures few { (digits : ℕ) → length (lines_of self.now.index.lines row.now.key) < 2 ^ digits → count.new ≤ count.old + digits + 1 }
     {
-        clashes(line(&self.lines, &row.key), row)
+        overlaps::laws::sharing_is_overlap();
+        self.index.find(&row.key, row.period, count).is_some()
     }
 
     /// The rows of a key, in the order of their starts. Takes no memory.
@@ -77,12 +81,12 @@ impl TableRows {
         ensures in_order { StartInOrder (map (λ r. r.period) (map row_of result.now)) }
     {
         rowlaws::periods_in_order();
-        line(&self.lines, key)
+        line(&self.index.lines, key)
     }
 
     /// Adds a row. Want of memory changes nothing.
     pub(crate) fn put(&mut self, row: Row) -> Result<(), AllocError>
-        requires { list_any (clashes row.key (period_of row.period)) (lines_of self.old.lines row.key) ≡ false }
+        requires { list_any (clashes row.key (period_of row.period)) (lines_of self.old.index.lines row.key) ≡ false }
         ensures ok { OnOk result (IsWith (row_of row) (rows_of_table self.old) (rows_of_table self.new)) }
         ensures err { OnErr result (rows_of_table self.new ≡ rows_of_table self.old) }
     {
@@ -90,8 +94,8 @@ impl TableRows {
             return Err(AllocError);
         };
         let columns = self.columns.max(row.key.as_slice().len());
-        let added = put_row(self.alloc, &mut self.lines, row);
-        keys_in_order(&self.lines);
+        let added = put_row(&mut self.index, row);
+        keys_in_order(&self.index);
         added?;
         self.count = count;
         self.columns = columns;
@@ -106,7 +110,7 @@ impl TableRows {
         ensures ok { IfOk result (λ u. IsInserted (row_of row) (rows_of_table self.old) (rows_of_table self.new)) }
         ensures err { IfErr result (λ refusal. (rows_of_table self.new ≡ rows_of_table self.old) × IsInsertRefused (row_of row) (rows_of_table self.old) refusal) }
     {
-        if self.has_clash(&row) {
+        if self.has_clash(&row, &mut Count::new()) {
             return Err(Refusal::KeyOverlap);
         }
         if self.count >= ROWS_MOST {
@@ -118,7 +122,7 @@ impl TableRows {
 
     // What will become of the rows. Where WHERE names a key only its rows are looked at.
     fn plan(&self, cut: &Cut) -> Result<Plan, Refusal>
-        ensures lines { IfOk result (λ plan. ArePlanned (change_of_cut cut.now) cut.now.system_start (lines_of self.now.lines) plan.lines.items) }
+        ensures lines { IfOk result (λ plan. ArePlanned (change_of_cut cut.now) cut.now.system_start (lines_of self.now.index.lines) plan.lines.items) }
         ensures count { IfOk result (λ plan. plan.count ≡ min (length (flat_map (kept (change_of_cut cut.now) cut.now.system_start) (rows_of_table self.now))) usize.MAX) }
         ensures removed { IfOk result (λ plan. map row_of plan.changes.removed.items ≡ flat_map (removed_at (change_of_cut cut.now) cut.now.system_start) (rows_of_table self.now)) }
         ensures added { IfOk result (λ plan. map row_of plan.changes.added.items ≡ flat_map (added_at (change_of_cut cut.now) cut.now.system_start) (rows_of_table self.now)) }
@@ -126,8 +130,8 @@ impl TableRows {
         ensures err { IfErr result (λ refusal. (refusal ≡ NoMemory) ⊎ ((refusal ≡ NumberRange) × (list_any (is_stuck (change_of_cut cut.now)) (rows_of_table self.now) ≡ true))) }
     {
         match named_key(self.alloc, cut.conditions, self.columns)? {
-            Some(key) => plan_key(self.alloc, cut, &self.lines, &key, self.count),
-            None => plan_cut(self.alloc, cut, &self.lines),
+            Some(key) => plan_key(self.alloc, cut, &self.index.lines, &key, self.count),
+            None => plan_cut(self.alloc, cut, &self.index.lines),
         }
     }
 
@@ -149,8 +153,8 @@ impl TableRows {
             count,
             changes,
         } = plan;
-        replace_lines(&mut self.lines, lines);
-        keys_in_order(&self.lines);
+        replace_lines(&mut self.index.lines, lines);
+        keys_in_order(&self.index);
         self.count = count;
         Ok(changes)
     }
@@ -159,11 +163,11 @@ impl TableRows {
     fn take(&mut self, row: &Row)
         ensures { IsWithout (row_of row.now ∷ []) (rows_of_table self.old) (rows_of_table self.new) }
     {
-        if !has_row(line(&self.lines, &row.key), row) {
+        if !has_row(line(&self.index.lines, &row.key), row) {
             return;
         }
-        take_row(&mut self.lines, row);
-        keys_in_order(&self.lines);
+        take_row(&mut self.index, row);
+        keys_in_order(&self.index);
         self.count -= 1;
     }
 

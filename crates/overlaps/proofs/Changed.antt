@@ -1,6 +1,5 @@
 -- What becomes of an index where its map changes at one key.
-use Rattle.std.proofs.Common.{◌≡◌, ◌⊎◌, ◌<◌, Result, Ok, Err, ◌==◌, ◌∷◌, length, Bool, true, false, List, [], Option, Some, None, refl, sym, ap, ◌∙◌, subst, inl, inr, map, arith, cond}
-use Rattle.std.specs.Prelude.{find}
+use Rattle.std.proofs.Common.{◌≡◌, ◌⊎◌, Result, Ok, Err, ◌==◌, ◌∷◌, length, Bool, true, false, List, [], Option, Some, refl, sym, ap, ◌∙◌, subst, inl, inr, map, arith, cond}
 use Rattle.std.specs.BTreeMap.{BTreeMap, get, get_by, UpdatesBy, WritesThrough}
 use Rattle.std.specs.Map.{lookup, set_value}
 use Rattle.std.specs.Ordering.{is_eq}
@@ -11,7 +10,7 @@ use Rattle.std.proofs.lemmas.Bool.{cases_Bool, eqb-true}
 use Rattle.model.specs.declared.value.Value.{Value}
 use Rattle.model.specs.Values.{key_cmp, same_key}
 use Rattle.model.specs.Tables.{Period}
-use Rattle.overlaps.specs.Index.{AreApart, shares_day, with_item, changed_at}
+use Rattle.overlaps.specs.Index.{AreApart, changed_at}
 use Rattle.overlaps.specs.Key.{key_cmp_total}
 use Rattle.overlaps.specs.Stored.{items_of, items_in}
 

@@ -1,5 +1,5 @@
 -- How many halves a search goes through.
-use Rattle.std.proofs.Common.{◌≡◌, ℕ, zero, suc, ◌+◌, ◌-◌, ◌*◌, ◌^◌, ◌<◌, ◌≤◌, refl, arith}
+use Rattle.std.proofs.Common.{ℕ, zero, suc, ◌+◌, ◌^◌, ◌<◌, ◌≤◌, arith}
 
 -- so many items are left that so many reads more are within what the digits allow
 abbrev pub AreWithin : (left reads most : ℕ) → Type 0

@@ -1,13 +1,11 @@
 -- The items of a key as the code has them, against the same in the terms of the definitions.
-use Rattle.std.proofs.Common.{◌≡◌, ℕ, zero, suc, ◌+◌, ◌<◌, ◌≤◌, ◌⊎◌, inl, inr, ◌==◌, Bool, true, false, ◌&&◌, ◌||◌, ◌↔◌, not, List, [], ◌∷◌, Option, Some, None, refl, sym, ap, ◌∙◌, arith, map, length, get_or, if◌then◌else◌}
-use Rattle.std.specs.Prelude.{find, nat_lt, filter, All, remove}
+use Rattle.std.proofs.Common.{◌≡◌, ℕ, zero, suc, ◌+◌, ◌<◌, ◌≤◌, ◌⊎◌, inl, inr, ◌==◌, Bool, true, false, ◌||◌, ◌↔◌, List, [], ◌∷◌, Some, None, refl, sym, ap, ◌∙◌, arith, map, length, get_or, if◌then◌else◌}
+use Rattle.std.specs.Prelude.{find, All, remove}
 use Rattle.std.specs.List.{list_any, insert, prefix_len}
 use Rattle.std.proofs.lemmas.Bool.{cases_lt, cases_Bool, lt-ltb, le-ltb, lt-leb, le-leb, and_left, eqb-true}
-use Rattle.std.proofs.lemmas.List.{length-map}
 use Rattle.std.proofs.lemmas.List.Elements.{All-cons as all_cons}
 use Rattle.std.proofs.lemmas.List.Sums.{prefix_len-le-length}
 use Rattle.std.proofs.lemmas.List.Kept.{AllPairs-cons}
-use Rattle.std.proofs.Math.ListN.{get_or-map}
 use Rattle.std.proofs.Math.Numerals.{one-add}
 use Rattle.model.specs.Tables.{Period}
 use Rattle.overlaps.specs.Index.{AreApart, shares_day, with_item, same_period, without_period}

@@ -1,6 +1,6 @@
 -- Two periods share a day where each starts before the other ends; and where the first that does stands.
-use Rattle.std.proofs.Common.{◌≡◌, ℕ, zero, suc, ◌+◌, ◌-◌, ◌<◌, ◌≤◌, ◌⊎◌, inl, inr, Bool, true, false, ◌&&◌, List, [], ◌∷◌, Option, Some, None, refl, sym, ◌∙◌, subst, ap, arith, max, map, length, get_or, if◌then◌else◌}
-use Rattle.std.specs.Prelude.{find, nat_lt, nat_le, All, option_copied}
+use Rattle.std.proofs.Common.{◌≡◌, ℕ, zero, suc, ◌+◌, ◌-◌, ◌<◌, ◌≤◌, ◌⊎◌, inl, inr, Bool, true, false, ◌&&◌, List, [], ◌∷◌, Some, None, refl, sym, ◌∙◌, subst, ap, arith, max, map, length, get_or, if◌then◌else◌}
+use Rattle.std.specs.Prelude.{find, nat_lt, nat_le, All}
 use Rattle.std.specs.List.{list_any, range_with_len, prefix_len}
 use Rattle.std.proofs.lemmas.Bool.{cases_lt, and_left, and_right, and_from, or_right, le-leb, lt-leb, lt-ltb, le-ltb}
 use Rattle.std.proofs.lemmas.List.{length-map}

@@ -1,5 +1,5 @@
 -- What an index of periods by key has, what it finds, and how it changes.
-use Rattle.std.specs.Prelude.{ℕ, ◌≤◌, ◌==◌, Bool, ◌&&◌, not, nat_lt, List, [], ◌∷◌, AllPairs, filter, if◌then◌else◌}
+use Rattle.std.specs.Prelude.{◌≤◌, ◌==◌, Bool, ◌&&◌, not, nat_lt, List, [], ◌∷◌, AllPairs, filter, if◌then◌else◌}
 use Rattle.std.specs.List.{list_any}
 use Rattle.model.specs.declared.value.Value.{Value}
 use Rattle.model.specs.Values.{same_key}

@@ -31,7 +31,8 @@ impl<T: HasPeriod> KeyIndex<T> {
 
     /// An index without items. Takes no memory.
     pub fn new(alloc: Global) -> KeyIndex<T>
-        ensures { items_of result.lines ≡ (λ key. []) }
+        ensures items { items_of result.lines ≡ (λ key. []) }
+        ensures entries { result.lines.entries ≡ [] }
     {
         KeyIndex {
             lines: BTreeMap::new(alloc),

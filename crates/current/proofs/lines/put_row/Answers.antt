@@ -1,30 +1,23 @@
-use Rattle.std.proofs.Common.{◌∙◌, ap}
-use Rattle.current.specs.Rows.{row_of}
-use Rattle.current.specs.Stored.{lines_of, line_in, with_row}
-use Rattle.current.proofs.Changed.{lines_written, lines_written_back, rows_written_back, on_ok, on_err}
+use Rattle.std.proofs.Common.{◌≡◌, ◌∙◌, None, subst, sym}
+use Rattle.std.specs.Prelude.{find}
+use Rattle.model.specs.Periods.{period_of}
+use Rattle.overlaps.specs.Index.{shares_day, with_item, changed_at}
+use Rattle.overlaps.specs.Stored.{items_of}
+use Rattle.current.proofs.Placed.{days_of_row, none_found, line_clashes, put_lines}
+use Rattle.current.proofs.Changed.{on_ok}
 use Rattle.current.proofs.lines.put_row.Goals as goal
 
-pub returns-in-Some-clause-ok : goal.returns-in-Some-clause-ok
-returns-in-Some-clause-ok c =
-    let m = c.args.lines.now in
-    let w = c.put_in_line.new.line in
-    let key = c.args.row.key in
-    let row = row_of c.args.row in
-    let value = c.in-Some.ensures.value in
-    on_ok c.put_in_line.result
-    (λ put. lines_written m (c.get_mut.follows.lender w) key c.in-Some.line.now w (with_row row (lines_of m key)) value (c.get_mut.follows.holds w) (put ∙ ap (with_row row) (ap line_in value)))
-    c.put_in_line.ensures.ok
+pub insert-requires : goal.insert-requires
+insert-requires c =
+    let row = c.args.row in
+    let m = c.args.index.now.lines in
+    let clashes = line_clashes c.sharing_is_overlap.ensures m row.key (period_of row.period) row.period.ordered c.requires.in_line in
+    let none : find (λ r. shares_day (days_of_row row) (days_of_row r)) (items_of m row.key) ≡ None = none_found (λ r. shares_day (days_of_row row) (days_of_row r)) (items_of m row.key) (sym clashes ∙ c.requires.free) in
+    subst (λ key. find (λ r. shares_day (days_of_row row) (days_of_row r)) (items_of m key) ≡ None) (sym c.in_ok-key.ensures.cases) none
 
-pub returns-in-Some-clause-err : goal.returns-in-Some-clause-err
-returns-in-Some-clause-err c =
-    let w = c.put_in_line.new.line in
-    on_err c.put_in_line.result
-    (lines_written_back c.args.lines.now (c.get_mut.follows.lender w) c.args.row.key c.in-Some.line.now w c.in-Some.ensures.value (c.get_mut.follows.holds w))
-    c.put_in_line.ensures.err
-
-pub returns-in-Some-clause-kept : goal.returns-in-Some-clause-kept
-returns-in-Some-clause-kept c =
-    let w = c.put_in_line.new.line in
-    on_err c.put_in_line.result
-    (rows_written_back c.args.lines.now (c.get_mut.follows.lender w) c.args.row.key c.in-Some.line.now w c.in-Some.ensures.value (c.get_mut.follows.holds w))
-    c.put_in_line.ensures.err
+pub returns-clause-ok : goal.returns-clause-ok
+returns-clause-ok c =
+    let row = c.args.row in
+    let m = c.args.index.now.lines in
+    let n = c.insert.new.self.lines in
+    on_ok c.insert.result (λ e. put_lines m n row (subst (λ key. items_of n ≡ changed_at key (with_item days_of_row row) (items_of m)) c.in_ok-key.ensures.cases e)) c.insert.ensures.ok

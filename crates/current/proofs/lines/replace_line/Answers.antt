@@ -1,4 +1,4 @@
-use Rattle.std.proofs.Common.{◌∙◌, map, ap, sym, refl, ◌==◌}
+use Rattle.std.proofs.Common.{◌∙◌, map, ap, sym, refl}
 use Rattle.current.specs.Rows.{row_of}
 use Rattle.current.specs.Plans.{instead}
 use Rattle.current.specs.Stored.{lines_of, line_in}
@@ -21,15 +21,15 @@ returns-then-is_empty c =
     let value = c.in-Some.ensures.value in
     let old = ap line_in value in
     lines_written_back m (c.get_mut.follows.lender v) key v v value (c.get_mut.follows.holds v) refl
-    ∙ lines_same m key (instead (lines_of m key) rows) (sym old ∙ instead_none v.items rows (ap (λ n. n == 0) (sym v.ok.0) ∙ sym c.is_empty.ensures ∙ c.if-is_empty.true) ∙ ap (λ o. instead o rows) old)
+    ∙ lines_same m key (instead (lines_of m key) rows) (sym old ∙ instead_none v rows (sym c.is_empty.ensures ∙ c.if-is_empty.true) ∙ ap (λ o. instead o rows) old)
 
 pub returns : goal.returns
 returns c =
     let m = c.args.lines.now in
     let key = c.args.key.now in
-    let w = c.args.rows in
+    let w = c.from.result in
     let v = c.in-Some.line.now in
-    let rows = map row_of w.items in
+    let rows = map row_of c.args.rows.items in
     let value = c.in-Some.ensures.value in
     c.forget_if_empty.ensures
-    ∙ lines_written m (c.get_mut.follows.lender w) key v w (instead (lines_of m key) rows) value (c.get_mut.follows.holds w) (instead_some v.items rows (ap (λ n. n == 0) (sym v.ok.0) ∙ sym c.is_empty.ensures ∙ c.if-is_empty.false) ∙ ap (λ o. instead o rows) (ap line_in value))
+    ∙ lines_written m (c.get_mut.follows.lender w) key v w (instead (lines_of m key) rows) value (c.get_mut.follows.holds w) (ap (map row_of) c.from.ensures ∙ instead_some v rows (sym c.is_empty.ensures ∙ c.if-is_empty.false) ∙ ap (λ o. instead o rows) (ap line_in value))

@@ -39,12 +39,12 @@ loop-key-preserved c =
     let new = c.add.new.self in
     let inv = c.loop-key.invariant in
     let add = c.in_ok-add.ensures in
-    let line = c.as_slice.ensures.value in
+    let line = c.all.ensures.items in
     let split : c.loop-key.key-iterator ≡ e ∷ rest = rest_more deref_pair _ _ _ (c.in-Some.key, c.in-Some.rows) c.in-Some.is c.next.ensures.steps in
     let ordered = c.into_iter-key-iterator.ensures.into_iter_gives.5 in
     let there : Has m.entries e = inv.there e (subst (λ es. Has es e) (sym split) (inl refl)) in
-    let step : IsPlanned change t e.0 (map row_of e.1.items) old.lines.items new.lines.items = subst (λ rs. IsPlanned change t e.0 (map row_of rs) old.lines.items new.lines.items) line add.lines in
-    let total : new.count ≡ min (old.count + length (flat_map (kept change t) (map row_of e.1.items))) 18446744073709551615 = subst (λ rs. new.count ≡ min (old.count + length (flat_map (kept change t) (map row_of rs))) 18446744073709551615) line add.count in
+    let step : IsPlanned change t e.0 (map row_of e.1) old.lines.items new.lines.items = subst (λ rs. IsPlanned change t e.0 (map row_of rs) old.lines.items new.lines.items) line add.lines in
+    let total : new.count ≡ min (old.count + length (flat_map (kept change t) (map row_of e.1))) 18446744073709551615 = subst (λ rs. new.count ≡ min (old.count + length (flat_map (kept change t) (map row_of rs))) 18446744073709551615) line add.count in
     let long = length_entry (kept change t) e rest in
     let before = subst (λ es. min (old.count + length (flat_map (kept change t) (rows_in es))) 18446744073709551615 ≡ min (length (flat_map (kept change t) (rows_in m.entries))) 18446744073709551615) split inv.count in
     record {

@@ -27,7 +27,7 @@ returns-in-Some-2 c =
     let rest = c.next.new.self in
     let split : c.loop-rows.rows-iterator ≡ e ∷ rest = rest_more deref_pair _ _ _ (c.in-Some.field-0-0, c.in-Some.rows) c.in-Some.is c.next.ensures.steps in
     found_in_entry references all c.args.place e rest c.loop-rows.rows-iterator (place_of c.in-Some-2.found) _ split c.loop-rows.invariant
-    (sym (ap (option_map place_of) c.in-Some-2.is) ∙ c.in_ok-found.ensures ∙ ap (λ rows. missing_in_rows references all c.args.place (map row_of rows)) c.as_slice.ensures.value)
+    (sym (ap (option_map place_of) c.in-Some-2.is) ∙ c.in_ok-found.ensures ∙ ap (λ rows. missing_in_rows references all c.args.place (map row_of rows)) c.all-rows.ensures.items)
 
 pub loop-rows-preserved : goal.loop-rows-preserved
 loop-rows-preserved c =
@@ -38,4 +38,4 @@ loop-rows-preserved c =
     let rest = c.next.new.self in
     let split : c.loop-rows.rows-iterator ≡ e ∷ rest = rest_more deref_pair _ _ _ (c.in-Some.field-0-0, c.in-Some.rows) c.in-Some.is c.next.ensures.steps in
     none_in_entry references all c.args.place e rest c.loop-rows.rows-iterator _ split c.loop-rows.invariant
-    (sym (ap (option_map place_of) c.in_default.is) ∙ c.in_ok-found.ensures ∙ ap (λ rows. missing_in_rows references all c.args.place (map row_of rows)) c.as_slice.ensures.value)
+    (sym (ap (option_map place_of) c.in_default.is) ∙ c.in_ok-found.ensures ∙ ap (λ rows. missing_in_rows references all c.args.place (map row_of rows)) c.all-rows.ensures.items)

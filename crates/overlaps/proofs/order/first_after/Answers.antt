@@ -1,7 +1,7 @@
-use Rattle.std.proofs.Common.{◌≡◌, ◌<◌, ◌≤◌, ◌+◌, ◌-◌, ◌/◌, ◌∙◌, length, refl, sym, ap, arith, rules}
+use Rattle.std.proofs.Common.{◌<◌, ◌≤◌, ◌+◌, ◌-◌, ◌/◌, ap, arith, rules}
 use Rattle.std.proofs.lemmas.List.Sums.{prefix_len-le-length}
 use Rattle.overlaps.proofs.Sharing.{ended, stands_after, stands_before}
-use Rattle.overlaps.proofs.Halves.{AreWithin, halved}
+use Rattle.overlaps.proofs.Halves.{halved}
 use Rattle.overlaps.proofs.order.first_after.Goals as goal
 
 pub loop-low-init : goal.loop-low-init

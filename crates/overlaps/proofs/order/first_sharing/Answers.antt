@@ -1,4 +1,4 @@
-use Rattle.std.proofs.Common.{◌≡◌, ◌<◌, ◌≤◌, ap, arith, rules}
+use Rattle.std.proofs.Common.{◌<◌, ◌≤◌, ap, arith, rules}
 use Rattle.model.specs.Periods.{period_of}
 use Rattle.overlaps.proofs.Sharing.{missed_all, found_at, missed_at}
 use Rattle.overlaps.proofs.order.first_sharing.Goals as goal

@@ -1,5 +1,4 @@
-use Rattle.std.proofs.Common.{◌≡◌, ◌≤◌, ◌∙◌, ap, sym, subst, arith}
-use Rattle.std.specs.Prelude.{find, None}
+use Rattle.std.proofs.Common.{◌∙◌, ap, arith}
 use Rattle.std.specs.List.{insert, prefix_len}
 use Rattle.std.proofs.lemmas.List.Sums.{prefix_len-le-length}
 use Rattle.overlaps.proofs.Sharing.{ended}

@@ -1,4 +1,4 @@
-use Rattle.std.proofs.Common.{◌≡◌, ◌≤◌, ◌∙◌, Some, true, false, ap, sym, arith, rules}
+use Rattle.std.proofs.Common.{◌≡◌, ◌∙◌, Some, true, false, ap, sym, arith, rules}
 use Rattle.model.specs.Periods.{period_of}
 use Rattle.overlaps.specs.Index.{same_period}
 use Rattle.overlaps.proofs.Ordered.{removed_all, removed_other, removed_here, same_place}

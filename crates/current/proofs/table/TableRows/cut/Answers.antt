@@ -5,6 +5,7 @@ use Rattle.current.specs.Stored.{lines_of, rows_in}
 use Rattle.current.proofs.Cutting.{all_planned}
 use Rattle.current.proofs.TableCut.{cut_lines, cut_same, cut_length, cut_portion}
 use Rattle.current.proofs.Naming.{cut_short}
+use Rattle.current.proofs.Placed.{lines_apart}
 use Rattle.current.proofs.table.TableRows.cut.Goals as goal
 
 pub invariant_of-self : goal.invariant_of-self
@@ -13,7 +14,19 @@ invariant_of-self c =
     let change = change_of_cut cut in
     let t = cut.system_start in
     let s = c.args.self.now in
-    let m = s.lines in
+    let m = s.index.lines in
+    let n = c.replace_lines.new.lines in
+    let plan = c.in_ok-plan.plan in
+    let each : (k : List Value) → lines_of n k ≡ flat_map (kept change t) (lines_of m k) = λ k. ap (λ lines. lines k) c.replace_lines.ensures ∙ all_planned change t (lines_of m) plan.lines.items c.in_ok-plan.ensures.lines k in
+    (lines_apart n (cut_lines change t (cut_portion cut) m n s.ordered s.in_lines each), tt)
+
+pub invariant_of-self-2 : goal.invariant_of-self-2
+invariant_of-self-2 c =
+    let cut = c.args.cut.now in
+    let change = change_of_cut cut in
+    let t = cut.system_start in
+    let s = c.args.self.now in
+    let m = s.index.lines in
     let n = c.replace_lines.new.lines in
     let plan = c.in_ok-plan.plan in
     let each : (k : List Value) → lines_of n k ≡ flat_map (kept change t) (lines_of m k) = λ k. ap (λ lines. lines k) c.replace_lines.ensures ∙ all_planned change t (lines_of m) plan.lines.items c.in_ok-plan.ensures.lines k in
@@ -34,7 +47,7 @@ returns-clause-ok c =
     let change = change_of_cut cut in
     let t = cut.system_start in
     let s = c.args.self.now in
-    let m = s.lines in
+    let m = s.index.lines in
     let n = c.replace_lines.new.lines in
     let plan = c.in_ok-plan.plan in
     let each : (k : List Value) → lines_of n k ≡ flat_map (kept change t) (lines_of m k) = λ k. ap (λ lines. lines k) c.replace_lines.ensures ∙ all_planned change t (lines_of m) plan.lines.items c.in_ok-plan.ensures.lines k in

@@ -1,12 +1,37 @@
-use Rattle.std.proofs.Common.{◌∙◌, ap}
-use Rattle.std.specs.List.{list_any}
+use Rattle.std.proofs.Common.{◌≡◌, ◌∙◌, ◌<◌, ◌^◌, length, ap, sym, subst}
+use Rattle.std.proofs.lemmas.List.{length-map}
+use Rattle.std.specs.BTreeMap.{get}
+use Rattle.model.specs.Values.{key_cmp}
+use Rattle.current.specs.Rows.{row_of}
+use Rattle.std.specs.Prelude.{is_some}
 use Rattle.model.specs.Periods.{period_of}
-use Rattle.rowlaws.specs.Changes.{clashes}
+use Rattle.overlaps.specs.Index.{shares_day}
+use Rattle.overlaps.specs.Stored.{items_of}
+use Rattle.current.specs.Stored.{lines_of}
 use Rattle.current.proofs.Moves.{any_line}
+use Rattle.current.proofs.Placed.{days_of_row, found_any, copied_some, line_items, line_clashes}
 use Rattle.current.proofs.table.TableRows.has_clash.Goals as goal
+
+pub returns-clause-line : goal.returns-clause-line
+returns-clause-line c =
+    let t = c.args.self.now in
+    let row = c.args.row.now in
+    let p = period_of row.period in
+    let clashing = line_clashes c.sharing_is_overlap.ensures t.index.lines row.key p row.period.ordered (t.in_lines row.key) in
+    c.is_some.ensures ∙ copied_some c.find.result ∙ ap is_some c.find.ensures.item ∙ found_any (λ r. shares_day p (days_of_row r)) (items_of t.index.lines row.key) ∙ sym clashing
 
 pub returns-clause-rows : goal.returns-clause-rows
 returns-clause-rows c =
     let t = c.args.self.now in
     let row = c.args.row.now in
-    c.clashes.ensures ∙ ap (list_any (clashes row.key (period_of row.period))) c.line.ensures ∙ any_line t.lines t.ordered t.in_lines row.key (period_of row.period)
+    let p = period_of row.period in
+    let clashing = line_clashes c.sharing_is_overlap.ensures t.index.lines row.key p row.period.ordered (t.in_lines row.key) in
+    c.is_some.ensures ∙ copied_some c.find.result ∙ ap is_some c.find.ensures.item ∙ found_any (λ r. shares_day p (days_of_row r)) (items_of t.index.lines row.key) ∙ sym clashing ∙ any_line t.index.lines t.ordered t.in_lines row.key p
+
+pub returns-clause-few : goal.returns-clause-few
+returns-clause-few c = λ digits short.
+    let t = c.args.self.now in
+    let row = c.args.row.now in
+    let e = line_items (get key_cmp t.index.lines row.key) in
+    let long : length (lines_of t.index.lines row.key) ≡ length (items_of t.index.lines row.key) = ap length e ∙ length-map (items_of t.index.lines row.key) row_of in
+    c.find.ensures.few digits (subst (λ n. n < 2 ^ digits) long short)

@@ -21,8 +21,8 @@ invariant_of-self c =
 pub invariant_of-self-2 : goal.invariant_of-self-2
 invariant_of-self-2 c =
     let t = c.args.self.now in
-    let m = t.lines in
-    let n = c.put_row-added.new.lines in
+    let m = t.index.lines in
+    let n = c.put_row-added.new.index.lines in
     let row = c.args.row in
     let e = c.in_ok-added.ensures.ok in
     let in_lines = put_in_lines (row_of row) (lines_of m) (lines_of n) e t.in_lines row.period.ordered (in_calendar row) c.requires in
@@ -40,8 +40,8 @@ invariant_of-self-2 c =
 pub returns-clause-ok : goal.returns-clause-ok
 returns-clause-ok c =
     let t = c.args.self.now in
-    let m = t.lines in
-    let n = c.put_row-added.new.lines in
+    let m = t.index.lines in
+    let n = c.put_row-added.new.index.lines in
     let row = c.args.row in
     let e = c.in_ok-added.ensures.ok in
     let in_lines = put_in_lines (row_of row) (lines_of m) (lines_of n) e t.in_lines row.period.ordered (in_calendar row) c.requires in

@@ -22,8 +22,8 @@ put-requires c =
     let s = c.loop-row.self in
     let fits = subst (λ xs. CanPut (rows_of_table s) (map row_of xs)) (drop_here rows i row c.loop-row-test.true c.row-item.is) c.loop-row.invariant.fits in
     let clear = put_clear (row_of row) (map row_of (drop (i + 1) rows)) (rows_of_table s) fits in
-    let line = any_line s.lines s.ordered s.in_lines row.key (row_of row).period ∙ clear in
-    subst (λ (r : Row). list_any (clashes r.key r.period) (lines_of s.lines r.key) ≡ false) (sym c.in_ok-clone.ensures.cases) line
+    let line = any_line s.index.lines s.ordered s.in_lines row.key (row_of row).period ∙ clear in
+    subst (λ (r : Row). list_any (clashes r.key r.period) (lines_of s.index.lines r.key) ≡ false) (sym c.in_ok-clone.ensures.cases) line
 
 pub loop-row-preserved : goal.loop-row-preserved
 loop-row-preserved c =

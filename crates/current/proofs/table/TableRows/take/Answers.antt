@@ -11,17 +11,23 @@ pub returns-then-not-has_row : goal.returns-then-not-has_row
 returns-then-not-has_row c =
     let s = c.args.self.now in
     let row = row_of c.args.row.now in
-    let test : list_any (same_row row) (lines_of s.lines row.key) ≡ c.has_row.result = ap (list_any (same_row row)) (sym c.line.ensures) ∙ any_map (same_row row) row_of c.line.result.now ∙ sym c.has_row.ensures in
-    not_there row (rows_in s.lines.entries) (not_in_line s.lines s.ordered s.in_lines row (test ∙ c.if-not-has_row.true))
+    let test : list_any (same_row row) (lines_of s.index.lines row.key) ≡ c.has_row.result = ap (list_any (same_row row)) (sym c.line.ensures) ∙ any_map (same_row row) row_of c.line.result.now ∙ sym c.has_row.ensures in
+    not_there row (rows_in s.index.lines.entries) (not_in_line s.index.lines s.ordered s.in_lines row (test ∙ c.if-not-has_row.true))
+
+pub take_row-requires-clause-there : goal.take_row-requires-clause-there
+take_row-requires-clause-there c =
+    let s = c.args.self.now in
+    let row = row_of c.args.row.now in
+    ap (list_any (same_row row)) (sym c.line.ensures) ∙ any_map (same_row row) row_of c.line.result.now ∙ sym c.has_row.ensures ∙ c.if-not-has_row.false
 
 pub overflow_sub-self : goal.overflow_sub-self
 overflow_sub-self c =
     let s = c.args.self.now in
     let row = row_of c.args.row.now in
-    let n = c.take_row.new.lines in
-    let test : list_any (same_row row) (lines_of s.lines row.key) ≡ c.has_row.result = ap (list_any (same_row row)) (sym c.line.ensures) ∙ any_map (same_row row) row_of c.line.result.now ∙ sym c.has_row.ensures in
-    let in' = take_in_lines row (lines_of s.lines) (lines_of n) c.take_row.ensures s.in_lines in
-    let long = length_taken s.lines n s.ordered c.keys_in_order.ensures s.in_lines in' row c.take_row.ensures (in_line_there s.lines s.ordered s.in_lines row c.has_row.result test c.if-not-has_row.false) in
+    let n = c.take_row.new.index.lines in
+    let test : list_any (same_row row) (lines_of s.index.lines row.key) ≡ c.has_row.result = ap (list_any (same_row row)) (sym c.line.ensures) ∙ any_map (same_row row) row_of c.line.result.now ∙ sym c.has_row.ensures in
+    let in' = take_in_lines row (lines_of s.index.lines) (lines_of n) c.take_row.ensures s.in_lines in
+    let long = length_taken s.index.lines n s.ordered c.keys_in_order.ensures s.in_lines in' row c.take_row.ensures (in_line_there s.index.lines s.ordered s.in_lines row c.has_row.result test c.if-not-has_row.false) in
     let count = s.counted in
     omega (arith, long, count)
 
@@ -29,15 +35,15 @@ pub invariant_of-self : goal.invariant_of-self
 invariant_of-self c =
     let s = c.args.self.now in
     let row = row_of c.args.row.now in
-    let n = c.take_row.new.lines in
-    let test : list_any (same_row row) (lines_of s.lines row.key) ≡ c.has_row.result = ap (list_any (same_row row)) (sym c.line.ensures) ∙ any_map (same_row row) row_of c.line.result.now ∙ sym c.has_row.ensures in
-    let in' = take_in_lines row (lines_of s.lines) (lines_of n) c.take_row.ensures s.in_lines in
-    let long = length_taken s.lines n s.ordered c.keys_in_order.ensures s.in_lines in' row c.take_row.ensures (in_line_there s.lines s.ordered s.in_lines row c.has_row.result test c.if-not-has_row.false) in
+    let n = c.take_row.new.index.lines in
+    let test : list_any (same_row row) (lines_of s.index.lines row.key) ≡ c.has_row.result = ap (list_any (same_row row)) (sym c.line.ensures) ∙ any_map (same_row row) row_of c.line.result.now ∙ sym c.has_row.ensures in
+    let in' = take_in_lines row (lines_of s.index.lines) (lines_of n) c.take_row.ensures s.in_lines in
+    let long = length_taken s.index.lines n s.ordered c.keys_in_order.ensures s.in_lines in' row c.take_row.ensures (in_line_there s.index.lines s.ordered s.in_lines row c.has_row.result test c.if-not-has_row.false) in
     let count = s.counted in
     record {
       ordered = c.keys_in_order.ensures;
       in_lines = in';
-      short = λ r h. s.short r ((row_taken s.lines n s.ordered c.keys_in_order.ensures s.in_lines in' row c.take_row.ensures r).0 h).0;
+      short = λ r h. s.short r ((row_taken s.index.lines n s.ordered c.keys_in_order.ensures s.in_lines in' row c.take_row.ensures r).0 h).0;
       counted = omega (arith, long, count);
     }
 
@@ -45,6 +51,6 @@ pub returns : goal.returns
 returns c =
     let s = c.args.self.now in
     let row = row_of c.args.row.now in
-    let n = c.take_row.new.lines in
-    let in' = take_in_lines row (lines_of s.lines) (lines_of n) c.take_row.ensures s.in_lines in
-    row_taken s.lines n s.ordered c.keys_in_order.ensures s.in_lines in' row c.take_row.ensures
+    let n = c.take_row.new.index.lines in
+    let in' = take_in_lines row (lines_of s.index.lines) (lines_of n) c.take_row.ensures s.in_lines in
+    row_taken s.index.lines n s.ordered c.keys_in_order.ensures s.in_lines in' row c.take_row.ensures

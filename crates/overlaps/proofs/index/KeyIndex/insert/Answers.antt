@@ -1,8 +1,6 @@
-use Rattle.std.proofs.Common.{◌≡◌, ◌∙◌, map, ap, sym, subst, inl, inr}
-use Rattle.std.specs.BTreeMap.{get}
-use Rattle.model.specs.Values.{key_cmp}
-use Rattle.overlaps.specs.Index.{AreApart, with_item}
-use Rattle.overlaps.specs.Stored.{items_in, items_of}
+use Rattle.std.proofs.Common.{inl, inr}
+use Rattle.overlaps.specs.Index.{with_item}
+use Rattle.overlaps.specs.Stored.{items_of}
 use Rattle.overlaps.proofs.Ordered.{with_apart}
 use Rattle.overlaps.proofs.Changed.{items-written, items-written_back, entries-written_back, apart_changed, kept_apart, either, on_ok, on_err}
 use Rattle.overlaps.proofs.index.KeyIndex.insert.Goals as goal

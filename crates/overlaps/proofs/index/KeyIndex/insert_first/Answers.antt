@@ -1,6 +1,4 @@
 use Rattle.std.proofs.Common.{◌∙◌, ◌++◌, ◌∷◌, [], Some, ap, sym}
-use Rattle.std.specs.BTreeMap.{UpdatesBy}
-use Rattle.model.specs.Values.{key_cmp}
 use Rattle.overlaps.specs.Index.{with_item}
 use Rattle.overlaps.proofs.Changed.{items-changed}
 use Rattle.overlaps.proofs.index.KeyIndex.insert_first.Goals as goal
