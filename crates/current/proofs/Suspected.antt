@@ -17,7 +17,7 @@ use Rattle.rowlaws.specs.Statements.{Rows, AllListed}
 use Rattle.rowlaws.specs.Covering.{AllInOrder, missing_in_rows}
 use Rattle.rowlaws.specs.Losing.{has_lost_day, losing_keys}
 use Rattle.rowlaws.specs.Whole.{ComesFromWhole}
-use Rattle.rowlaws.specs.Suspects.{rows_referring, suspects_by, suspects, IsPicked, first_in_order, ordered_orphan, OrderedOrphan}
+use Rattle.rowlaws.specs.Suspects.{rows_referring, suspects_by, suspects, first_in_order, ordered_orphan, OrderedOrphan}
 use Rattle.rowlaws.specs.Indexes.{rows_of_key, KeysPicked}
 use Rattle.rowlaws.proofs.Anys.{has_any}
 use Rattle.rowlaws.proofs.Keys.{key_same}
@@ -28,7 +28,7 @@ use Rattle.sqlchecks.specs.Columns.{Tables}
 use Rattle.sqlread.specs.Meaning.{reference_of, references_from, schema_of}
 use Rattle.current.specs.declared.row.Row.{Row as Declared}
 use Rattle.current.specs.Rows.{row_of}
-use Rattle.current.specs.Suspects.{ArePicked, IsFirstPicked}
+use Rattle.current.specs.Suspects.{IsFirstPicked}
 use Rattle.current.proofs.Lists.{drop_here, drop_none}
 use Rattle.current.proofs.Orphans.{found_first, found_later, range_more, rows_both, rows_of_table_miss}
 

@@ -67,6 +67,23 @@ fn row_set(alloc: Global, rows: &[Row]) -> Result<BTreeSet<Row>, AllocError>
     Ok(set)
 }
 
+// Those of these rows that a set has.
+fn common_set(
+    alloc: Global,
+    rows: &[Row],
+    known: &BTreeSet<Row>,
+) -> Result<BTreeSet<Row>, AllocError>
+    ensures { IfOk result (λ set. (row : DeclaredRow) → contains row_order set row ≡ list_any (is_same row) (filter (contains row_order known.now) rows.now)) }
+{
+    let mut set = BTreeSet::new(alloc);
+    for row in rows {
+        if known.contains(row) {
+            set.insert(row.clone()?)?;
+        }
+    }
+    Ok(set)
+}
+
 // Takes the rows of a set out.
 fn take_out(rows: &mut Vec<Row>, set: &BTreeSet<Row>)
     ensures { rows.new.items ≡ filter (λ row. not (contains row_order set.now row)) rows.old.items }
@@ -74,7 +91,8 @@ fn take_out(rows: &mut Vec<Row>, set: &BTreeSet<Row>)
     rows.retain(|row| !set.contains(row));
 }
 
-// Takes those rows out of both lists that each has. After an error both are of no use.
+// Takes those rows out of both lists that each has, and copies no more than the first list. After an error both are of
+// no use.
 fn cancel(
     alloc: Global,
     added: &mut Vec<Row>,
@@ -87,7 +105,7 @@ fn cancel(
         return Ok(());
     }
     let came = row_set(alloc, added.as_slice())?;
-    let went = row_set(alloc, later_removed.as_slice())?;
+    let went = common_set(alloc, later_removed.as_slice(), &came)?;
     take_out(added, &went);
     take_out(later_removed, &came);
     Ok(())

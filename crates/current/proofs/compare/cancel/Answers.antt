@@ -1,9 +1,9 @@
-use Rattle.std.proofs.Common.{◌≡◌, [], map, ap, sym, ◌∙◌, length}
+use Rattle.std.proofs.Common.{map, filter, ap, ◌∙◌}
+use Rattle.std.specs.BTreeSet.{contains}
 use Rattle.std.specs.List.{list_any}
-use Rattle.rowlaws.specs.Touching.{rows_without}
 use Rattle.current.specs.Rows.{row_of}
-use Rattle.current.specs.RowOrder.{is_same}
-use Rattle.current.proofs.Sets.{set_without, without_none, none_without, empty_is}
+use Rattle.current.specs.RowOrder.{row_order, is_same}
+use Rattle.current.proofs.Sets.{set_without, common_without, without_none, none_without, empty_is}
 use Rattle.current.proofs.compare.cancel.Goals as goal
 use Rattle.current.proofs.compare.cancel.Goals.{then-is_empty-via-then-is_empty, then-is_empty-via-else-is_empty+then-is_empty-2}
 
@@ -29,7 +29,8 @@ pub returns-clause-added : goal.returns-clause-added
 returns-clause-added c =
     let added = c.args.added.now.items in
     let later = c.args.later_removed.now.items in
-    ap (map row_of) c.take_out.ensures ∙ set_without added later c.in_ok-went.went (λ q. c.in_ok-went.ensures q ∙ ap (list_any (is_same q)) c.as_slice-2.ensures.value)
+    ap (map row_of) c.take_out.ensures ∙ common_without added later c.in_ok-came.came c.in_ok-went.went (λ q. c.in_ok-came.ensures q ∙ ap (list_any (is_same q)) c.as_slice.ensures.value)
+    (λ q. c.in_ok-went.ensures q ∙ ap (λ xs. list_any (is_same q) (filter (contains row_order c.in_ok-came.came) xs)) c.as_slice-2.ensures.value)
 
 pub returns-clause-removed : goal.returns-clause-removed
 returns-clause-removed c =

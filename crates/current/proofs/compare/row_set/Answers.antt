@@ -1,4 +1,3 @@
-use Rattle.std.proofs.Common.{rules}
 use Rattle.current.proofs.Sets.{set_step}
 use Rattle.current.proofs.compare.row_set.Goals as goal
 

@@ -1,5 +1,4 @@
-use Rattle.std.proofs.Common.{◌≡◌, ◌<◌, ◌≤◌, ◌∙◌, ℕ, None, Some, ap, option_map, sym, subst, length, arith}
-use Rattle.std.proofs.lemmas.Bool.{cases_lt}
+use Rattle.std.proofs.Common.{◌<◌, ◌≤◌, ℕ, None, option_map, sym, subst, length}
 use Rattle.sqlread.specs.Meaning.{references_from}
 use Rattle.current.specs.Orphans.{place_of}
 use Rattle.current.specs.Places.{rows_at}

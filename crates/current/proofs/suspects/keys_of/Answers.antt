@@ -1,7 +1,7 @@
-use Rattle.std.proofs.Common.{◌≡◌, ◌∙◌, ap, sym}
+use Rattle.std.proofs.Common.{◌∙◌, ap}
 use Rattle.std.specs.BTreeSet.{insert_key}
 use Rattle.model.specs.Values.{key_cmp}
-use Rattle.current.proofs.Suspected.{key_step, all_keys}
+use Rattle.current.proofs.Suspected.{key_step}
 use Rattle.current.proofs.suspects.keys_of.Goals as goal
 
 pub loop-row-preserved : goal.loop-row-preserved

@@ -1,14 +1,11 @@
-use Rattle.std.proofs.Common.{◌≡◌, ◌==◌, ◌∙◌, ap, sym, subst, length, option_map, false}
-use Rattle.std.specs.List.{list_any}
+use Rattle.std.proofs.Common.{◌==◌, ◌∙◌, ap, sym, subst, length, option_map}
 use Rattle.rowlaws.specs.Rows.{Has}
-use Rattle.rowlaws.specs.Covering.{missing_in_rows}
-use Rattle.sqlread.specs.Meaning.{references_from}
 use Rattle.current.specs.Orphans.{place_of}
 use Rattle.current.specs.Places.{rows_at}
 use Rattle.current.specs.Table.{rows_of_table}
 use Rattle.current.specs.Touched.{removed_in, added_in}
 use Rattle.current.proofs.Orphans.{all_in_order}
-use Rattle.current.proofs.Suspected.{lost_in, parents_of, none_picked, all_picked, keys_picked, ok_map}
+use Rattle.current.proofs.Suspected.{none_picked, all_picked, keys_picked, ok_map}
 use Rattle.current.proofs.suspects.missing_in_picked.Goals as goal
 
 pub returns-then-is_empty : goal.returns-then-is_empty

@@ -1,4 +1,4 @@
-use Rattle.std.proofs.Common.{◌≡◌, ◌∙◌, ◌≤◌, [], ◌++◌, length, ap, sym, inl, inr, arith}
+use Rattle.std.proofs.Common.{◌∙◌, ◌≤◌, ◌++◌, length, ap, sym, inl, inr, arith}
 use Rattle.std.proofs.lemmas.Bool.{cases_lt}
 use Rattle.std.proofs.lemmas.List.{append-nil}
 use Rattle.current.specs.Touched.{removed_of, added_of, removed_in, added_in}
