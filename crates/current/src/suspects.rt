@@ -101,7 +101,7 @@ fn line_of<'a>(tables: &'a [TableRows], table: usize, key: &Key) -> &'a [Row]
     ensures { map row_of result.now ≡ rows_of_key (rows_at rows_of_table tables.now table) key.now }
 {
     match table_at(tables, table) {
-        Some(rows) => line(&rows.lines, key),
+        Some(rows) => line(&rows.index.lines, key),
         None => &[],
     }
 }

@@ -9,7 +9,7 @@ use Rattle.current.proofs.suspects.line_of.Goals as goal
 pub returns-in-Some : goal.returns-in-Some
 returns-in-Some c =
     let rows = c.in-Some.rows.now in
-    c.line.ensures ∙ sym (line_of_key rows.lines rows.ordered rows.in_lines c.args.key.now)
+    c.line.ensures ∙ sym (line_of_key rows.index.lines rows.ordered rows.in_lines c.args.key.now)
     ∙ ap (λ all. rows_of_key all c.args.key.now) (ap (λ o. option_map_or rows_of_table o []) c.in-Some.ensures ∙ sym (rows_at-got rows_of_table c.args.tables.now c.args.table))
 
 pub returns-in-None : goal.returns-in-None
