@@ -16,7 +16,13 @@ use Rattle.current.specs.declared.row.Row.{Row as Declared}
 use Rattle.current.specs.Rows.{row_of}
 use Rattle.current.specs.RowOrder.{row_order, is_same, row_ties, is_same_equiv}
 use Rattle.current.proofs.Lists.{drop_here, no_items}
-use Rattle.current.proofs.Placed.{filter_map}
+
+map_of_filter : {A B : Type 0} (f : A → B) (p : B → Bool) (xs : List A) → map f (filter (λ x. p (f x)) xs) ≡ filter p (map f xs)
+map_of_filter f p [] = refl
+map_of_filter f p (x ∷ xs) = elim (cases_Bool (p (f x))) [
+  | inl y ↦ rw y (ap (λ ys. f x ∷ ys) (map_of_filter f p xs))
+  | inr n ↦ rw n (map_of_filter f p xs)
+]
 
 same_is : (key x q : Declared) → row_of key ≡ row_of x → is_eq (row_order key q) ≡ is_same q x
 same_is key x q e = sym (row_ties (row_of key) (row_of q)) ∙ ap (λ (r : Row). same_row r (row_of q)) e ∙ is_same_equiv.symm x q
@@ -59,7 +65,7 @@ unfolding rows_without
 list_without rows others =
     let test : Row → Bool = λ r. not (list_any (same_row r) (map row_of others)) in
     let same : (λ (r : Declared). not (list_any (is_same r) others)) ≡ (λ r. test (row_of r)) = λ i r. not (sym (any_map (same_row (row_of r)) row_of others) i) in
-    ap (λ p. map row_of (filter p rows)) same ∙ filter_map row_of test rows
+    ap (λ p. map row_of (filter p rows)) same ∙ map_of_filter row_of test rows
 
 pub set_without : (rows others : List Declared) (set : BTreeSet Declared) → ((q : Declared) → contains row_order set q ≡ list_any (is_same q) others)
     → map row_of (filter (λ r. not (contains row_order set r)) rows) ≡ rows_without (map row_of rows) (map row_of others)
