@@ -5,8 +5,12 @@
 #[cfg(test)]
 mod cells;
 #[cfg(test)]
+mod clusters;
+#[cfg(test)]
 mod indexes;
 #[cfg(test)]
 mod keepers;
 #[cfg(test)]
 mod stored;
+#[cfg(test)]
+mod views;
