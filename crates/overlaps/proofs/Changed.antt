@@ -105,3 +105,7 @@ on_ok (Err e) f ok = ok
 pub on_err : {A E : Type 0} (r : Result A E) {P Q : Type 0} → (P → Q) → OnErr r P → OnErr r Q
 on_err (Ok a) f err = err
 on_err (Err e) f err = f err
+
+pub on_err_too : {A E : Type 0} (r : Result A E) {P : Type 0} → P → OnErr r P
+on_err_too (Ok a) h = tt
+on_err_too (Err e) h = h

@@ -1,4 +1,5 @@
 pub mod Sharing
 pub mod Halves
+pub mod Places
 pub mod Ordered
 pub mod Changed

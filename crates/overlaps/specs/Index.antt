@@ -1,6 +1,6 @@
 -- What an index of periods by key has, what it finds, and how it changes.
-use Rattle.std.specs.Prelude.{◌≤◌, ◌==◌, Bool, ◌&&◌, not, nat_lt, List, [], ◌∷◌, AllPairs, filter, if◌then◌else◌}
-use Rattle.std.specs.List.{list_any}
+use Rattle.std.specs.Prelude.{◌≡◌, ◌≤◌, ◌==◌, ℕ, Bool, true, false, ◌&&◌, not, nat_lt, List, [], ◌∷◌, ◌++◌, length, AllPairs, filter, if◌then◌else◌}
+use Rattle.std.specs.List.{list_any, list_all}
 use Rattle.model.specs.declared.value.Value.{Value}
 use Rattle.model.specs.Values.{same_key}
 use Rattle.model.specs.Tables.{Period, inside}
@@ -21,6 +21,16 @@ shares_day p q = list_any (inside q) (days_of p)
 -- both have the same start and end
 abbrev pub same_period : Period → Period → Bool
 same_period p q = p.start == q.start && p.end == q.end
+
+-- from a place on, these of the items share a day with p, and no others do
+pub record AreSharing {T : Type 0} (period : T → Period) (p : Period) (items : List T) (place : ℕ) (found : List T) : Type 0 where
+  pub before : List T
+  pub after : List T
+  pub all : items ≡ before ++ (found ++ after)
+  pub place_is : length before ≡ place
+  pub none_before : list_any (λ x. shares_day p (period x)) before ≡ false
+  pub each : list_all (λ x. shares_day p (period x)) found ≡ true
+  pub none_after : list_any (λ x. shares_day p (period x)) after ≡ false
 
 -- one item more, in the order of the starts of their periods
 abbrev pub with_item : {T : Type 0} → (T → Period) → T → List T → List T

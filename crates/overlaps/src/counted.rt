@@ -1,5 +1,6 @@
 //! Lists that are read item by item, and how many items were read.
-ghost use Rattle.std.specs.Prelude.{◌≡◌, ◌<◌, ◌≤◌, ◌==◌, ◌++◌, ◌∷◌, [], length, insert, remove, slice_index_or, OnOk, OnErr};
+ghost use Rattle.std.specs.Prelude.{◌≡◌, ◌<◌, ◌≤◌, ◌==◌, ◌-◌, ◌++◌, ◌∷◌, [], length, insert, remove, slice_index_or, slice_range, OnOk, OnErr};
+ghost use Rattle.std.specs.List.{splice};
 ghost use Rattle.overlaps.specs.Reads.{one_more, more};
 
 use std::alloc::{AllocError, Global};
@@ -109,6 +110,19 @@ impl<T> Counted<T> {
         self.items.as_slice()
     }
 
+    /// The items from the place `start`, counted from 0, up to the place `end`. It raises the count by how many they are.
+    /// Takes no memory.
+    pub fn range(&self, start: usize, end: usize, count: &mut Count) -> &[T]
+        requires in_order { start ≤ end }
+        requires within { end ≤ length self.now }
+        ensures items { result.now ≡ slice_range self.now start end }
+        ensures counted { count.new ≡ more (end - start) count.old }
+        ensures grows { count.old ≤ count.new }
+    {
+        count.raise_by(end - start);
+        &self.items[start..end]
+    }
+
     /// The item at a place, counted from 0, to be changed. It raises the count by one; at its greatest value that stays.
     /// Takes no memory.
     pub fn at_mut(&mut self, place: usize, count: &mut Count) -> &mut T
@@ -149,6 +163,18 @@ impl<T: Drop> Counted<T> {
         ensures err { OnErr result (self.new ≡ self.old) }
     {
         self.items.insert(place, item)?;
+        Ok(())
+    }
+
+    /// Puts items in place of those from the place `start` up to the place `end`. This is no read. Want of memory changes
+    /// nothing.
+    pub fn replace(&mut self, start: usize, end: usize, items: Vec<T>) -> Result<(), AllocError>
+        requires in_order { start ≤ end }
+        requires within { end ≤ length self.old }
+        ensures ok { OnOk result (self.new ≡ splice self.old start end items.items) }
+        ensures err { OnErr result (self.new ≡ self.old) }
+    {
+        self.items.splice(start..end, items)?;
         Ok(())
     }
 }

@@ -7,7 +7,7 @@ ghost use Rattle.overlaps.specs.Stored.{items_of};
 use crate::counted::{Count, Counted};
 use crate::has_period::HasPeriod;
 use crate::key::Key;
-use crate::order::{first_sharing, insert_in_order, remove_from};
+use crate::order::{first_sharing, insert_in_order, remove_from, sharing_places};
 use period::Period;
 use std::alloc::{AllocError, Global};
 use std::collections::BTreeMap;
@@ -26,7 +26,7 @@ pub struct KeyIndex<T: HasPeriod> {
 impl<T: HasPeriod> KeyIndex<T> {
     ghost use Rattle.std.specs.Prelude.{◌≡◌, ◌<◌, ◌≤◌, ◌+◌, ◌^◌, ℕ, [], length, map, find, option_copied};
     ghost use Rattle.model.specs.Periods.{period_of};
-    ghost use Rattle.overlaps.specs.Index.{shares_day};
+    ghost use Rattle.overlaps.specs.Index.{shares_day, AreSharing};
     ghost use Rattle.overlaps.specs.Stored.{items_in, items_of};
 
     /// An index without items. Takes no memory.
@@ -58,12 +58,28 @@ impl<T: HasPeriod> KeyIndex<T> {
         let line = self.lines.get(key)?;
         first_sharing(line, p, count)
     }
+
+    /// All items of the key whose periods have a day of `p`, after the place at which the first of them stands, counted
+    /// from 0. Both ends are searched for by halves: besides the items that it gives it reads twice `digits` and one more
+    /// at most, where the key has fewer items than two to the power of `digits`. Takes no memory.
+    pub fn sharing(&self, key: &Key, p: Period, count: &mut Count) -> (usize, &[T])
+        ensures found { AreSharing T.period (period_of p) (items_of self.now.lines key.now) result.0 result.1.now }
+        ensures few { (digits : ℕ) → length (items_of self.now.lines key.now) < 2 ^ digits → count.new ≤ count.old + digits + digits + 1 + length result.1.now }
+        ensures grows { count.old ≤ count.new }
+    {
+        let Some(line) = self.lines.get(key) else {
+            return (0, &[]);
+        };
+        let (start, end) = sharing_places(line, p, count);
+        (start, line.range(start, end, count))
+    }
 }
 
 impl<T: HasPeriod + Drop> KeyIndex<T> {
-    ghost use Rattle.std.specs.Prelude.{◌≡◌, [], find, None, OnOk, OnErr};
+    ghost use Rattle.std.specs.Prelude.{◌≡◌, ◌<◌, ◌≤◌, [], find, length, map, None, OnOk, OnErr};
+    ghost use Rattle.std.specs.List.{splice};
     ghost use Rattle.model.specs.Periods.{period_of};
-    ghost use Rattle.overlaps.specs.Index.{shares_day, same_period, with_item, without_period, changed_at};
+    ghost use Rattle.overlaps.specs.Index.{AreApart, shares_day, same_period, with_item, without_period, changed_at};
     ghost use Rattle.overlaps.specs.Stored.{items_of};
 
     /// Stores an item of a key, which has no stored day of the item's period: `find` is the test. Want of memory
@@ -113,5 +129,29 @@ impl<T: HasPeriod + Drop> KeyIndex<T> {
         let found = remove_from(line, period);
         self.forget_if_empty(key);
         found
+    }
+
+    /// Puts items in place of those of the key from the place `start` up to the place `end`, of which there is one at
+    /// least; `sharing` tells such places. The key's periods have to stay in order, with no day in two of them. Want of
+    /// memory changes nothing.
+    pub fn replace(
+        &mut self,
+        key: &Key,
+        start: usize,
+        end: usize,
+        items: Vec<T>,
+    ) -> Result<(), AllocError>
+        requires some { start < end }
+        requires within { end ≤ length (items_of self.old.lines key.now) }
+        requires apart { AreApart (map T.period (splice (items_of self.old.lines key.now) start end items.items)) }
+        ensures ok { OnOk result (items_of self.new.lines ≡ changed_at key.now (λ old. splice old start end items.items) (items_of self.old.lines)) }
+        ensures err { OnErr result (self.new.lines.entries ≡ self.old.lines.entries) }
+    {
+        let Some(line) = self.lines.get_mut(key) else {
+            return Ok(());
+        };
+        line.replace(start, end, items)?;
+        self.forget_if_empty(key);
+        Ok(())
     }
 }

@@ -1,5 +1,5 @@
 //! Items of one key, in the order of the starts of their periods, of which no two share a day.
-ghost use Rattle.std.specs.Prelude.{◌≡◌, ◌<◌, ◌≤◌, ◌+◌, ◌^◌, ℕ, None, map, find, length, nat_le, option_copied, OnOk, OnErr};
+ghost use Rattle.std.specs.Prelude.{◌≡◌, ◌<◌, ◌≤◌, ◌+◌, ◌^◌, ℕ, None, map, find, length, nat_le, nat_lt, option_copied, OnOk, OnErr};
 ghost use Rattle.std.specs.List.{prefix_len};
 ghost use Rattle.model.specs.Periods.{period_of};
 ghost use Rattle.overlaps.specs.Index.{AreApart, shares_day, same_period, with_item, without_period};
@@ -51,6 +51,26 @@ pub(crate) fn first_sharing<'a, T: HasPeriod>(
     } else {
         None
     }
+}
+
+/// The places of the items whose periods have a day of `p`: that of the first of them, and the one after the last.
+pub(crate) fn sharing_places<T: HasPeriod>(
+    items: &Counted<T>,
+    p: Period,
+    count: &mut Count,
+) -> (usize, usize)
+    requires { AreApart (map T.period items.now) }
+    ensures start { result.0 ≡ prefix_len (λ x. nat_le (T.period x).end p.start.number) items.now }
+    ensures end { result.1 ≡ prefix_len (λ x. nat_lt (T.period x).start p.end.number) items.now }
+    ensures few { (digits : ℕ) → length items.now < 2 ^ digits → count.new ≤ count.old + digits + digits + 1 }
+    ensures grows { count.old ≤ count.new }
+{
+    let start = first_after(items, p.start, count);
+    let last = first_after(items, p.end, count);
+    if last < items.len() && items.at(last, count).period().start < p.end {
+        return (start, last + 1);
+    }
+    (start, last)
 }
 
 /// Adds an item, no day of which is in another, or is refused memory and changes nothing.
