@@ -26,7 +26,7 @@ pub record Unmet (c : Change) (t : ℕ) (rows : List Row) : Type 0 where
   pub added_none : flat_map (added_at c t) rows ≡ []
   pub in_range : list_any (is_stuck c) rows ≡ false
 
-parts_or : (a b : Bool) → (a || b) ≡ false → (a ≡ false) × (b ≡ false)
+pub parts_or : (a b : Bool) → (a || b) ≡ false → (a ≡ false) × (b ≡ false)
 parts_or true b h = absurd (both refl h)
 parts_or false b h = (refl, h)
 

@@ -18,6 +18,7 @@ pub mod Joined
 pub mod UndoTables
 pub mod OfKey
 pub mod Naming
+pub mod KeyCut
 pub mod Orphans
 pub mod Checked
 pub mod Suspected

@@ -1,5 +1,5 @@
 -- Which key conditions name, and that nothing becomes of the rows of others.
-use Rattle.std.proofs.Common.{◌≡◌, ℕ, zero, suc, ◌+◌, ◌<◌, ◌≤◌, Bool, true, false, ◌||◌, List, [], ◌∷◌, ◌++◌, filter, map, flat_map, length, take, get_or, Option, Some, None, refl, sym, ap, ◌∙◌, subst, inl, inr, arith, Bor}
+use Rattle.std.proofs.Common.{◌≡◌, ℕ, zero, suc, ◌+◌, ◌<◌, ◌≤◌, Bool, true, false, ◌||◌, List, [], ◌∷◌, ◌++◌, filter, flat_map, length, take, get_or, Option, Some, None, refl, sym, ap, ◌∙◌, subst, inl, inr, arith, Bor}
 use Rattle.std.proofs.lemmas.Bool.{cases_Bool, and_parts}
 use Rattle.std.proofs.lemmas.List.{length-append}
 use Rattle.std.specs.Prelude.{slice_get}
@@ -16,7 +16,7 @@ use Rattle.model.specs.Transactions.{Change}
 use Rattle.period.specs.declared.period.Period.{Period as DeclaredPeriod}
 use Rattle.model.specs.Periods.{period_of}
 use Rattle.rowlaws.specs.Rows.{Has}
-use Rattle.rowlaws.proofs.Keys.{key_same, same_key-true, same_key-itself}
+use Rattle.rowlaws.proofs.Keys.{key_same, same_key-itself}
 use Rattle.rowlaws.proofs.Members.{flat_has}
 use Rattle.rowlaws.proofs.RowFacts.{both}
 use Rattle.sqlsyntax.specs.declared.forms.Operator.TheVariants as operator
@@ -28,9 +28,6 @@ use Rattle.sqlread.specs.declared.statement.Assignment.{Assignment}
 use Rattle.current.specs.declared.cut.Cut.{Cut}
 use Rattle.current.specs.Cuts.{is_met, is_stuck, kept, removed_at, added_at, cut_change, change_of_cut}
 use Rattle.current.specs.Stored.{Map, lines_of, rows_in, in_line}
-use Rattle.current.specs.declared.plan.Line.{Line}
-use Rattle.current.specs.Rows.{row_of}
-use Rattle.current.specs.Plans.{IsPlanned, ArePlanned}
 use Rattle.current.proofs.InLine.{each_in_line}
 use Rattle.current.proofs.Sorted.{in_its_line, in_all}
 use Rattle.current.proofs.OfKey.{line_of_key}
@@ -173,29 +170,6 @@ module _ (c : Change) (t : ℕ) (m : Map) (ordered : IsOrdered key_cmp m) (in_li
 
   pub line_stays : (l : List Value) → same_key l k ≡ false → flat_map (kept c t) (lines_of m l) ≡ lines_of m l
   line_stays l other = stays l (lines_of m l) other (λ r h. ((each_in_line l 0 (lines_of m l) r (in_lines l) h).key, in_all m ordered in_lines l r h))
-
-  pub one_planned : (old new : List Line) → old ≡ [] → IsPlanned c t k (lines_of m k) old new → ArePlanned c t (lines_of m) new
-  one_planned old new none step = elim step [
-    | inl same ↦ (
-      (λ p h. absurd (subst (λ ps. Has ps p) (same.0 ∙ none) h)),
-      (λ l. elim (cases_Bool (same_key l k)) [
-        | inl y ↦ inr (subst (λ x. flat_map (kept c t) (lines_of m x) ≡ lines_of m x) (sym (same_key-true l k y)) same.1)
-        | inr n ↦ inr (line_stays l n)
-      ]),
-    )
-    | inr one ↦
-        let is : new ≡ one.0 ∷ [] = one.1 ∙ ap (λ ps. ps ++ one.0 ∷ []) none in
-        let rows : map row_of one.0.rows.items ≡ flat_map (kept c t) (lines_of m one.0.key) = one.3 ∙ ap (λ x. flat_map (kept c t) (lines_of m x)) (sym one.2) in (
-          (λ p h. elim (subst (λ ps. Has ps p) is h) [
-            | inl i ↦ subst (λ q. map row_of q.rows.items ≡ flat_map (kept c t) (lines_of m q.key)) (sym i) rows
-            | inr n ↦ absurd n
-          ]),
-          (λ l. elim (cases_Bool (same_key l k)) [
-            | inl y ↦ inl (one.0, subst (λ ps. Has ps one.0) (sym is) (inl refl), one.2 ∙ sym (same_key-true l k y))
-            | inr n ↦ inr (line_stays l n)
-          ]),
-        )
-  ]
 
 -- ---- rows after a change have the keys of rows before
 

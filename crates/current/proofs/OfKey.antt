@@ -39,7 +39,7 @@ all_of_line k m d (r ∷ rs) same h =
     rw (subst (λ l. same_key l k ≡ true) (sym b.key) same) (ap (λ more. r ∷ more) (all_of_line k m r.period.end rs same b.later))
 
 -- keys are the same in either order
-turned : (k l : List Value) (b : Bool) → same_key k l ≡ b → same_key l k ≡ b
+pub turned : (k l : List Value) (b : Bool) → same_key k l ≡ b → same_key l k ≡ b
 turned k l true h = subst (λ m. same_key m k ≡ true) (same_key-true k l h) (same_key-itself k)
 turned k l false h = elim (cases_Bool (same_key l k)) [
   | inl y ↦ absurd (both (subst (λ m. same_key k m ≡ true) (sym (same_key-true l k y)) (same_key-itself k)) h)

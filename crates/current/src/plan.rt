@@ -4,18 +4,12 @@ ghost use Rattle.std.specs.List.{list_any};
 ghost use Rattle.fault.specs.declared.refusal.Refusal.TheVariants.{NoMemory, NumberRange};
 ghost use Rattle.current.specs.Rows.{row_of};
 ghost use Rattle.current.specs.Cuts.{change_of_cut, is_met, is_stuck, kept, removed_at, added_at};
-ghost use Rattle.std.specs.Prelude.{List, IsTrue};
-ghost use Rattle.std.specs.BTreeMap.{IsOrdered};
-ghost use Rattle.model.specs.declared.value.Value.{Value};
-ghost use Rattle.model.specs.Tables.{Row as TableRow};
-ghost use Rattle.model.specs.Values.{key_cmp};
-ghost use Rattle.rowlaws.specs.Rows.{Has};
-ghost use Rattle.current.specs.Stored.{lines_of, rows_in, in_line};
+ghost use Rattle.current.specs.Stored.{lines_of, rows_in};
 ghost use Rattle.current.specs.Plans.{IsPlanned, ArePlanned, with_planned};
 
 use crate::cut::Cut;
 use crate::line::{Changes, cut_line};
-use crate::lines::{Lines, line, replace_line};
+use crate::lines::{Lines, replace_line};
 use crate::row::Row;
 use fault::Refusal;
 use overlaps::{Count, Key};
@@ -87,37 +81,6 @@ pub(crate) fn plan_cut(alloc: Global, cut: &Cut, lines: &Lines) -> Result<Plan, 
     for (key, rows) in lines {
         plan.add(alloc, cut, key, rows.all(&mut count))?;
     }
-    Ok(plan)
-}
-
-/// The same, where only rows of this key are met; there are so many rows. No other key's rows are
-/// looked at.
-pub(crate) fn plan_key(
-    alloc: Global,
-    cut: &Cut,
-    lines: &Lines,
-    key: &Key,
-    count: usize,
-) -> Result<Plan, Refusal>
-    requires ordered { IsOrdered key_cmp lines.now }
-    requires in_lines { (k : List Value) → IsTrue (in_line k 0 (lines_of lines.now k)) }
-    requires counted { count ≡ length (rows_in lines.now.entries) }
-    requires met { (r : TableRow) → Has (rows_in lines.now.entries) r → is_met (change_of_cut cut.now) r ≡ true → r.key ≡ key.now }
-    ensures lines { IfOk result (λ plan. ArePlanned (change_of_cut cut.now) cut.now.system_start (lines_of lines.now) plan.lines.items) }
-    ensures count { IfOk result (λ plan. plan.count ≡ min (length (flat_map (kept (change_of_cut cut.now) cut.now.system_start) (rows_in lines.now.entries))) usize.MAX) }
-    ensures removed { IfOk result (λ plan. map row_of plan.changes.removed.items ≡ flat_map (removed_at (change_of_cut cut.now) cut.now.system_start) (rows_in lines.now.entries)) }
-    ensures added { IfOk result (λ plan. map row_of plan.changes.added.items ≡ flat_map (added_at (change_of_cut cut.now) cut.now.system_start) (rows_in lines.now.entries)) }
-    ensures in_range { IfOk result (λ plan. list_any (is_stuck (change_of_cut cut.now)) (rows_in lines.now.entries) ≡ false) }
-    ensures err { IfErr result (λ refusal. (refusal ≡ NoMemory) ⊎ ((refusal ≡ NumberRange) × (list_any (is_stuck (change_of_cut cut.now)) (rows_in lines.now.entries) ≡ true))) }
-{
-    let rows = line(lines, key);
-    let changes = Changes::none(alloc);
-    let mut plan = Plan {
-        lines: Vec::new(alloc),
-        count: count - rows.len(),
-        changes,
-    };
-    plan.add(alloc, cut, key, rows)?;
     Ok(plan)
 }
 

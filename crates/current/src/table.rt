@@ -10,10 +10,10 @@ ghost use Rattle.current.specs.Stored.{lines_of, rows_in, in_line};
 
 use crate::compare::has_row;
 use crate::cut::Cut;
-use crate::line::Changes;
+use crate::line::{Changes, cut_line};
 use crate::lines::{keys_in_order, line, put_row, take_row};
 use crate::named::named_key;
-use crate::plan::{Plan, plan_cut, plan_key, replace_lines};
+use crate::plan::{Plan, plan_cut, replace_lines};
 use crate::row::Row;
 use fault::Refusal;
 use overlaps::{Count, Key, KeyIndex};
@@ -44,8 +44,7 @@ impl TableRows {
     ghost use Rattle.current.specs.Rows.{row_of};
     ghost use Rattle.current.specs.Table.{rows_of_table, IsWith, IsInserted, IsInsertRefused, IsCut, IsCutRefused, IsWithout, IsJoined, CanPut, CanUndo, HaveSame};
     ghost use Rattle.rowlaws.specs.Touching.{rows_without};
-    ghost use Rattle.current.specs.Cuts.{change_of_cut, is_stuck, kept, removed_at, added_at};
-    ghost use Rattle.current.specs.Plans.{ArePlanned};
+    ghost use Rattle.current.specs.Cuts.{change_of_cut, is_met};
     ghost use Rattle.current.specs.Stored.{lines_of, line_in};
     ghost use Rattle.model.specs.Periods.{period_of, StartInOrder};
     ghost use Rattle.rowlaws.specs.Covering.{periods_of};
@@ -120,31 +119,38 @@ impl TableRows {
         Ok(())
     }
 
-    // What will become of the rows. Where WHERE names a key only its rows are looked at.
-    fn plan(&self, cut: &Cut) -> Result<Plan, Refusal>
-        ensures lines { IfOk result (λ plan. ArePlanned (change_of_cut cut.now) cut.now.system_start (lines_of self.now.index.lines) plan.lines.items) }
-        ensures count { IfOk result (λ plan. plan.count ≡ min (length (flat_map (kept (change_of_cut cut.now) cut.now.system_start) (rows_of_table self.now))) usize.MAX) }
-        ensures removed { IfOk result (λ plan. map row_of plan.changes.removed.items ≡ flat_map (removed_at (change_of_cut cut.now) cut.now.system_start) (rows_of_table self.now)) }
-        ensures added { IfOk result (λ plan. map row_of plan.changes.added.items ≡ flat_map (added_at (change_of_cut cut.now) cut.now.system_start) (rows_of_table self.now)) }
-        ensures in_range { IfOk result (λ plan. list_any (is_stuck (change_of_cut cut.now)) (rows_of_table self.now) ≡ false) }
-        ensures err { IfErr result (λ refusal. (refusal ≡ NoMemory) ⊎ ((refusal ≡ NumberRange) × (list_any (is_stuck (change_of_cut cut.now)) (rows_of_table self.now) ≡ true))) }
-    {
-        match named_key(self.alloc, cut.conditions, self.columns)? {
-            Some(key) => plan_key(self.alloc, cut, &self.index.lines, &key, self.count),
-            None => plan_cut(self.alloc, cut, &self.index.lines),
-        }
-    }
-
-    /// Cuts the rows that are met as UPDATE and DELETE do, and tells what it touched. Each refusal
-    /// changes nothing.
-    ///
-    /// `NumberRange` where a new value of a row that is met is out of range; then `RowLimit` where
-    /// more than 20,000 rows would be left; `NoMemory`.
-    pub(crate) fn cut(&mut self, cut: &Cut) -> Result<Changes, Refusal>
+    // Cuts the rows of the one key that has rows that are met. Of its rows those that have a day in the portion are
+    // looked at, and no others.
+    fn cut_key(&mut self, cut: &Cut, key: &Key) -> Result<Changes, Refusal>
+        requires { (r : TableRow) → Has (rows_of_table self.old) r → is_met (change_of_cut cut.now) r ≡ true → r.key ≡ key.now }
         ensures ok { IfOk result (λ changes. IsCut (change_of_cut cut.now) cut.now.system_start (rows_of_table self.old) (rows_of_table self.new) (map row_of changes.removed.items) (map row_of changes.added.items)) }
         ensures err { IfErr result (λ refusal. (rows_of_table self.new ≡ rows_of_table self.old) × IsCutRefused (change_of_cut cut.now) cut.now.system_start (rows_of_table self.old) refusal) }
     {
-        let plan = self.plan(cut)?;
+        overlaps::laws::sharing_is_overlap();
+        let (start, found) = self.index.sharing(key, cut.portion, &mut Count::new());
+        let many = found.len();
+        let mut changes = Changes::none(self.alloc);
+        let rows = cut_line(self.alloc, cut, found, &mut changes)?;
+        let count = (self.count - many).saturating_add(rows.len());
+        if count > ROWS_MOST {
+            return Err(Refusal::RowLimit);
+        }
+        if many == 0 {
+            return Ok(changes);
+        }
+        let replaced = self.index.replace(key, start, many, rows);
+        keys_in_order(&self.index);
+        replaced?;
+        self.count = count;
+        Ok(changes)
+    }
+
+    // Cuts the rows of all keys.
+    fn cut_all(&mut self, cut: &Cut) -> Result<Changes, Refusal>
+        ensures ok { IfOk result (λ changes. IsCut (change_of_cut cut.now) cut.now.system_start (rows_of_table self.old) (rows_of_table self.new) (map row_of changes.removed.items) (map row_of changes.added.items)) }
+        ensures err { IfErr result (λ refusal. (rows_of_table self.new ≡ rows_of_table self.old) × IsCutRefused (change_of_cut cut.now) cut.now.system_start (rows_of_table self.old) refusal) }
+    {
+        let plan = plan_cut(self.alloc, cut, &self.index.lines)?;
         if plan.count > ROWS_MOST {
             return Err(Refusal::RowLimit);
         }
@@ -157,6 +163,21 @@ impl TableRows {
         keys_in_order(&self.index);
         self.count = count;
         Ok(changes)
+    }
+
+    /// Cuts the rows that are met as UPDATE and DELETE do, and tells what it touched. Where WHERE names a key only those
+    /// of its rows are looked at that have a day in the portion. Each refusal changes nothing.
+    ///
+    /// `NumberRange` where a new value of a row that is met is out of range; then `RowLimit` where
+    /// more than 20,000 rows would be left; `NoMemory`.
+    pub(crate) fn cut(&mut self, cut: &Cut) -> Result<Changes, Refusal>
+        ensures ok { IfOk result (λ changes. IsCut (change_of_cut cut.now) cut.now.system_start (rows_of_table self.old) (rows_of_table self.new) (map row_of changes.removed.items) (map row_of changes.added.items)) }
+        ensures err { IfErr result (λ refusal. (rows_of_table self.new ≡ rows_of_table self.old) × IsCutRefused (change_of_cut cut.now) cut.now.system_start (rows_of_table self.old) refusal) }
+    {
+        match named_key(self.alloc, cut.conditions, self.columns)? {
+            Some(key) => self.cut_key(cut, &key),
+            None => self.cut_all(cut),
+        }
     }
 
     // Takes a row out, if it is there.

@@ -1,5 +1,5 @@
 //! Lists that are read item by item, and how many items were read.
-ghost use Rattle.std.specs.Prelude.{◌≡◌, ◌<◌, ◌≤◌, ◌==◌, ◌-◌, ◌++◌, ◌∷◌, [], length, insert, remove, slice_index_or, slice_range, OnOk, OnErr};
+ghost use Rattle.std.specs.Prelude.{◌≡◌, ◌<◌, ◌≤◌, ◌==◌, ◌+◌, ◌-◌, ◌++◌, ◌∷◌, [], length, insert, remove, slice_index_or, slice_range, OnOk, OnErr};
 ghost use Rattle.std.specs.List.{splice};
 ghost use Rattle.overlaps.specs.Reads.{one_more, more};
 
@@ -166,15 +166,13 @@ impl<T: Drop> Counted<T> {
         Ok(())
     }
 
-    /// Puts items in place of those from the place `start` up to the place `end`. This is no read. Want of memory changes
-    /// nothing.
-    pub fn replace(&mut self, start: usize, end: usize, items: Vec<T>) -> Result<(), AllocError>
-        requires in_order { start ≤ end }
-        requires within { end ≤ length self.old }
-        ensures ok { OnOk result (self.new ≡ splice self.old start end items.items) }
+    /// Puts items in place of so many from the place on. This is no read. Want of memory changes nothing.
+    pub fn replace(&mut self, place: usize, many: usize, items: Vec<T>) -> Result<(), AllocError>
+        requires { place + many ≤ length self.old }
+        ensures ok { OnOk result (self.new ≡ splice self.old place (place + many) items.items) }
         ensures err { OnErr result (self.new ≡ self.old) }
     {
-        self.items.splice(start..end, items)?;
+        self.items.splice(place..place + many, items)?;
         Ok(())
     }
 }

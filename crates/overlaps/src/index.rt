@@ -76,7 +76,7 @@ impl<T: HasPeriod> KeyIndex<T> {
 }
 
 impl<T: HasPeriod + Drop> KeyIndex<T> {
-    ghost use Rattle.std.specs.Prelude.{◌≡◌, ◌<◌, ◌≤◌, [], find, length, map, None, OnOk, OnErr};
+    ghost use Rattle.std.specs.Prelude.{◌≡◌, ◌<◌, ◌≤◌, ◌+◌, [], find, length, map, None, OnOk, OnErr};
     ghost use Rattle.std.specs.List.{splice};
     ghost use Rattle.model.specs.Periods.{period_of};
     ghost use Rattle.overlaps.specs.Index.{AreApart, shares_day, same_period, with_item, without_period, changed_at};
@@ -131,26 +131,25 @@ impl<T: HasPeriod + Drop> KeyIndex<T> {
         found
     }
 
-    /// Puts items in place of those of the key from the place `start` up to the place `end`, of which there is one at
-    /// least; `sharing` tells such places. The key's periods have to stay in order, with no day in two of them. Want of
-    /// memory changes nothing.
+    /// Puts items in place of so many of the key's, at least one, from the place on; `sharing` tells where they stand. The
+    /// key's periods have to stay in order, with no day in two of them. Want of memory changes nothing.
     pub fn replace(
         &mut self,
         key: &Key,
-        start: usize,
-        end: usize,
+        place: usize,
+        many: usize,
         items: Vec<T>,
     ) -> Result<(), AllocError>
-        requires some { start < end }
-        requires within { end ≤ length (items_of self.old.lines key.now) }
-        requires apart { AreApart (map T.period (splice (items_of self.old.lines key.now) start end items.items)) }
-        ensures ok { OnOk result (items_of self.new.lines ≡ changed_at key.now (λ old. splice old start end items.items) (items_of self.old.lines)) }
+        requires some { 0 < many }
+        requires within { place + many ≤ length (items_of self.old.lines key.now) }
+        requires apart { AreApart (map T.period (splice (items_of self.old.lines key.now) place (place + many) items.items)) }
+        ensures ok { OnOk result (items_of self.new.lines ≡ changed_at key.now (λ old. splice old place (place + many) items.items) (items_of self.old.lines)) }
         ensures err { OnErr result (self.new.lines.entries ≡ self.old.lines.entries) }
     {
         let Some(line) = self.lines.get_mut(key) else {
             return Ok(());
         };
-        line.replace(start, end, items)?;
+        line.replace(place, many, items)?;
         self.forget_if_empty(key);
         Ok(())
     }

@@ -1,4 +1,4 @@
-use Rattle.std.proofs.Common.{◌∙◌}
+use Rattle.std.proofs.Common.{◌+◌, ◌∙◌}
 use Rattle.std.specs.List.{splice}
 use Rattle.overlaps.proofs.Changed.{items-written, entries-written_back, on_err_too}
 use Rattle.overlaps.proofs.index.KeyIndex.replace.Goals as goal
@@ -12,4 +12,4 @@ pub returns-clause-ok : goal.returns-clause-ok
 returns-clause-ok g c =
     let w = c.replace.new.self in
     c.forget_if_empty.ensures
-    ∙ items-written c.args.self.now.lines (c.get_mut.follows.lender w) c.args.key.now c.in-Some.line.now w (λ old. splice old c.args.start c.args.end c.args.items.items) c.in-Some.ensures.value (c.get_mut.follows.holds w) c.in_ok-replace.ensures.ok
+    ∙ items-written c.args.self.now.lines (c.get_mut.follows.lender w) c.args.key.now c.in-Some.line.now w (λ old. splice old c.args.place (c.args.place + c.args.many) c.args.items.items) c.in-Some.ensures.value (c.get_mut.follows.holds w) c.in_ok-replace.ensures.ok

@@ -6,7 +6,7 @@ use Rattle.current.proofs.Cutting.{all_planned}
 use Rattle.current.proofs.TableCut.{cut_lines, cut_same, cut_length, cut_portion}
 use Rattle.current.proofs.Naming.{cut_short}
 use Rattle.current.proofs.Placed.{lines_apart}
-use Rattle.current.proofs.table.TableRows.cut.Goals as goal
+use Rattle.current.proofs.table.TableRows.cut_all.Goals as goal
 
 pub invariant_of-self : goal.invariant_of-self
 invariant_of-self c =
