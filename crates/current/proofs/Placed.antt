@@ -2,7 +2,7 @@
 use Rattle.std.proofs.Common.{◌≡◌, ℕ, ◌<◌, ◌≤◌, ◌==◌, ◌&&◌, ◌∙◌, Bool, true, false, not, List, [], ◌∷◌, Option, Some, None, map, filter, refl, sym, ap, subst, inl, inr, arith, rules, Bor}
 use Rattle.std.specs.Prelude.{find, nat_lt, is_some, option_copied, All}
 use Rattle.std.specs.List.{list_any}
-use Rattle.std.proofs.lemmas.Bool.{cases_Bool, cases_lt, lt-ltb, le-ltb, and_left, eqb-true}
+use Rattle.std.proofs.lemmas.Bool.{cases_Bool, cases_lt, lt-ltb, le-ltb, ltb-true, and_left, and_parts, eqb-true}
 use Rattle.std.proofs.lemmas.List.Elements.{All-cons}
 use Rattle.std.proofs.lemmas.List.Kept.{AllPairs-cons}
 use Rattle.std.specs.BTreeMap.{get}
@@ -15,6 +15,7 @@ use Rattle.overlaps.specs.Stored.{items_in, items_of}
 use Rattle.rowlaws.specs.Changes.{clashes}
 use Rattle.rowlaws.specs.Touching.{same_row}
 use Rattle.rowlaws.proofs.Keys.{same_key-itself}
+use Rattle.rowlaws.proofs.RowFacts.{both}
 use Rattle.rowlaws.proofs.SameRow.{same_row-true, same_row-itself}
 use Rattle.current.specs.declared.row.Row.{Row as Declared}
 use Rattle.current.specs.Rows.{row_of}
@@ -91,6 +92,63 @@ line_clashes law m k p some h =
     let e = line_items (get key_cmp m k) in
     ap (list_any (clashes k p)) e ∙ clashing law k 0 p (items_of m k) some (sym (ap (in_line k 0) e) ∙ h)
 
+-- ---- a row that is there is the one that shares a day with its own period
+
+starts_later : (k : List Value) (d : ℕ) (row : Row) (rows : List Row) → in_line k d rows ≡ true → list_any (same_row row) rows ≡ true → d ≤ row.period.start
+starts_later k d row [] h there = cc
+starts_later k d row (r ∷ rows) h there =
+    let b = begins_line k d r rows h in
+    let from = b.from in
+    let some = b.some in
+    elim (cases_Bool (same_row row r)) [
+      | inl y ↦ let e = ap (λ (x : Row). x.period.start) (same_row-true row r y) in omega arith
+      | inr n ↦
+          let e : list_any (same_row row) (r ∷ rows) ≡ list_any (same_row row) rows = rw n refl in
+          let later = starts_later k r.period.end row rows b.later (sym e ∙ there) in
+          omega arith
+    ]
+
+-- the row is the one that was found
+abbrev pub is_found : Declared → Option Declared → Bool
+is_found row None = false
+is_found row (Some r) = same_row (row_of row) (row_of r)
+
+found_there : Sharing → (k : List Value) (d : ℕ) (row : Declared) (rows : List Declared) → in_line k d (map row_of rows) ≡ true → list_any (same_row (row_of row)) (map row_of rows) ≡ is_found row (find (λ r. shares_day (days_of_row row) (days_of_row r)) rows)
+found_there law k d row [] h = refl
+found_there law k d row (r ∷ rows) h =
+    let b = begins_line k d (row_of r) (map row_of rows) h in
+    let full = row.period.ordered in
+    let is = law (days_of_row row) (days_of_row r) full b.some in
+    let rest = found_there law k r.period.end.number row rows b.later in
+    elim (cases_Bool (shares_day (days_of_row row) (days_of_row r))) [
+      | inl shared ↦ rw shared (elim (cases_Bool (same_row (row_of row) (row_of r))) [
+        | inl y ↦ rw y refl
+        | inr n ↦ rw n (elim (cases_Bool (list_any (same_row (row_of row)) (map row_of rows))) [
+          | inr none ↦ none
+          | inl there ↦
+              let before : row.period.start.number < r.period.end.number = ltb-true row.period.start.number r.period.end.number (and_parts (nat_lt r.period.start.number row.period.end.number) (nat_lt row.period.start.number r.period.end.number) (sym is ∙ shared)).1 in
+              let later : r.period.end.number ≤ row.period.start.number = starts_later k r.period.end.number (row_of row) (map row_of rows) b.later there in
+              absurd (omega arith)
+        ])
+      ])
+      | inr apart ↦
+          let other : same_row (row_of row) (row_of r) ≡ false = elim (cases_Bool (same_row (row_of row) (row_of r))) [
+            | inr n ↦ n
+            | inl y ↦
+                let some : r.period.start.number < r.period.end.number = b.some in
+                let start : row.period.start.number ≡ r.period.start.number = ap (λ (x : Row). x.period.start) (same_row-true (row_of row) (row_of r) y) in
+                let end : row.period.end.number ≡ r.period.end.number = ap (λ (x : Row). x.period.end) (same_row-true (row_of row) (row_of r) y) in
+                let yes : shares_day (days_of_row row) (days_of_row r) ≡ true = is ∙ rw (lt-ltb r.period.start.number row.period.end.number (omega arith), lt-ltb row.period.start.number r.period.end.number (omega arith)) refl in
+                absurd (both yes apart)
+          ] in
+          rw (apart, other) rest
+    ]
+
+pub found_in_line : Sharing → (m : Map) (row : Declared) → in_line row.key 0 (lines_of m row.key) ≡ true → (found : Option (Bor Declared)) → option_copied found ≡ find (λ r. shares_day (days_of_row row) (days_of_row r)) (items_of m row.key) → list_any (same_row (row_of row)) (lines_of m row.key) ≡ is_found row (option_copied found)
+found_in_line law m row h found is =
+    let e = line_items (get key_cmp m row.key) in
+    ap (list_any (same_row (row_of row))) e ∙ found_there law row.key 0 row (items_of m row.key) (sym (ap (in_line row.key 0) e) ∙ h) ∙ sym (ap (is_found row) is)
+
 -- ---- a line has no day twice
 
 all_from : (k : List Value) (c d : ℕ) (rows : List Declared) → c ≤ d → in_line k d (map row_of rows) ≡ true → All (λ (q : Period). c ≤ q.start) (map days_of_row rows)
@@ -135,20 +193,6 @@ rest_kept k d row (r ∷ rows) h l =
     let some = b.some in
     rw (other_start row.period (days_of_row r) (λ e. absurd (omega arith)), other_row (row_of r) row (λ e. absurd (omega arith)))
     (ap (λ more. row_of r ∷ more) (rest_kept k r.period.end.number row rows b.later (omega arith)))
-
-starts_later : (k : List Value) (d : ℕ) (row : Row) (rows : List Row) → in_line k d rows ≡ true → list_any (same_row row) rows ≡ true → d ≤ row.period.start
-starts_later k d row [] h there = cc
-starts_later k d row (r ∷ rows) h there =
-    let b = begins_line k d r rows h in
-    let from = b.from in
-    let some = b.some in
-    elim (cases_Bool (same_row row r)) [
-      | inl y ↦ let e = ap (λ (x : Row). x.period.start) (same_row-true row r y) in omega arith
-      | inr n ↦
-          let e : list_any (same_row row) (r ∷ rows) ≡ list_any (same_row row) rows = rw n refl in
-          let later = starts_later k r.period.end row rows b.later (sym e ∙ there) in
-          omega arith
-    ]
 
 itself : (p : Period) → same_period p p ≡ true
 itself p = search rules

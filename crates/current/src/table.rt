@@ -8,7 +8,6 @@ ghost use Rattle.model.specs.declared.value.Value.{Value};
 ghost use Rattle.model.specs.Values.{key_cmp};
 ghost use Rattle.current.specs.Stored.{lines_of, rows_in, in_line};
 
-use crate::compare::has_row;
 use crate::cut::Cut;
 use crate::line::{Changes, cut_line};
 use crate::lines::{keys_in_order, line, put_row, take_row};
@@ -43,7 +42,7 @@ impl TableRows {
     ghost use Rattle.rowlaws.specs.Changes.{clashes};
     ghost use Rattle.current.specs.Rows.{row_of};
     ghost use Rattle.current.specs.Table.{rows_of_table, IsWith, IsInserted, IsInsertRefused, IsCut, IsCutRefused, IsWithout, IsJoined, CanPut, CanUndo, HaveSame};
-    ghost use Rattle.rowlaws.specs.Touching.{rows_without};
+    ghost use Rattle.rowlaws.specs.Touching.{rows_without, same_row};
     ghost use Rattle.current.specs.Cuts.{change_of_cut, is_met};
     ghost use Rattle.current.specs.Stored.{lines_of, line_in};
     ghost use Rattle.model.specs.Periods.{period_of, StartInOrder};
@@ -180,11 +179,23 @@ impl TableRows {
         }
     }
 
+    // Whether the row is there. It is searched for by halves, as `KeyIndex::find` does.
+    fn has(&self, row: &Row, count: &mut Count) -> bool
+        ensures there { result ≡ list_any (same_row (row_of row.now)) (lines_of self.now.index.lines row.now.key) }
+        ensures few { (digits : ℕ) → length (lines_of self.now.index.lines row.now.key) < 2 ^ digits → count.new ≤ count.old + digits + 1 }
+    {
+        overlaps::laws::sharing_is_overlap();
+        match self.index.find(&row.key, row.period, count) {
+            Some(found) => row.is_same(found),
+            None => false,
+        }
+    }
+
     // Takes a row out, if it is there.
     fn take(&mut self, row: &Row)
         ensures { IsWithout (row_of row.now ∷ []) (rows_of_table self.old) (rows_of_table self.new) }
     {
-        if !has_row(line(&self.index.lines, &row.key), row) {
+        if !self.has(row, &mut Count::new()) {
             return;
         }
         take_row(&mut self.index, row);

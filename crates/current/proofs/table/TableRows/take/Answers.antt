@@ -1,33 +1,32 @@
-use Rattle.std.proofs.Common.{◌≡◌, ◌∙◌, ap, sym, arith}
+use Rattle.std.proofs.Common.{◌≡◌, ◌∙◌, sym, arith}
 use Rattle.std.specs.List.{list_any}
 use Rattle.rowlaws.specs.Touching.{same_row}
 use Rattle.current.specs.Rows.{row_of}
 use Rattle.current.specs.Stored.{lines_of, rows_in}
-use Rattle.rowlaws.proofs.Anys.{any_map}
 use Rattle.current.proofs.Undoing.{not_there, not_in_line, in_line_there, take_in_lines, row_taken, length_taken}
 use Rattle.current.proofs.table.TableRows.take.Goals as goal
 
-pub returns-then-not-has_row : goal.returns-then-not-has_row
-returns-then-not-has_row c =
+pub returns-then-not-has : goal.returns-then-not-has
+returns-then-not-has c =
     let s = c.args.self.now in
     let row = row_of c.args.row.now in
-    let test : list_any (same_row row) (lines_of s.index.lines row.key) ≡ c.has_row.result = ap (list_any (same_row row)) (sym c.line.ensures) ∙ any_map (same_row row) row_of c.line.result.now ∙ sym c.has_row.ensures in
-    not_there row (rows_in s.index.lines.entries) (not_in_line s.index.lines s.ordered s.in_lines row (test ∙ c.if-not-has_row.true))
+    let test : list_any (same_row row) (lines_of s.index.lines row.key) ≡ c.has.result = sym c.has.ensures.there in
+    not_there row (rows_in s.index.lines.entries) (not_in_line s.index.lines s.ordered s.in_lines row (test ∙ c.if-not-has.true))
 
 pub take_row-requires-clause-there : goal.take_row-requires-clause-there
 take_row-requires-clause-there c =
     let s = c.args.self.now in
     let row = row_of c.args.row.now in
-    ap (list_any (same_row row)) (sym c.line.ensures) ∙ any_map (same_row row) row_of c.line.result.now ∙ sym c.has_row.ensures ∙ c.if-not-has_row.false
+    sym c.has.ensures.there ∙ c.if-not-has.false
 
 pub overflow_sub-self : goal.overflow_sub-self
 overflow_sub-self c =
     let s = c.args.self.now in
     let row = row_of c.args.row.now in
     let n = c.take_row.new.index.lines in
-    let test : list_any (same_row row) (lines_of s.index.lines row.key) ≡ c.has_row.result = ap (list_any (same_row row)) (sym c.line.ensures) ∙ any_map (same_row row) row_of c.line.result.now ∙ sym c.has_row.ensures in
+    let test : list_any (same_row row) (lines_of s.index.lines row.key) ≡ c.has.result = sym c.has.ensures.there in
     let in' = take_in_lines row (lines_of s.index.lines) (lines_of n) c.take_row.ensures s.in_lines in
-    let long = length_taken s.index.lines n s.ordered c.keys_in_order.ensures s.in_lines in' row c.take_row.ensures (in_line_there s.index.lines s.ordered s.in_lines row c.has_row.result test c.if-not-has_row.false) in
+    let long = length_taken s.index.lines n s.ordered c.keys_in_order.ensures s.in_lines in' row c.take_row.ensures (in_line_there s.index.lines s.ordered s.in_lines row c.has.result test c.if-not-has.false) in
     let count = s.counted in
     omega (arith, long, count)
 
@@ -36,9 +35,9 @@ invariant_of-self c =
     let s = c.args.self.now in
     let row = row_of c.args.row.now in
     let n = c.take_row.new.index.lines in
-    let test : list_any (same_row row) (lines_of s.index.lines row.key) ≡ c.has_row.result = ap (list_any (same_row row)) (sym c.line.ensures) ∙ any_map (same_row row) row_of c.line.result.now ∙ sym c.has_row.ensures in
+    let test : list_any (same_row row) (lines_of s.index.lines row.key) ≡ c.has.result = sym c.has.ensures.there in
     let in' = take_in_lines row (lines_of s.index.lines) (lines_of n) c.take_row.ensures s.in_lines in
-    let long = length_taken s.index.lines n s.ordered c.keys_in_order.ensures s.in_lines in' row c.take_row.ensures (in_line_there s.index.lines s.ordered s.in_lines row c.has_row.result test c.if-not-has_row.false) in
+    let long = length_taken s.index.lines n s.ordered c.keys_in_order.ensures s.in_lines in' row c.take_row.ensures (in_line_there s.index.lines s.ordered s.in_lines row c.has.result test c.if-not-has.false) in
     let count = s.counted in
     record {
       ordered = c.keys_in_order.ensures;
