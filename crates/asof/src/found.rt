@@ -107,7 +107,7 @@ fn found_of_all<'a>(
 {
     let mut found = Vec::new(alloc);
     for (_, list) in table.lists() {
-        add_found(list, time, terms, &mut found, count)?;
+        add_found(list.versions(), time, terms, &mut found, count)?;
     }
     Ok(found)
 }

@@ -1,5 +1,5 @@
 -- The versions of a table, some of which end, and rows of a key.
-use Rattle.std.proofs.Common.{◌≡◌, ℕ, suc, ◌<◌, ◌==◌, Bool, true, false, ◌&&◌, ◌||◌, cond, List, [], ◌∷◌, ◌++◌, map, filter, length, get_or, Some, is_none, refl, sym, ap, ◌∙◌, subst, inl, inr, arith}
+use Rattle.std.proofs.Common.{◌≡◌, ℕ, ◌==◌, Bool, true, false, ◌&&◌, ◌||◌, cond, List, [], ◌∷◌, ◌++◌, map, filter, Some, is_none, refl, sym, ap, ◌∙◌, subst, inl, inr}
 use Rattle.std.proofs.lemmas.Bool.{cases_Bool, and_parts}
 use Rattle.std.proofs.lemmas.List.{append-nil}
 use Rattle.std.proofs.lemmas.List.Elements.{filter-append}
@@ -13,12 +13,7 @@ use Rattle.versionlaws.specs.Versions.{Version}
 use Rattle.versionlaws.specs.ByKey.{is_of}
 use Rattle.versionlaws.specs.Committing.{is_at, ended, opened, committed}
 use Rattle.sysversion.specs.Lists.{rows_of}
-
-pub each_ended : {A B : Type 0} (f : A → B) (g : B → B) (xs ys : List A) → length xs ≡ length ys → ((k : ℕ) (d : A) → k < length xs → f (get_or xs k d) ≡ g (f (get_or ys k d))) → map f xs ≡ map g (map f ys)
-each_ended f g [] [] e h = refl
-each_ended f g [] (y ∷ ys) e h = absurd (omega arith)
-each_ended f g (x ∷ xs) [] e h = absurd (omega arith)
-each_ended f g (x ∷ xs) (y ∷ ys) e h = λ i. h 0 x (omega arith) i ∷ each_ended f g xs ys (omega arith) (λ k d l. h (suc k) d (omega arith)) i
+use Rattle.sysversion.specs.Open.{is_open_from, ended_from}
 
 and_false : (b : Bool) → (b && false) ≡ false
 and_false true = refl
@@ -34,6 +29,16 @@ ends b t v = cond b (record { row = v.row; end = Some t }) v
 -- the version ends with one row where it is open and the row is at its place
 pub ends_at : (t : ℕ) (r : Row) (v : Version) (b : Bool) → (is_none v.end && is_at v.row r) ≡ b → ended t (r ∷ []) v ≡ ends b t v
 ends_at t r v b e = ap (λ c. ends (is_none v.end && c) t v) (or_false (is_at v.row r)) ∙ ap (λ c. ends c t v) e
+
+-- of a row's key, those end that are open and start with it
+at_start : (t : ℕ) (r : Row) (v : Version) → is_of r.key v ≡ true → ended_from t r.period.start v ≡ ended t (r ∷ []) v
+at_start t r v mine = sym (ends_at t r v (is_open_from r.period.start v) (ap (λ b. is_none v.end && (b && (v.row.period.start == r.period.start))) mine))
+
+pub all_at_start : (t : ℕ) (r : Row) (versions : List Version) → list_all (is_of r.key) versions ≡ true → map (ended_from t r.period.start) versions ≡ map (ended t (r ∷ [])) versions
+all_at_start t r [] all = refl
+all_at_start t r (v ∷ versions) all =
+    let parts = and_parts (is_of r.key v) (list_all (is_of r.key) versions) all in
+    λ i. at_start t r v parts.0 i ∷ all_at_start t r versions parts.1 i
 
 ends_none : (t : ℕ) (v : Version) → ended t [] v ≡ v
 ends_none t v = ap (λ b. ends b t v) (and_false (is_none v.end))

@@ -3,3 +3,4 @@ pub mod Changed
 pub mod OfKey
 pub mod Kept
 pub mod Tabled
+pub mod Open

@@ -1,11 +1,13 @@
 //! Versions of all rows that ever were current, with their system times.
 #![tactic(auto)]
 
+pub mod key_versions;
 pub mod lists;
 pub mod table;
 pub mod version;
 pub mod versions;
 
+pub use key_versions::KeyVersions;
 pub use lists::Lists;
 pub use table::TableVersions;
 pub use version::Version;

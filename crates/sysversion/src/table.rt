@@ -13,7 +13,7 @@ use crate::version::Version;
 use current::{Changes, Row};
 use model::stamp::Stamp;
 use overlaps::Key;
-use overlaps::counted::Counted;
+use overlaps::counted::{Count, Counted};
 use std::alloc::{AllocError, Global};
 use std::collections::BTreeMap;
 
@@ -30,7 +30,7 @@ pub struct TableVersions {
 }
 
 impl TableVersions {
-    ghost use Rattle.std.specs.Prelude.{◌≡◌, ℕ, ◌≤◌, ◌++◌, ◌∷◌, [], map, max, filter, length, OnOk, OnErr};
+    ghost use Rattle.std.specs.Prelude.{◌≡◌, ℕ, ◌≤◌, ◌+◌, ◌++◌, ◌∷◌, [], map, max, filter, length, OnOk, OnErr};
     ghost use Rattle.std.specs.Option.{option_map_or};
     ghost use Rattle.rowlaws.specs.Rows.{Has};
     ghost use Rattle.current.specs.Rows.{row_of};
@@ -39,6 +39,7 @@ impl TableVersions {
     ghost use Rattle.versionlaws.specs.ByKey.{is_of, SameByKey};
     ghost use Rattle.versionlaws.specs.Committing.{ended, opened, committed};
     ghost use Rattle.sysversion.specs.Lists.{version_of, with_list, rows_of, versions_in};
+    ghost use Rattle.sysversion.specs.Open.{open_from};
     ghost use Rattle.sysversion.specs.Versions.{list_of, versions_of_table};
 
     /// No versions. Takes no memory.
@@ -52,11 +53,12 @@ impl TableVersions {
         }
     }
 
-    // Ends the open version of a row that goes.
-    fn end(&mut self, row: &Row, t: Stamp)
-        ensures { list_of self.new ≡ with_list row.now.key (map (ended t (row_of row.now ∷ [])) (list_of self.old row.now.key)) (list_of self.old) }
+    // Ends the open version of a row that goes, and reads no other.
+    fn end(&mut self, row: &Row, t: Stamp, count: &mut Count)
+        ensures ended { list_of self.new ≡ with_list row.now.key (map (ended t (row_of row.now ∷ [])) (list_of self.old row.now.key)) (list_of self.old) }
+        ensures few { count.new ≤ count.old + length (open_from (row_of row.now).period.start (list_of self.old row.now.key)) }
     {
-        end_row(&mut self.lists, row, t);
+        end_row(&mut self.lists, row, t, count);
     }
 
     // Adds an open version of a row that comes.
@@ -76,8 +78,9 @@ impl TableVersions {
     fn end_all(&mut self, removed: &[Row], t: Stamp)
         ensures { (key : List Value) → list_of self.new key ≡ map (ended t (rows_of key (map row_of removed.now))) (list_of self.old key) }
     {
+        let mut count = Count::new();
         for row in removed {
-            self.end(row, t);
+            self.end(row, t, &mut count);
         }
     }
 
@@ -91,8 +94,8 @@ impl TableVersions {
         Ok(())
     }
 
-    /// Ends the open versions of the rows that go, and adds an open version for each row that comes. Only versions of
-    /// their keys are looked at. Want of memory may leave some of it out.
+    /// Ends the open versions of the rows that go, and adds an open version for each row that comes. Of the versions only
+    /// those that end are read: each is looked up by its key and start. Want of memory may leave some of it out.
     pub(crate) fn commit(&mut self, changes: Changes, t: Stamp) -> Result<(), AllocError>
         ensures { OnOk result (SameByKey (versions_of_table self.new) (committed t (removed_of changes) (added_of changes) (versions_of_table self.old))) }
     {
@@ -114,7 +117,7 @@ impl TableVersions {
         ensures { option_map_or (λ list. map version_of list.now) result [] ≡ filter (is_of key.now) (versions_of_table self.now) }
     {
         match self.lists.get(key) {
-            Some(list) => Some(list),
+            Some(list) => Some(list.versions()),
             None => None,
         }
     }

@@ -1,7 +1,6 @@
 //! Versions of rows.
-ghost use Rattle.std.specs.Prelude.{◌≡◌, ◌∷◌, []};
+ghost use Rattle.std.specs.Prelude.{◌≡◌};
 ghost use Rattle.current.specs.Rows.{row_of};
-ghost use Rattle.versionlaws.specs.Committing.{is_at, ended};
 ghost use Rattle.sysversion.specs.Lists.{version_of};
 
 use current::Row;
@@ -15,20 +14,11 @@ pub struct Version {
     pub end: Option<Stamp>,
 }
 
-// Whether the two rows have the same key and start.
-fn is_at(row: &Row, other: &Row) -> bool
-    ensures { result ≡ is_at (row_of row.now) (row_of other.now) }
-{
-    row.key == other.key && row.period.start.number == other.period.start.number
-}
-
 impl Version {
-    /// Ends the version at an instant if it is open and the row that goes has its row's key and start.
-    pub(crate) fn end_with(&mut self, removed: &Row, t: Stamp)
-        ensures { version_of self.new ≡ ended t (row_of removed.now ∷ []) (version_of self.old) }
+    /// Ends the version at an instant.
+    pub(crate) fn end_at(&mut self, t: Stamp)
+        ensures { version_of self.new ≡ record { row = row_of self.old.row; end = Some t } }
     {
-        if self.end.is_none() && is_at(&self.row, removed) {
-            self.end = Some(t);
-        }
+        self.end = Some(t);
     }
 }

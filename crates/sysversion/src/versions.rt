@@ -69,8 +69,11 @@ impl Versions {
     }
 
     /// Takes in what a transaction at an instant touched: the versions of the rows that went end then, and the rows
-    /// that came begin as open versions. Only versions of their keys are looked at. What is touched of a table that is
-    /// not there is passed over.
+    /// that came begin as open versions. What is touched of a table that is not there is passed over.
+    ///
+    /// Of the versions only those that end are read: each is looked up by its key and start, in a set of its key's open
+    /// versions. So a commit costs the rows that it is given, each times the digits of the numbers of keys and of a key's
+    /// open versions, however many have ended.
     ///
     /// Want of memory may leave some of it out: the value has then failed, and each later commit is refused.
     pub fn commit(&mut self, touched: Touched, t: Stamp) -> Result<(), AllocError>

@@ -15,7 +15,7 @@ loop-row-preserved c key =
     let i = c.loop-row.row-index in
     let row = c.row-item.result in
     let here = drop_here removed i row c.loop-row-test.true c.row-item.is in
-    end_more t (row_of row) (list_of c.loop-row.self) (list_of c.end.new.self) c.end.ensures (map row_of (drop (i + 1) removed)) key
+    end_more t (row_of row) (list_of c.loop-row.self) (list_of c.end.new.self) c.end.ensures.ended (map row_of (drop (i + 1) removed)) key
     ∙ ap (λ rs. map (ended t (rows_of key (map row_of rs))) (list_of c.loop-row.self key)) (sym here)
     ∙ c.loop-row.invariant key
 
