@@ -1,5 +1,5 @@
 //! A member over a keeper.
-ghost use Rattle.std.specs.Prelude.{◌≡◌, ◌≤◌, true, false, take, slice_range, if◌then◌else◌, Some, None, IfOk, IfErr, OnOk, OnErr, MatchOption};
+ghost use Rattle.std.specs.Prelude.{◌≡◌, ◌≤◌, ◌⊎◌, true, false, take, slice_range, if◌then◌else◌, Some, None, IfOk, IfErr, OnOk, OnErr, MatchOption};
 ghost use Rattle.std.specs.Coded.{→_prop};
 ghost use Rattle.keep.specs.Log.{IsSmall};
 ghost use Rattle.sqlread.specs.Meaning.{schema_of};
@@ -152,9 +152,9 @@ impl<K: Keeper> Node<K> {
     /// which knows of no leader and has applied nothing. `me` is one of the group: from 1 to `members`, of
     /// which there are up to 7; the caller sees to this, and to what the keeper asks of an image.
     ///
-    /// `StoreFault` where the store fails, `NoMemory` where memory is refused, `BadStore` where the
-    /// image holds no state of a member of such a group. An error gives the image back, and what it
-    /// holds is as it was.
+    /// `StoreFault` where the store fails, `NoMemory` where memory is refused, `BadStore` where the keeper's
+    /// open finds that the image holds no state of a member of such a group, or the store was not honest, so
+    /// that the image holds nothing. An error gives the image back, and what it holds is as it was.
     pub fn start(
         alloc: Global,
         image: K::Image,
@@ -170,6 +170,7 @@ impl<K: Keeper> Node<K> {
         ensures group { IfOk result (λ n. (n.is_up ≡ true) × (n.core.schema ≡ schema) × (n.core.members ≡ members) × (n.core.me ≡ me)) }
         ensures back { IfErr result (λ e. (d : Durable) → K.holds e.1 d → K.holds image d) }
         ensures suits { IfErr result (λ e. K.suits e.1 members (schema_of schema)) }
+        ensures bad { IfErr result (λ e. e.0 ≡ StoreError.BadStore → K.is_bad e.1 members (schema_of schema) ⊎ ((d : Durable) → K.holds e.1 d → ⊥)) }
         ensures not_down { IfErr result (λ e. e.0 ≡ StoreError.NodeDown → ⊥) }
     {
         let Ok(tables) = Tables::new(alloc, &schema) else {

@@ -1,5 +1,5 @@
 //! What a keeper has stored, read as a node starts.
-ghost use Rattle.std.specs.Prelude.{◌≡◌, ℕ, true, Some, slice_get, take, IfOk, IfErr, OnOk};
+ghost use Rattle.std.specs.Prelude.{◌≡◌, ◌<◌, ℕ, true, Some, None, length, slice_get, take, IfOk, IfErr, OnOk};
 ghost use Rattle.sqlread.specs.Meaning.{schema_of};
 ghost use Rattle.model.specs.Transactions.{Schema as Tables};
 ghost use Rattle.keep.specs.Durable.{Durable};
@@ -32,6 +32,7 @@ fn entry_at<K: Keeper>(alloc: Global, keeper: &mut K, before: usize) -> Result<E
     ensures left { (d : Durable) → K.may_hold keeper.new d → K.may_hold keeper.old d }
     ensures serves { (members : ℕ) (tables : Tables) → K.serves keeper.old members tables → K.serves keeper.new members tables }
     ensures not_down { IfErr result (λ e. e ≡ StoreError.NodeDown → ⊥) }
+    ensures bad { IfErr result (λ e. e ≡ StoreError.BadStore → K.is_honest keeper.new → slice_get (K.stored keeper.old).log before ≡ None) }
 {
     match keeper.entry(alloc, before)? {
         Some(entry) => Ok(entry),
@@ -39,7 +40,8 @@ fn entry_at<K: Keeper>(alloc: Global, keeper: &mut K, before: usize) -> Result<E
     }
 }
 
-/// The first entries of the log, so many of them.
+/// The first entries of the log, so many of them. `BadStore` where there are fewer, as may be with a store that is not
+/// honest.
 fn first_entries<K: Keeper>(
     alloc: Global,
     keeper: &mut K,
@@ -53,6 +55,7 @@ fn first_entries<K: Keeper>(
     ensures left { (d : Durable) → K.may_hold keeper.new d → K.may_hold keeper.old d }
     ensures serves { (members : ℕ) (tables : Tables) → K.serves keeper.old members tables → K.serves keeper.new members tables }
     ensures not_down { IfErr result (λ e. e ≡ StoreError.NodeDown → ⊥) }
+    ensures bad { IfErr result (λ e. e ≡ StoreError.BadStore → K.is_honest keeper.new → length (K.stored keeper.old).log < count) }
 {
     let mut log = Vec::new(alloc);
     for before in 0..count {
@@ -80,6 +83,7 @@ pub(crate) fn read_stored<K: Keeper>(
     ensures left { (d : Durable) → K.may_hold keeper.new d → K.may_hold keeper.old d }
     ensures serves { (members : ℕ) (tables : Tables) → K.serves keeper.old members tables → K.serves keeper.new members tables }
     ensures not_down { IfErr result (λ e. e ≡ StoreError.NodeDown → ⊥) }
+    ensures bad { IfErr result (λ e. e ≡ StoreError.BadStore → K.serves keeper.old members (schema_of schema.now) → K.is_honest keeper.new → ⊥) }
 {
     let State {
         hard,

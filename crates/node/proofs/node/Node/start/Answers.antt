@@ -1,4 +1,4 @@
-use Rattle.std.proofs.Common.{subst, sym, ◌≡◌}
+use Rattle.std.proofs.Common.{inr, subst, sym, ◌≡◌}
 use Rattle.std.proofs.lemmas.Grind.{merely}
 use Rattle.keep.specs.Durable.{Durable}
 use Rattle.sqlread.specs.Meaning.{schema_of}
@@ -15,3 +15,8 @@ returns-in-Err-clause-back g c = λ d held.
     let is : d ≡ g.K.Shelf.stored c.in_ok-keeper.keeper = g.met.K.Shelf.only_stored _ d c.in_ok-keeper.ensures.up may in
     let P : Durable → Type 0 = g.K.Keeper.holds c.args.image in
     subst P (sym is) (c.in_ok-keeper.ensures.found (g.met.K.Shelf.only_honest _ d may))
+
+pub returns-in-Err-clause-bad : goal.returns-in-Err-clause-bad
+returns-in-Err-clause-bad g c = λ is. inr (λ d held.
+    let honest = g.met.K.Shelf.only_honest _ d (c.close.ensures.holds d held) in
+    c.in-Err.ensures.bad is c.in_ok-keeper.ensures.serves honest)
