@@ -62,7 +62,7 @@ none_met law cut (r ∷ rows) h = let p = parts_or _ _ h in rw (unmet_apart law 
 
 -- ---- a line of which a stretch is cut
 
-map_append : {A B : Type 0} (f : A → B) (xs ys : List A) → map f (xs ++ ys) ≡ map f xs ++ map f ys
+pub map_append : {A B : Type 0} (f : A → B) (xs ys : List A) → map f (xs ++ ys) ≡ map f xs ++ map f ys
 map_append f [] ys = refl
 map_append f (x ∷ xs) ys = ap (λ zs. f x ∷ zs) (map_append f xs ys)
 

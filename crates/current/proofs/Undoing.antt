@@ -84,12 +84,12 @@ not_in_line m om im row h there = both (has_any (same_row row) (lines_of m row.k
 
 -- ---- one after another
 
--- taken from the rows, the row and those to come are as those to come taken from what is left
-pub take_more : (row : Row) (rest rows now more : List Row) (all : List Row) → IsWithout (row ∷ []) now more → ((r : Row) → (Has now r × (Has (row ∷ rest) r → ⊥) → Has rows r × (Has all r → ⊥)) × (Has rows r × (Has all r → ⊥) → Has now r × (Has (row ∷ rest) r → ⊥)))
+-- taken from the rows, those to come and the row after them are as those to come taken from what is left
+pub take_more : (row : Row) (left rest rows now more : List Row) (all : List Row) → left ≡ rest ++ row ∷ [] → IsWithout (row ∷ []) now more → ((r : Row) → (Has now r × (Has left r → ⊥) → Has rows r × (Has all r → ⊥)) × (Has rows r × (Has all r → ⊥) → Has now r × (Has left r → ⊥)))
     → (r : Row) → (Has more r × (Has rest r → ⊥) → Has rows r × (Has all r → ⊥)) × (Has rows r × (Has all r → ⊥) → Has more r × (Has rest r → ⊥))
-take_more row rest rows now more all step h r = (
-  (λ g. let w = (step r).0 g.0 in (h r).0 (w.0, λ i. elim i [ inl j ↦ w.1 (inl j) | inr k ↦ g.1 k ])),
-  (λ g. let w = (h r).1 g in ((step r).1 (w.0, λ i. elim i [ inl j ↦ w.1 (inl j) | inr z ↦ z ]), λ k. w.1 (inr k))),
+take_more row left rest rows now more all parts step h r = (
+  (λ g. let w = (step r).0 g.0 in (h r).0 (w.0, λ i. elim (has_cases rest (row ∷ []) r (subst (λ rs. Has rs r) parts i)) [ inl k ↦ g.1 k | inr j ↦ w.1 j ])),
+  (λ g. let w = (h r).1 g in ((step r).1 (w.0, λ j. w.1 (subst (λ rs. Has rs r) (sym parts) (has_right rest (row ∷ []) r j))), λ k. w.1 (subst (λ rs. Has rs r) (sym parts) (has_left rest (row ∷ []) r k)))),
 )
 
 pub put_clear : (row : Row) (rest rows : List Row) → CanPut rows (row ∷ rest) → list_any (clashes row.key row.period) rows ≡ false

@@ -203,12 +203,14 @@ impl TableRows {
         self.count -= 1;
     }
 
-    // Takes rows out.
+    // Takes rows out, the last of them first: where all rows of a key go, none has to be moved then.
     fn take_all(&mut self, rows: &[Row])
         ensures { IsWithout (map row_of rows.now) (rows_of_table self.old) (rows_of_table self.new) }
     {
-        for row in rows {
+        let mut left = rows;
+        while let Some((row, others)) = left.split_last() {
             self.take(row);
+            left = others;
         }
     }
 

@@ -1,4 +1,4 @@
-use Rattle.std.proofs.Common.{drop, map}
+use Rattle.std.proofs.Common.{map, length}
 use Rattle.model.specs.Tables.{Row}
 use Rattle.rowlaws.specs.Rows.{Has}
 use Rattle.current.specs.Rows.{row_of}
@@ -7,5 +7,8 @@ use Rattle.current.proofs.table.TableRows.take_all.Given as goal
 
 abbrev pub invariant-loop-row : goal.invariant-loop-row
 invariant-loop-row l = (r : Row) →
-    ((Has (rows_of_table l.self) r × (Has (map row_of (drop l.row-index l.rows)) r → ⊥)) → (Has (rows_of_table l.fn.self) r × (Has (map row_of l.rows) r → ⊥)))
-    × ((Has (rows_of_table l.fn.self) r × (Has (map row_of l.rows) r → ⊥)) → (Has (rows_of_table l.self) r × (Has (map row_of (drop l.row-index l.rows)) r → ⊥)))
+    ((Has (rows_of_table l.self) r × (Has (map row_of l.left) r → ⊥)) → (Has (rows_of_table l.fn.self) r × (Has (map row_of l.fn.rows) r → ⊥)))
+    × ((Has (rows_of_table l.fn.self) r × (Has (map row_of l.fn.rows) r → ⊥)) → (Has (rows_of_table l.self) r × (Has (map row_of l.left) r → ⊥)))
+
+abbrev pub decreases-loop-row : goal.decreases-loop-row
+decreases-loop-row l = length l.left
