@@ -23,3 +23,4 @@ pub mod Checked
 pub mod Suspected
 pub mod Sets
 pub mod States
+pub mod Meeting
