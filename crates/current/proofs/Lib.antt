@@ -24,3 +24,4 @@ pub mod Checked
 pub mod Suspected
 pub mod Sets
 pub mod States
+pub mod Meeting

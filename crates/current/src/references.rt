@@ -1,10 +1,11 @@
 //! Foreign keys: the first day of a row that has no parent.
-ghost use Rattle.std.specs.Prelude.{◌≡◌, ◌<◌, map, find, length, slice_get, IfOk, IfSome};
+ghost use Rattle.std.specs.Prelude.{◌≡◌, ◌<◌, ◌≤◌, ℕ, map, find, length, slice_get, slice_range, IfOk, IfSome};
 ghost use Rattle.std.specs.Option.{option_map, option_and_then, option_copied};
-ghost use Rattle.model.specs.Periods.{period_of, is_free, StartInOrder};
+ghost use Rattle.model.specs.Periods.{period_of, is_free};
 ghost use Rattle.model.specs.Statements.{days_of};
 ghost use Rattle.rowlaws.specs.Covering as covering;
 ghost use Rattle.rowlaws.specs.Covering.{periods_of, rows_orphan};
+ghost use Rattle.overlaps.specs.Index.{AreApart};
 ghost use Rattle.sqlchecks.specs.Columns.{field_at, kept_at};
 ghost use Rattle.sqlread.specs.Meaning.{values_at, reference_of, references_from, schema_of};
 ghost use Rattle.current.specs.Rows.{row_of};
@@ -64,7 +65,7 @@ fn referred_key(
 }
 
 // The periods of rows.
-pub(crate) fn periods(alloc: Global, rows: &[Row]) -> Result<Vec<Period>, AllocError>
+fn periods(alloc: Global, rows: &[Row]) -> Result<Vec<Period>, AllocError>
     ensures { IfOk result (λ periods. map period_of periods.items ≡ map (λ r. r.period) (map row_of rows.now)) }
 {
     let mut periods = Vec::new(alloc);
@@ -82,14 +83,50 @@ pub(crate) fn table_at(tables: &[TableRows], place: usize) -> Option<&TableRows>
 }
 
 // The rows of a key, of a table that may not be there.
-pub(crate) fn rows_of_key<'a>(tables: &'a [TableRows], table: usize, key: &Key) -> &'a [Row]
+fn rows_of_key<'a>(tables: &'a [TableRows], table: usize, key: &Key) -> &'a [Row]
     ensures periods { map (λ r. r.period) (map row_of result.now) ≡ periods_of (rows_at rows_of_table tables.now table) key.now }
-    ensures in_order { StartInOrder (map (λ r. r.period) (map row_of result.now)) }
+    ensures apart { AreApart (map (λ r. period_of r.period) result.now) }
 {
     match table_at(tables, table) {
         Some(rows) => rows.rows_of_key(key),
         None => &[],
     }
+}
+
+// The rows from one place up to another.
+fn part(rows: &[Row], from: usize, to: usize) -> &[Row]
+    requires in_turn { from ≤ to }
+    requires within { to ≤ length rows.now }
+    ensures { result.now ≡ slice_range rows.now from to }
+{
+    &rows[from..to]
+}
+
+// Those of a key's rows that have a day of the period. They stand together, and are found by halves.
+fn rows_meeting(rows: &[Row], period: Period) -> &[Row]
+    requires { AreApart (map (λ r. period_of r.period) rows.now) }
+    ensures free { (d : ℕ) → period.start.number ≤ d → d < period.end.number → is_free (map (λ r. period_of r.period) result.now) d ≡ is_free (map (λ r. period_of r.period) rows.now) d }
+    ensures apart { AreApart (map (λ r. period_of r.period) result.now) }
+{
+    let from = rows.partition_point(|row| row.period.end.number <= period.start.number);
+    let to = rows.partition_point(|row| row.period.start.number < period.end.number);
+    part(rows, from, to)
+}
+
+/// The least day of a period that no row of the key has. The key's rows that have a day of the period are found by
+/// halves, and no others are looked at.
+pub(crate) fn first_free_day(
+    alloc: Global,
+    tables: &[TableRows],
+    table: usize,
+    key: &Key,
+    period: Period,
+) -> Result<Option<Day>, AllocError>
+    ensures { IfOk result (λ day. option_map (λ d. d.number) day ≡ find (is_free (periods_of (rows_at rows_of_table tables.now table) key.now)) (days_of (period_of period))) }
+{
+    let rows = rows_of_key(tables, table, key);
+    let periods = periods(alloc, rows_meeting(rows, period))?;
+    Ok(covered(period, periods.as_slice()).err())
 }
 
 // The least day of a row that no parent has, by one foreign key of its table.
@@ -103,9 +140,7 @@ fn missing_by(
     ensures { IfOk result (λ day. option_map (λ d. d.number) day ≡ find (is_free (periods_of (rows_at rows_of_table tables.now reference.now.parent) (values_at table.now reference.now.columns row.now.key row.now.values.items))) (days_of (period_of row.now.period))) }
 {
     let key = referred_key(alloc, table, reference.columns(), row)?;
-    let parents = rows_of_key(tables, reference.parent(), &key);
-    let periods = periods(alloc, parents)?;
-    Ok(covered(row.period, periods.as_slice()).err())
+    first_free_day(alloc, tables, reference.parent(), &key, row.period)
 }
 
 // The lesser day, where there is one.

@@ -24,17 +24,17 @@ ghost use Rattle.current.specs.Touched.{removed_in, added_in};
 ghost use Rattle.current.specs.Suspects.{IsFirstPicked};
 
 use crate::lines::line;
-use crate::references::{Place, missing_in_rows, missing_in_table, periods, rows_of_key, table_at};
+use crate::references::{Place, first_free_day, missing_in_rows, missing_in_table, table_at};
 use crate::row::Row;
 use crate::table::TableRows;
 use crate::touched::Touched;
 use overlaps::Key;
-use refer::covered;
 use schema::{Schema, Table};
 use std::alloc::{AllocError, Global};
 use std::collections::BTreeSet;
 
-// Whether a row that went has a day that no row of its key has now.
+// Whether a row that went has a day that no row of its key has now. Of these only those are looked at that have a day
+// of it.
 fn has_lost_day(
     alloc: Global,
     tables: &[TableRows],
@@ -43,9 +43,8 @@ fn has_lost_day(
 ) -> Result<bool, AllocError>
     ensures { IfOk result (λ lost. lost ≡ losing.has_lost_day (rows_at rows_of_table tables.now table) (row_of row.now)) }
 {
-    let rows = rows_of_key(tables, table, &row.key);
-    let periods = periods(alloc, rows)?;
-    Ok(covered(row.period, periods.as_slice()).is_err())
+    let day = first_free_day(alloc, tables, table, &row.key, row.period)?;
+    Ok(day.is_some())
 }
 
 // Whether one of these rows that went from a table has such a day.
