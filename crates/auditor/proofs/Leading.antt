@@ -1,5 +1,6 @@
 -- Moments that happened, one more at a time.
-use Rattle.std.proofs.Common.{◌≡◌, ◌∙◌, ℕ, List, [], ◌∷◌, ◌++◌, refl, sym, ap, subst, append-nil, append_assoc}
+use Rattle.std.proofs.Common.{◌≡◌, ◌∙◌, ℕ, List, [], ◌∷◌, ◌++◌, refl, sym, ap, subst, append-nil, append_assoc, ◌<◌, suc, length, take, drop, get_or, inl, inr, Result, Ok, Err}
+use Rattle.std.specs.Prelude.{IfErr}
 use Rattle.std.specs.declared.vec.Vec.{Vec}
 use Rattle.std.specs.declared.alloc.Global.{Global}
 use Rattle.model.specs.Worlds.{Event}
@@ -10,9 +11,17 @@ use Rattle.world.specs.Run.{tables_in, members_in, events_of}
 use Rattle.auditor.specs.declared.replay.Replay.{Replay}
 use Rattle.auditor.specs.declared.moment.Moment.{Moment}
 use Rattle.auditor.specs.declared.recorded.Recorded.{Recorded}
-use Rattle.auditor.specs.Past.{Past, after}
+use Rattle.auditor.specs.Past.{Past, after, beginning}
 use Rattle.auditor.specs.Behind.{Records, IsBehind}
-use Rattle.auditor.specs.Audited.{Leads}
+use Rattle.auditor.specs.Audited.{Leads, IsFirst, IsStuck, IsUnmarked}
+use Rattle.auditor.specs.Faults.{fault_of, IsNo, Lacks, NoneAre}
+use Rattle.std.specs.List.{All}
+use Rattle.auditor.specs.Rising.{IsMarked}
+use Rattle.auditor.specs.Moments.{IsTimeline}
+use Rattle.auditor.specs.declared.recorded.AuditFault.{AuditFault}
+use Rattle.auditor.proofs.Judging.{no_weaker}
+use Rattle.std.proofs.Math.Seq.{drop-cons}
+use Rattle.std.proofs.lemmas.List.{take-append-drop}
 use Rattle.auditor.specs.View.{past_of, Follows, IsLed}
 
 leads_more : (r : Records) (n : ℕ) (p q : Past) (ms : List Moment) (m : Moment) (es now : List Event) → Leads r n p ms es q → IsBehind r n q m now → Leads r n p (ms ++ m ∷ []) (es ++ now) (after (schema_of r.tables) n q m.mark now)
@@ -45,3 +54,47 @@ led_more lives answers old cur new ms m es led follows =
         live = here.live;
       },
     )
+
+-- ---- a moment that has no events
+
+-- the moments before it happened, and it has no events
+pub stuck_at : (lives : List (Vec Life Global)) (answers : List Recorded) (old cur : Replay) (all : List Moment) (i : ℕ) (m : Moment) (es : List Event) (f : AuditFault) →
+    IsLed (record { tables = tables_in old.world; lives = lives; answers = answers }) (members_in old.world) old cur (take i all) es → i < length all → m ≡ get_or all i m →
+    IsNo (Lacks (fault_of m) (IsBehind (record { tables = tables_in cur.world; lives = lives; answers = answers }) (members_in cur.world) (past_of cur) m)) f →
+    IsNo (IsStuck (record { tables = tables_in old.world; lives = lives; answers = answers }) (members_in old.world) (past_of old) all) f
+stuck_at lives answers old cur all i m es f led within is said =
+    let B : Tables → Type 0 = λ t. NoneAre (IsBehind (record { tables = t; lives = lives; answers = answers }) (members_in cur.world) (past_of cur) m) in
+    let C : ℕ → Type 0 = λ n. NoneAre (IsBehind (record { tables = tables_in old.world; lives = lives; answers = answers }) n (past_of cur) m) in
+    no_weaker (Lacks (fault_of m) (IsBehind (record { tables = tables_in cur.world; lives = lives; answers = answers }) (members_in cur.world) (past_of cur) m))
+    (IsStuck (record { tables = tables_in old.world; lives = lives; answers = answers }) (members_in old.world) (past_of old) all) f (λ g lacks. record {
+      before = take i all;
+      moment = m;
+      later = drop (suc i) all;
+      is = sym (take-append-drop i all) ∙ ap (λ xs. take i all ++ xs) (drop-cons all i m within ∙ ap (λ y. y ∷ drop (suc i) all) (sym is));
+      events = es;
+      past = past_of cur;
+      leads = led.leads;
+      none = subst C led.members (subst B led.tables lacks.1);
+      named = lacks.0;
+    }) said
+
+pub stuck_if : {T : Type 0} (lives : List (Vec Life Global)) (answers : List Recorded) (old cur : Replay) (all : List Moment) (i : ℕ) (m : Moment) (es : List Event) (res : Result T AuditFault) →
+    IsLed (record { tables = tables_in old.world; lives = lives; answers = answers }) (members_in old.world) old cur (take i all) es → i < length all → m ≡ get_or all i m →
+    IfErr res (IsNo (Lacks (fault_of m) (IsBehind (record { tables = tables_in cur.world; lives = lives; answers = answers }) (members_in cur.world) (past_of cur) m))) →
+    IfErr res (IsNo (IsStuck (record { tables = tables_in old.world; lives = lives; answers = answers }) (members_in old.world) (past_of old) all))
+stuck_if {T} lives answers old cur all i m es (Ok x) led within is said = said
+stuck_if {T} lives answers old cur all i m es (Err f) led within is said = stuck_at lives answers old cur all i m es f led within is said
+
+-- a replay that began with these tables and so many members
+pub first_from : (r : Records) (x : Replay) (moments : List Moment) (f : AuditFault) → tables_in x.world ≡ r.tables → members_in x.world ≡ length r.lives → past_of x ≡ beginning (length r.lives) →
+    All (IsMarked r.lives) r.answers → IsTimeline r.lives r.answers moments →
+    IsNo (IsStuck (record { tables = tables_in x.world; lives = r.lives; answers = r.answers }) (members_in x.world) (past_of x) moments) f → IsNo (IsFirst r) f
+first_from r x moments f tables members past marked timeline said =
+    no_weaker (IsStuck (record { tables = tables_in x.world; lives = r.lives; answers = r.answers }) (members_in x.world) (past_of x) moments) (IsFirst r) f (λ g stuck.
+    let A : Tables → Type 0 = λ t. IsStuck (record { tables = t; lives = r.lives; answers = r.answers }) (members_in x.world) (past_of x) moments g in
+    let B : ℕ → Type 0 = λ n. IsStuck r n (past_of x) moments g in
+    let C : Past → Type 0 = λ p. IsStuck r (length r.lives) p moments g in
+    inr (moments, marked, timeline, subst C past (subst B members (subst A tables stuck)))) said
+
+pub first_unmarked : (r : Records) (f : AuditFault) → IsNo (IsUnmarked r.lives r.answers) f → IsNo (IsFirst r) f
+first_unmarked r f said = no_weaker (IsUnmarked r.lives r.answers) (IsFirst r) f (λ g h. inl h) said

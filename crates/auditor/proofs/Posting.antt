@@ -1,9 +1,9 @@
 -- Messages that are posted with the mark at which they were sent.
-use Rattle.std.proofs.Common.{◌≡◌, ◌∙◌, ℕ, zero, suc, ◌+◌, ◌<◌, false, List, [], ◌∷◌, ◌++◌, map, take, drop, length, refl, sym, ap, append-nil, append_assoc}
-use Rattle.std.specs.Prelude.{slice_index_or, option_map}
+use Rattle.std.proofs.Common.{◌≡◌, ◌∙◌, ℕ, zero, suc, ◌+◌, ◌<◌, false, List, [], ◌∷◌, ◌++◌, map, take, drop, length, refl, sym, ap, append-nil, append_assoc, Option, Some, None, ℤ, subst}
+use Rattle.std.specs.Prelude.{slice_index_or, option_map, slice_get}
 use Rattle.std.proofs.Math.Seq.{drop-length}
 use Rattle.std.proofs.lemmas.List.{take_more, map-append}
-use Rattle.std.proofs.lemmas.Option.{slice_get-map}
+use Rattle.std.proofs.lemmas.Option.{same_Some, slice_get-map}
 use Rattle.std.proofs.lemmas.Simd.{map-map}
 use Rattle.model.specs.Lists.{nth}
 use Rattle.model.specs.declared.message.Message.{Message}
@@ -17,6 +17,15 @@ use Rattle.auditor.specs.declared.posts.Post.{Post}
 use Rattle.auditor.specs.declared.replay.Replay.{Replay}
 use Rattle.auditor.specs.Posts.{messages_in, posted, IsPosted}
 use Rattle.auditor.specs.Past.{Past, grown, after, IsSent}
+use Rattle.model.specs.Worlds.{Job as ModelJob}
+use Rattle.flight.specs.declared.life.Packet.{Packet}
+use Rattle.flight.specs.declared.life.Packet.TheVariants.{Delivered}
+use Rattle.flight.specs.declared.life.Step.{Step}
+use Rattle.flight.specs.declared.life.Life.{Life}
+use Rattle.flight.specs.declared.life.Ending.{Ending}
+use Rattle.flight.specs.declared.life.Ending.TheVariants.{Torn}
+use Rattle.auditor.specs.Faults.{NoneAre}
+use Rattle.auditor.specs.Behind.{IsJob, IsTaken, IsCut}
 use Rattle.auditor.specs.View.{past_of, Happened, IsLive, IsSameRun}
 use Rattle.auditor.proofs.Sending.{messages_append, messages_are, sent_by, sent_after}
 
@@ -45,6 +54,46 @@ was_sent x mark node message k live h = record {
   marked = nth_map (λ (p : Post). p.mark) x.posts.items k ∙ ap (option_map (λ (p : Post). p.mark)) h.0;
   addressed = h.1;
 }
+
+some_of : (o : Option Post) (mark : ℕ) (message : Message) → option_map (λ (p : Post). p.message) o ≡ Some message → option_map (λ (p : Post). p.mark) o ≡ Some mark → o ≡ Some (posted mark message)
+some_of None mark message h m = absurd (cc h)
+some_of (Some p) mark message h m = λ i. Some (posted ((same_Some _ _ m) i) ((same_Some _ _ h) i))
+
+-- a message that was sent is posted
+pub is_posted : (x : Replay) (mark node : ℕ) (message : Message) (k : ℕ) → IsLive x → IsSent (past_of x) mark node message k → IsPosted x.posts.items mark node message k
+is_posted x mark node message k live h = (
+  some_of (nth x.posts.items k) mark message
+      (sym (nth_map (λ (p : Post). p.message) x.posts.items k) ∙ ap (λ xs. nth xs k) live.posted ∙ h.is)
+      (sym (nth_map (λ (p : Post). p.mark) x.posts.items k) ∙ h.marked),
+  h.addressed,
+)
+
+none_from : (posts : List Post) (mark : ℕ) (message : Message) → ((k : ℕ) → slice_get posts k ≡ Some (posted mark message) → ⊥) → (k : ℕ) → nth posts k ≡ Some (posted mark message) → ⊥
+none_from posts mark message h zero is = absurd (cc is)
+none_from posts mark message h (suc k) is = h k is
+
+pub none_posted : (posts : List Post) (mark node : ℕ) (message : Message) → ((k : ℕ) → slice_get posts k ≡ Some (posted mark message) → ⊥) → (k : ℕ) → IsPosted posts mark node message k → ⊥
+none_posted posts mark node message h k is = none_from posts mark message h k is.0
+
+-- ---- jobs
+
+-- a message that is not posted makes no job
+pub no_job : (x : Replay) (posts : List Post) (mark node : ℕ) (reading : ℤ) (message : Message) (packet : Packet) → IsLive x → posts ≡ x.posts.items → packet ≡ Delivered mark reading message →
+    ((k : ℕ) → IsPosted posts mark node message k → ⊥) → (job : ModelJob) → IsJob (past_of x) node packet job → ⊥
+no_job x posts mark node reading message packet live same is none job h =
+    let P : Packet → Type 0 = λ q. IsJob (past_of x) node q job in
+    let found = subst P is h in
+    let Q : List Post → Type 0 = λ ps. IsPosted ps mark node message found.0 in
+    none found.0 (subst Q (sym same) (is_posted x mark node message found.0 live found.1))
+
+pub nothing_taken : (p : Past) (node : ℕ) (s : Step) → ((job : ModelJob) → IsJob p node s.packet job → ⊥) → NoneAre (IsTaken p node (Some s))
+nothing_taken p node s none events h = none h.0 h.1
+
+pub nothing_cut : (p : Past) (node : ℕ) (next : Option Life) (ending : Ending) (s : Step) → ending ≡ Torn s → ((job : ModelJob) → IsJob p node s.packet job → ⊥) → NoneAre (IsCut p node next ending)
+nothing_cut p node next ending s is none events h =
+    let P : Ending → Type 0 = λ e. IsCut p node next e events in
+    let cut = subst P is h in
+    none cut.0 cut.2
 
 -- ---- events
 

@@ -16,8 +16,12 @@ use Rattle.flight.specs.declared.life.Opening.{Opening}
 use Rattle.sqlchecks.specs.Columns.{Tables}
 use Rattle.sqlread.specs.Meaning.{schema_of}
 use Rattle.world.specs.View.{if_up, durable_in, entry_in, commit_in}
+use Rattle.world.specs.Run.{tables_in, members_in, member_of}
+use Rattle.auditor.specs.declared.replay.Replay.{Replay}
 use Rattle.auditor.specs.Past.{Past}
 use Rattle.auditor.specs.Behind.{log_in, opened_with, HasStored, IsDown, IsOpened}
+use Rattle.auditor.specs.Faults.{NoneAre}
+use Rattle.auditor.specs.View.{past_of, Happened}
 
 -- a list that has a place has an element
 head_of : (xs : List Entry) (i : ℕ) → i < length xs → (Entry → ⊥) → ⊥
@@ -121,3 +125,25 @@ opened_first t n p node (suc k) o is empty = absurd (cc is)
 pub opened_later : (t : Tables) (n : ℕ) (p : Past) (node place : ℕ) (o : Opening) → place ≢ 0 → IsDown (nth p.world.nodes node) → HasStored (nth (happens (schema_of t) n p.world (Start node)).nodes node) o → IsOpened t n p node place o (Start node ∷ [])
 opened_later t n p node zero o is down stored = absurd (is refl)
 opened_later t n p node (suc k) o is down stored = (down, stored, refl)
+
+pub not_blank : (t : Tables) (n : ℕ) (p : Past) (node place : ℕ) (o : Opening) → place ≡ 0 → (opened_with o ≡ blank → ⊥) → NoneAre (IsOpened t n p node place o)
+not_blank t n p node zero o is other events h = other h.0
+not_blank t n p node (suc k) o is other events h = absurd (cc is)
+
+up_there : (m : Option Node) (k : ℕ) → Some k ≡ commit_in m → IsDown m → ⊥
+up_there m k h down = absurd (cc (h ∙ ap (option_map (λ (x : Node). x.commit)) down))
+
+pub already_up : (t : Tables) (n : ℕ) (p : Past) (node place : ℕ) (o : Opening) (k : ℕ) → place ≢ 0 → Some k ≡ commit_in (nth p.world.nodes node) → NoneAre (IsOpened t n p node place o)
+already_up t n p node zero o k is up events h = absurd (is refl)
+already_up t n p node (suc j) o k is up events h = up_there (nth p.world.nodes node) k up h.0
+
+not_there : (t : Tables) (n : ℕ) (p : Past) (node place : ℕ) (o : Opening) → place ≢ 0 → (HasStored (nth (happens (schema_of t) n p.world (Start node)).nodes node) o → ⊥) → NoneAre (IsOpened t n p node place o)
+not_there t n p node zero o is none events h = absurd (is refl)
+not_there t n p node (suc k) o is none events h = none h.1
+
+pub none_stored : (old new : Replay) (mark node place : ℕ) (o : Opening) → place ≢ 0 → Happened old new mark (Start node ∷ []) → (HasStored (member_of new.world node) o → ⊥) →
+    NoneAre (IsOpened (tables_in old.world) (members_in old.world) (past_of old) node place o)
+none_stored old new mark node place o is happened none =
+    let P : Option Node → Type 0 = λ x. HasStored x o in
+    not_there (tables_in old.world) (members_in old.world) (past_of old) node place o is
+    (λ h. none (subst P (sym (ap (λ (p : Past). nth p.world.nodes node) happened.past)) h))

@@ -1,15 +1,20 @@
--- When a run explains what was recorded, and what an audit says.
-use Rattle.std.specs.Prelude.{◌≡◌, ℕ, List, [], ◌∷◌, ◌++◌, length}
-use Rattle.std.specs.List.{All}
+-- When a run explains what was recorded, and where none does.
+use Rattle.std.specs.Prelude.{◌≡◌, ℕ, List, [], ◌∷◌, ◌++◌, ◌⊎◌, length}
+use Rattle.std.specs.List.{All, Contains}
+use Rattle.std.specs.declared.vec.Vec.{Vec}
+use Rattle.std.specs.declared.alloc.Global.{Global}
 use Rattle.model.specs.Worlds.{Event}
 use Rattle.sqlread.specs.Meaning.{schema_of}
+use Rattle.flight.specs.declared.life.Life.{Life}
 use Rattle.auditor.specs.declared.moment.Moment.{Moment}
+use Rattle.auditor.specs.declared.recorded.Recorded.{Recorded}
 use Rattle.auditor.specs.declared.recorded.AuditFault.{AuditFault}
-use Rattle.auditor.specs.declared.recorded.AuditFault.TheVariants.{NoMemory, OutOfOrder, Broken, Unsent, Wrong}
+use Rattle.auditor.specs.declared.recorded.AuditFault.TheVariants.{Wrong}
 use Rattle.auditor.specs.Rising.{IsMarked}
 use Rattle.auditor.specs.Moments.{IsTimeline}
 use Rattle.auditor.specs.Past.{Past, beginning, after}
 use Rattle.auditor.specs.Behind.{Records, IsBehind}
+use Rattle.auditor.specs.Faults.{NoneAre, fault_of}
 
 -- moment by moment these events happened, from one past up to another
 abbrev pub Leads : Records → ℕ → Past → List Moment → List Event → Past → Type 0
@@ -25,10 +30,22 @@ pub record Explains (r : Records) (events : List Event) : Type 0 where
   pub end : Past
   pub leads : Leads r (length r.lives) (beginning (length r.lives)) moments events end
 
--- 51, 52 and 54 only where nothing explains what was recorded
-abbrev pub IsJust : Records → AuditFault → Type 0
-IsJust r NoMemory = Unit {0}
-IsJust r (OutOfOrder node mark) = Unit {0}
-IsJust r (Broken node mark) = (events : List Event) → Explains r events → ⊥
-IsJust r (Unsent node mark) = (events : List Event) → Explains r events → ⊥
-IsJust r (Wrong node mark) = (events : List Event) → Explains r events → ⊥
+-- an answer rests on no mark of its node, and this is its fault
+abbrev pub IsUnmarked : List (Vec Life Global) → List Recorded → AuditFault → Type 0
+IsUnmarked lives answers fault = (a : Recorded) × Contains answers a × (IsMarked lives a → ⊥) × (fault ≡ Wrong a.node a.mark)
+
+-- the moments before one happened, from this past; it has no events then, and this is its fault
+pub record IsStuck (r : Records) (n : ℕ) (p : Past) (moments : List Moment) (fault : AuditFault) : Type 0 where
+  pub before : List Moment
+  pub moment : Moment
+  pub later : List Moment
+  pub is : moments ≡ before ++ moment ∷ later
+  pub events : List Event
+  pub past : Past
+  pub leads : Leads r n p before events past
+  pub none : NoneAre (IsBehind r n past moment)
+  pub named : fault ≡ fault_of moment
+
+-- the fault of an answer that rests on no mark; where each rests on one, of the first moment of the join that has no events
+abbrev pub IsFirst : Records → AuditFault → Type 0
+IsFirst r fault = IsUnmarked r.lives r.answers fault ⊎ ((moments : List Moment) × All (IsMarked r.lives) r.answers × IsTimeline r.lives r.answers moments × IsStuck r (length r.lives) (beginning (length r.lives)) moments fault)

@@ -27,6 +27,11 @@ lives_rise last (life ∷ lives) = nat_lt last life.opening.mark && marks_rise l
 abbrev pub Rise : List (Vec Life Global) → Type 0
 Rise lives = All (λ (own : Vec Life Global). lives_rise 0 own.items ≡ true) lives
 
+-- 53, where they do not
+abbrev pub IsFallen : List (Vec Life Global) → AuditFault → Type 0
+IsFallen lives (OutOfOrder node mark) = Rise lives → ⊥
+IsFallen lives _ = ⊥
+
 -- 53 exactly where marks do not rise, want of memory aside
 abbrev pub IsOrderFault : List (Vec Life Global) → AuditFault → Type 0
 IsOrderFault lives NoMemory = Unit {0}

@@ -5,10 +5,10 @@ ghost use Rattle.model.specs.Worlds.{Event as ModelEvent, new_world};
 ghost use Rattle.sqlread.specs.Meaning.{schema_of};
 ghost use Rattle.world.specs.Run.{tables_in, members_in};
 ghost use Rattle.world.specs.View.{event_of};
-ghost use Rattle.auditor.specs.Audited.{Explains};
-ghost use Rattle.auditor.specs.Faults.{IsNoOrderFault};
+ghost use Rattle.auditor.specs.Audited.{Explains, IsFirst, IsStuck};
+ghost use Rattle.auditor.specs.Faults.{IsNo, NoneAre, OfRun};
 ghost use Rattle.auditor.specs.Rising.{IsOrderFault, Rise};
-ghost use Rattle.auditor.specs.View.{IsLed, IsLive};
+ghost use Rattle.auditor.specs.View.{past_of, IsLed, IsLive};
 
 use crate::listing::timeline;
 use crate::moment::Moment;
@@ -32,7 +32,7 @@ fn follow_all(
     requires live { IsLive replay.old }
     requires tables { schema.now ≡ tables_in replay.old.world }
     ensures ok { OnOk result ((events : List ModelEvent) × IsLed (record { tables = tables_in replay.old.world; lives = lives.now; answers = answers.now }) (members_in replay.old.world) replay.old replay.new moments.now events) }
-    ensures fault { IfErr result IsNoOrderFault }
+    ensures fault { IfErr result (IsNo (IsStuck (record { tables = tables_in replay.old.world; lives = lives.now; answers = answers.now }) (members_in replay.old.world) (past_of replay.old) moments.now)) }
 {
     for moment in moments {
         replay.follow(schema, lives, answers, moment)?;
@@ -50,7 +50,7 @@ fn explain(
     requires least { 3 ≤ length lives.now }
     requires most { length lives.now ≤ 7 }
     ensures ok { IfOk result (λ events. Explains (record { tables = schema.now; lives = lives.now; answers = answers.now }) (map event_of events.items)) }
-    ensures fault { IfErr result IsNoOrderFault }
+    ensures fault { IfErr result (IsNo (IsFirst (record { tables = schema.now; lives = lives.now; answers = answers.now }))) }
 {
     check_marked(lives, answers)?;
     let moments = timeline(alloc, lives, answers)?;
@@ -67,8 +67,10 @@ fn explain(
 /// and ends as was recorded. All members agree about them, as `World::run` says.
 ///
 /// A fault is 53 exactly where the marks of a node do not rise over its openings and steps, or a message's is not
-/// below that of the step that takes it; 43 aside. Else it is 51 of a life that begins with what the run does not have
-/// there, 52 of a message that was not sent then, or 54 of an answer that the run does not give.
+/// below that of the step that takes it; 43 aside. Else no events explain what was recorded. It is then 54 of an answer
+/// that rests on no mark of its node; where there is none, the fault of the first moment that the run does not have:
+/// 51 of a life that begins with what the run does not have there, 52 of a message that was not sent then, or 54 of an
+/// answer that the run does not give.
 pub fn audit(
     alloc: Global,
     schema: &Schema,
@@ -81,6 +83,8 @@ pub fn audit(
     ensures ok { IfOk result (λ events. Explains (record { tables = schema.now; lives = lives.now; answers = answers.now }) (map event_of events.items)) }
     ensures agree { IfOk result (λ events. Agree (schema_of schema.now) (length lives.now) (new_world (length lives.now)) (map event_of events.items)) }
     ensures order { IfErr result (IsOrderFault lives.now) }
+    ensures no { IfErr result (OfRun (λ _. NoneAre (Explains (record { tables = schema.now; lives = lives.now; answers = answers.now })))) }
+    ensures first { IfErr result (OfRun (IsFirst (record { tables = schema.now; lives = lives.now; answers = answers.now }))) }
 {
     safety::agreement();
     check_order(lives)?;

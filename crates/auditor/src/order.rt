@@ -3,8 +3,9 @@ ghost use Rattle.std.specs.Prelude.{◌≡◌, ◌↔◌, ◌&&◌, ◌==◌, tr
 ghost use Rattle.std.specs.List.{All, list_any};
 ghost use Rattle.model.specs.Lists.{nth};
 ghost use Rattle.flight.specs.Lives.{all_steps, last_mark, sent_at};
-ghost use Rattle.auditor.specs.Faults.{IsNoOrderFault};
-ghost use Rattle.auditor.specs.Rising.{has_mark, is_torn_at, lives_rise, marks_rise, IsMarked, IsOrderFault, Rise};
+ghost use Rattle.auditor.specs.Audited.{IsUnmarked};
+ghost use Rattle.auditor.specs.Faults.{IsNo};
+ghost use Rattle.auditor.specs.Rising.{has_mark, is_torn_at, lives_rise, marks_rise, IsFallen, IsMarked, Rise};
 
 use crate::recorded::{AuditFault, Recorded};
 use flight::life::{Ending, Life, Packet, Step};
@@ -74,7 +75,7 @@ fn first_fallen(lives: &[Life]) -> Option<Mark>
 // A fault where the marks of a node do not rise, that of the first such node.
 pub(crate) fn check_order(lives: &[Vec<Life>]) -> Result<(), AuditFault>
     ensures ok { OnOk result (Rise lives.now) }
-    ensures fault { IfErr result (IsOrderFault lives.now) }
+    ensures fault { IfErr result (IsFallen lives.now) }
 {
     for (place, own) in lives.iter().enumerate() {
         if let Some(mark) = first_fallen(own) {
@@ -138,7 +139,7 @@ fn is_marked(lives: &[Vec<Life>], answer: &Recorded) -> bool
 // A fault where an answer rests on no opening or step of its node.
 pub(crate) fn check_marked(lives: &[Vec<Life>], answers: &[Recorded]) -> Result<(), AuditFault>
     ensures ok { OnOk result (All (IsMarked lives.now) answers.now) }
-    ensures fault { IfErr result IsNoOrderFault }
+    ensures fault { IfErr result (IsNo (IsUnmarked lives.now answers.now)) }
 {
     for answer in answers {
         if !is_marked(lives, answer) {

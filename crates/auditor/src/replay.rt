@@ -2,7 +2,7 @@
 ghost use Rattle.std.specs.Prelude.{◌≡◌, ◌∷◌, ◌↔◌, ◌≤◌, [], ℕ, None, Some, IsTrue, IfOk, IfErr, OnOk, MatchOption, length, slice_get, ◌<◌, ◌+◌, ◌^◌};
 ghost use Rattle.std.specs.List.{All};
 ghost use Rattle.std.specs.Option.{option_copied};
-ghost use Rattle.model.specs.Worlds.{Gives};
+ghost use Rattle.model.specs.Worlds.{Gives, Job as ModelJob};
 ghost use Rattle.model.specs.Worlds.Event.{Stop};
 ghost use Rattle.sqlchecks.specs.Columns.{Tables};
 ghost use Rattle.world.specs.Run.{tables_in, schema_in, members_in, events_of, now_of, member_of};
@@ -10,7 +10,8 @@ ghost use Rattle.world.specs.View.{durable_in, event_of, job_of, left_of, output
 ghost use Rattle.auditor.specs.Past.{beginning};
 ghost use Rattle.keep.specs.Durable.{blank};
 ghost use Rattle.auditor.specs.Behind.{life_at, log_in, opened_with, HasStored, IsJob, IsTaken, IsCut, IsOpened, IsAnswered, IsLeftBy, IsText, IsBehind};
-ghost use Rattle.auditor.specs.Faults.{IsNoOrderFault};
+ghost use Rattle.auditor.specs.Faults.{fault_of, IsNo, Lacks};
+ghost use Rattle.auditor.specs.declared.recorded.AuditFault.TheVariants.{Broken, Unsent, Wrong};
 
 use crate::moment::{Deed, Moment};
 use crate::order::lives_of;
@@ -51,7 +52,7 @@ fn is_blank(opening: &Opening) -> bool
 
 // Whether an output of an Ask is told by this text.
 fn is_told_by(alloc: Global, output: &Output, text: &Text) -> Result<bool, AllocError>
-    ensures { IfOk result (λ b. (t : Tables) (table : ℕ) → IsTrue b → HasColumns t table output.now → IsText t table (output_of output.now ∷ []) text.now) }
+    ensures { IfOk result (λ b. (t : Tables) (table : ℕ) → HasColumns t table output.now → IsTrue b ↔ IsText t table (output_of output.now ∷ []) text.now) }
 {
     match output {
         Output::Answered(_, answer) => {
@@ -71,7 +72,7 @@ fn is_told_by(alloc: Global, output: &Output, text: &Text) -> Result<bool, Alloc
 
 // Whether what an Ask gave is told by this text.
 fn is_text(alloc: Global, outs: &[Output], text: &Text) -> Result<bool, AllocError>
-    ensures { IfOk result (λ b. (t : Tables) (table : ℕ) → IsTrue b → All (HasColumns t table) outs.now → IsText t table (outputs_of outs.now) text.now) }
+    ensures { IfOk result (λ b. (t : Tables) (table : ℕ) → All (HasColumns t table) outs.now → IsTrue b ↔ IsText t table (outputs_of outs.now) text.now) }
 {
     let [output] = outs else {
         return Ok(false);
@@ -122,7 +123,7 @@ impl Replay {
     // The job that a packet is to a node, none where it is a message that was not sent to it then.
     fn job(&self, node: Member, packet: &Packet) -> Result<Option<Job>, AllocError>
         requires live { IsLive self.now }
-        ensures { IfOk result (λ found. MatchOption found (Unit {0}) (λ job. IsJob (past_of self.now) node packet.now (job_of job))) }
+        ensures { IfOk result (λ found. MatchOption found ((job : ModelJob) → IsJob (past_of self.now) node packet.now job → ⊥) (λ job. IsJob (past_of self.now) node packet.now (job_of job))) }
     {
         match packet {
             Packet::Local(input) => Ok(Some(Job::Local(input.clone()?))),
@@ -205,7 +206,7 @@ impl Replay {
     ) -> Result<(), AuditFault>
         requires live { IsLive self.old }
         ensures ok { OnOk result (Follows (IsOpened (tables_in self.old.world) (members_in self.old.world) (past_of self.old) node place opening.now) self.old self.new mark) }
-        ensures fault { IfErr result IsNoOrderFault }
+        ensures fault { IfErr result (IsNo (Lacks (Broken node mark) (IsOpened (tables_in self.old.world) (members_in self.old.world) (past_of self.old) node place opening.now))) }
     {
         if place == 0 {
             return if is_blank(opening) {
@@ -225,10 +226,11 @@ impl Replay {
     }
 
     // A node takes a step.
+    #[tactic(auto, using(crate::proofs::Posting::nothing_taken))]
     fn take(&mut self, mark: Mark, node: Member, step: &Step) -> Result<(), AuditFault>
         requires live { IsLive self.old }
         ensures ok { OnOk result (Follows (IsTaken (past_of self.old) node (Some step.now)) self.old self.new mark) }
-        ensures fault { IfErr result IsNoOrderFault }
+        ensures fault { IfErr result (IsNo (Lacks (Unsent node mark) (IsTaken (past_of self.old) node (Some step.now)))) }
     {
         let event = match self.job(node, &step.packet)? {
             None => return Err(AuditFault::Unsent { node, mark }),
@@ -258,6 +260,7 @@ impl Replay {
     }
 
     // A step of a node is cut short.
+    #[tactic(auto, using(crate::proofs::Posting::nothing_cut))]
     fn tear(
         &mut self,
         mark: Mark,
@@ -267,10 +270,10 @@ impl Replay {
     ) -> Result<(), AuditFault>
         requires live { IsLive self.old }
         ensures ok { OnOk result (Follows (IsCut (past_of self.old) node (option_copied next.entry) ending.now) self.old self.new mark) }
-        ensures fault { IfErr result IsNoOrderFault }
+        ensures fault { IfErr result (IsNo (Lacks (Unsent node mark) (IsCut (past_of self.old) node (option_copied next.entry) ending.now))) }
     {
         let Ending::Torn(step) = ending else {
-            return Err(AuditFault::Broken { node, mark });
+            return Err(AuditFault::Unsent { node, mark });
         };
         let Some(job) = self.job(node, &step.packet)? else {
             return Err(AuditFault::Unsent { node, mark });
@@ -281,6 +284,7 @@ impl Replay {
     }
 
     // A node is asked, and answers as was recorded.
+    #[tactic(auto, using(crate::proofs::Telling::unread, crate::proofs::Telling::untold))]
     fn answer(
         &mut self,
         mark: Mark,
@@ -291,8 +295,9 @@ impl Replay {
         requires live { IsLive self.old }
         requires tables { schema.now ≡ tables_in self.old.world }
         ensures ok { OnOk result (Follows (IsAnswered (tables_in self.old.world) (members_in self.old.world) (past_of self.old) node (Some recorded.now)) self.old self.new mark) }
-        ensures fault { IfErr result IsNoOrderFault }
+        ensures fault { IfErr result (IsNo (Lacks (Wrong node mark) (IsAnswered (tables_in self.old.world) (members_in self.old.world) (past_of self.old) node (Some recorded.now)))) }
     {
+        safety::one_answer();
         let query = match read_query(self.alloc, schema, recorded.query.as_str()) {
             Ok(query) => query,
             Err(Refusal::NoMemory) => return Err(AuditFault::NoMemory),
@@ -309,7 +314,7 @@ impl Replay {
     fn stop(&mut self, mark: Mark, node: Member) -> Result<(), AuditFault>
         requires live { IsLive self.old }
         ensures ok { OnOk result (Follows (λ events. events ≡ Stop node ∷ []) self.old self.new mark) }
-        ensures fault { IfErr result IsNoOrderFault }
+        ensures fault { IfErr result (IsNo (Lacks (Broken node mark) (λ events. events ≡ Stop node ∷ []))) }
     {
         self.happen(mark, Event::Stop(node))?;
         Ok(())
@@ -326,7 +331,7 @@ impl Replay {
         requires live { IsLive self.old }
         requires tables { schema.now ≡ tables_in self.old.world }
         ensures ok { OnOk result (Follows (IsBehind (record { tables = tables_in self.old.world; lives = lives.now; answers = answers.now }) (members_in self.old.world) (past_of self.old) moment.now) self.old self.new moment.now.mark) }
-        ensures fault { IfErr result IsNoOrderFault }
+        ensures fault { IfErr result (IsNo (Lacks (fault_of moment.now) (IsBehind (record { tables = tables_in self.old.world; lives = lives.now; answers = answers.now }) (members_in self.old.world) (past_of self.old) moment.now))) }
     {
         let Moment { mark, node, deed } = *moment;
         match deed {
@@ -337,15 +342,15 @@ impl Replay {
             Deed::Takes { life, step } => match life_of(lives, node, life) {
                 Some(found) => match found.steps.get(step) {
                     Some(taken) => self.take(mark, node, taken),
-                    None => Err(AuditFault::Broken { node, mark }),
+                    None => Err(AuditFault::Unsent { node, mark }),
                 },
-                None => Err(AuditFault::Broken { node, mark }),
+                None => Err(AuditFault::Unsent { node, mark }),
             },
             Deed::Tears { life } => match life_of(lives, node, life) {
                 Some(found) => {
                     self.tear(mark, node, &found.ending, life_of(lives, node, life + 1))
                 }
-                None => Err(AuditFault::Broken { node, mark }),
+                None => Err(AuditFault::Unsent { node, mark }),
             },
             Deed::Answers { answer } => match answers.get(answer) {
                 Some(recorded) => self.answer(mark, node, schema, recorded),
