@@ -1,5 +1,5 @@
 -- Moments that happened, one more at a time.
-use Rattle.std.proofs.Common.{◌≡◌, ◌∙◌, ℕ, List, [], ◌∷◌, ◌++◌, refl, sym, ap, subst, append-nil, append_assoc, ◌<◌, suc, length, take, drop, get_or, inl, inr, Result, Ok, Err}
+use Rattle.std.proofs.Common.{◌≡◌, ◌∙◌, ℕ, List, [], ◌∷◌, ◌++◌, refl, sym, ap, subst, append-nil, append_assoc, ◌<◌, suc, length, take, drop, get_or, inr, Result, Ok, Err}
 use Rattle.std.specs.Prelude.{IfErr}
 use Rattle.std.specs.declared.vec.Vec.{Vec}
 use Rattle.std.specs.declared.alloc.Global.{Global}
@@ -13,7 +13,7 @@ use Rattle.auditor.specs.declared.moment.Moment.{Moment}
 use Rattle.auditor.specs.declared.recorded.Recorded.{Recorded}
 use Rattle.auditor.specs.Past.{Past, after, beginning}
 use Rattle.auditor.specs.Behind.{Records, IsBehind}
-use Rattle.auditor.specs.Audited.{Leads, IsFirst, IsStuck, IsUnmarked}
+use Rattle.auditor.specs.Audited.{Leads, IsFirst, IsStuck}
 use Rattle.auditor.specs.Faults.{fault_of, IsNo, Lacks, NoneAre}
 use Rattle.std.specs.List.{All}
 use Rattle.auditor.specs.Rising.{IsMarked}
@@ -95,6 +95,3 @@ first_from r x moments f tables members past marked timeline said =
     let B : ℕ → Type 0 = λ n. IsStuck r n (past_of x) moments g in
     let C : Past → Type 0 = λ p. IsStuck r (length r.lives) p moments g in
     inr (moments, marked, timeline, subst C past (subst B members (subst A tables stuck)))) said
-
-pub first_unmarked : (r : Records) (f : AuditFault) → IsNo (IsUnmarked r.lives r.answers) f → IsNo (IsFirst r) f
-first_unmarked r f said = no_weaker (IsUnmarked r.lives r.answers) (IsFirst r) f (λ g h. inl h) said

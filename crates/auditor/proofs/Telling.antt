@@ -9,7 +9,7 @@ use Rattle.model.specs.Members.{Node, applied}
 use Rattle.model.specs.Answers.{Query, Select, closed_query}
 use Rattle.model.specs.Logs.{closed}
 use Rattle.model.specs.declared.entry.Entry.{Entry}
-use Rattle.model.specs.Worlds.{Event, Output, Ask, Answered, Gives, IsGivenAt, IsGivenBy, IsGivenIn}
+use Rattle.model.specs.Worlds.{Output, Ask, Answered, Gives, IsGivenAt, IsGivenBy, IsGivenIn}
 use Rattle.safety.specs.Answers.{OneAnswer}
 use Rattle.auditor.specs.Faults.{NoneAre}
 use Rattle.auditor.proofs.Texts.{same_text}

@@ -1,4 +1,3 @@
-use Rattle.auditor.specs.Behind.{Records}
 use Rattle.auditor.proofs.Judging.{no_if}
 use Rattle.auditor.proofs.auditing.audit.Goals as goal
 

@@ -1,4 +1,4 @@
-use Rattle.std.proofs.Common.{rules, ◌≡◌, ◌∙◌, ◌+◌, ◌<◌, List, [], ◌∷◌, ◌++◌, take, length, ap, sym, subst, refl, append-nil, ℕ}
+use Rattle.std.proofs.Common.{rules, ◌≡◌, ◌∙◌, ◌+◌, ◌<◌, List, [], ◌∷◌, ◌++◌, take, length, ap, sym, subst, refl, append-nil}
 use Rattle.std.specs.Prelude.{IfErr}
 use Rattle.auditor.specs.Behind.{Records, IsBehind}
 use Rattle.auditor.specs.Faults.{fault_of, IsNo, Lacks}
