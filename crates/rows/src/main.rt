@@ -11,13 +11,16 @@
 //! - `.transactions`: each text is a transaction, which is written as it was read, or refused.
 //! - `.queries`: each text is a query, which is read or refused.
 //! - `.days`, `.instants`: each text names a day or an instant, whose number and text are written.
+//! - `.databases`: each text is a list of SQL statements, which are made on the database of a member that has nothing
+//!   stored. It is then opened: what it holds is told, or why it is refused.
 //!
 //! All but a `.script` have a text in each line; a line that begins with `#` is a comment. The first line of `.scripts`,
-//! `.changes`, `.transactions` and `.queries` names another file: the beginning of the scripts, or the schema. In a text
-//! `\0a` is the byte of these two hexadecimal digits, and `\{16 X}` is X 16 times.
+//! `.changes`, `.transactions`, `.queries` and `.databases` names another file: the beginning of the scripts, or the
+//! schema. In a text `\0a` is the byte of these two hexadecimal digits, and `\{16 X}` is X 16 times.
 #![tactic(auto)]
 
 mod broken;
+mod databases;
 mod text;
 mod trial;
 

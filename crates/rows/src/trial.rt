@@ -1,4 +1,5 @@
 //! What texts say, and why they are refused.
+use crate::databases::tell_database;
 use crate::text::{changed, text_of};
 use anyhow::{Result, bail};
 use fault::Refusal;
@@ -21,6 +22,7 @@ pub enum Kind {
     Queries,
     Days,
     Instants,
+    Databases,
 }
 
 impl Kind {
@@ -36,6 +38,7 @@ impl Kind {
             "queries" => Some(Kind::Queries),
             "days" => Some(Kind::Days),
             "instants" => Some(Kind::Instants),
+            "databases" => Some(Kind::Databases),
             _ => None,
         }
     }
@@ -43,7 +46,11 @@ impl Kind {
     /// Whether its first line names the file that the texts go with.
     pub fn has_base(self) -> bool {
         match self {
-            Kind::Scripts | Kind::Changes | Kind::Transactions | Kind::Queries => true,
+            Kind::Scripts
+            | Kind::Changes
+            | Kind::Transactions
+            | Kind::Queries
+            | Kind::Databases => true,
             Kind::Script | Kind::Schemas | Kind::Days | Kind::Instants => false,
         }
     }
@@ -64,6 +71,7 @@ pub fn tell(alloc: Global, kind: Kind, base: &str, line: &str) -> Result<String>
         Kind::Queries => tell_query(alloc, base, text),
         Kind::Days => Ok(tell_day(alloc, text)?),
         Kind::Instants => Ok(tell_instant(alloc, text)?),
+        Kind::Databases => tell_database(alloc, base, text),
     }
 }
 
