@@ -1,19 +1,25 @@
 //! The program `bitable`: commands of the crate `shell` over files and the standard streams.
 #![tactic(auto)]
 
+use clap::error::ErrorKind;
 use fault::Refusal;
 use script::run_fault::RunFault;
-use shell::command::{Command, USAGE, read_command};
+use shell::audit::run_audit;
+use shell::command::{Command, Live};
+use shell::command_line::read_command;
+use shell::live_run::run_live;
 use shell::sim::run_sim;
 use std::alloc::Global;
 use std::fs::File;
 use std::io::{BufWriter, Read};
 use std::process::ExitCode;
 use std::rt::{Env, Files};
-use std::{env, io};
+use std::sync::Wait;
+use std::thread::Threads;
+use std::{env, fs, io};
 
 fn main(rt: HostRuntime) -> ExitCode {
-    match run(&rt) {
+    match run(&rt, &rt) {
         Ok(status) => ExitCode::from(status),
         Err(fault) => {
             let _ = eprintln!(rt; "{fault}");
@@ -22,28 +28,33 @@ fn main(rt: HostRuntime) -> ExitCode {
     }
 }
 
-fn run<R: AllocGlobal + Env + Files + Input + Print + Eprint>(rt: &R) -> Result<u8, RunFault> {
+fn run<R>(rt: &R, host: &HostRuntime) -> Result<u8, RunFault>
+where
+    R: AllocGlobal + Env + Files + Input + Print + Eprint,
+    R: Wait + Threads + Copy + Send + Drop + 'static,
+{
     let Some(words) = words_given(rt)? else {
-        return refuse_usage(rt);
+        return refuse_words(rt);
     };
-    match read_command(words.as_slice()) {
-        Some(Command::PlayInput) => play(rt, &mut rt.reader()),
-        Some(Command::PlayFile(path)) => play(rt, &mut open_script(rt, path)?),
-        Some(Command::Help) => {
-            print!(rt; "{USAGE}")?;
-            Ok(0)
+    match read_command(rt.alloc(), words.as_slice()) {
+        Ok(Command::PlayInput) => play(rt, &mut rt.reader()),
+        Ok(Command::PlayFile(path)) => play(rt, &mut open_script(rt, path)?),
+        Ok(Command::Live(live)) => play_live(rt, host, live),
+        Ok(Command::Audit(names)) => audit(rt, names.as_slice()),
+        Err(error) if error.kind() == ErrorKind::OutOfMemory => {
+            Err(RunFault::Refused(Refusal::NoMemory))
         }
-        None => refuse_usage(rt),
+        Err(error) => {
+            error.print(rt)?;
+            Ok(if error.use_stderr() { 2 } else { 0 })
+        }
     }
 }
 
-// The words after the program's name, or none where one is not UTF-8.
+// The words of the command line, the program's name first, or none where one is not UTF-8.
 fn words_given<R: AllocGlobal + Env>(rt: &R) -> Result<Option<Vec<String>>, RunFault> {
     match env::args(rt) {
-        Ok(mut words) => {
-            let _program = words.next();
-            Ok(Some(words.collect(rt.alloc())?))
-        }
+        Ok(words) => Ok(Some(words.collect(rt.alloc())?)),
         Err(error) if error.kind() == io::ErrorKind::OutOfMemory => {
             Err(RunFault::Refused(Refusal::NoMemory))
         }
@@ -51,8 +62,8 @@ fn words_given<R: AllocGlobal + Env>(rt: &R) -> Result<Option<Vec<String>>, RunF
     }
 }
 
-fn refuse_usage(rt: &impl Eprint) -> Result<u8, RunFault> {
-    let _ = eprint!(rt; "{USAGE}");
+fn refuse_words(rt: &impl Eprint) -> Result<u8, RunFault> {
+    let _ = eprintln!(rt; "error: the command line is not UTF-8");
     Ok(2)
 }
 
@@ -71,4 +82,32 @@ fn play<R: AllocGlobal + Print, I: Read>(rt: &R, reader: &mut I) -> Result<u8, R
         Ok(mut writer) => run_sim(alloc, reader, &mut writer),
         Err(_) => Err(RunFault::Refused(Refusal::NoMemory)),
     }
+}
+
+// Plays a script on nodes that run on threads of their own.
+fn play_live<R>(rt: &R, host: &HostRuntime, live: Live<'_>) -> Result<u8, RunFault>
+where
+    R: AllocGlobal + Files + Print + Wait + Threads + Copy + Send + Drop + 'static,
+{
+    let mut script = open_script(rt, live.script)?;
+    match BufWriter::new(rt.alloc(), io::writer(rt)) {
+        Ok(mut writer) => run_live(rt, host, live, &mut script, &mut writer),
+        Err(_) => Err(RunFault::Refused(Refusal::NoMemory)),
+    }
+}
+
+// Judges the flights in the files of these names.
+fn audit<R: AllocGlobal + Files + Print>(rt: &R, names: &[&str]) -> Result<u8, RunFault> {
+    let alloc: Global = rt.alloc();
+    let mut texts = Vec::new(alloc);
+    for name in names {
+        match fs::read_to_string(rt, *name) {
+            Ok(text) => texts.push(text)?,
+            Err(error) if error.kind() == io::ErrorKind::OutOfMemory => {
+                return Err(RunFault::Refused(Refusal::NoMemory));
+            }
+            Err(_) => return Err(RunFault::Refused(Refusal::BadFlight)),
+        }
+    }
+    run_audit(alloc, texts.as_slice(), &mut io::writer(rt))
 }

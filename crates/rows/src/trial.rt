@@ -1,26 +1,38 @@
 //! What texts say, and why they are refused.
+use crate::databases::tell_database;
 use crate::text::{changed, text_of};
 use anyhow::{Result, bail};
 use fault::Refusal;
 use period::{Day, Instant};
 use rowtext::{Written, write_transaction};
 use schemaread::schemas::read_schema;
+use script::run_fault::RunFault;
+use shell::audit::run_audit;
+use shell::command::Command;
+use shell::command_line::read_command;
+use shell::live_run::run_live;
 use shell::sim::run_sim;
 use sqlread::query::read_query;
 use sqlread::transaction::read_transaction;
 use std::alloc::{AllocError, Global};
 
+// The first line of a flight.
+const FLIGHT: &str = "bitable flight 1\n";
+
 /// How an input is tried.
 #[derive(Clone, Copy)]
 pub enum Kind {
     Script,
+    Live,
     Scripts,
+    Audits,
     Schemas,
     Changes,
     Transactions,
     Queries,
     Days,
     Instants,
+    Databases,
 }
 
 impl Kind {
@@ -29,13 +41,16 @@ impl Kind {
         let (_, ending) = file.rsplit_once('.')?;
         match ending {
             "script" => Some(Kind::Script),
+            "live" => Some(Kind::Live),
             "scripts" => Some(Kind::Scripts),
+            "audits" => Some(Kind::Audits),
             "schemas" => Some(Kind::Schemas),
             "changes" => Some(Kind::Changes),
             "transactions" => Some(Kind::Transactions),
             "queries" => Some(Kind::Queries),
             "days" => Some(Kind::Days),
             "instants" => Some(Kind::Instants),
+            "databases" => Some(Kind::Databases),
             _ => None,
         }
     }
@@ -43,8 +58,9 @@ impl Kind {
     /// Whether its first line names the file that the texts go with.
     pub fn has_base(self) -> bool {
         match self {
-            Kind::Scripts | Kind::Changes | Kind::Transactions | Kind::Queries => true,
-            Kind::Script | Kind::Schemas | Kind::Days | Kind::Instants => false,
+            Kind::Scripts | Kind::Audits | Kind::Databases => true,
+            Kind::Changes | Kind::Transactions | Kind::Queries => true,
+            Kind::Script | Kind::Live | Kind::Schemas | Kind::Days | Kind::Instants => false,
         }
     }
 }
@@ -52,18 +68,20 @@ impl Kind {
 /// What is printed of the text in a line.
 pub fn tell(alloc: Global, kind: Kind, base: &str, line: &str) -> Result<String> {
     let text = match kind {
-        Kind::Changes => changed(alloc, base, line)?,
+        Kind::Changes | Kind::Audits => changed(alloc, base, line)?,
         _ => text_of(alloc, line)?,
     };
     let text = text.as_str();
     match kind {
-        Kind::Script => play(alloc, text.as_bytes()),
+        Kind::Script | Kind::Live => play(alloc, text.as_bytes()),
+        Kind::Audits => tell_audit(alloc, text),
         Kind::Scripts => play(alloc, format!(in alloc; "{base}{text}")?.as_bytes()),
         Kind::Schemas | Kind::Changes => Ok(tell_schema(alloc, text)?),
         Kind::Transactions => tell_transaction(alloc, base, text),
         Kind::Queries => tell_query(alloc, base, text),
         Kind::Days => Ok(tell_day(alloc, text)?),
         Kind::Instants => Ok(tell_instant(alloc, text)?),
+        Kind::Databases => tell_database(alloc, base, text),
     }
 }
 
@@ -72,7 +90,41 @@ pub fn play(alloc: Global, script: &[u8]) -> Result<String> {
     let mut reader = script;
     let mut writer = Vec::new(alloc);
     let ended = run_sim(alloc, &mut reader, &mut writer);
-    let mut printed = String::from_utf8(writer)?;
+    printed(alloc, writer, ended)
+}
+
+/// What a script prints that is played on threads, as the command in its first line says, and why it ended where it did
+/// not end well.
+pub fn play_live(rt: &HostRuntime, text: &str) -> Result<String> {
+    let alloc: Global = rt.alloc();
+    let (command, script) = text.split_once('\n').unwrap_or((text, ""));
+    let mut words = Vec::new(alloc);
+    for word in command.split(' ') {
+        words.push(String::from_str(alloc, word)?)?;
+    }
+    let Ok(Command::Live(live)) = read_command(alloc, words.as_slice()) else {
+        bail!("its first line is no command for threads");
+    };
+    let mut reader = script.as_bytes();
+    let mut writer = Vec::new(alloc);
+    let ended = run_live(rt, rt, live, &mut reader, &mut writer);
+    printed(alloc, writer, ended)
+}
+
+// What is printed of an audit of flights, one behind the other.
+fn tell_audit(alloc: Global, flights: &str) -> Result<String> {
+    let mut texts = Vec::new(alloc);
+    for flight in flights.split(FLIGHT).skip(1) {
+        texts.push(format!(in alloc; "{FLIGHT}{flight}")?)?;
+    }
+    let mut writer = Vec::new(alloc);
+    let ended = run_audit(alloc, texts.as_slice(), &mut writer);
+    printed(alloc, writer, ended)
+}
+
+// What a command wrote, and why it ended where it did not end well.
+fn printed(alloc: Global, written: Vec<u8>, ended: Result<u8, RunFault>) -> Result<String> {
+    let mut printed = String::from_utf8(written)?;
     if let Err(fault) = ended {
         printed.push_str(format!(in alloc; "ended: {fault}\n")?.as_str())?;
     }

@@ -1,2 +1,4 @@
-pub mod Words
+pub mod CommandLines
+pub mod CommandRows
+pub mod Growing
 pub mod Scripts

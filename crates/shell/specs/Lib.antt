@@ -1,2 +1,3 @@
+pub mod Audit
+pub mod CommandLine
 pub mod Sim
-pub mod Command

@@ -1,5 +1,10 @@
 //! The commands of the program, over readers and writers.
 #![tactic(auto)]
 
+pub mod audit;
 pub mod command;
+pub mod command_line;
+mod databases;
+mod flights;
+pub mod live_run;
 pub mod sim;

@@ -49,7 +49,7 @@ pub fn run_sim<R: io::Read, W: io::Write>(
 
 // All that the reader has left, as text: what cannot be read, or is no text, is a bad script at
 // line 0.
-fn read_text<R: io::Read>(alloc: Global, reader: &mut R) -> Result<String, Refusal>
+pub(crate) fn read_text<R: io::Read>(alloc: Global, reader: &mut R) -> Result<String, Refusal>
     ensures text { IfOk result (λ text. IfSome (R.remaining reader.old) (λ bytes. string_bytes text ≡ bytes)) }
     ensures err { IfErr result (λ refusal. (refusal ≡ NoMemory) ⊎ (refusal ≡ BadScript 0)) }
 {

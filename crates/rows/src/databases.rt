@@ -1,0 +1,53 @@
+//! What databases of a member hold, and why they are refused.
+use anyhow::{Result, bail};
+use durable::SqlKeeper;
+use keep::{Keeper, Shelf};
+use model::entry::Entry;
+use schemaread::schemas::read_schema;
+use sqlite::{Connection, MemStore};
+use std::alloc::{AllocError, Global};
+
+// How many members the group has.
+const MEMBERS: usize = 3;
+
+/// What an open of a member's database tells after these statements, which are made on one with nothing stored.
+pub fn tell_database(alloc: Global, schema: &str, statements: &str) -> Result<String> {
+    let schema = read_schema(alloc, schema)?;
+    let empty = Connection::open_in_memory(alloc)?;
+    let mut database = match SqlKeeper::open(alloc, empty, MEMBERS, &schema) {
+        Ok(keeper) => keeper.close(),
+        Err((error, _)) => bail!("an empty database is refused {error}"),
+    };
+    database.execute_batch(statements)?;
+    match SqlKeeper::open(alloc, database, MEMBERS, &schema) {
+        Ok(mut keeper) => tell_stored(alloc, &mut keeper),
+        Err((error, _)) => Ok(format!(in alloc; "{error}\n")?),
+    }
+}
+
+// The hard state and the log that a keeper holds.
+fn tell_stored(alloc: Global, keeper: &mut SqlKeeper<MemStore>) -> Result<String> {
+    let state = keeper.state(alloc)?;
+    let (term, length) = (state.hard.term, state.length);
+    let mut told = match state.hard.vote {
+        Some(member) => format!(in alloc; "term {term} vote {member} length {length}\n")?,
+        None => format!(in alloc; "term {term} no vote length {length}\n")?,
+    };
+    for entry in &state.tail {
+        told.push_str(tell_entry(alloc, entry)?.as_str())?;
+    }
+    Ok(told)
+}
+
+// What an entry has.
+fn tell_entry(alloc: Global, entry: &Entry) -> Result<String, AllocError> {
+    let (term, stamp) = (entry.term, entry.stamp.micros());
+    match &entry.request {
+        None => format!(in alloc; "entry term {term} stamp {stamp} close\n"),
+        Some(request) => {
+            let (client, number) = (request.client.get(), request.number.get());
+            let text = request.text.as_str();
+            format!(in alloc; "entry term {term} stamp {stamp} request {client} {number} {text}\n")
+        }
+    }
+}

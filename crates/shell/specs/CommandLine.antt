@@ -1,0 +1,102 @@
+-- The command lines of the program, in the words of `clap`'s own definitions: what its arguments and subcommands are, and what a
+-- command line asks for.
+use Rattle.std.specs.Prelude.{◌≡◌, ◌<◌, ◌^◌, ⊤, ℕ, List, Option, Some, None, pos, codes, map, option_map, true}
+use Rattle.std.specs.Str.Parse.{IsNumeral, digits_value, without_leading_plus}
+use Rattle.clap.specs.Lexer.{usize_max}
+use Rattle.clap.specs.Walk.{Row, Rule, Text, all_of, first_of, one_of}
+use Rattle.clap.specs.Simple.{App, new_app, new_rule, with_rule, with_subcommand}
+use Rattle.clap.specs.declared.builder.action.ArgAction.TheVariants.{Set, Append}
+use Rattle.clap.specs.declared.builder.value_parser.ValueParser.TheVariants as parser
+use Rattle.shell.specs.declared.command.Command.{Command}
+use Rattle.shell.specs.declared.command.Command.TheVariants.{PlayInput, PlayFile, Live, Audit}
+use Rattle.shell.specs.declared.command.Live.{Live as LiveValues}
+
+-- SCRIPT
+abbrev pub script_rule : Rule
+script_rule = record (new_rule (codes "SCRIPT")) { required = true; action = Some Set }
+
+-- --nodes N, 3 to 7
+abbrev pub nodes_rule : Rule
+nodes_rule = record (new_rule (codes "nodes")) {
+  long = Some (codes "nodes");
+  value_names = 1;
+  required = true;
+  parser = Some (parser.Signed (pos 3) (pos 7));
+}
+
+-- --seed S, an unsigned number of 64 bits
+abbrev pub seed_rule : Rule
+seed_rule = record (new_rule (codes "seed")) {
+  long = Some (codes "seed");
+  value_names = 1;
+  required = true;
+  parser = Some (parser.Unsigned 0 18446744073709551615);
+}
+
+-- --loss P, 0 to 100
+abbrev pub loss_rule : Rule
+loss_rule = record (new_rule (codes "loss")) {
+  long = Some (codes "loss");
+  value_names = 1;
+  required = true;
+  parser = Some (parser.Signed (pos 0) (pos 100));
+}
+
+-- [--dir DIR]
+abbrev pub dir_rule : Rule
+dir_rule = record (new_rule (codes "dir")) {
+  long = Some (codes "dir");
+  value_names = 1;
+  action = Some Set;
+}
+
+-- FILE.., one or more
+abbrev pub files_rule : Rule
+files_rule = record (new_rule (codes "FILE")) {
+  required = true;
+  range = Some (record { start_inclusive = 1; end_inclusive = usize_max });
+  action = Some Append;
+}
+
+-- sim SCRIPT
+abbrev pub sim_app : App
+sim_app = with_rule (new_app (codes "sim")) script_rule
+
+-- live --nodes N --seed S --loss P [--dir DIR] SCRIPT
+abbrev pub live_app : App
+live_app = with_rule (with_rule (with_rule (with_rule (with_rule (new_app (codes "live")) nodes_rule) seed_rule) loss_rule) dir_rule) script_rule
+
+-- audit FILE..
+abbrev pub audit_app : App
+audit_app = with_rule (new_app (codes "audit")) files_rule
+
+-- the whole command line
+abbrev pub bitable_app : App
+bitable_app = with_subcommand (with_subcommand (with_subcommand (new_app (codes "bitable")) sim_app.top) live_app.top) audit_app.top
+
+-- the matches give the option a decimal numeral of this number
+pub record GivesNumber (id : Text) (rows : List Row) (n : ℕ) : Type 0 where
+  pub text : Text
+  pub given : one_of id rows ≡ Some text
+  pub numeral : IsNumeral 10 (without_leading_plus text)
+  pub value : digits_value 10 (without_leading_plus text) ≡ n
+
+-- the matches of `live` give these values
+pub record AsksLive (rows : List Row) (live : LiveValues) : Type 0 where
+  pub nodes : GivesNumber (codes "nodes") rows live.nodes
+  pub seed : GivesNumber (codes "seed") rows live.seed
+  pub seed_fits : live.seed < 2 ^ 64
+  pub loss : GivesNumber (codes "loss") rows live.loss
+  pub dir : option_map (λ text. text.now) live.dir ≡ first_of (codes "dir") rows
+  pub script : Some live.script.now ≡ first_of (codes "SCRIPT") rows
+
+-- What the subcommand that was found, with its matches, asks for: without one, to play the input.
+abbrev pub AsksFor : Option (Text × List Row) → Command → Type 0
+AsksFor None PlayInput = ⊤
+AsksFor None (PlayFile path) = ⊥
+AsksFor None (Live live) = ⊥
+AsksFor None (Audit names) = ⊥
+AsksFor (Some (name, rows)) PlayInput = ⊥
+AsksFor (Some (name, rows)) (PlayFile path) = (name ≡ codes "sim") × (Some path.now ≡ first_of (codes "SCRIPT") rows)
+AsksFor (Some (name, rows)) (Live live) = (name ≡ codes "live") × AsksLive rows live
+AsksFor (Some (name, rows)) (Audit names) = (name ≡ codes "audit") × (Some (map (λ text. text.now) names.items) ≡ all_of (codes "FILE") rows)

@@ -1,0 +1,197 @@
+//! The command line.
+ghost use Rattle.std.specs.Prelude.{◌≡◌, ◌≢◌, ◌≤◌, ◌⊎◌, ℕ, List, [], Some, map, option_map, string_bytes, codes, false, IfSome, IfNone, IfOk, IfErr, OnOk};
+ghost use Rattle.clap.specs.declared.builder.command.Command.TheViews.{out-Command};
+ghost use Rattle.clap.specs.Words.{app_of, fault_of, found_of, rows_of, rule_of, subcommand_of, subcommand_rows_of, HasKind};
+ghost use Rattle.clap.specs.Words.{all_of, first_of};
+ghost use Rattle.shell.specs.declared.command.Command.{Command as Asked};
+ghost use Rattle.shell.specs.declared.command.Live.{Live as Run};
+ghost use Rattle.shell.specs.CommandLine.{AsksFor, AsksLive, script_rule, nodes_rule, seed_rule, loss_rule, dir_rule, files_rule, sim_app, live_app, audit_app, bitable_app};
+
+use crate::command::{Command, Live};
+use clap::error::ErrorKind;
+use clap::{Arg, ArgAction, ArgMatches, Command as Parser, Error, value_parser};
+use std::alloc::{AllocError, Global};
+
+const EXAMPLES: &str = "Examples:
+  bitable sim examples/payroll.script
+  bitable live --nodes 3 --seed 1 --loss 20 examples/insurance.script
+  bitable live --nodes 3 --seed 1 --loss 20 --dir run examples/insurance.script
+  bitable audit run/node1.flight run/node2.flight run/node3.flight
+Without a command it plays the script on standard input, as sim does.";
+
+fn script_word<'a>(alloc: Global) -> Arg<'a>
+    ensures { (rule_of result ≡ script_rule) × (result.global ≡ false) }
+{
+    Arg::new(alloc, "SCRIPT")
+        .required(true)
+        .action(ArgAction::Set)
+        .help("The file of the script")
+}
+
+fn sim_words<'a>(alloc: Global) -> Result<Parser<'a>, AllocError>
+    ensures { IfOk result (λ c. (app_of c ≡ sim_app) × ((out-Command c).has_globals ≡ false)) }
+{
+    Parser::new(alloc, "sim")
+        .about("Plays a script, one event after the other")
+        .arg(script_word(alloc))
+}
+
+fn nodes_word<'a>(alloc: Global) -> Arg<'a>
+    ensures { (rule_of result ≡ nodes_rule) × (result.global ≡ false) }
+{
+    Arg::new(alloc, "nodes")
+        .long("nodes")
+        .value_name("N")
+        .required(true)
+        .value_parser(value_parser!(u8).range(3..=7))
+        .help("How many nodes there are, 3 to 7")
+}
+
+fn seed_word<'a>(alloc: Global) -> Arg<'a>
+    ensures { (rule_of result ≡ seed_rule) × (result.global ≡ false) }
+{
+    Arg::new(alloc, "seed")
+        .long("seed")
+        .value_name("S")
+        .required(true)
+        .value_parser(value_parser!(u64))
+        .help("What all chance comes from: the same seed and script give the same output")
+}
+
+fn loss_word<'a>(alloc: Global) -> Arg<'a>
+    ensures { (rule_of result ≡ loss_rule) × (result.global ≡ false) }
+{
+    Arg::new(alloc, "loss")
+        .long("loss")
+        .value_name("P")
+        .required(true)
+        .value_parser(value_parser!(u8).range(0..=100))
+        .help("How many messages of a hundred are lost")
+}
+
+fn dir_word<'a>(alloc: Global) -> Arg<'a>
+    ensures { (rule_of result ≡ dir_rule) × (result.global ≡ false) }
+{
+    Arg::new(alloc, "dir")
+        .long("dir")
+        .value_name("DIR")
+        .action(ArgAction::Set)
+        .help("The folder for databases and flights; without it all is kept in memory")
+}
+
+fn live_words<'a>(alloc: Global) -> Result<Parser<'a>, AllocError>
+    ensures { IfOk result (λ c. (app_of c ≡ live_app) × ((out-Command c).has_globals ≡ false)) }
+{
+    Parser::new(alloc, "live")
+        .about("Plays a script on nodes that run on threads of their own")
+        .arg(nodes_word(alloc))?
+        .arg(seed_word(alloc))?
+        .arg(loss_word(alloc))?
+        .arg(dir_word(alloc))?
+        .arg(script_word(alloc))
+}
+
+fn files_word<'a>(alloc: Global) -> Arg<'a>
+    ensures { (rule_of result ≡ files_rule) × (result.global ≡ false) }
+{
+    Arg::new(alloc, "FILE")
+        .required(true)
+        .num_args(1..)
+        .action(ArgAction::Append)
+        .help("The flight files, one of each node")
+}
+
+fn audit_words<'a>(alloc: Global) -> Result<Parser<'a>, AllocError>
+    ensures { IfOk result (λ c. (app_of c ≡ audit_app) × ((out-Command c).has_globals ≡ false)) }
+{
+    Parser::new(alloc, "audit")
+        .about("Says whether flights are of one run, and whether their answers are its answers")
+        .arg(files_word(alloc))
+}
+
+fn all_words<'a>(alloc: Global) -> Result<Parser<'a>, AllocError>
+    ensures { IfOk result (λ c. app_of c ≡ bitable_app) }
+{
+    Parser::new(alloc, "bitable")
+        .about("Tables that answer what was believed when, kept by several nodes")
+        .after_help(EXAMPLES)
+        .subcommand(sim_words(alloc)?)?
+        .subcommand(live_words(alloc)?)?
+        .subcommand(audit_words(alloc)?)
+}
+
+fn live_of<'a>(matches: &ArgMatches<'a>) -> Option<Live<'a>>
+    ensures some { IfSome result (AsksLive (rows_of (found_of matches.now))) }
+    ensures none { IfNone result ((live : Run) → ¬ AsksLive (rows_of (found_of matches.now)) live) }
+{
+    let nodes: u8 = matches.get_one("nodes")?;
+    let seed: u64 = matches.get_one("seed")?;
+    let loss: u8 = matches.get_one("loss")?;
+    let script = script_of(matches)?;
+    let dir = matches.get_str("dir");
+    if nodes < 3 || nodes > 7 || loss > 100 {
+        return None;
+    }
+    Some(Live {
+        nodes,
+        seed,
+        loss,
+        dir,
+        script,
+    })
+}
+
+fn script_of<'a>(matches: &ArgMatches<'a>) -> Option<&'a str>
+    ensures { option_map (λ text. text.now) result ≡ first_of (codes "SCRIPT") (rows_of (found_of matches.now)) }
+{
+    matches.get_str("SCRIPT")
+}
+
+fn files_of<'a>(alloc: Global, matches: &ArgMatches<'a>) -> Result<Option<Vec<&'a str>>, AllocError>
+    ensures { IfOk result (λ files. option_map (λ names. map (λ text. text.now) names.items) files
+        ≡ all_of (codes "FILE") (rows_of (found_of matches.now))) }
+{
+    match matches.get_strs("FILE") {
+        Some(names) => Ok(Some(names.to_vec(alloc)?)),
+        None => Ok(None),
+    }
+}
+
+// What parsed words ask for; none where they ask for nothing that there is.
+fn command_of<'a>(
+    alloc: Global,
+    matches: &ArgMatches<'a>,
+) -> Result<Option<Command<'a>>, AllocError>
+    ensures some { IfOk result (λ found. IfSome found (AsksFor (subcommand_rows_of matches.now))) }
+    ensures none { IfOk result (λ found. IfNone found ((command : Asked) → ¬ AsksFor (subcommand_rows_of matches.now) command)) }
+{
+    let Some((name, given)) = matches.subcommand() else {
+        return Ok(Some(Command::PlayInput));
+    };
+    if name == "sim" {
+        return Ok(script_of(given).map(Command::PlayFile));
+    }
+    if name == "live" {
+        return Ok(live_of(given).map(Command::Live));
+    }
+    if name == "audit" {
+        return Ok(files_of(alloc, given)?.map(Command::Audit));
+    }
+    Ok(None)
+}
+
+/// What a command line asks for, the program's name first. The error is clap's: help that was asked for, words that it
+/// refuses, or want of memory.
+pub fn read_command<'a>(alloc: Global, words: &'a [String]) -> Result<Command<'a>, Error>
+    ensures asked { IfOk result (AsksFor (subcommand_of bitable_app (map string_bytes words.now))) }
+    ensures taken { OnOk result (fault_of bitable_app (map string_bytes words.now) ≡ []) }
+    ensures refused { IfErr result (λ e. HasKind (fault_of bitable_app (map string_bytes words.now)) e
+        ⊎ ((command : Asked) → ¬ AsksFor (subcommand_of bitable_app (map string_bytes words.now)) command)) }
+{
+    let mut parser = all_words(alloc)?;
+    let matches = parser.try_get_matches_from_mut(words)?;
+    match command_of(alloc, &matches)? {
+        Some(command) => Ok(command),
+        None => Err(parser.error(ErrorKind::MissingSubcommand, "no such command")?),
+    }
+}
