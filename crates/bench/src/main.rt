@@ -1,15 +1,18 @@
-//! Measures how fast texts are read, and how long statements, questions and whole groups take. Without words it reads
-//! each text once and plays a little of each group, and tells what it found. With a word it prints times:
+//! Measures how fast texts are read, how long transactions, questions and whole groups take, and how fast views answer.
+//! Without words it reads each text once and plays a little of each group, and tells what it found. With a word it
+//! prints times:
 //! - `rates`: how many bytes of a text are read in a second;
-//! - `tables`: the nanoseconds of an INSERT, of an UPDATE of a portion and of a question by key, over tables of 1,000,
-//!   5,000 and 20,000 rows;
+//! - `tables`: the microseconds of transactions and of questions, over tables of several sizes whose rows have a key
+//!   each or all one;
 //! - `requests`: how many requests a group of three decides in a second, and how many questions by key it then answers;
 //! - `elections`: how many elections it holds in a second;
-//! - `restarts`: how long it takes until a member that was down has what was decided without it.
+//! - `restarts`: how long it takes until a member that was down has what was decided without it;
+//! - `views`: how many questions views answer in a second, each on a thread of its own, and what they cost the writer.
 #![tactic(auto)]
 
 mod groups;
 mod tables;
+mod views;
 
 use anyhow::Result;
 use schema::Schema;
@@ -26,6 +29,13 @@ const SCHEMA: &str = "CREATE TABLE Dept (DNo INTEGER, DStart DATE, DEnd DATE, DN
  PERIOD FOR DPeriod (DStart, DEnd),
  PERIOD FOR SYSTEM_TIME (SysStart, SysEnd),
  PRIMARY KEY (DNo, DPeriod WITHOUT OVERLAPS)) WITH SYSTEM VERSIONING;
+CREATE TABLE Emp (ENo INTEGER, EStart DATE, EEnd DATE, EDept INTEGER,
+ SysStart TIMESTAMP(6) GENERATED ALWAYS AS ROW START,
+ SysEnd TIMESTAMP(6) GENERATED ALWAYS AS ROW END,
+ PERIOD FOR EPeriod (EStart, EEnd),
+ PERIOD FOR SYSTEM_TIME (SysStart, SysEnd),
+ PRIMARY KEY (ENo, EPeriod WITHOUT OVERLAPS),
+ FOREIGN KEY (EDept, PERIOD EPeriod) REFERENCES Dept (DNo, PERIOD DPeriod)) WITH SYSTEM VERSIONING;
 ";
 
 // How many bytes each measurement reads.
@@ -41,6 +51,7 @@ fn main(rt: HostRuntime) -> Result<()> {
         Asked::Requests => groups::tell_requests(&rt, alloc, &schema),
         Asked::Elections => groups::tell_elections(&rt, alloc, &schema),
         Asked::Restarts => groups::tell_restarts(&rt, alloc, &schema),
+        Asked::Views => views::tell(&rt, alloc, &schema),
     }
 }
 
@@ -50,7 +61,7 @@ enum Asked {
     Checks,
     /// How fast texts are read.
     Rates,
-    /// How long statements and questions take.
+    /// How long transactions and questions take.
     Tables,
     /// How many requests are decided, and how many questions answered.
     Requests,
@@ -58,6 +69,8 @@ enum Asked {
     Elections,
     /// How long a member that was down takes to catch up.
     Restarts,
+    /// How fast views answer, and what they cost the writer.
+    Views,
 }
 
 fn words_given<R: AllocGlobal + Env>(rt: &R) -> Result<Asked> {
@@ -72,6 +85,7 @@ fn words_given<R: AllocGlobal + Env>(rt: &R) -> Result<Asked> {
         "requests" => Asked::Requests,
         "elections" => Asked::Elections,
         "restarts" => Asked::Restarts,
+        "views" => Asked::Views,
         _ => Asked::Checks,
     })
 }

@@ -1,19 +1,18 @@
-//! How long statements and questions take.
-use anyhow::Result;
-use asof::Ask;
-use current::{Current, Touched};
-use fault::Refusal;
+//! How long transactions and questions take: with the check of references, and with the commit to the versions.
+use anyhow::{Result, bail, ensure};
+use apply::Tables;
+use fault::Text;
+use model::entry::{Entry, Request};
+use model::request::{Client, RequestNumber};
 use model::stamp::Stamp;
 use schema::Schema;
-use sqlread::query::{Query, read_query};
-use sqlread::statement::Statement;
-use sqlread::transaction::read_transaction;
-use std::alloc::Global;
+use sqlread::query::read_query;
+use std::alloc::{AllocError, Global};
+use std::fmt;
 use std::rt::Clock;
 use std::time::Instant;
-use sysversion::Versions;
 
-// How many statements or questions each measurement takes.
+// How many transactions or questions of a kind are measured, one after the other.
 const MEASURED: usize = 100;
 
 // Whether each row has a key of its own, or all have one.
@@ -23,135 +22,105 @@ enum Keys {
     One,
 }
 
+// The department of all employees at first, which has one row for all time.
+const WHOLE: usize = 1_000_000;
+
+// A kind of transactions or of questions.
+#[derive(Clone, Copy)]
+enum Kind {
+    // Inserts a department.
+    Insert,
+    // Inserts the department of all time.
+    InsertWhole,
+    // Inserts an employee of that department.
+    InsertFirst,
+    // Moves each employee to the department of the same key.
+    Move,
+    // Inserts an employee of the department of the same key.
+    InsertChild,
+    // Updates the portion of a department's key that is one row.
+    UpdatePortion,
+    // Deletes the employees of a key.
+    DeleteKey,
+    // Asks for the departments of a key.
+    AskKey,
+    // Asks for the department of a key on a day.
+    AskDay,
+    // Updates all departments.
+    UpdateAll,
+    // Updates all departments sixteen times in one transaction.
+    UpdateSixteen,
+}
+
+// In the order in which they are measured.
+const KINDS: [Kind; 11] = [
+    Kind::Insert,
+    Kind::InsertWhole,
+    Kind::InsertFirst,
+    Kind::Move,
+    Kind::InsertChild,
+    Kind::UpdatePortion,
+    Kind::DeleteKey,
+    Kind::AskKey,
+    Kind::AskDay,
+    Kind::UpdateAll,
+    Kind::UpdateSixteen,
+];
+
+// The first of a month.
+#[derive(Clone, Copy)]
+struct Month {
+    year: usize,
+    month: usize,
+}
+
+// A row's key and period.
+#[derive(Clone, Copy)]
+struct Row {
+    key: usize,
+    start: Month,
+    end: Month,
+}
+
+// What is measured: a kind, over tables of so many rows each.
+#[derive(Clone, Copy)]
+struct Load {
+    kind: Kind,
+    keys: Keys,
+    rows: usize,
+}
+
+// Tables, and how many requests they were given.
+#[derive(Drop)]
+struct Book {
+    alloc: Global,
+    schema: Schema,
+    tables: Tables,
+    requests: u32,
+}
+
+/// Prints a table of what transactions and questions take, for tables of several sizes.
 pub(crate) fn tell<R: Print + Clock>(rt: &R, alloc: Global, schema: &Schema) -> Result<()> {
+    tell_head(rt, "each row has a key of its own")?;
     for rows in [1_000, 5_000, 20_000] {
         tell_rows(rt, alloc, schema, Keys::Many, rows)?;
+    }
+    tell_head(rt, "all rows have one key")?;
+    for rows in [200, 1_000, 5_000, 20_000] {
         tell_rows(rt, alloc, schema, Keys::One, rows)?;
     }
     Ok(())
 }
 
-// The key, the start and the end of a row: months in turn from the year 1000 on where all have one key.
-fn row(alloc: Global, keys: Keys, n: usize) -> Result<(usize, String, String)> {
-    Ok(match keys {
-        Keys::Many => (
-            n,
-            format!(in alloc; "2000-01-01")?,
-            format!(in alloc; "2020-01-01")?,
-        ),
-        Keys::One => (0, month(alloc, n)?, month(alloc, n.saturating_add(1))?),
-    })
-}
-
-// The first of a month, so many after January of the year 1000.
-fn month(alloc: Global, n: usize) -> Result<String> {
-    let year = n / 12 % 8_000 + 1_000;
-    let month = n % 12 + 1;
-    if month < 10 {
-        return Ok(format!(in alloc; "{year}-0{month}-01")?);
-    }
-    Ok(format!(in alloc; "{year}-{month}-01")?)
-}
-
-fn insert(alloc: Global, schema: &Schema, keys: Keys, n: usize) -> Result<Statement> {
-    let (key, start, end) = row(alloc, keys, n)?;
-    let text = format!(in alloc;
-        "INSERT INTO Dept (DNo, DStart, DEnd, DName) VALUES ({key}, DATE '{start}', DATE '{end}', 'Test');"
+fn tell_head<R: Print>(rt: &R, keys: &str) -> Result<()> {
+    println!(rt; "microseconds for each transaction or question, where {keys}")?;
+    println!(rt;
+        "  rows      INSERT    of child     portion      DELETE      by key   key, a day         all  sixteen all"
     )?;
-    statement(alloc, schema, text.as_str())
+    Ok(())
 }
 
-fn update(alloc: Global, schema: &Schema, keys: Keys, n: usize) -> Result<Statement> {
-    let (key, start, end) = row(alloc, keys, n)?;
-    let text = format!(in alloc;
-        "UPDATE Dept FOR PORTION OF DPeriod FROM DATE '{start}' TO DATE '{end}' SET DName = 'New' WHERE DNo = {key};"
-    )?;
-    statement(alloc, schema, text.as_str())
-}
-
-fn statement(alloc: Global, schema: &Schema, text: &str) -> Result<Statement> {
-    let mut read = read_transaction(alloc, schema, text)?;
-    match read.statements.pop() {
-        Some(statement) => Ok(statement),
-        None => Err(Refusal::Syntax(0).into()),
-    }
-}
-
-// Microseconds of one statement, and what it touched.
-fn timed<R: Clock>(
-    rt: &R,
-    current: &mut Current,
-    statement: &Statement,
-) -> Result<(u128, Touched)> {
-    let start = Instant::now(rt)?;
-    let touched = current.run(statement, Stamp::new(1))?;
-    Ok((start.elapsed(rt)?.as_nanos(), touched))
-}
-
-// Inserts rows, and gives the nanoseconds of the last ones, each.
-fn fill<R: Clock>(
-    rt: &R,
-    alloc: Global,
-    schema: &Schema,
-    keys: Keys,
-    rows: usize,
-    current: &mut Current,
-    versions: &mut Versions,
-) -> Result<u128> {
-    let mut nanos = 0u128;
-    for n in 0..rows {
-        let statement = insert(alloc, schema, keys, n)?;
-        let (more, touched) = timed(rt, current, &statement)?;
-        versions.commit(touched, Stamp::new(1))?;
-        if n.saturating_add(MEASURED) >= rows {
-            nanos = nanos.saturating_add(more);
-        }
-    }
-    Ok(nanos / MEASURED as u128)
-}
-
-// The nanoseconds of an UPDATE of a portion, each of some in the midst of the table.
-fn updates<R: Clock>(
-    rt: &R,
-    alloc: Global,
-    schema: &Schema,
-    keys: Keys,
-    rows: usize,
-    current: &mut Current,
-) -> Result<u128> {
-    let mut nanos = 0u128;
-    for n in 0..MEASURED {
-        let statement = update(alloc, schema, keys, (rows / 2).saturating_add(n))?;
-        let (more, _) = timed(rt, current, &statement)?;
-        nanos = nanos.saturating_add(more);
-    }
-    Ok(nanos / MEASURED as u128)
-}
-
-fn ask(alloc: Global, versions: &Versions, query: &Query) -> Result<usize, Refusal> {
-    let Some(time) = query.time else {
-        return Err(Refusal::NotClosed(None));
-    };
-    Ok(versions.ask(alloc, query, time)?.rows.len())
-}
-
-// The nanoseconds of a question AS OF by key.
-fn questions<R: Clock>(
-    rt: &R,
-    alloc: Global,
-    schema: &Schema,
-    versions: &Versions,
-) -> Result<u128> {
-    let text =
-        "SELECT * FROM Dept FOR SYSTEM_TIME AS OF TIMESTAMP '1970-01-01 00:00:00.000001' WHERE DNo = 7;";
-    let query = read_query(alloc, schema, text)?;
-    let start = Instant::now(rt)?;
-    for _ in 0..MEASURED {
-        let _ = ask(alloc, versions, &query)?;
-    }
-    Ok(start.elapsed(rt)?.as_nanos() / MEASURED as u128)
-}
-
+// Prints a line of the table.
 fn tell_rows<R: Print + Clock>(
     rt: &R,
     alloc: Global,
@@ -159,17 +128,237 @@ fn tell_rows<R: Print + Clock>(
     keys: Keys,
     rows: usize,
 ) -> Result<()> {
-    let mut current = Current::new(alloc, schema)?;
-    let mut versions = Versions::new(alloc, schema)?;
-    let inserted = fill(rt, alloc, schema, keys, rows, &mut current, &mut versions)?;
-    let updated = updates(rt, alloc, schema, keys, rows, &mut current)?;
-    let asked = questions(rt, alloc, schema, &versions)?;
-    let keys = match keys {
-        Keys::Many => "many keys",
-        Keys::One => "one key",
-    };
-    println!(rt;
-        "{rows} rows of {keys}: INSERT {inserted}, UPDATE of a portion {updated}, question by key {asked} nanoseconds"
-    )?;
+    let mut book = Book::new(alloc, schema)?;
+    print!(rt; "{rows:>6}")?;
+    for kind in KINDS {
+        let nanos = book.measure(rt, Load { kind, keys, rows })?;
+        if kind.is_told() {
+            let (micros, tenth) = (nanos / 1_000, nanos % 1_000 / 100);
+            print!(rt; "{micros:>10}.{tenth}")?;
+        }
+    }
+    println!(rt;)?;
     Ok(())
+}
+
+impl Kind {
+    // Whether it is printed, and not only made ready for others.
+    fn is_told(self) -> bool {
+        !matches!(self, Kind::InsertWhole | Kind::InsertFirst | Kind::Move)
+    }
+}
+
+impl Month {
+    // So many months after January of the year 1000.
+    fn nth(n: usize) -> Month {
+        Month {
+            year: n / 12 % 8_000 + 1_000,
+            month: n % 12 + 1,
+        }
+    }
+}
+
+impl fmt::Display for Month {
+    fn fmt<W: fmt::Write>(&self, f: &mut fmt::Formatter<W>) -> fmt::Result {
+        write!(f, "{}-{:02}-01", self.year, self.month)
+    }
+}
+
+impl Row {
+    // The row of this number: with a key of its own and twenty years, or with a month of the one key.
+    fn nth(keys: Keys, n: usize) -> Row {
+        match keys {
+            Keys::Many => Row {
+                key: n,
+                start: Month::nth(12_000),
+                end: Month::nth(12_240),
+            },
+            Keys::One => Row {
+                key: 0,
+                start: Month::nth(n),
+                end: Month::nth(n.saturating_add(1)),
+            },
+        }
+    }
+
+    // The row of this key for all time.
+    fn whole(key: usize) -> Row {
+        Row {
+            key,
+            start: Month::nth(0),
+            end: Month::nth(95_988),
+        }
+    }
+
+    fn insert(self, alloc: Global) -> Result<String, AllocError> {
+        let Row { key, start, end } = self;
+        format!(in alloc;
+            "INSERT INTO Dept (DNo, DStart, DEnd, DName) VALUES ({key}, DATE '{start}', DATE '{end}', 'Test');"
+        )
+    }
+
+    // Of this department.
+    fn insert_child(self, alloc: Global, parent: usize) -> Result<String, AllocError> {
+        let Row { key, start, end } = self;
+        format!(in alloc;
+            "INSERT INTO Emp (ENo, EStart, EEnd, EDept) VALUES ({key}, DATE '{start}', DATE '{end}', {parent});"
+        )
+    }
+
+    fn update_portion(self, alloc: Global) -> Result<String, AllocError> {
+        let Row { key, start, end } = self;
+        format!(in alloc;
+            "UPDATE Dept FOR PORTION OF DPeriod FROM DATE '{start}' TO DATE '{end}' SET DName = 'New' WHERE DNo = {key};"
+        )
+    }
+
+    fn delete_key(self, alloc: Global) -> Result<String, AllocError> {
+        let key = self.key;
+        format!(in alloc; "DELETE FROM Emp WHERE ENo = {key};")
+    }
+
+    // A question as of the instant at which so many requests had been made.
+    fn ask_key(self, alloc: Global, instant: usize) -> Result<String, AllocError> {
+        let key = self.key;
+        format!(in alloc;
+            "SELECT * FROM Dept FOR SYSTEM_TIME AS OF TIMESTAMP '1970-01-01 00:00:00.{instant:06}' WHERE DNo = {key};"
+        )
+    }
+
+    fn ask_day(self, alloc: Global, instant: usize) -> Result<String, AllocError> {
+        let Row { key, start, .. } = self;
+        format!(in alloc;
+            "SELECT * FROM Dept FOR SYSTEM_TIME AS OF TIMESTAMP '1970-01-01 00:00:00.{instant:06}' WHERE DNo = {key} AND DPeriod CONTAINS DATE '{start}';"
+        )
+    }
+}
+
+// So many UPDATEs of all departments in one transaction.
+fn update_all(alloc: Global, count: usize) -> Result<String, AllocError> {
+    let mut text = String::new(alloc);
+    for n in 0..count {
+        let statement = format!(in alloc; "UPDATE Dept SET DName = 'Name {n}';")?;
+        text.push_str(statement.as_str())?;
+    }
+    Ok(text)
+}
+
+impl Load {
+    // The number of the first row.
+    fn first(self) -> usize {
+        match self.kind {
+            Kind::Insert | Kind::InsertFirst => 0,
+            Kind::InsertChild => self.rows.saturating_sub(MEASURED),
+            _ => self.rows / 3,
+        }
+    }
+
+    // How many transactions or questions there are. With the department of all time there are so many rows.
+    fn count(self) -> usize {
+        match (self.kind, self.keys) {
+            (Kind::Insert, _) => self.rows.saturating_sub(1),
+            (Kind::InsertFirst, _) => self.rows.saturating_sub(MEASURED),
+            (Kind::InsertChild, Keys::Many) => MEASURED - 1,
+            (Kind::InsertChild, Keys::One) => 3,
+            (Kind::DeleteKey, Keys::Many) => MEASURED,
+            (Kind::UpdatePortion | Kind::AskKey | Kind::AskDay, _) => MEASURED,
+            _ => 1,
+        }
+    }
+
+    // The text of a transaction or question on the row of this number.
+    fn text(self, alloc: Global, n: usize) -> Result<String, AllocError> {
+        let row = Row::nth(self.keys, n);
+        let inserted = self.rows.saturating_mul(2);
+        match self.kind {
+            Kind::Insert => row.insert(alloc),
+            Kind::InsertWhole => Row::whole(WHOLE).insert(alloc),
+            Kind::InsertFirst => row.insert_child(alloc, WHOLE),
+            Kind::Move => format!(in alloc; "UPDATE Emp SET EDept = ENo;"),
+            Kind::InsertChild => row.insert_child(alloc, row.key),
+            Kind::UpdatePortion => row.update_portion(alloc),
+            Kind::DeleteKey => row.delete_key(alloc),
+            Kind::AskKey => row.ask_key(alloc, inserted),
+            Kind::AskDay => row.ask_day(alloc, inserted),
+            Kind::UpdateAll => update_all(alloc, 1),
+            Kind::UpdateSixteen => update_all(alloc, 16),
+        }
+    }
+}
+
+impl Book {
+    fn new(alloc: Global, schema: &Schema) -> Result<Book> {
+        Ok(Book {
+            alloc,
+            schema: schema.clone()?,
+            tables: Tables::new(alloc, schema)?,
+            requests: 0,
+        })
+    }
+
+    // The nanoseconds of each of the last hundred.
+    fn measure<R: Clock>(&mut self, rt: &R, load: Load) -> Result<u128> {
+        let count = load.count();
+        let mut nanos = 0u128;
+        for n in 0..count {
+            let more = self.take(rt, load, load.first().saturating_add(n))?;
+            if n.saturating_add(MEASURED) >= count {
+                nanos = nanos.saturating_add(more);
+            }
+        }
+        Ok(nanos / count.clamp(1, MEASURED) as u128)
+    }
+
+    // The nanoseconds of one, on the row of this number.
+    fn take<R: Clock>(&mut self, rt: &R, load: Load, n: usize) -> Result<u128> {
+        let text = load.text(self.alloc, n)?;
+        match load.kind {
+            Kind::AskKey | Kind::AskDay => self.ask(rt, text.as_str()),
+            _ => self.apply(rt, text.as_str()),
+        }
+    }
+
+    // The nanoseconds of a transaction, which is to be accepted.
+    fn apply<R: Clock>(&mut self, rt: &R, text: &str) -> Result<u128> {
+        let entry = self.next_entry(text)?;
+        let start = Instant::now(rt)?;
+        let outcome = self.tables.apply(&entry)?;
+        let nanos = start.elapsed(rt)?.as_nanos();
+        match outcome {
+            Some(Ok(_)) => Ok(nanos),
+            Some(Err(refusal)) => bail!("{refusal}: {text}"),
+            None => bail!("no outcome: {text}"),
+        }
+    }
+
+    // The entry of the next request, stamped with its number.
+    fn next_entry(&mut self, text: &str) -> Result<Entry> {
+        self.requests = self.requests.saturating_add(1);
+        let (Some(client), Some(number)) = (
+            Client::new(7),
+            RequestNumber::new(self.requests.into()),
+        ) else {
+            bail!("no number for a request: {text}");
+        };
+        let text = Text::new(self.alloc, text)?;
+        Ok(Entry {
+            term: 1,
+            stamp: Stamp::new(self.requests.into()),
+            request: Some(Request {
+                client,
+                number,
+                text,
+            }),
+        })
+    }
+
+    // The nanoseconds of a question, which is to find a row.
+    fn ask<R: Clock>(&self, rt: &R, text: &str) -> Result<u128> {
+        let query = read_query(self.alloc, &self.schema, text)?;
+        let start = Instant::now(rt)?;
+        let answer = self.tables.ask(&query)?;
+        let nanos = start.elapsed(rt)?.as_nanos();
+        ensure!(!answer.rows.is_empty(), "no row: {text}");
+        Ok(nanos)
+    }
 }

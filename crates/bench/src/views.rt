@@ -1,0 +1,258 @@
+//! How fast views answer on threads of their own, and what they cost the publisher.
+use anyhow::{Result, ensure};
+use fault::Text;
+use model::entry::{Entry, Request};
+use model::mark::Mark;
+use model::request::{Client, RequestNumber};
+use model::stamp::Stamp;
+use schema::Schema;
+use sqlread::query::{Query, read_query};
+use std::alloc::{AllocError, Global};
+use std::rt::Clock;
+use std::sync::Wait;
+use std::sync::atomic::{AtomicBool, Ordering};
+use std::thread;
+use std::thread::Threads;
+use std::time::{Duration, Instant};
+use view::{Item, Name, Publisher, View};
+
+// How many rows are published before anything is measured.
+const FIRST: u32 = 1_000;
+
+// How many updates are then published, one by one, while views are asked.
+const MORE: u32 = 100_000;
+
+// For how many milliseconds views are asked before anything is counted, and while nothing is published.
+const READY: u64 = 200;
+
+const QUIET: u64 = 500;
+
+// How far it is, for all threads: answers count from its begin on, and views are asked until it is done.
+#[derive(Drop)]
+struct Stage {
+    is_begun: AtomicBool,
+    is_done: AtomicBool,
+}
+
+// A view that is asked, and how many answers it gave. It is asked no more after a refusal.
+#[derive(Drop)]
+struct Reader {
+    view: View,
+    answers: u64,
+    is_refused: bool,
+}
+
+// What was measured.
+#[derive(Drop)]
+struct Figures {
+    nanos: u128,
+    answers: u64,
+}
+
+/// Prints how many questions views answer in a second, without and with a writer, and how much that publishes.
+pub(crate) fn tell<R: Print + Clock + Wait + Threads + Sync>(
+    rt: &R,
+    alloc: Global,
+    schema: &Schema,
+) -> Result<()> {
+    println!(rt; "each in a second, all views together, each on a thread of its own")?;
+    println!(rt; " views   questions   while one publishes   published")?;
+    for views in [0, 1, 8] {
+        let quiet = measure(rt, alloc, schema, views, 0)?;
+        let busy = measure(rt, alloc, schema, views, MORE)?;
+        let asked = quiet.rate(quiet.answers);
+        let meanwhile = busy.rate(busy.answers);
+        let published = busy.rate(MORE.into());
+        println!(rt; "{views:>6}{asked:>12}{meanwhile:>22}{published:>12}")?;
+    }
+    Ok(())
+}
+
+impl Figures {
+    // How many of so many there were in a second.
+    fn rate(&self, count: u64) -> u128 {
+        u128::from(count).saturating_mul(1_000_000_000) / self.nanos.max(1)
+    }
+}
+
+// Publishes so many updates while so many views are asked.
+fn measure<R: Clock + Wait + Threads + Sync>(
+    rt: &R,
+    alloc: Global,
+    schema: &Schema,
+    views: usize,
+    more: u32,
+) -> Result<Figures> {
+    let mut publisher = open(rt, alloc, schema)?;
+    let readers = take_readers(alloc, &mut publisher, views)?;
+    let query = read_query(alloc, schema, "SELECT * FROM Dept WHERE DNo = 999;")?;
+    let items = items(alloc, FIRST, more)?;
+    let stage = Stage {
+        is_begun: AtomicBool::new(false),
+        is_done: AtomicBool::new(false),
+    };
+    let ((publisher, nanos), readers) = thread::join(
+        rt,
+        || write_all(rt, publisher, items, &stage),
+        || ask_all(rt, readers, &query, &stage),
+    );
+    publisher.stop(rt);
+    Ok(Figures {
+        nanos: nanos?,
+        answers: answers_of(&readers?)?,
+    })
+}
+
+// A life that has published some rows.
+fn open<R: Wait>(rt: &R, alloc: Global, schema: &Schema) -> Result<Publisher> {
+    let name = Name {
+        node: 1,
+        opening: Mark::new(1),
+    };
+    let mut publisher = Publisher::start(rt, alloc, name, schema.clone()?)?;
+    for item in items(alloc, 0, FIRST)? {
+        publisher.append(item)?;
+    }
+    publisher.publish(rt)?;
+    Ok(publisher)
+}
+
+// So many requests from this number on.
+fn items(alloc: Global, first: u32, count: u32) -> Result<Vec<Item>> {
+    let mut items = Vec::new(alloc);
+    for n in first..first.saturating_add(count) {
+        items.push(item(alloc, n)?)?;
+    }
+    Ok(items)
+}
+
+// The request of this number, stamped with one more.
+fn item(alloc: Global, n: u32) -> Result<Item> {
+    let number = u64::from(n).saturating_add(1);
+    let text = text_of(alloc, n)?;
+    let entry = Entry {
+        term: 1,
+        stamp: Stamp::new(number),
+        request: request(alloc, number, text.as_str())?,
+    };
+    Ok(Item::Applied {
+        mark: Mark::new(number),
+        entry,
+    })
+}
+
+// The first ones insert a row each, the others update one of them, in turn. Row 999 is not updated.
+fn text_of(alloc: Global, n: u32) -> Result<String, AllocError> {
+    if n < FIRST {
+        return format!(in alloc;
+            "INSERT INTO Dept (DNo, DStart, DEnd, DName) VALUES ({n}, DATE '2000-01-01', DATE '2020-01-01', 'Test');"
+        );
+    }
+    let key = n % 999;
+    format!(in alloc; "UPDATE Dept SET DName = 'Name {n}' WHERE DNo = {key};")
+}
+
+fn request(alloc: Global, number: u64, text: &str) -> Result<Option<Request>, AllocError> {
+    let (Some(client), Some(number)) = (Client::new(7), RequestNumber::new(number)) else {
+        return Ok(None);
+    };
+    let text = Text::new(alloc, text)?;
+    Ok(Some(Request {
+        client,
+        number,
+        text,
+    }))
+}
+
+fn take_readers(alloc: Global, publisher: &mut Publisher, count: usize) -> Result<Vec<Reader>> {
+    let mut readers = Vec::new(alloc);
+    for _ in 0..count {
+        let view = publisher.take_view()?;
+        readers.push(Reader {
+            view,
+            answers: 0,
+            is_refused: false,
+        })?;
+    }
+    Ok(readers)
+}
+
+// Publishes these items once the views are being asked.
+fn write_all<R: Clock + Wait>(
+    rt: &R,
+    mut publisher: Publisher,
+    items: Vec<Item>,
+    stage: &Stage,
+) -> (Publisher, Result<u128>) {
+    thread::sleep(rt, Duration::from_millis(READY));
+    stage.is_begun.store(true, Ordering::SeqCst);
+    let nanos = publish_all(rt, &mut publisher, items);
+    stage.is_done.store(true, Ordering::SeqCst);
+    (publisher, nanos)
+}
+
+// The nanoseconds of publishing these items one by one, or of some time where there are none.
+fn publish_all<R: Clock + Wait>(
+    rt: &R,
+    publisher: &mut Publisher,
+    items: Vec<Item>,
+) -> Result<u128> {
+    let start = Instant::now(rt)?;
+    if items.is_empty() {
+        thread::sleep(rt, Duration::from_millis(QUIET));
+    }
+    for item in items {
+        publisher.append(item)?;
+        publisher.publish(rt)?;
+    }
+    Ok(start.elapsed(rt)?.as_nanos())
+}
+
+// Asks each view on a thread of its own.
+fn ask_all<R: Threads + Sync>(
+    rt: &R,
+    readers: Vec<Reader>,
+    query: &Query,
+    stage: &Stage,
+) -> Result<Vec<Reader>, AllocError> {
+    thread::map_vec(rt, readers, &|reader| asked(reader, query, stage))
+}
+
+// A view after it was asked again and again, until all is done.
+fn asked(mut reader: Reader, query: &Query, stage: &Stage) -> Reader {
+    for _ in 0..u64::MAX {
+        if reader.is_refused || stage.is_done.load(Ordering::SeqCst) {
+            break;
+        }
+        if !stage.is_begun.load(Ordering::SeqCst) {
+            reader.answers = 0;
+        }
+        reader.ask(query);
+    }
+    reader
+}
+
+impl Reader {
+    // Asks once. One row is to be the answer.
+    fn ask(&mut self, query: &Query) {
+        let rows = match self.view.ask(query) {
+            Ok(marked) => marked.answer.rows.len(),
+            Err(_) => 0,
+        };
+        if rows == 1 {
+            self.answers = self.answers.saturating_add(1);
+        } else {
+            self.is_refused = true;
+        }
+    }
+}
+
+// How many answers they gave together.
+fn answers_of(readers: &[Reader]) -> Result<u64> {
+    let mut answers = 0u64;
+    for reader in readers {
+        ensure!(!reader.is_refused, "a view does not give the row");
+        answers = answers.saturating_add(reader.answers);
+    }
+    Ok(answers)
+}
