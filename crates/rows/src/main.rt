@@ -5,7 +5,6 @@
 //!
 //! - `.script`: a script, which is played. Where it does not end well, a last line says why. One that does is played
 //!   again with a reader and with a writer that fail midway.
-//! - `.live`: a script behind a line with the words of a command `live`, by which it is played on threads.
 //! - `.scripts`: each text is the end of a script, which is played.
 //! - `.audits`: each text says what is changed, as in `.changes`, in flights before they are audited.
 //! - `.schemas`: each text is a schema, which is read or refused.
@@ -16,7 +15,7 @@
 //! - `.databases`: each text is a list of SQL statements, which are made on the database of a member that has nothing
 //!   stored. It is then opened: what it holds is told, or why it is refused.
 //!
-//! All but a `.script` and a `.live` have a text in each line; a line that begins with `#` is a comment. The first line of
+//! All but a `.script` have a text in each line; a line that begins with `#` is a comment. The first line of
 //! `.scripts`, `.audits`, `.changes`, `.transactions`, `.queries` and `.databases` names another file: the beginning of the
 //! scripts, the flights one behind the other, or the schema. In a text `\0a` is the byte of these two hexadecimal digits,
 //! and `\{16 X}` is X 16 times.
@@ -32,7 +31,7 @@ use broken::fault_where_broken;
 use std::alloc::{AllocError, Global};
 use std::fs;
 use std::rt::Files;
-use trial::{Kind, play, play_live, tell};
+use trial::{Kind, play, tell};
 
 // How many bytes a short script has at most.
 const SHORT: usize = 20000;
@@ -72,7 +71,7 @@ fn names_of_inputs<R: AllocGlobal + Files + Clone + Drop>(
 }
 
 // How an input prints something else than it should, or none.
-fn fault_of(rt: &HostRuntime, alloc: Global, input: &str) -> Result<Option<String>> {
+fn fault_of<R: AllocGlobal + Files>(rt: &R, alloc: Global, input: &str) -> Result<Option<String>> {
     let printed = try_input(rt, alloc, input)?;
     if let Some(fault) = fault_of_script(rt, alloc, input, printed.as_str())? {
         return Ok(Some(fault));
@@ -106,10 +105,9 @@ fn fault_of_script<R: AllocGlobal + Files>(
 }
 
 // What an input prints.
-fn try_input(rt: &HostRuntime, alloc: Global, input: &str) -> Result<String> {
+fn try_input<R: AllocGlobal + Files>(rt: &R, alloc: Global, input: &str) -> Result<String> {
     let bytes = fs::read(rt, input)?;
     match Kind::of(input) {
-        Some(Kind::Live) => play_live(rt, String::from_utf8(bytes)?.as_str()),
         Some(Kind::Script) | None => play(alloc, bytes.as_slice()),
         Some(kind) => try_texts(rt, alloc, kind, String::from_utf8(bytes)?.as_str()),
     }

@@ -8,9 +8,6 @@ use rowtext::{Written, write_transaction};
 use schemaread::schemas::read_schema;
 use script::run_fault::RunFault;
 use shell::audit::run_audit;
-use shell::command::Command;
-use shell::command_line::read_command;
-use shell::live_run::run_live;
 use shell::sim::run_sim;
 use sqlread::query::read_query;
 use sqlread::transaction::read_transaction;
@@ -23,7 +20,6 @@ const FLIGHT: &str = "bitable flight 1\n";
 #[derive(Clone, Copy)]
 pub enum Kind {
     Script,
-    Live,
     Scripts,
     Audits,
     Schemas,
@@ -41,7 +37,6 @@ impl Kind {
         let (_, ending) = file.rsplit_once('.')?;
         match ending {
             "script" => Some(Kind::Script),
-            "live" => Some(Kind::Live),
             "scripts" => Some(Kind::Scripts),
             "audits" => Some(Kind::Audits),
             "schemas" => Some(Kind::Schemas),
@@ -60,7 +55,7 @@ impl Kind {
         match self {
             Kind::Scripts | Kind::Audits | Kind::Databases => true,
             Kind::Changes | Kind::Transactions | Kind::Queries => true,
-            Kind::Script | Kind::Live | Kind::Schemas | Kind::Days | Kind::Instants => false,
+            Kind::Script | Kind::Schemas | Kind::Days | Kind::Instants => false,
         }
     }
 }
@@ -73,7 +68,7 @@ pub fn tell(alloc: Global, kind: Kind, base: &str, line: &str) -> Result<String>
     };
     let text = text.as_str();
     match kind {
-        Kind::Script | Kind::Live => play(alloc, text.as_bytes()),
+        Kind::Script => play(alloc, text.as_bytes()),
         Kind::Audits => tell_audit(alloc, text),
         Kind::Scripts => play(alloc, format!(in alloc; "{base}{text}")?.as_bytes()),
         Kind::Schemas | Kind::Changes => Ok(tell_schema(alloc, text)?),
@@ -90,24 +85,6 @@ pub fn play(alloc: Global, script: &[u8]) -> Result<String> {
     let mut reader = script;
     let mut writer = Vec::new(alloc);
     let ended = run_sim(alloc, &mut reader, &mut writer);
-    printed(alloc, writer, ended)
-}
-
-/// What a script prints that is played on threads, as the command in its first line says, and why it ended where it did
-/// not end well.
-pub fn play_live(rt: &HostRuntime, text: &str) -> Result<String> {
-    let alloc: Global = rt.alloc();
-    let (command, script) = text.split_once('\n').unwrap_or((text, ""));
-    let mut words = Vec::new(alloc);
-    for word in command.split(' ') {
-        words.push(String::from_str(alloc, word)?)?;
-    }
-    let Ok(Command::Live(live)) = read_command(alloc, words.as_slice()) else {
-        bail!("its first line is no command for threads");
-    };
-    let mut reader = script.as_bytes();
-    let mut writer = Vec::new(alloc);
-    let ended = run_live(rt, rt, live, &mut reader, &mut writer);
     printed(alloc, writer, ended)
 }
 
