@@ -1,6 +1,6 @@
 -- What one more entry makes of tables that are those of a list.
-use Rattle.std.proofs.Common.{◌≡◌, ℕ, zero, suc, ◌+◌, ◌<◌, ◌≤◌, inl, inr, Bool, true, false, cond, List, [], ◌∷◌, ◌++◌, length, reverse, Option, Some, None, option_map, Err, refl, sym, ap, ◌∙◌, subst, arith}
-use Rattle.std.specs.Prelude.{◌==◌, nat_lt, slice_get, unwrap_or}
+use Rattle.std.proofs.Common.{◌≡◌, ℕ, zero, suc, ◌+◌, ◌<◌, ◌≤◌, inl, inr, Bool, true, false, cond, List, [], ◌∷◌, ◌++◌, length, take, reverse, Option, Some, None, option_map, Err, refl, sym, ap, ◌∙◌, subst, arith}
+use Rattle.std.specs.Prelude.{◌-◌, ◌==◌, nat_lt, slice_get, unwrap_or}
 use Rattle.std.proofs.lemmas.Bool.{cases_Bool, eq-eqb, eqb-true}
 use Rattle.std.proofs.lemmas.List.{reverse-append}
 use Rattle.fault.specs.declared.refusal.Refusal.TheVariants as refusals
@@ -10,7 +10,7 @@ use Rattle.model.specs.declared.entry.Entry.{Entry}
 use Rattle.model.specs.Stamps.{above}
 use Rattle.model.specs.Tables.{Row, IsRow, empty_table}
 use Rattle.model.specs.Transactions.{State, Schema, executed_text}
-use Rattle.model.specs.Logs.{IsStamped, last_entry, closed, least_stamp, Outcome, is_request, executed, next_state, after_request, state_after, state_at, first_outcome, kept_request, kept, outcome}
+use Rattle.model.specs.Logs.{IsStamped, last_entry, closed, least_stamp, Outcome, is_request, executed, next_state, after_request, state_after, state_at, first_outcome, outcomes_with, first_outcomes, kept, outcome}
 use Rattle.rowlaws.specs.Rows.{Lists}
 use Rattle.rowlaws.specs.Touching.{IsTouched}
 use Rattle.rowlaws.specs.Statements.{AllListed}
@@ -25,58 +25,52 @@ use Rattle.sqlchecks.specs.Columns as columns
 use Rattle.sqlread.specs.Meaning.{schema_of}
 use Rattle.sysversion.specs.declared.Versions.{Versions}
 use Rattle.sysversion.specs.Versions as versions
-use Rattle.retry.specs.declared.Latest.{Latest}
-use Rattle.retry.specs.Judging.{Verdict, New, Kept, Old, Gap, latest_of, number_of, again, judged, with_latest}
+use Rattle.retry.specs.Judging.{Verdict, New, Kept, Old, Gap, number_of, outcomes_of, again, judged_by, judged, with_outcome}
 use Rattle.apply.specs.declared.tables.Tables.{Tables}
 use Rattle.apply.specs.Executing.{IsCommitted, unless_new}
-use Rattle.apply.specs.View.{AreTables, outcome_of}
+use Rattle.apply.specs.View.{AreTables}
 use Rattle.apply.proofs.Turned.{whole}
 
 -- ---- judging
 
-again_known : (latest : Option Latest) (number : ℕ) → unless_new (again latest number) ≡ None → ⊥
-again_known None number h = cc
-again_known (Some latest) number h = by (number == latest.number) h
-  where
-    by : (b : Bool) → unless_new (cond b (Kept latest.outcome) Old) ≡ None → ⊥
-    by true g = cc
-    by false g = cc
+again_known : (told : Option Outcome) → unless_new (again told) ≡ None → ⊥
+again_known None h = cc
+again_known (Some o) h = cc
 
--- a request with no outcome yet has the number after the latest's
-pub new_number : (latest : Option Latest) (number : ℕ) → unless_new (judged latest number) ≡ None → (number == number_of latest + 1) ≡ true
-new_number latest number h = by (number == number_of latest + 1) (nat_lt (number_of latest) number) h
+-- a request with no outcome yet has the number after the last one's
+pub new_number : (n : ℕ) (outcomes : List Outcome) (number : ℕ) → unless_new (judged_by n outcomes number) ≡ None → (number == n + 1) ≡ true
+new_number n outcomes number h = by (number == n + 1) (nat_lt n number) h
   where
-    by : (a b : Bool) → unless_new (cond a New (cond b Gap (again latest number))) ≡ None → a ≡ true
+    by : (a b : Bool) → unless_new (cond a New (cond b Gap (again (slice_get outcomes (n - number))))) ≡ None → a ≡ true
     by true b g = refl
     by false true g = cc
-    by false false g = absurd (again_known latest number g)
+    by false false g = absurd (again_known (slice_get outcomes (n - number)) g)
 
 -- and one with an outcome has not
-pub known_number : (latest : Option Latest) (number : ℕ) (o : Outcome) → unless_new (judged latest number) ≡ Some o → (number == number_of latest + 1) ≡ false
-known_number latest number o h = by (number == number_of latest + 1) (cond (nat_lt (number_of latest) number) Gap (again latest number)) h
+pub known_number : (n : ℕ) (outcomes : List Outcome) (number : ℕ) (o : Outcome) → unless_new (judged_by n outcomes number) ≡ Some o → (number == n + 1) ≡ false
+known_number n outcomes number o h = by (number == n + 1) (cond (nat_lt n number) Gap (again (slice_get outcomes (n - number)))) h
   where
     by : (a : Bool) (rest : Verdict) → unless_new (cond a New rest) ≡ Some o → a ≡ false
     by true rest g = absurd cc
     by false rest g = refl
 
-abbrev outcome_by : Outcome → ℕ → ℕ → Option Outcome → Outcome
-outcome_by first n number k = cond (number == n + 1) first (cond (nat_lt n number) (Err refusals.Gap) (cond (number == n) (unwrap_or k (Err refusals.Old)) (Err refusals.Old)))
+abbrev outcome_by : Outcome → ℕ → ℕ → List Outcome → Outcome
+outcome_by first n number outcomes = cond (number == n + 1) first (cond (nat_lt n number) (Err refusals.Gap) (unwrap_or (slice_get outcomes (n - number)) (Err refusals.Old)))
 
-known_outcome : (latest : Option Latest) (number : ℕ) (first o : Outcome) → unless_new (judged latest number) ≡ Some o → o ≡ outcome_by first (number_of latest) number (option_map outcome_of latest)
-known_outcome None number first o h = by (number == 1) (nat_lt 0 number) (number == 0) h
+known_outcome : (n : ℕ) (outcomes : List Outcome) (number : ℕ) (first o : Outcome) → unless_new (judged_by n outcomes number) ≡ Some o → o ≡ outcome_by first n number outcomes
+known_outcome n outcomes number first o h = by (number == n + 1) (nat_lt n number) (slice_get outcomes (n - number)) h
   where
-    by : (a b c : Bool) → unless_new (cond a New (cond b Gap Old)) ≡ Some o → o ≡ cond a first (cond b (Err refusals.Gap) (cond c (Err refusals.Old) (Err refusals.Old)))
-    by true b c g = absurd cc
-    by false true c g = cc
-    by false false true g = cc
-    by false false false g = cc
-known_outcome (Some latest) number first o h = by (number == latest.number + 1) (nat_lt latest.number number) (number == latest.number) h
-  where
-    by : (a b c : Bool) → unless_new (cond a New (cond b Gap (cond c (Kept latest.outcome) Old))) ≡ Some o → o ≡ cond a first (cond b (Err refusals.Gap) (cond c latest.outcome (Err refusals.Old)))
-    by true b c g = absurd cc
-    by false true c g = cc
-    by false false true g = cc
-    by false false false g = cc
+    by : (a b : Bool) (told : Option Outcome) → unless_new (cond a New (cond b Gap (again told))) ≡ Some o → o ≡ cond a first (cond b (Err refusals.Gap) (unwrap_or told (Err refusals.Old)))
+    by true b told g = absurd cc
+    by false true told g = cc
+    by false false None g = cc
+    by false false (Some p) g = cc
+
+-- of the latest eight all but the last are the latest seven
+take_less : {A : Type 0} (k : ℕ) (xs : List A) → take k (take (suc k) xs) ≡ take k xs
+take_less zero xs = refl
+take_less (suc k) [] = refl
+take_less (suc k) (x ∷ xs) = ap (λ ys. x ∷ ys) (take_less k xs)
 
 -- ---- stamps
 
@@ -142,9 +136,13 @@ module _ (tables : columns.Tables) (list : List Entry) (e : Entry) where
   unfolding executed
   executed_is o client h = ap (executed client) more ∙ ap (λ r. cond (is_request client (executed client before + 1) r) (executed client before + 1) (executed client before)) h
 
-  kept_is : (o : Option Request) (client : ℕ) → e.request ≡ o → kept schema client (reverse all) ≡ kept_request schema client e.stamp o before (kept schema client before)
-  unfolding kept
-  kept_is o client h = ap (kept schema client) more ∙ ap (λ r. kept_request schema client e.stamp r before (kept schema client before)) h
+  -- the outcomes that are kept for a client after an entry of this request
+  abbrev kept_after : Option Request → ℕ → List Outcome
+  kept_after o client = take 8 (outcomes_with schema client e.stamp o before (first_outcomes schema client before))
+
+  kept_is : (o : Option Request) (client : ℕ) → e.request ≡ o → kept schema client (reverse all) ≡ kept_after o client
+  unfolding first_outcomes
+  kept_is o client h = ap (kept schema client) more ∙ ap (λ r. kept_after r client) h
 
   module _ (stays_held : EntryStays) (old : Tables) (are : AreTables tables list old) where
     -- nothing is executed
@@ -153,8 +151,8 @@ module _ (tables : columns.Tables) (list : List Entry) (e : Entry) where
         → AreTables tables all new
     same new c v r l state numbers outcomes = record {
       rows = subst (λ (s : State). AllListed (current.rows_of new.current) s) (sym state) (subst (λ (x : Current). AllListed (current.rows_of x) (state_after schema before)) (sym c) are.rows);
-      numbers = λ k. ap (λ x. number_of (latest_of x k)) r ∙ are.numbers k ∙ sym (numbers k);
-      outcomes = λ k. ap (λ x. option_map outcome_of (latest_of x k)) r ∙ are.outcomes k ∙ sym (outcomes k);
+      numbers = λ k. ap (λ x. number_of x k) r ∙ are.numbers k ∙ sym (numbers k);
+      outcomes = λ k. ap (λ x. outcomes_of x k) r ∙ are.outcomes k ∙ sym (outcomes k);
       last = l ∙ sym (closed_more list e);
       held = λ s n. subst (λ (x : Versions). Holds (versions.versions_of x n) (λ u. state_at schema all u n) (least_stamp all) (state_after schema (reverse all) n)) (sym v)
           (stays_held schema n list e (versions.versions_of old.versions n) s (are.held (stamped_before list (e ∷ []) s) n) (ap (λ (x : State). x n) state));
@@ -166,9 +164,9 @@ module _ (tables : columns.Tables) (list : List Entry) (e : Entry) where
     a_close new c v r l h = same new c v r l (state_is None h) (λ k. executed_is None k h) (λ k. kept_is None k h)
 
     -- a request that was judged before
-    module _ (r : Request) (asks : e.request ≡ Some r) (o : Outcome) (known : unless_new (judged (latest_of old.requests r.client) r.number) ≡ Some o) where
+    module _ (r : Request) (asks : e.request ≡ Some r) (o : Outcome) (known : unless_new (judged old.requests r.client r.number) ≡ Some o) where
       is_later : (r.number == executed r.client before + 1) ≡ false
-      is_later = subst (λ n. (r.number == n + 1) ≡ false) (are.numbers r.client) (known_number (latest_of old.requests r.client) r.number o known)
+      is_later = subst (λ n. (r.number == n + 1) ≡ false) (are.numbers r.client) (known_number (number_of old.requests r.client) (outcomes_of old.requests r.client) r.number o known)
 
       none_more : (c : ℕ) → cond (is_request c (executed c before + 1) (Some r)) (executed c before + 1) (executed c before) ≡ executed c before
       none_more c = elim (cases_Bool (r.client == c)) [
@@ -179,7 +177,7 @@ module _ (tables : columns.Tables) (list : List Entry) (e : Entry) where
         | inr n ↦ rw n refl
       ]
 
-      kept_same : (c : ℕ) → kept_request schema c e.stamp (Some r) before (kept schema c before) ≡ kept schema c before
+      kept_same : (c : ℕ) → kept_after (Some r) c ≡ kept schema c before
       kept_same c = elim (cases_Bool (r.client == c)) [
         | inl y ↦ rw (y, is_later) refl
         | inr n ↦ rw n refl
@@ -194,14 +192,14 @@ module _ (tables : columns.Tables) (list : List Entry) (e : Entry) where
       pub outcome_again : o ≡ outcome schema e.stamp r before
       unfolding outcome
       outcome_again =
-          known_outcome (latest_of old.requests r.client) r.number (first_outcome schema e.stamp r before) o known
-          ∙ ap (λ n. outcome_by (first_outcome schema e.stamp r before) n r.number (option_map outcome_of (latest_of old.requests r.client))) (are.numbers r.client)
+          known_outcome (number_of old.requests r.client) (outcomes_of old.requests r.client) r.number (first_outcome schema e.stamp r before) o known
+          ∙ ap (λ n. outcome_by (first_outcome schema e.stamp r before) n r.number (outcomes_of old.requests r.client)) (are.numbers r.client)
           ∙ ap (outcome_by (first_outcome schema e.stamp r before) (executed r.client before) r.number) (are.outcomes r.client)
 
     -- a request that is executed
-    module _ (r : Request) (asks : e.request ≡ Some r) (unknown : unless_new (judged (latest_of old.requests r.client) r.number) ≡ None) where
+    module _ (r : Request) (asks : e.request ≡ Some r) (unknown : unless_new (judged old.requests r.client r.number) ≡ None) where
       is_next : (r.number == executed r.client before + 1) ≡ true
-      is_next = subst (λ n. (r.number == n + 1) ≡ true) (are.numbers r.client) (new_number (latest_of old.requests r.client) r.number unknown)
+      is_next = subst (λ n. (r.number == n + 1) ≡ true) (are.numbers r.client) (new_number (number_of old.requests r.client) (outcomes_of old.requests r.client) r.number unknown)
 
       abbrev next : State
       next = next_state (state_after schema before) (executed_text schema e.stamp r.text (state_after schema before))
@@ -214,7 +212,7 @@ module _ (tables : columns.Tables) (list : List Entry) (e : Entry) where
         unfolding outcome
         outcome_first = rw is_next is
 
-        number_more : (c : ℕ) → number_of (with_latest r.client r.number o (latest_of old.requests) c) ≡ cond (is_request c (executed c before + 1) (Some r)) (executed c before + 1) (executed c before)
+        number_more : (c : ℕ) → cond (c == r.client) r.number (number_of old.requests c) ≡ cond (is_request c (executed c before + 1) (Some r)) (executed c before + 1) (executed c before)
         number_more c = elim (cases_Bool (r.client == c)) [
           | inl y ↦
               let i : r.client ≡ c = eqb-true r.client c y in
@@ -226,11 +224,15 @@ module _ (tables : columns.Tables) (list : List Entry) (e : Entry) where
               rw (n, z) (are.numbers c)
         ]
 
-        kept_more : (c : ℕ) → option_map outcome_of (with_latest r.client r.number o (latest_of old.requests) c) ≡ kept_request schema c e.stamp (Some r) before (kept schema c before)
+        kept_more : (c : ℕ) → cond (c == r.client) (with_outcome o (outcomes_of old.requests r.client)) (outcomes_of old.requests c) ≡ kept_after (Some r) c
         kept_more c = elim (cases_Bool (r.client == c)) [
           | inl y ↦
-              let z : (c == r.client) ≡ true = eq-eqb c r.client (sym (eqb-true r.client c y)) in
-              rw (y, z, is_next) (ap (λ x. Some x) is)
+              let i : r.client ≡ c = eqb-true r.client c y in
+              let z : (c == r.client) ≡ true = eq-eqb c r.client (sym i) in
+              let first = first_outcome schema e.stamp r before in
+              rw (y, z, is_next) (
+              ap (λ x. with_outcome x (outcomes_of old.requests r.client)) is ∙ ap (with_outcome first) (are.outcomes r.client)
+              ∙ ap (λ xs. first ∷ xs) (take_less 7 (first_outcomes schema r.client before)) ∙ ap (λ k. take 8 (first ∷ first_outcomes schema k before)) i)
           | inr n ↦
               let z : (c == r.client) ≡ false = elim (cases_Bool (c == r.client)) [ inl y ↦ absurd (both (eq-eqb r.client c (sym (eqb-true c r.client y))) n) | inr m ↦ m ] in
               rw (n, z) (are.outcomes c)
@@ -239,13 +241,14 @@ module _ (tables : columns.Tables) (list : List Entry) (e : Entry) where
         pub executed_first : CommitEntry → HeldByKey → HeldBefore → FineLogs → ReadsFine schema → (new : Tables)
             → AllListed (current.rows_of new.current) next
             → ((n : ℕ) → IsCommitted e.stamp (state_after schema before n) (next n) (versions.versions_of old.versions n) (versions.versions_of new.versions n))
-            → ((c : ℕ) → latest_of new.requests c ≡ with_latest r.client r.number o (latest_of old.requests) c)
+            → ((c : ℕ) → number_of new.requests c ≡ cond (c == r.client) r.number (number_of old.requests c))
+            → ((c : ℕ) → outcomes_of new.requests c ≡ cond (c == r.client) (with_outcome o (outcomes_of old.requests r.client)) (outcomes_of old.requests c))
             → new.last ≡ Some e.stamp → current.schema_in new.current ≡ current.schema_in old.current → versions.schema_in new.versions ≡ versions.schema_in old.versions
             → AreTables tables all new
-        executed_first commit by_key held_before fine reads new rows versioned latest last made made' = record {
+        executed_first commit by_key held_before fine reads new rows versioned numbers outcomes last made made' = record {
           rows = subst (λ (s : State). AllListed (current.rows_of new.current) s) (sym state) rows;
-          numbers = λ c. ap number_of (latest c) ∙ number_more c ∙ sym (executed_is (Some r) c asks);
-          outcomes = λ c. ap (λ x. option_map outcome_of x) (latest c) ∙ kept_more c ∙ sym (kept_is (Some r) c asks);
+          numbers = λ c. numbers c ∙ number_more c ∙ sym (executed_is (Some r) c asks);
+          outcomes = λ c. outcomes c ∙ kept_more c ∙ sym (kept_is (Some r) c asks);
           last = last ∙ sym (closed_more list e);
           held = λ s n. by s n (versioned n);
           current_schema = made ∙ are.current_schema;
@@ -271,13 +274,13 @@ module _ (tables : columns.Tables) (list : List Entry) (e : Entry) where
 
 -- ---- before any entry
 
-pub of_no_entry : NoVersions → LogsOnRows → (tables : columns.Tables) (new : Tables) → ((n : ℕ) → current.rows_of new.current n ≡ []) → ((n : ℕ) → versions.versions_of new.versions n ≡ []) → ((c : ℕ) → latest_of new.requests c ≡ None) → new.last ≡ None
+pub of_no_entry : NoVersions → LogsOnRows → (tables : columns.Tables) (new : Tables) → ((n : ℕ) → current.rows_of new.current n ≡ []) → ((n : ℕ) → versions.versions_of new.versions n ≡ []) → ((c : ℕ) → number_of new.requests c ≡ 0) → ((c : ℕ) → outcomes_of new.requests c ≡ []) → new.last ≡ None
     → current.schema_in new.current ≡ tables → versions.schema_in new.versions ≡ tables → AreTables tables [] new
-unfolding state_after executed kept rows_after
-of_no_entry none logs tables new rows kept' latest last made made' = record {
+unfolding state_after executed first_outcomes rows_after
+of_no_entry none logs tables new rows kept' numbers outcomes last made made' = record {
   rows = λ n. subst (λ (x : List Row). Lists x (state_after (schema_of tables) [] n)) (sym (rows n)) (logs (schema_of tables) [] tt n);
-  numbers = λ c. ap number_of (latest c);
-  outcomes = λ c. ap (λ x. option_map outcome_of x) (latest c);
+  numbers = numbers;
+  outcomes = outcomes;
   last = last;
   held = λ s n. subst (λ (x : List Version). Holds x (λ u. state_at (schema_of tables) [] u n) 0 empty_table) (sym (kept' n)) (none (λ u. state_at (schema_of tables) [] u n));
   current_schema = made;

@@ -14,8 +14,7 @@ use Rattle.sqlchecks.specs.Columns as columns
 use Rattle.sqlread.specs.Meaning.{select_of, schema_of}
 use Rattle.answer.specs.declared.Answer.{Answer}
 use Rattle.answer.specs.Answers.{answer_of}
-use Rattle.retry.specs.declared.Latest.{Latest}
-use Rattle.retry.specs.Judging.{latest_of, number_of}
+use Rattle.retry.specs.Judging.{number_of, outcomes_of}
 use Rattle.current.specs.Current as current
 use Rattle.sysversion.specs.Versions as versions
 use Rattle.apply.specs.declared.tables.Tables.{Tables}
@@ -23,14 +22,11 @@ use Rattle.apply.specs.declared.tables.Tables.{Tables}
 abbrev pub is_failed : Tables → Bool
 is_failed tables = tables.failed
 
-abbrev pub outcome_of : Latest → Result ℕ Refusal
-outcome_of latest = latest.outcome
-
 -- the tables are those of the schema, and what the list of entries leaves
 pub record AreTables (schema : columns.Tables) (list : List Entry) (tables : Tables) : Type 0 where
   pub rows : AllListed (current.rows_of tables.current) (state_after (schema_of schema) (reverse list))
-  pub numbers : (client : ℕ) → number_of (latest_of tables.requests client) ≡ executed client (reverse list)
-  pub outcomes : (client : ℕ) → option_map outcome_of (latest_of tables.requests client) ≡ kept (schema_of schema) client (reverse list)
+  pub numbers : (client : ℕ) → number_of tables.requests client ≡ executed client (reverse list)
+  pub outcomes : (client : ℕ) → outcomes_of tables.requests client ≡ kept (schema_of schema) client (reverse list)
   pub last : tables.last ≡ closed list
   pub held : IsStamped list → (n : ℕ) → Holds (versions.versions_of tables.versions n) (λ u. state_at (schema_of schema) list u n) (least_stamp list) (state_after (schema_of schema) (reverse list) n)
   pub current_schema : current.schema_in tables.current ≡ schema

@@ -9,7 +9,7 @@ ghost use Rattle.sqlread.specs.Calendar.{LiteralsInCalendar};
 ghost use Rattle.sqlread.specs.Meaning.{schema_of};
 ghost use Rattle.sqlread.specs.Shapes.{query_of};
 ghost use Rattle.answer.specs.Answers.{columns_in};
-ghost use Rattle.retry.specs.Judging.{latest_of, judged};
+ghost use Rattle.retry.specs.Judging.{judged};
 ghost use Rattle.apply.specs.Executing.{unless_new};
 ghost use Rattle.apply.specs.View.{AreTables, IsAskedOf, is_failed};
 ghost use Rattle.rowlaws.specs.Logs.{LogsOnRows, FineLogs};
@@ -32,8 +32,8 @@ use sqlread::query::Query;
 use std::alloc::{AllocError, Global};
 use sysversion::Versions;
 
-/// The tables of a schema after a list of entries: the current rows, all versions, each client's latest outcome, and
-/// the last stamp. Contracts say by `AreTables` of which schema and of which list they are.
+/// The tables of a schema after a list of entries: the current rows, all versions, the latest outcomes of
+/// each client, and the last stamp. Contracts say by `AreTables` of which schema and of which list they are.
 #[derive(Drop)]
 pub struct Tables {
     pub(crate) alloc: Global,
@@ -81,7 +81,7 @@ fn copy_of(outcome: &Outcome) -> Result<Outcome, AllocError>
 
 // The outcome of a request that is not executed: what is kept, or 30 or 31. None of a new one.
 fn unless_new(requests: &Requests, request: &Request) -> Result<Option<Outcome>, AllocError>
-    ensures { IfOk result (λ outcome. outcome ≡ unless_new (judged (latest_of requests.now request.now.client) request.now.number)) }
+    ensures { IfOk result (λ outcome. outcome ≡ unless_new (judged requests.now request.now.client request.now.number)) }
 {
     match requests.judge(request.client, request.number) {
         Judged::New => Ok(None),

@@ -170,10 +170,24 @@ impl Both {
 
     /// Two hundred requests of two clients that come once, again, too late and too early.
     fn requests(&mut self, draws: &mut Draws, tally: &mut Tally) -> Result<()> {
+        let mut executed = [0u64; 2];
         for micros in 1..=200u32 {
             self.last = micros;
-            let client = if draws.chance(50) { 1 } else { 2 };
-            let number = 1 + u64::from(draws.below(11));
+            let [one, other] = &mut executed;
+            let (client, last) = if draws.chance(50) {
+                (1, one)
+            } else {
+                (2, other)
+            };
+            let number = match draws.below(10) {
+                0 => last.saturating_add(2),
+                1..=3 => last.saturating_add(1),
+                _ => draws.older_number(*last),
+            };
+            tally.repeat(*last, number);
+            if number == last.saturating_add(1) {
+                *last = number;
+            }
             let text = draws.transaction()?;
             self.take(client, number, text, tally)?;
         }

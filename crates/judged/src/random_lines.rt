@@ -9,9 +9,14 @@ impl Draws {
         match self.below(20) {
             0 | 1 => executed.max(1),
             2 => executed.saturating_add(2),
-            3 => u64::from(self.below(3)).saturating_add(1),
+            3 => self.older_number(executed),
             _ => executed.saturating_add(1),
         }
+    }
+
+    /// The number of one of the latest ten requests that were executed, or 1.
+    pub(crate) fn older_number(&mut self, executed: u64) -> u64 {
+        executed.saturating_sub(u64::from(self.below(10))).max(1)
     }
 
     /// Client, number and text, which now and then is no transaction.

@@ -11,6 +11,9 @@ pub(crate) struct Tally {
     pub orphans: u32,
     pub out_of_range: u32,
     pub skipped: u32,
+    /// Requests that came again with the number of the client's eighth latest, and of its ninth.
+    pub eighth: u32,
+    pub ninth: u32,
     /// Answers, their rows, and those of the rows that have an end.
     pub answers: u32,
     pub shown: u32,
@@ -53,6 +56,15 @@ impl Tally {
         match outcome {
             Ok(_) => self.accept(),
             Err(refusal) => self.refuse(refusal),
+        }
+    }
+
+    /// Counts a request with the number of the client's eighth or ninth latest.
+    pub(crate) fn repeat(&mut self, executed: u64, number: u64) {
+        match executed.saturating_sub(number) {
+            7 => add_one(&mut self.eighth),
+            8 => add_one(&mut self.ninth),
+            _ => {}
         }
     }
 

@@ -1,7 +1,7 @@
 -- What a log of entries means: its stamps and closed time, the outcomes of its requests, each executed once, and the
 -- state of the tables at each instant. (Numbered requests: client interaction in "In search of an understandable
 -- consensus algorithm"; the state at an instant: the system-versioned tables of SQL:2011.)
-use Rattle.std.specs.Prelude.{◌≡◌, ℕ, ◌+◌, ◌-◌, ◌<◌, ◌≤◌, ◌==◌, Bool, false, ◌&&◌, nat_lt, nat_le, Option, Some, None, option_map, unwrap_or, List, [], ◌∷◌, length, take, reverse, if◌then◌else◌, Result, Ok, Err, filter}
+use Rattle.std.specs.Prelude.{◌≡◌, ℕ, ◌+◌, ◌-◌, ◌<◌, ◌≤◌, ◌==◌, Bool, false, ◌&&◌, nat_lt, nat_le, Option, Some, None, option_map, unwrap_or, List, [], ◌∷◌, length, take, reverse, slice_get, if◌then◌else◌, Result, Ok, Err, filter}
 use Rattle.model.specs.Lists.{nth}
 use Rattle.model.specs.Tables.{empty_table}
 use Rattle.fault.specs.declared.refusal.Refusal.{Refusal}
@@ -76,23 +76,26 @@ state_after schema (e ∷ before) = after_request schema e.stamp e.request befor
 abbrev pub first_outcome : Schema → ℕ → Request → List Entry → Outcome
 first_outcome schema t r before = outcome_at t (executed_text schema t r.text (state_after schema before))
 
-abbrev pub kept_request : Schema → ℕ → ℕ → Option Request → List Entry → Option Outcome → Option Outcome
-kept_request schema client t None before earlier = earlier
-kept_request schema client t (Some r) before earlier = if r.client == client && is_first r before then Some (first_outcome schema t r before) else earlier
+abbrev pub outcomes_with : Schema → ℕ → ℕ → Option Request → List Entry → List Outcome → List Outcome
+outcomes_with schema client t None before earlier = earlier
+outcomes_with schema client t (Some r) before earlier = if r.client == client && is_first r before then first_outcome schema t r before ∷ earlier else earlier
 
--- the outcome of the client's latest first request
-unfoldable pub kept : Schema → ℕ → List Entry → Option Outcome
-kept schema client [] = None
-kept schema client (e ∷ before) = kept_request schema client e.stamp e.request before (kept schema client before)
+-- the outcomes of the client's first requests, from the newest back
+unfoldable pub first_outcomes : Schema → ℕ → List Entry → List Outcome
+first_outcomes schema client [] = []
+first_outcomes schema client (e ∷ before) = outcomes_with schema client e.stamp e.request before (first_outcomes schema client before)
 
--- a first is executed; the number of the latest first has its outcome; a smaller one is old; a greater one leaves a gap
+-- those of its latest eight firsts, or of all, if they are fewer: the newest has the number `executed`, the one before it 1 less, and so on
+abbrev pub kept : Schema → ℕ → List Entry → List Outcome
+kept schema client before = take 8 (first_outcomes schema client before)
+
+-- a first is executed; a greater number leaves a gap; that of one of the latest eight firsts has its outcome; a smaller one is old
 unfoldable pub outcome : Schema → ℕ → Request → List Entry → Outcome
 outcome schema t r before =
     let n = executed r.client before in
     if r.number == n + 1 then first_outcome schema t r before
     else if nat_lt n r.number then Err Gap
-    else if r.number == n then unwrap_or (kept schema r.client before) (Err Old)
-    else Err Old
+    else unwrap_or (slice_get (kept schema r.client before) (n - r.number)) (Err Old)
 
 -- the entries before an index of a list, from the newest back
 abbrev pub before_index : List Entry → ℕ → List Entry

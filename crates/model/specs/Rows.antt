@@ -7,7 +7,7 @@ use Rattle.model.specs.Transactions.{Schema, Statement, Insert}
 use Rattle.model.specs.declared.entry.Entry.{Entry}
 use Rattle.model.specs.declared.entry.Request.{Request}
 use Rattle.model.specs.declared.entry.Told.{Told}
-use Rattle.model.specs.Logs.{outcome, closed, before_index}
+use Rattle.model.specs.Logs.{Outcome, outcome, closed, before_index}
 use Rattle.model.specs.Stamps.{stamp}
 use Rattle.model.specs.Texts.{instant_text}
 use Rattle.model.specs.Answers.{Select, SystemTime, as_of, IsAnswer}
@@ -118,11 +118,22 @@ RefusedSubmit =
     × Gives dept 3 (after base) (Hand 2 (Submit (pos 100) (request 7 1))) (Refused 2 (NotLeader (Some 1)) ∷ [])
     × Gives dept 3 (after (torn_vote New)) (Hand 3 (Submit (pos 100) (request 7 1))) (Refused 3 (NotLeader None) ∷ [])
 
--- 3 leaves a gap; after 1 and 2, 1 is old
+-- no text has a statement, so that each first is accepted at its instant
+abbrev pub idle : Schema
+idle = record dept { reads = λ text. Ok [] }
+
+-- client 9 asks under numbers 1 to k, at the instants 101 to 100 + k; from the newest back
+abbrev pub numbered : ℕ → List Entry
+numbered zero = []
+numbered (suc k) = request_entry 1 (101 + k) 9 (suc k) ∷ numbered k
+
+-- 3 leaves a gap, and is not used up; after 1 to 8, 1 has its outcome again; after 1 to 9 it is old, 2 to 9 have theirs, and 11 leaves a gap
 abbrev pub Numbers : Type 0
 Numbers =
+    let again : ℕ → ℕ → Outcome = λ k number. outcome idle 200 (request 9 number) (numbered k) in
     (outcome dept 101 (request 9 3) (close_entry 1 100 ∷ []) ≡ Err Gap)
-    × (outcome dept 104 (request 9 1) (request_entry 1 103 9 2 ∷ request_entry 1 102 9 1 ∷ request_entry 1 101 9 3 ∷ close_entry 1 100 ∷ []) ≡ Err OldRequest)
+    × (outcome idle 104 (request 9 1) (request_entry 1 103 9 2 ∷ request_entry 1 102 9 1 ∷ request_entry 1 101 9 3 ∷ close_entry 1 100 ∷ []) ≡ Ok 102)
+    × (again 8 1 ≡ Ok 101) × (again 9 1 ≡ Err OldRequest) × (again 9 2 ≡ Ok 102) × (again 9 9 ≡ Ok 109) × (again 9 11 ≡ Err Gap)
 
 -- ---- elections, conflicts and restarts
 

@@ -19,11 +19,11 @@ struct Accepted {
     transaction: Transaction,
 }
 
-/// How many requests of a client were executed, and the outcome of the latest.
+/// A request that was executed, and what came of it.
 #[derive(Drop)]
 struct Executed {
     client: u16,
-    count: u64,
+    number: u64,
     outcome: Outcome,
 }
 
@@ -83,8 +83,8 @@ impl Judge {
     }
 
     /// Takes an entry with a client's request of this number, and gives its outcome: the transaction is executed where
-    /// the number is the next one of the client; the number of the latest has the outcome that was kept; a smaller one
-    /// is refused by 30, and a greater one by 31. Stamps have to rise.
+    /// the number is the next one of the client; the number of one of its latest eight has that one's outcome; a smaller
+    /// one is refused by 30, and a greater one by 31. Stamps have to rise.
     pub fn take(
         &mut self,
         schema: &Schema,
@@ -94,18 +94,35 @@ impl Judge {
         transaction: Transaction,
     ) -> Result<Outcome, AllocError> {
         self.last = Some(stamp);
-        let latest = self.executed.iter().find(|e| e.client == client);
-        let count = latest.map_or(0, |e| e.count);
-        if count.checked_add(1) == Some(number) {
+        let last = self.last_number(client);
+        if last.checked_add(1) == Some(number) {
             return self.execute(schema, stamp, client, number, transaction);
         }
-        if number > count {
+        if number > last {
             return Ok(Err(Refusal::Gap));
         }
-        match latest {
-            Some(latest) if number == count => outcome_copy(&latest.outcome),
-            _ => Ok(Err(Refusal::Old)),
+        if number.saturating_add(8) <= last {
+            return Ok(Err(Refusal::Old));
         }
+        match self
+            .executed
+            .iter()
+            .find(|e| e.client == client && e.number == number)
+        {
+            Some(executed) => outcome_copy(&executed.outcome),
+            None => Ok(Err(Refusal::Old)),
+        }
+    }
+
+    /// The number of the client's latest request that was executed, 0 where there is none.
+    fn last_number(&self, client: u16) -> u64 {
+        let mut last = 0;
+        for executed in self.executed.iter() {
+            if executed.client == client {
+                last = executed.number;
+            }
+        }
+        last
     }
 
     fn execute(
@@ -123,10 +140,9 @@ impl Judge {
             Ok(_) => self.accepted.push(Accepted { stamp, transaction })?,
             Err(_) => drop(transaction),
         }
-        self.executed.retain(|e| e.client != client);
         self.executed.push(Executed {
             client,
-            count: number,
+            number,
             outcome: outcome_copy(&outcome)?,
         })?;
         Ok(outcome)

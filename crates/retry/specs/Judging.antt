@@ -1,5 +1,5 @@
--- What becomes of a client's request, by the latest of its requests that was executed.
-use Rattle.std.specs.Prelude.{ℕ, ◌+◌, ◌==◌, nat_eq, nat_lt, Option, Some, None, if◌then◌else◌, Result}
+-- What becomes of a client's request, by the latest of its requests that were executed.
+use Rattle.std.specs.Prelude.{ℕ, ◌+◌, ◌-◌, ◌==◌, nat_eq, nat_lt, Option, Some, None, if◌then◌else◌, Result, List, [], ◌∷◌, take, slice_get}
 use Rattle.fault.specs.declared.refusal.Refusal.{Refusal}
 use Rattle.indexmap.specs.IndexMap.{get}
 use Rattle.retry.specs.declared.Latest.{Latest}
@@ -7,18 +7,28 @@ use Rattle.retry.specs.declared.Requests.{Requests}
 use Rattle.retry.specs.declared.Judged.{Judged}
 use Rattle.retry.specs.declared.Judged.TheVariants as judged'
 
--- the client's latest request that was executed, if there is one
-abbrev pub latest_of : Requests → ℕ → Option Latest
-latest_of r client = get nat_eq r.latest client
+abbrev pub Outcome : Type 0
+Outcome = Result ℕ Refusal
 
--- its number, 0 where there is none
-abbrev pub number_of : Option Latest → ℕ
-number_of None = 0
-number_of (Some latest) = latest.number
+abbrev pub latest_number : Option Latest → ℕ
+latest_number None = 0
+latest_number (Some latest) = latest.number
+
+abbrev pub latest_outcomes : Option Latest → List Outcome
+latest_outcomes None = []
+latest_outcomes (Some latest) = latest.outcomes.items
+
+-- the number of the client's last request that was executed, 0 before there is one
+abbrev pub number_of : Requests → ℕ → ℕ
+number_of requests client = latest_number (get nat_eq requests.latest client)
+
+-- the outcomes that are kept for the client, from that of its last request that was executed back
+abbrev pub outcomes_of : Requests → ℕ → List Outcome
+outcomes_of requests client = latest_outcomes (get nat_eq requests.latest client)
 
 pub data Verdict : Type 0 where
   New : Verdict
-  Kept : Result ℕ Refusal → Verdict
+  Kept : Outcome → Verdict
   Old : Verdict
   Gap : Verdict
 
@@ -28,18 +38,21 @@ verdict_of (judged'.Kept outcome) = Kept outcome.now
 verdict_of judged'.Old = Old
 verdict_of judged'.Gap = Gap
 
--- the latest's number has its outcome, and a smaller one is old
-abbrev pub again : Option Latest → ℕ → Verdict
-again None number = Old
-again (Some latest) number = if number == latest.number then Kept latest.outcome else Old
+-- what is kept is told again, and what is not is old
+abbrev pub again : Option Outcome → Verdict
+again None = Old
+again (Some outcome) = Kept outcome
 
--- the number after the latest's is new, and a greater one leaves a gap
-abbrev pub judged : Option Latest → ℕ → Verdict
-judged latest number =
-    if number == number_of latest + 1 then New
-    else if nat_lt (number_of latest) number then Gap
-    else again latest number
+-- by the last number and what is kept: the number after it is new, a greater one leaves a gap, and k less than the last has the outcome k places back
+abbrev pub judged_by : ℕ → List Outcome → ℕ → Verdict
+judged_by last outcomes number =
+    if number == last + 1 then New
+    else if nat_lt last number then Gap
+    else again (slice_get outcomes (last - number))
 
--- the same for all clients, but for one, which has this latest request
-abbrev pub with_latest : ℕ → ℕ → Result ℕ Refusal → (ℕ → Option Latest) → ℕ → Option Latest
-with_latest client number outcome latest c = if c == client then Some (record { number = number; outcome = outcome }) else latest c
+abbrev pub judged : Requests → ℕ → ℕ → Verdict
+judged requests client number = judged_by (number_of requests client) (outcomes_of requests client) number
+
+-- one outcome more, of which the latest eight stay
+abbrev pub with_outcome : Outcome → List Outcome → List Outcome
+with_outcome outcome outcomes = take 8 (outcome ∷ outcomes)

@@ -5,5 +5,5 @@ use Rattle.apply.proofs.tables.Tables.new.Goals as goal
 pub returns-clause-tables : goal.returns-clause-tables
 returns-clause-tables c =
     of_no_entry c.log_laws.ensures.none c.log_laws.ensures.rows c.args.schema.now _
-    c.in_ok-current.ensures.rows c.in_ok-versions.ensures.versions c.new-requests.ensures refl
+    c.in_ok-current.ensures.rows c.in_ok-versions.ensures.versions c.new-requests.ensures.numbers c.new-requests.ensures.outcomes refl
     c.in_ok-current.ensures.schema c.in_ok-versions.ensures.schema

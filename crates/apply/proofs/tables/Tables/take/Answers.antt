@@ -1,11 +1,11 @@
-use Rattle.std.proofs.Common.{◌≡◌, reverse, Some, None, option_map, refl, sym, ap, ◌∙◌, subst}
+use Rattle.std.proofs.Common.{◌≡◌, ◌==◌, cond, reverse, Some, None, option_map, refl, sym, ap, ◌∙◌, subst}
 use Rattle.model.specs.declared.entry.Request.{Request}
 use Rattle.model.specs.Transactions.{first_orphan}
 use Rattle.model.specs.Logs.{state_after, outcome}
 use Rattle.sqlread.specs.Meaning.{schema_of}
 use Rattle.current.specs.Current.{rows_of}
 use Rattle.sysversion.specs.Versions.{versions_of}
-use Rattle.retry.specs.Judging.{latest_of, with_latest}
+use Rattle.retry.specs.Judging.{outcomes_of, with_outcome}
 use Rattle.apply.specs.declared.tables.Tables.{Tables}
 use Rattle.apply.specs.Executing.{IsExecuted}
 use Rattle.apply.proofs.Fine.{reads_fine}
@@ -44,7 +44,7 @@ returns-clause-kept c = λ schema list are.
     let done = subst (λ text. IsExecuted (schema_of schema) e.stamp text state (rows_of new.current) (versions_of old.versions) (versions_of new.versions) o) c.as_str.ensures
     (subst (λ s. IsExecuted (schema_of s) e.stamp c.as_str.result.now state (rows_of new.current) (versions_of old.versions) (versions_of new.versions) o) are.current_schema ran) in
     executed_first schema list e laws.stays old are r c.in-Some.is unknown o done.is laws.commit laws.by_key laws.before laws.fine (reads_fine laws.calendar schema) new done.rows done.committed
-    (λ k. c.in_ok-keep.ensures.ok k ∙ ap (λ x. with_latest r.client r.number x (latest_of old.requests) k) c.in_ok-kept.ensures) refl c.execute.ensures.current_schema c.execute.ensures.versions_schema
+    c.in_ok-keep.ensures.numbers (λ k. c.in_ok-keep.ensures.outcomes k ∙ ap (λ x. cond (k == r.client) (with_outcome x (outcomes_of old.requests r.client)) (outcomes_of old.requests k)) c.in_ok-kept.ensures) refl c.execute.ensures.current_schema c.execute.ensures.versions_schema
 
 pub returns-clause-outcome : goal.returns-clause-outcome
 returns-clause-outcome c = λ schema list are.
