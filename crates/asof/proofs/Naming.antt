@@ -1,10 +1,10 @@
--- The key that WHERE names, and that versions of other keys are not found.
+-- The key and the day that WHERE names, and that versions of other keys or without the day are not found.
 use Rattle.std.proofs.Common.{◌≡◌, ℕ, zero, suc, ◌<◌, ◌≤◌, ◌==◌, inl, inr, Bool, true, false, ◌&&◌, cond, List, [], ◌∷◌, ◌++◌, map, filter, length, Option, Some, None, Result, Ok, Err, refl, sym, ap, ◌∙◌, subst, arith}
 use Rattle.std.specs.Prelude.{nat_le, slice_get, IfOk}
 use Rattle.std.specs.List.{list_all}
 use Rattle.std.proofs.lemmas.Bool.{cases_Bool, and_parts, eqb-true}
 use Rattle.model.specs.declared.value.Value.{Value}
-use Rattle.model.specs.Tables.{Row}
+use Rattle.model.specs.Tables.{Row, inside}
 use Rattle.model.specs.Answers.{SystemTime}
 use Rattle.rowlaws.specs.Rows.{Has}
 use Rattle.rowlaws.proofs.Keys.{same_key-true, same_key-itself}
@@ -21,8 +21,9 @@ use Rattle.current.proofs.Naming.{said}
 use Rattle.versionlaws.specs.Versions.{Version}
 use Rattle.versionlaws.specs.ByKey.{is_of}
 use Rattle.versionlaws.specs.Answering.{is_before}
+use Rattle.sysversion.specs.Days.{has_day, nearly_has}
 use Rattle.asof.specs.Asking.{is_found_by}
-use Rattle.asof.specs.Named.{equal_at, said_by, or_else, said_at, IsNamed, IsFew}
+use Rattle.asof.specs.Named.{equal_at, said_by, or_else, said_at, day_of, IsNamed, IsFew, IsFewOnDay}
 
 -- ---- places of lists
 
@@ -135,20 +136,78 @@ pub only_named : (time : SystemTime) (ts : List Term) (key : List Value) (column
 only_named time ts key columns vs long named bound =
     filter_within (is_found_by time ts) (is_of key) vs (λ v h f. found_key time ts key v named (let le = bound v h in omega (arith, long, le)) f)
 
+-- ---- the day that WHERE names
+
+day_says : (day : ℕ) (ts : List Term) → day_of ts ≡ Some day → (row : Row) → list_all (λ t. term_passes t row) (map term_of ts) ≡ true → inside row.period day ≡ true
+unfolding term_passes
+day_says day [] h row passes = cc
+day_says day (terms'.Compares c ∷ ts) h row passes = day_says day ts h row (and_parts (term_passes (term_of (terms'.Compares c)) row) (list_all (λ s. term_passes s row) (map term_of ts)) passes).1
+day_says day (terms'.ContainsDay d ∷ ts) h row passes =
+    let same : d.number ≡ day = cc in
+    subst (λ n. inside row.period n ≡ true) same (and_parts (term_passes (term_of (terms'.ContainsDay d)) row) (list_all (λ s. term_passes s row) (map term_of ts)) passes).0
+day_says day (terms'.Contains p ∷ ts) h row passes = day_says day ts h row (and_parts (term_passes (term_of (terms'.Contains p)) row) (list_all (λ s. term_passes s row) (map term_of ts)) passes).1
+day_says day (terms'.Relates r p ∷ ts) h row passes = day_says day ts h row (and_parts (term_passes (term_of (terms'.Relates r p)) row) (list_all (λ s. term_passes s row) (map term_of ts)) passes).1
+
+found_day : (time : SystemTime) (ts : List Term) (day : ℕ) (v : Version) → day_of ts ≡ Some day → is_found_by time ts v ≡ true → has_day day v ≡ true
+found_day time ts day v named found =
+    let passing = list_all (λ t. term_passes t v.row) (map term_of ts) in
+    let born = nat_le v.row.system_start time.last in
+    day_says day ts named v.row (and_parts passing born (and_parts (passing && born) (is_before time.first v.end) found).0).0
+
+-- where the same versions have the day, the same are found
+pub same_found : (time : SystemTime) (ts : List Term) (day : ℕ) (near all : List Version) → day_of ts ≡ Some day → filter (has_day day) near ≡ filter (has_day day) all → filter (is_found_by time ts) near ≡ filter (is_found_by time ts) all
+same_found time ts day near all named same =
+    sym (filter_within (is_found_by time ts) (has_day day) near (λ v h f. found_day time ts day v named f))
+    ∙ ap (filter (is_found_by time ts)) same
+    ∙ filter_within (is_found_by time ts) (has_day day) all (λ v h f. found_day time ts day v named f)
+
 -- ---- how many are tested
 
-pub few_of_key : (ts : List Term) (key : List Value) (columns : ℕ) (vs : List Version) (tests : ℕ) → length key ≡ columns → IsNamed ts key → tests ≤ length (filter (is_of key) vs) → IsFew ts vs tests
-few_of_key ts key columns vs tests long named most other is each =
-    let less = filter_less (is_of key) (is_of other) vs (λ v h y.
+pub no_more : {A : Type 0} (p : A → Bool) (xs : List A) → length (filter p xs) ≤ length xs
+no_more p [] = omega arith
+no_more p (x ∷ xs) = let rest = no_more p xs in elim (cases_Bool (p x)) [ inl y ↦ rw y (omega (arith, rest)) | inr n ↦ rw n (omega (arith, rest)) ]
+
+both_less : {A : Type 0} (p q r : A → Bool) (xs : List A) → ((x : A) → Has xs x → p x ≡ true → q x ≡ true) → length (filter r (filter p xs)) ≤ length (filter r (filter q xs))
+both_less p q r [] h = omega arith
+both_less p q r (x ∷ xs) h =
+    let less = both_less p q r xs (λ z i. h z (inr i)) in
+    elim (cases_Bool (p x)) [
+      | inl y ↦ rw (y, h x (inl refl) y) (elim (cases_Bool (r x)) [ inl s ↦ rw s (omega (arith, less)) | inr n ↦ rw n less ])
+      | inr n ↦ elim (cases_Bool (q x)) [
+        | inl y ↦ rw (n, y) (elim (cases_Bool (r x)) [ inl s ↦ rw s (omega (arith, less)) | inr m ↦ rw m less ])
+        | inr m ↦ rw (n, m) less
+      ]
+    ]
+
+-- what is of one key that WHERE names is of each
+other_key : (ts : List Term) (key other : List Value) (columns : ℕ) (vs : List Version) → length key ≡ columns → IsNamed ts key → IsNamed ts other → ((v : Version) → Has vs v → length v.row.key ≡ length other) → (v : Version) → Has vs v → is_of key v ≡ true → is_of other v ≡ true
+other_key ts key other columns vs long named is each v h y =
     let mine : v.row.key ≡ key = same_key-true v.row.key key y in
     let far : length v.row.key ≡ length key = ap length mine in
     let wide = each v h in
     let one_key : key ≡ other = same_places key other (omega (arith, far, wide)) (λ i l. sym (named i (omega (arith, l, far, wide))) ∙ is i l) in
-    subst (λ k. is_of k v ≡ true) one_key y) in
+    subst (λ k. is_of k v ≡ true) one_key y
+
+pub few_of_key : (ts : List Term) (key : List Value) (columns : ℕ) (vs : List Version) (tests : ℕ) → length key ≡ columns → IsNamed ts key → tests ≤ length (filter (is_of key) vs) → IsFew ts vs tests
+few_of_key ts key columns vs tests long named most other is each =
+    let less = filter_less (is_of key) (is_of other) vs (other_key ts key other columns vs long named is each) in
     omega (arith, most, less)
+
+pub few_on_day : (ts : List Term) (key : List Value) (columns : ℕ) (vs : List Version) (tests : ℕ) → length key ≡ columns → IsNamed ts key → ((day : ℕ) → day_of ts ≡ Some day → tests ≤ length (filter (nearly_has day) (filter (is_of key) vs))) → IsFewOnDay ts vs tests
+few_on_day ts key columns vs tests long named most other day is asked each =
+    let less = both_less (is_of key) (is_of other) (nearly_has day) vs (other_key ts key other columns vs long named is each) in
+    let few = most day asked in
+    omega (arith, few, less)
 
 pub few_of_all : (ts : List Term) (columns : ℕ) (vs : List Version) (tests : ℕ) → (place : ℕ) × (place < columns) × (said_at place ts ≡ None) → ((n : ℕ) → ((v : Version) → Has vs v → length v.row.key ≤ n) → columns ≤ n) → IsFew ts vs tests
 few_of_all ts columns vs tests none least key is each =
+    let wide = least (length key) (λ v h. let e = each v h in omega (arith, e)) in
+    let l : none.0 < length key = let before = none.1 in omega (arith, before, wide) in
+    let s = some_at key none.0 l in
+    absurd (not_some s.0 (sym none.2 ∙ is none.0 l ∙ s.1))
+
+pub few_of_all_on_day : (ts : List Term) (columns : ℕ) (vs : List Version) (tests : ℕ) → (place : ℕ) × (place < columns) × (said_at place ts ≡ None) → ((n : ℕ) → ((v : Version) → Has vs v → length v.row.key ≤ n) → columns ≤ n) → IsFewOnDay ts vs tests
+few_of_all_on_day ts columns vs tests none least key day is asked each =
     let wide = least (length key) (λ v h. let e = each v h in omega (arith, e)) in
     let l : none.0 < length key = let before = none.1 in omega (arith, before, wide) in
     let s = some_at key none.0 l in

@@ -1,4 +1,4 @@
--- The key that a WHERE names, and how many versions a question tests.
+-- The key and the day that a WHERE names, and how many versions a question tests.
 use Rattle.std.specs.Prelude.{◌≡◌, ℕ, ◌<◌, ◌≤◌, ◌==◌, Option, Some, None, List, [], ◌∷◌, length, filter, slice_get, if◌then◌else◌}
 use Rattle.model.specs.declared.value.Value.{Value}
 use Rattle.model.specs.Tables.{Table, Row, IsRow}
@@ -8,9 +8,10 @@ use Rattle.sqlsyntax.specs.declared.forms.Operator.TheVariants.{Equal}
 use Rattle.sqlchecks.specs.declared.field.Field.{Field}
 use Rattle.sqlchecks.specs.declared.field.Field.TheVariants.{Key}
 use Rattle.sqlread.specs.declared.term.Term.{Term}
-use Rattle.sqlread.specs.declared.term.Term.TheVariants.{Compares}
+use Rattle.sqlread.specs.declared.term.Term.TheVariants.{Compares, ContainsDay}
 use Rattle.versionlaws.specs.Versions.{Version, Holds}
 use Rattle.versionlaws.specs.ByKey.{is_of}
+use Rattle.sysversion.specs.Days.{nearly_has}
 
 -- what the key column at this place is to be equal to, if a comparison says so
 abbrev pub equal_at : ℕ → Operator → Field → Value → Option Value
@@ -21,7 +22,7 @@ abbrev pub said_by : ℕ → Term → Option Value
 said_by place (Compares c) = equal_at place c.operator c.field c.value
 said_by place _ = None
 
-abbrev pub or_else : Option Value → Option Value → Option Value
+abbrev pub or_else : {A : Type 0} → Option A → Option A → Option A
 or_else None o = o
 or_else (Some v) o = Some v
 
@@ -34,6 +35,15 @@ said_at place (t ∷ ts) = or_else (said_by place t) (said_at place ts)
 abbrev pub IsNamed : List Term → List Value → Type 0
 IsNamed terms key = (place : ℕ) → place < length key → said_at place terms ≡ slice_get key place
 
+abbrev pub day_by : Term → Option ℕ
+day_by (ContainsDay day) = Some day.number
+day_by _ = None
+
+-- the day of the first term of WHERE that asks whether the period contains a day
+abbrev pub day_of : List Term → Option ℕ
+day_of [] = None
+day_of (t ∷ ts) = or_else (day_by t) (day_of ts)
+
 -- where WHERE names a key with as many columns as the versions' keys have, there are at most as many tests as versions of it
 abbrev pub IsFew : List Term → List Version → ℕ → Type 0
 IsFew terms versions tests = (key : List Value) → IsNamed terms key → ((v : Version) → Has versions v → length v.row.key ≡ length key) → tests ≤ length (filter (is_of key) versions)
@@ -44,3 +54,9 @@ abbrev pub IsFewRows : List Term → List Version → ℕ → Type 0
 IsFewRows terms versions tests = (key : List Value) → IsNamed terms key → ((v : Version) → Has versions v → length v.row.key ≡ length key) →
     (history : ℕ → Table) (bound : ℕ) (current : Table) (rows : List Row) → Holds versions history bound current →
     ((u : ℕ) (row : Row) → u < bound → IsRow (history u) row → row.key ≡ key → Has rows row) → tests ≤ length rows
+
+-- Where it names a day besides, there are at most as many tests as versions of the key that have the day, or would have it if
+-- their periods went on for as many days again.
+abbrev pub IsFewOnDay : List Term → List Version → ℕ → Type 0
+IsFewOnDay terms versions tests = (key : List Value) (day : ℕ) → IsNamed terms key → day_of terms ≡ Some day → ((v : Version) → Has versions v → length v.row.key ≡ length key) →
+    tests ≤ length (filter (nearly_has day) (filter (is_of key) versions))

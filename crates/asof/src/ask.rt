@@ -7,7 +7,7 @@ ghost use Rattle.versionlaws.specs.Answering.{answer_from};
 ghost use Rattle.answer.specs.Answers.{answer_of, columns_in};
 ghost use Rattle.sysversion.specs.Versions.{versions_of};
 ghost use Rattle.asof.specs.Asking.{read_with, IsKept};
-ghost use Rattle.asof.specs.Named.{IsFew, IsFewRows};
+ghost use Rattle.asof.specs.Named.{IsFew, IsFewOnDay, IsFewRows};
 
 use crate::found::{found, in_order};
 use crate::shown::show_all;
@@ -29,7 +29,7 @@ pub trait Ask {
     ghost use Rattle.versionlaws.specs.Versions.{Version};
     ghost use Rattle.answer.specs.Answers.{answer_of, columns_in};
     ghost use Rattle.asof.specs.Asking.{read_with, IsKept};
-    ghost use Rattle.asof.specs.Named.{IsFew, IsFewRows};
+    ghost use Rattle.asof.specs.Named.{IsFew, IsFewOnDay, IsFewRows};
 
     /// The versions of each table, by its number, that the answers come from.
     ghost versions_in: { Self → ℕ → List Version };
@@ -52,7 +52,8 @@ pub trait Ask {
 
     /// The same answer, and how many versions were tested for it: at least each that is in the answer. Where WHERE has `=`
     /// for each column of a key, and so many columns have the versions' keys, these are at most the key's versions, and so
-    /// at most as many as the different rows of that key over all instants.
+    /// at most as many as the different rows of that key over all instants. Where WHERE asks for a day besides, they are at
+    /// most those versions of the key whose periods have the day, or would have it if they went on for as many days again.
     ///
     /// Refused as `ask` is.
     fn ask_counted(
@@ -65,6 +66,7 @@ pub trait Ask {
         ensures kept { IfOk result (λ a. IsKept (read_with (time_of time) (select_of (query_of query.now))) (versions_in self.now query.now.table) (answer_of a.0)) }
         ensures columns { IfOk result (λ a. a.0.columns.items ≡ columns_in (tables_in self.now) query.now.table) }
         ensures few { IfOk result (λ a. IsFew query.now.terms.items (versions_in self.now query.now.table) a.1) }
+        ensures few_on_day { IfOk result (λ a. IsFewOnDay query.now.terms.items (versions_in self.now query.now.table) a.1) }
         ensures few_rows { IfOk result (λ a. IsFewRows query.now.terms.items (versions_in self.now query.now.table) a.1) }
         ensures each { IfOk result (λ a. length a.0.rows.items ≤ a.1) }
         ensures err { IfErr result (λ refusal. refusal ≡ NoMemory) }

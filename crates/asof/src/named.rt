@@ -1,10 +1,11 @@
-//! The key that a WHERE names, so that only its versions need be looked at.
-ghost use Rattle.std.specs.Prelude.{◌≡◌, ◌<◌, ℕ, None, length, IfOk, IfSome};
+//! The key and the day that a WHERE names, so that only the key's versions near the day need be looked at.
+ghost use Rattle.std.specs.Prelude.{◌≡◌, ◌<◌, ℕ, None, length, option_map, IfOk, IfSome};
 ghost use Rattle.std.specs.Option.{option_copied};
-ghost use Rattle.asof.specs.Named.{equal_at, said_by, said_at, IsNamed};
+ghost use Rattle.asof.specs.Named.{equal_at, said_by, said_at, day_by, day_of, IsNamed};
 
 use model::value::Value;
 use overlaps::Key;
+use period::Day;
 use sqlchecks::comparison::Comparison;
 use sqlchecks::field::Field;
 use sqlread::term::Term;
@@ -63,4 +64,26 @@ pub(crate) fn named_key(
         values.push(value.clone()?)?;
     }
     Ok(Some(Key::new(values)))
+}
+
+// The day that the term asks for.
+fn day_by(term: &Term) -> Option<Day>
+    ensures { option_map (λ day. day.number) result ≡ day_by term.now }
+{
+    match term {
+        Term::ContainsDay(day) => Some(*day),
+        _ => None,
+    }
+}
+
+/// The day of the first term that asks whether the period contains a day.
+pub(crate) fn named_day(terms: &[Term]) -> Option<Day>
+    ensures { option_map (λ day. day.number) result ≡ day_of terms.now }
+{
+    for term in terms {
+        if let Some(day) = day_by(term) {
+            return Some(day);
+        }
+    }
+    None
 }

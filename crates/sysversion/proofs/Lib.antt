@@ -4,3 +4,5 @@ pub mod OfKey
 pub mod Kept
 pub mod Tabled
 pub mod Open
+pub mod Reaching
+pub mod Near

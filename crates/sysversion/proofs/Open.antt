@@ -25,18 +25,18 @@ Places = BTreeSet Place
 
 -- ---- the order of places
 
-place_total : IsTotalOrder place_cmp
+pub place_total : IsTotalOrder place_cmp
 place_total = then_total (on_total (λ (p : Place). p.0) nat_cmp_total) (on_total (λ (p : Place). p.1) nat_cmp_total)
 
-exact : CmpEqualImpliesEq place_cmp
+pub exact : CmpEqualImpliesEq place_cmp
 exact = exact_pairs nat_cmp nat_cmp exact_unsigned exact_unsigned
 
-at_most : (a b : ℕ) (r o : Ordering) → MatchOrdering r (a < b) (a ≡ b) (b < a) → is_gt (ordering_then r o) ≡ false → a ≤ b
+pub at_most : (a b : ℕ) (r o : Ordering) → MatchOrdering r (a < b) (a ≡ b) (b < a) → is_gt (ordering_then r o) ≡ false → a ≤ b
 at_most a b Less o m h = omega arith
 at_most a b Equal o m h = omega arith
 at_most a b Greater o m h = let no : true ≡ false = h in cc
 
-starts_at_most : (a b : Place) → is_gt (place_cmp a b) ≡ false → a.0 ≤ b.0
+pub starts_at_most : (a b : Place) → is_gt (place_cmp a b) ≡ false → a.0 ≤ b.0
 starts_at_most a b h = at_most a.0 b.0 (nat_cmp a.0 b.0) (nat_cmp a.1 b.1) (ranks a.0 b.0) h
 
 from_here : (s p : ℕ) (q r : Ordering) → MatchOrdering q (s < s) (s ≡ s) (s < s) → MatchOrdering r (0 < p) (0 ≡ p) (p < 0) → is_gt (ordering_then q r) ≡ false
@@ -80,13 +80,13 @@ changed old new k q b updates = elim (cases_Bool (is_at (place_cmp k) q)) [
 abbrev pub is_there : (Version → Bool) → List Version → ℕ → Bool
 is_there f versions place = option_map_or f (slice_get versions place) false
 
-there_more : (f : Version → Bool) (vs : List Version) (v : Version) (place : ℕ) → (place ≡ length vs → f v ≡ false) → is_there f vs place ≡ is_there f (vs ++ v ∷ []) place
+pub there_more : (f : Version → Bool) (vs : List Version) (v : Version) (place : ℕ) → (place ≡ length vs → f v ≡ false) → is_there f vs place ≡ is_there f (vs ++ v ∷ []) place
 there_more f [] v zero h = sym (h refl)
 there_more f [] v (suc place) h = refl
 there_more f (x ∷ vs) v zero h = refl
 there_more f (x ∷ vs) v (suc place) h = there_more f vs v place (λ e. h (omega arith))
 
-there_last : (f : Version → Bool) (vs : List Version) (v : Version) → is_there f (vs ++ v ∷ []) (length vs) ≡ f v
+pub there_last : (f : Version → Bool) (vs : List Version) (v : Version) → is_there f (vs ++ v ∷ []) (length vs) ≡ f v
 there_last f [] v = refl
 there_last f (x ∷ vs) v = there_last f vs v
 

@@ -1,3 +1,4 @@
+pub mod Days
 pub mod Lists
 pub mod Open
 pub mod Versions

@@ -1,10 +1,7 @@
-//! The versions of one key.
-ghost use Rattle.std.specs.Prelude.{◌≡◌, ◌<◌, ◌≤◌, ◌+◌, ℕ, false, map, length, IsTrue, IfSome, IfNone};
-ghost use Rattle.std.specs.BTreeSet.{contains};
-ghost use Rattle.sysversion.specs.Lists.{version_of};
-ghost use Rattle.sysversion.specs.Open.{ended_from, open_from, place_cmp, AreIndexed};
-
+//! The versions of one key, and how those near a day are found.
+use crate::reached::{ReachedPlaces, places_near, reach_of};
 use crate::version::Version;
+use crate::version_list::VersionList;
 use current::Row;
 use model::stamp::Stamp;
 use overlaps::counted::{Count, Counted};
@@ -13,64 +10,32 @@ use std::alloc::{AllocError, Global};
 use std::collections::BTreeSet;
 use std::marker::Model;
 
-// The start of each open version's period, and its place among the versions.
-type OpenPlaces = BTreeSet<(u32, usize)>;
-
-/// The versions of a key in the order in which they came, and where the open ones stand, by their starts. A contract
-/// sees the versions.
+/// The versions of a key in the order in which they came, and where they stand by the days that their periods have. A
+/// contract sees the versions.
 #[derive(Debug, Drop)]
 pub struct KeyVersions {
-    versions: Counted<Version>,
-    open_places: OpenPlaces,
+    list: VersionList,
+    reached: ReachedPlaces,
 }
 
 impl Model for KeyVersions {
     ghost use Rattle.std.specs.Prelude.{List, map};
     ghost use Rattle.sysversion.specs.declared.version.Version.{Version as Stored};
     ghost use Rattle.sysversion.specs.Lists.{version_of};
-    ghost use Rattle.sysversion.specs.Open.{AreIndexed};
+    ghost use Rattle.sysversion.specs.Days.{AreReached};
 
     ghost Value = { List Stored };
 
-    ghost view = { λ k. k.versions };
+    ghost view = { λ k. k.list };
 
-    ghost invariant = { λ k. AreIndexed k.open_places (map version_of k.versions) };
-}
-
-// The place of the first open version that starts on the day. It is looked up, with no walk over the others.
-fn first_from(open_places: &OpenPlaces, start: u32) -> Option<usize>
-    ensures some { IfSome result (λ place. IsTrue (contains place_cmp open_places.now (start, place))) }
-    ensures none { IfNone result ((place : ℕ) → contains place_cmp open_places.now (start, place) ≡ false) }
-{
-    match open_places.range((start, 0)..).next() {
-        Some((found, place)) if *found == start => Some(*place),
-        _ => None,
-    }
-}
-
-// Ends the open versions that start on the day, and reads no others.
-fn end_open(
-    versions: &mut Counted<Version>,
-    open_places: &mut OpenPlaces,
-    start: u32,
-    t: Stamp,
-    count: &mut Count,
-)
-    requires { AreIndexed open_places.old (map version_of versions.old) }
-    ensures ended { map version_of versions.new ≡ map (ended_from t start) (map version_of versions.old) }
-    ensures indexed { AreIndexed open_places.new (map version_of versions.new) }
-    ensures few { count.new ≤ count.old + length (open_from start (map version_of versions.old)) }
-{
-    while let Some(place) = first_from(open_places, start) {
-        open_places.remove(&(start, place));
-        versions.at_mut(place, count).end_at(t);
-    }
+    ghost invariant = { λ k. AreReached k.reached (map version_of k.list) };
 }
 
 impl KeyVersions {
-    ghost use Rattle.std.specs.Prelude.{◌≡◌, ◌≤◌, ◌+◌, ◌++◌, ◌∷◌, [], map, length, OnOk, OnErr};
+    ghost use Rattle.std.specs.Prelude.{◌≡◌, ◌≤◌, ◌+◌, ◌++◌, ◌∷◌, [], map, filter, length, OnOk, OnErr, IfOk};
     ghost use Rattle.current.specs.Rows.{row_of};
     ghost use Rattle.versionlaws.specs.Committing.{opened};
+    ghost use Rattle.sysversion.specs.Days.{has_day, nearly_has};
     ghost use Rattle.sysversion.specs.Lists.{version_of};
     ghost use Rattle.sysversion.specs.Open.{ended_from, open_from};
 
@@ -79,8 +44,8 @@ impl KeyVersions {
         ensures { result ≡ [] }
     {
         KeyVersions {
-            versions: Counted::new(alloc),
-            open_places: BTreeSet::new(alloc),
+            list: VersionList::new(alloc),
+            reached: BTreeSet::new(alloc),
         }
     }
 
@@ -88,7 +53,7 @@ impl KeyVersions {
     pub fn versions(&self) -> &Counted<Version>
         ensures { result.now ≡ self.now }
     {
-        &self.versions
+        self.list.versions()
     }
 
     /// Adds an open version of a row. Want of memory changes nothing.
@@ -96,13 +61,14 @@ impl KeyVersions {
         ensures ok { OnOk result (map version_of self.new ≡ map version_of self.old ++ opened (row_of row) ∷ []) }
         ensures err { OnErr result (self.new ≡ self.old) }
     {
-        let place = (row.period.start.number, self.versions.len());
-        self.open_places.insert(place)?;
-        let pushed = self.versions.push(Version { row, end: None });
-        if pushed.is_err() {
-            self.open_places.remove(&place);
+        let start = row.period.start.number;
+        let reached = (reach_of(row.period), (start, self.list.versions().len()));
+        self.reached.insert(reached)?;
+        let opened = self.list.open(row);
+        if opened.is_err() {
+            self.reached.remove(&reached);
         }
-        pushed
+        opened
     }
 
     /// Ends the open versions that start on a day. They are looked up by the day, and the count rises by one for each of
@@ -111,12 +77,28 @@ impl KeyVersions {
         ensures ended { map version_of self.new ≡ map (ended_from t start.number) (map version_of self.old) }
         ensures few { count.new ≤ count.old + length (open_from start.number (map version_of self.old)) }
     {
-        end_open(
-            &mut self.versions,
-            &mut self.open_places,
-            start.number,
-            t,
-            count,
-        );
+        self.list.end_from(start, t, count);
+    }
+
+    /// Some of the versions, in the order in which they came: each whose period has the day, and none besides but those
+    /// whose periods would have it if they went on for as many days again. No other version is read, and the count rises
+    /// by at most one for each of them.
+    pub fn near(
+        &self,
+        alloc: Global,
+        day: Day,
+        count: &mut Count,
+    ) -> Result<Vec<&Version>, AllocError>
+        ensures each { IfOk result (λ found. filter (has_day day.number) (map (λ v. version_of v.now) found.items) ≡ filter (has_day day.number) (map version_of self.now)) }
+        ensures few { count.new ≤ count.old + length (filter (nearly_has day.number) (map version_of self.now)) }
+        ensures counted { IfOk result (λ found. length found.items ≤ count.new) }
+    {
+        let places = places_near(alloc, &self.reached, day.number)?;
+        let versions = self.list.versions();
+        let mut found = Vec::new(alloc);
+        for place in &places {
+            found.push(versions.at(*place, count))?;
+        }
+        Ok(found)
     }
 }

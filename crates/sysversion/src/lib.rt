@@ -3,8 +3,10 @@
 
 pub mod key_versions;
 pub mod lists;
+mod reached;
 pub mod table;
 pub mod version;
+mod version_list;
 pub mod versions;
 
 pub use key_versions::KeyVersions;

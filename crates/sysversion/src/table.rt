@@ -8,12 +8,12 @@ ghost use Rattle.model.specs.Values.{key_cmp};
 ghost use Rattle.versionlaws.specs.ByKey.{is_of};
 ghost use Rattle.sysversion.specs.Lists.{lists_of};
 
+use crate::key_versions::KeyVersions;
 use crate::lists::{Lists, end_row, keys_in_order, open_row};
-use crate::version::Version;
 use current::{Changes, Row};
 use model::stamp::Stamp;
 use overlaps::Key;
-use overlaps::counted::{Count, Counted};
+use overlaps::counted::Count;
 use std::alloc::{AllocError, Global};
 use std::collections::BTreeMap;
 
@@ -113,13 +113,10 @@ impl TableVersions {
     }
 
     /// The versions of a key, in the order in which they came, if it has any. Takes no memory.
-    pub fn of_key(&self, key: &Key) -> Option<&Counted<Version>>
+    pub fn of_key(&self, key: &Key) -> Option<&KeyVersions>
         ensures { option_map_or (λ list. map version_of list.now) result [] ≡ filter (is_of key.now) (versions_of_table self.now) }
     {
-        match self.lists.get(key) {
-            Some(list) => Some(list.versions()),
-            None => None,
-        }
+        self.lists.get(key)
     }
 
     /// The versions of each key, in the order in which they came. Takes no memory.

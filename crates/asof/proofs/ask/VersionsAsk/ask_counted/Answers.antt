@@ -8,7 +8,7 @@ use Rattle.answer.specs.Answers.{answer_of, shown_of}
 use Rattle.sysversion.specs.Lists.{version_of}
 use Rattle.sysversion.specs.Versions.{versions_of}
 use Rattle.asof.specs.Asking.{read_with, is_found_by, show_by}
-use Rattle.asof.specs.Named.{IsFew}
+use Rattle.asof.specs.Named.{IsFew, IsFewOnDay}
 use Rattle.asof.proofs.Sorting.{order_length}
 use Rattle.asof.proofs.Answered.{shown, answered_is, kept_is, few_rows}
 use Rattle.asof.proofs.ask.VersionsAsk.ask_counted.Goals as goal
@@ -52,3 +52,9 @@ returns-clause-few_rows c =
     let counted = subst (λ n. IsFew c.as_slice-terms.result.now versions n) (sym c.reads.ensures) (c.in_ok-found.ensures.few c.new-count.ensures) in
     let few : IsFew terms versions tests = subst (λ ts. IsFew ts versions tests) c.as_slice-terms.ensures.value counted in
     few_rows c.few_versions.ensures terms versions tests few
+
+pub returns-clause-few_on_day : goal.returns-clause-few_on_day
+returns-clause-few_on_day c =
+    let versions = versions_of c.args.self.now c.args.query.now.table in
+    let counted = subst (λ n. IsFewOnDay c.as_slice-terms.result.now versions n) (sym c.reads.ensures) (c.in_ok-found.ensures.few_on_day c.new-count.ensures) in
+    subst (λ ts. IsFewOnDay ts versions c.reads.result) c.as_slice-terms.ensures.value counted

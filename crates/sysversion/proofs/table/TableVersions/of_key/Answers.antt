@@ -1,10 +1,14 @@
-use Rattle.std.proofs.Common.{◌∙◌, map, ap, sym}
+use Rattle.std.proofs.Common.{◌≡◌, ◌∙◌, Option, Some, None, List, [], map, ap, sym, refl}
+use Rattle.std.specs.Option.{option_copied, option_map_or}
+use Rattle.sysversion.specs.declared.version.Version.{Version}
 use Rattle.sysversion.specs.Lists.{version_of, list_in}
 use Rattle.sysversion.proofs.OfKey.{list_of_key}
 use Rattle.sysversion.proofs.table.TableVersions.of_key.Goals as goal
+use denote.Ref.{Bor}
 
-pub returns-in-Some : goal.returns-in-Some
-returns-in-Some c = let s = c.args.self.now in ap (map version_of) c.versions.ensures ∙ ap list_in c.in-Some.ensures.value ∙ sym (list_of_key s.lists s.ordered s.of_keys c.args.key.now)
+lent : (found : Option (Bor (List Version))) → option_map_or (λ list. map version_of list.now) found [] ≡ list_in (option_copied found)
+lent None = refl
+lent (Some list) = refl
 
-pub returns-in-None : goal.returns-in-None
-returns-in-None c = let s = c.args.self.now in ap list_in c.in-None.ensures.value ∙ sym (list_of_key s.lists s.ordered s.of_keys c.args.key.now)
+pub returns : goal.returns
+returns c = let s = c.args.self.now in lent c.get.result ∙ ap list_in c.get.ensures.value ∙ sym (list_of_key s.lists s.ordered s.of_keys c.args.key.now)

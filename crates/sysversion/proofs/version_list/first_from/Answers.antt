@@ -3,7 +3,7 @@ use Rattle.std.specs.BTreeSet.{IsKeyRangeOf}
 use Rattle.std.specs.declared.ops.Bound.TheVariants.{Included, Unbounded}
 use Rattle.sysversion.specs.Open.{place_cmp}
 use Rattle.sysversion.proofs.Open.{none_from, none_at_all}
-use Rattle.sysversion.proofs.key_versions.first_from.Goals as goal
+use Rattle.sysversion.proofs.version_list.first_from.Goals as goal
 
 pub returns-in_default-clause-none : goal.returns-in_default-clause-none
 returns-in_default-clause-none c =

@@ -2,7 +2,7 @@ use Rattle.std.proofs.Common.{◌≡◌, ◌+◌, ◌≤◌, map, length}
 use Rattle.std.specs.BTreeSet.{btree_set_len}
 use Rattle.sysversion.specs.Lists.{version_of}
 use Rattle.sysversion.specs.Open.{AreIndexed, ended_from, open_from}
-use Rattle.sysversion.proofs.key_versions.end_open.Given as goal
+use Rattle.sysversion.proofs.version_list.end_open.Given as goal
 
 abbrev pub invariant-loop-place : goal.invariant-loop-place
 invariant-loop-place l = record {

@@ -5,7 +5,7 @@ use Rattle.sysversion.specs.Lists.{version_of}
 use Rattle.sysversion.specs.Open.{is_open_from, open_from, ended_from, AreIndexed}
 use Rattle.sysversion.proofs.Open.{is_there, end_of, some_there, passes_there, indexed_ended, ended_same, one_fewer, none_ended, get_mapped, set_mapped}
 use Rattle.sysversion.proofs.Tabled.{got}
-use Rattle.sysversion.proofs.key_versions.end_open.Goals as goal
+use Rattle.sysversion.proofs.version_list.end_open.Goals as goal
 
 pub loop-place-preserved : goal.loop-place-preserved
 loop-place-preserved c =
