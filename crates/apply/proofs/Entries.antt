@@ -25,7 +25,7 @@ use Rattle.sqlchecks.specs.Columns as columns
 use Rattle.sqlread.specs.Meaning.{schema_of}
 use Rattle.sysversion.specs.declared.Versions.{Versions}
 use Rattle.sysversion.specs.Versions as versions
-use Rattle.retry.specs.Judging.{Verdict, New, Kept, Old, Gap, number_of, outcomes_of, again, judged_by, judged, with_outcome}
+use Rattle.retry.specs.Judging.{Verdict, New, Gap, number_of, outcomes_of, again, judged_by, judged, with_outcome}
 use Rattle.apply.specs.declared.tables.Tables.{Tables}
 use Rattle.apply.specs.Executing.{IsCommitted, unless_new}
 use Rattle.apply.specs.View.{AreTables}

@@ -1,11 +1,10 @@
 -- What is known of each client where one client's requests change.
-use Rattle.std.proofs.Common.{◌≡◌, ◌∙◌, ℕ, ◌==◌, cond, nat_eq, Bool, true, false, Option, Some, None, Result, Ok, Err, List, ◌∷◌, take, sym, ap, subst, inl, inr, refl}
+use Rattle.std.proofs.Common.{◌≡◌, ◌∙◌, ℕ, ◌==◌, cond, nat_eq, Bool, true, false, Option, Some, Result, Ok, Err, sym, ap, subst, inl, inr, refl}
 use Rattle.std.specs.Result.{OnErr}
 use Rattle.std.specs.Option.{IsSome}
 use Rattle.std.specs.HashMap.{HashMap, get, UpdatesBy, WritesThrough}
 use Rattle.std.proofs.lemmas.Bool.{cases_Bool, eqb-true}
 use Rattle.std.proofs.lemmas.Bool.Decides.{eqb_tells}
-use Rattle.fault.specs.declared.refusal.Refusal.{Refusal}
 use Rattle.retry.specs.declared.Latest.{Latest}
 
 pub turned : (a b : ℕ) → nat_eq a b ≡ nat_eq b a

@@ -1,5 +1,4 @@
-use Rattle.std.proofs.Common.{map, length, ap, ◌∙◌, [], sym, subst, ℕ}
-use Rattle.model.specs.Tables.{Row}
+use Rattle.std.proofs.Common.{map, length, ap, ◌∙◌, sym, subst}
 use Rattle.model.specs.Transactions.{read_statements}
 use Rattle.rowlaws.specs.Whole.{ComesFromWhole}
 use Rattle.rowlaws.proofs.RowFacts.{both}

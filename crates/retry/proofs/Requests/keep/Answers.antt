@@ -1,4 +1,4 @@
-use Rattle.std.proofs.Common.{◌≡◌, ◌∙◌, ◌∷◌, [], ◌++◌, ℕ, ◌==◌, cond, List, nat_eq, take, sym, ap, refl, subst}
+use Rattle.std.proofs.Common.{◌≡◌, ◌∙◌, ◌∷◌, [], ◌++◌, ℕ, ◌==◌, cond, nat_eq, take, ap, refl, subst}
 use Rattle.std.specs.HashMap.{get}
 use Rattle.retry.specs.declared.Latest.{Latest}
 use Rattle.retry.specs.Judging.{latest_number, latest_outcomes, with_outcome}
