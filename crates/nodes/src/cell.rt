@@ -7,7 +7,7 @@ ghost use Rattle.raft.specs.View.{node_of, works};
 ghost use Rattle.node.specs.View.{durable_of, Gave, IsKept, LeavesUp, HasCause, told_between};
 ghost use Rattle.model.specs.Marks.{mark_after};
 ghost use Rattle.model.specs.Members.{applied};
-ghost use Rattle.fault.specs.declared.refusal.Refusal.TheVariants.{NoMemory, NoView};
+ghost use Rattle.fault.specs.declared.refusal.Refusal.TheVariants.{NoMemory, NoView, BadStore};
 ghost use Rattle.history.specs.Items.{entries_of};
 ghost use Rattle.view.specs.Publishing.{published, pending, given_of as views_of, book_of, IsSameLife};
 ghost use Rattle.view.specs.Viewing.{seen_by, name_seen, schema_seen, book_seen, IsTold};
@@ -88,7 +88,8 @@ impl<K: Keeper> Cell<K> {
     /// Opens a life with what the image holds. `last` is the greatest mark that the node had before,
     /// none if it had none; the opening's is one more. `me` is one of the group: from 1 to `members`, of
     /// which there are up to 7; the caller sees to this, and to what the keeper asks of an image. 42 where
-    /// no mark is left, else 40, 43 or 44; the image comes back with each.
+    /// no mark is left, else 40, 43 or 44, the last where the image holds no state of a member of such a group; the image
+    /// comes back with each.
     pub fn start<R: Wait>(
         rt: &R,
         alloc: Global,
@@ -106,6 +107,7 @@ impl<K: Keeper> Cell<K> {
         ensures group { IfOk result (λ c. (c.node.core.schema ≡ schema) × (c.node.core.members ≡ members) × (c.node.core.me ≡ me)) }
         ensures none { IfOk result (λ c. (published c.publisher ≡ []) × (pending c.publisher ≡ []) × (views_of c.publisher ≡ 0)) }
         ensures refused { IfErr result (λ e. IsStartRefusal (mark_after (unwrap_or last 0)) e.0) }
+        ensures bad { IfErr result (λ e. e.0 ≡ BadStore → K.is_bad e.1 members (schema_of schema) ⊎ ((d : Durable) → K.holds e.1 d → ⊥)) }
         ensures back { IfErr result (λ e. (d : Durable) → K.holds e.1 d → K.holds image d) }
         ensures suits { IfErr result (λ e. K.suits e.1 members (schema_of schema)) }
     {
