@@ -58,6 +58,11 @@ impl Draws {
         self.place(count).saturating_add(1)
     }
 
+    /// The number of one of the latest ten requests that were executed, or 1.
+    pub(crate) fn older_number(&mut self, executed: u64) -> u64 {
+        executed.saturating_sub(u64::from(self.below(10))).max(1)
+    }
+
     /// A number of members.
     pub(crate) fn members(&mut self) -> usize
         ensures least { 3 ≤ result }

@@ -14,11 +14,6 @@ impl Draws {
         }
     }
 
-    /// The number of one of the latest ten requests that were executed, or 1.
-    pub(crate) fn older_number(&mut self, executed: u64) -> u64 {
-        executed.saturating_sub(u64::from(self.below(10))).max(1)
-    }
-
     /// Client, number and text, which now and then is no transaction.
     fn request(&mut self, known: &Known) -> Result<String, AllocError> {
         let client = if self.chance(60) { 7u16 } else { 65_535 };
