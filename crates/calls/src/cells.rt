@@ -38,7 +38,7 @@ pub(crate) fn start<R: Wait>(
 ) -> Result<Cell<MemKeeper>, (Refusal, MemImage)>
     requires member { (1 ≤ me) × (me ≤ 3) }
     requires log { IsLog 3 (schema_of schema.now) (stored_in image) }
-    ensures group { IfOk result (λ c. (c.node.core.members ≡ 3) × (c.node.core.schema ≡ schema.now)) }
+    ensures group { IfOk result (λ c. (c.node.core.members ≡ 3) × (c.node.core.schema ≡ schema.now) × (c.node.core.me ≡ me)) }
     ensures none { IfOk result (λ c. all_steps c.life ≡ []) }
     ensures log { IfErr result (λ e. IsLog 3 (schema_of schema.now) (stored_in e.1)) }
 {

@@ -4,65 +4,42 @@ ghost use Rattle.model.specs.Transactions.{Schema as Tables};
 ghost use Rattle.keep.specs.Durable.{stored_in};
 ghost use Rattle.keep.specs.Log.{IsLog};
 
-use crate::cells::beat;
+use crate::cells::{beat, timeout};
+use crate::held::{Door, HeldImage, HeldKeeper};
 use crate::stored::SCHEMA;
 use fault::Refusal;
 use flight::life::{Ending, Life};
 use keep::{MemImage, MemKeeper};
-use model::member::Member;
 use nodes::cluster::{Cluster, Config};
-use nodes::gate::{Gate, Point};
 use schema::Schema;
 use schemaread::schemas::read_schema;
 use sqlread::query::{Query, read_query};
 use std::alloc::{AllocError, Global};
 use std::process::Abort;
-use std::sync::atomic::{AtomicBool, Ordering};
 use std::sync::{Arc, Wait};
 use std::test::Fail;
-use std::thread::{Threads, yield_now};
+use std::thread::Threads;
 
 const QUESTION: &str =
     "SELECT * FROM Dept FOR SYSTEM_TIME AS OF TIMESTAMP '1970-01-01 00:00:00.000100';";
-
-// Holds node 2 before each feed until it is let go, for a million turns at most.
-#[derive(Drop)]
-struct Held {
-    is_open: AtomicBool,
-    gave_up: AtomicBool,
-}
-
-impl Gate for Held {
-    fn pass(&self, node: Member, point: Point) {
-        if node != 2 || point != Point::Before {
-            return;
-        }
-        for _ in 0..1_000_000 {
-            if self.is_open.load(Ordering::SeqCst) {
-                return;
-            }
-            yield_now();
-        }
-        self.gave_up.store(true, Ordering::SeqCst);
-    }
-}
 
 // While node 2 is held in a feed, node 1 feeds, and a view of node 2 answers.
 fn while_held<R: Wait + Abort>(
     rt: &R,
     cluster: &Cluster,
-    gate: &Held,
+    door: &Door,
     query: &Query,
 ) -> Result<(), Fail> {
     let mut seen = cluster.view(rt, 2)?;
-    cluster.send(rt, 2, beat())?;
-    cluster.send(rt, 1, beat())?;
+    cluster.send(rt, 2, timeout())?;
+    let is_held = door.is_reached();
+    cluster.send(rt, 1, timeout())?;
     let first = cluster.report(rt, 1)?;
     let asked = seen.ask(query);
-    let gave_up = gate.gave_up.load(Ordering::SeqCst);
-    gate.is_open.store(true, Ordering::SeqCst);
+    let gave_up = door.gave_up();
+    door.open();
     let second = cluster.report(rt, 2)?;
-    assert!(rt; first.is_ok() && second.is_ok() && !gave_up);
+    assert!(rt; is_held && first.is_ok() && second.is_ok() && !gave_up);
     assert!(rt; matches!(asked, Err(Refusal::NotClosed(None))));
     Ok(())
 }
@@ -83,10 +60,10 @@ fn stops_and_starts<R: Wait + Abort>(rt: &R, cluster: &mut Cluster) -> Result<()
 fn held_and_restarted<R: Wait + Abort>(
     rt: &R,
     cluster: &mut Cluster,
-    gate: &Held,
+    door: &Door,
     query: &Query,
 ) -> Result<(), Fail> {
-    while_held(rt, cluster, gate, query)?;
+    while_held(rt, cluster, door, query)?;
     stops_and_starts(rt, cluster)
 }
 
@@ -100,29 +77,30 @@ fn told_of(alloc: Global, lives: &[Life]) -> Result<Vec<(u64, usize, bool)>, Fai
     Ok(told)
 }
 
-// A store without anything, for each of three members.
-fn new_images(alloc: Global) -> Result<Vec<MemImage>, AllocError>
+// A store without anything, for each of three members; the saves of the second come to the door.
+fn new_images(alloc: Global, door: Arc<Door>) -> Result<Vec<HeldImage<MemImage>>, AllocError>
     ensures three { IfOk result (λ images. vec_len images ≡ 3) }
-    ensures logs { IfOk result (λ images. (members : ℕ) (tables : Tables) → All (λ image. IsLog members tables (stored_in image)) images.items) }
+    ensures logs { IfOk result (λ images. (members : ℕ) (tables : Tables) → All (λ held. IsLog members tables (stored_in held.image)) images.items) }
 {
     let mut images = Vec::new(alloc);
-    images.push(MemImage::new(alloc))?;
-    images.push(MemImage::new(alloc))?;
-    images.push(MemImage::new(alloc))?;
+    images.push(HeldImage::new(alloc, None))?;
+    images.push(HeldImage::new(alloc, Some(door)))?;
+    images.push(HeldImage::new(alloc, None))?;
     Ok(images)
 }
 
-// Three members on threads of their own, and a question to them.
+// Three members on threads of their own, held at a gate and within saves, and a question to them.
 fn open<R: Wait + Threads + Copy + Send + Drop + 'static>(
     rt: &R,
     alloc: Global,
-    gate: Arc<Held>,
+    gate: Arc<Door>,
+    save: Arc<Door>,
 ) -> Result<(Cluster, Query), Fail> {
     let schema = read_schema(alloc, SCHEMA)?;
     let query = read_query(alloc, &schema, QUESTION)?;
-    let images = new_images(alloc)?;
+    let images = new_images(alloc, save)?;
     let config = Config { schema, images };
-    let cluster = Cluster::start::<MemKeeper, Held, R>(rt, alloc, config, gate)?;
+    let cluster = Cluster::start::<HeldKeeper<MemKeeper>, Door, R>(rt, alloc, config, gate)?;
     Ok((cluster, query))
 }
 
@@ -135,33 +113,39 @@ fn text_of(alloc: Global, nodes: &[Vec<Life>]) -> Result<String, Fail> {
     Ok(format!(in alloc; "{told:?}")?)
 }
 
-// Holds the threads, stops and starts a node, and tells of the lives.
+// Holds node 2 at the closed one of the two doors, stops and starts node 1, and tells of the lives.
 fn lead_all<R: Wait + Abort + Threads + Copy + Send + Drop + 'static>(
     rt: &R,
     alloc: Global,
-    gate: &Held,
-    theirs: Arc<Held>,
+    closed: &Door,
+    gate: Arc<Door>,
+    save: Arc<Door>,
 ) -> Result<String, Fail> {
-    let (mut cluster, query) = open(rt, alloc, theirs)?;
-    let tried = held_and_restarted(rt, &mut cluster, gate, &query);
+    let (mut cluster, query) = open(rt, alloc, gate, save)?;
+    let tried = held_and_restarted(rt, &mut cluster, closed, &query);
     let lives = cluster.stop(rt);
     tried?;
     text_of(alloc, &lives)
 }
 
+// Before each feed, and within each save.
 #[test]
 fn two_at_once(rt: HostRuntime) -> Result<(), Fail> {
     let alloc = rt.alloc();
-    let held = Held {
-        is_open: AtomicBool::new(false),
-        gave_up: AtomicBool::new(false),
-    };
-    let gate = Arc::new(alloc, held)?;
-    let theirs = Arc::try_clone(&gate)?;
-    let told = lead_all(&rt, alloc, &gate, theirs)?;
-    assert_eq!(rt;
-        told.as_str(),
-        "[[(1, 1, true), (3, 1, false)], [(1, 1, false)], [(1, 0, false)]]"
-    );
+    for in_save in [false, true] {
+        let closed = Arc::new(alloc, Door::new(false))?;
+        let open = Arc::new(alloc, Door::new(true))?;
+        let theirs = Arc::try_clone(&closed)?;
+        let (gate, save) = if in_save {
+            (open, theirs)
+        } else {
+            (theirs, open)
+        };
+        let told = lead_all(&rt, alloc, &closed, gate, save)?;
+        assert_eq!(rt;
+            told.as_str(),
+            "[[(1, 1, true), (3, 1, false)], [(1, 1, false)], [(1, 0, false)]]"
+        );
+    }
     Ok(())
 }

@@ -7,9 +7,15 @@ mod cells;
 #[cfg(test)]
 mod clusters;
 #[cfg(test)]
+mod held;
+#[cfg(test)]
 mod indexes;
 #[cfg(test)]
 mod keepers;
+#[cfg(test)]
+mod locked;
+#[cfg(test)]
+mod seven;
 #[cfg(test)]
 mod stored;
 #[cfg(test)]

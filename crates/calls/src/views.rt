@@ -1,6 +1,7 @@
 //! What cells publish, and cells under a lock.
 ghost use Rattle.std.specs.Prelude.{◌≡◌, ◌<◌, []};
 ghost use Rattle.view.specs.Publishing.{book_of};
+ghost use Rattle.view.specs.Viewing.{name_told, IsOwn};
 ghost use Rattle.flight.specs.Lives.{all_steps};
 
 use crate::cells::{beat, lead, start};
@@ -16,15 +17,15 @@ use model::request::{Client, RequestNumber};
 use nodes::cell::Cell;
 use nodes::locked::{LockedNode, Naming};
 use schemaread::schemas::read_schema;
-use sqlread::query::read_query;
-use std::alloc::Global;
+use sqlread::query::{Query, read_query};
+use std::alloc::{AllocError, Global};
 use std::marker::Brand;
 use std::process::Abort;
 use std::sync::ledger::{Blank, Share};
 use std::sync::{Mutex, Wait};
 use std::test::Fail;
 use std::thread::{Threads, join};
-use view::Marked;
+use view::{Marked, Told, View};
 
 // Member 2's log agrees with that of member 1 up to this index.
 fn reply(mark: Mark, matched: usize) -> Packet {
@@ -62,17 +63,37 @@ const QUESTION: &str =
     "SELECT * FROM Dept FOR SYSTEM_TIME AS OF TIMESTAMP '1970-01-01 00:00:00.000101';";
 
 // The text of an answer.
-fn text_of(alloc: Global, asked: &Marked) -> Result<String, Fail> {
-    Ok(format!(in alloc; "{}", Lines(&asked.answer))?)
+pub(crate) fn text_of(alloc: Global, asked: &Marked) -> Result<String, AllocError> {
+    format!(in alloc; "{}", Lines(&asked.answer))
+}
+
+// A view of another node is refused this token, and answers as before.
+fn is_refused(
+    rt: &impl Abort,
+    alloc: Global,
+    view: &mut View,
+    query: &Query,
+    told: &Told,
+) -> Result<(), Fail>
+    requires { IsOwn told.now view.old }
+{
+    let before = text_of(alloc, &view.ask(query)?)?;
+    assert!(rt; matches!(view.learn(told), Err(Refusal::NoView)));
+    assert_eq!(rt; text_of(alloc, &view.ask(query)?)?, before);
+    Ok(())
 }
 
 // A leader publishes its first entry and one of a request. Views that were told of it give one answer, which names the
-// mark of the step that applied the request. A view of it is the last but seven.
+// mark of the step that applied the request; a token of another node is refused. A view of it is the last but seven.
 fn published(
     rt: &(impl Abort + Wait),
     alloc: Global,
     cell: &mut Cell<MemKeeper>,
-) -> Result<(), Fail> {
+    other: &Told,
+) -> Result<(), Fail>
+    requires me { cell.old.node.core.me ≡ 1 }
+    requires other { (name_told other.now).node ≡ 2 }
+{
     let query = read_query(alloc, &cell.node.core.schema, QUESTION)?;
     let mut first = cell.take_view()?;
     let mut second = cell.take_view()?;
@@ -87,6 +108,7 @@ fn published(
     let (one, two) = (first.ask(&query)?, second.ask(&query)?);
     assert_eq!(rt; (one.mark.number(), one.answer.rows.len()), (21, 1));
     assert_eq!(rt; text_of(alloc, &one)?, text_of(alloc, &two)?);
+    is_refused(rt, alloc, &mut first, &query, other)?;
     for _ in 2..8 {
         let _ = cell.take_view()?;
     }
@@ -101,7 +123,11 @@ fn read_back(rt: HostRuntime) -> Result<(), Fail> {
     let Ok(mut cell) = start(&rt, alloc, MemImage::new(alloc), &schema, 1, None) else {
         return Err(Fail::from("it does not start"));
     };
-    published(&rt, alloc, &mut cell)?;
+    let Ok(other) = start(&rt, alloc, MemImage::new(alloc), &schema, 2, None) else {
+        return Err(Fail::from("another does not start"));
+    };
+    published(&rt, alloc, &mut cell, &other.told())?;
+    let _ = other.stop(&rt);
     let (_image, life) = cell.stop(&rt);
     assert_eq!(rt; life.steps.len(), 4);
     Ok(())
