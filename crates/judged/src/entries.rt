@@ -170,23 +170,23 @@ impl Both {
 
     /// Two hundred requests of two clients that come once, again, too late and too early.
     fn requests(&mut self, draws: &mut Draws, tally: &mut Tally) -> Result<()> {
-        let mut executed = [0u64; 2];
+        let (mut one, mut other) = (0u64, 0u64);
         for micros in 1..=200u32 {
             self.last = micros;
-            let [one, other] = &mut executed;
-            let (client, last) = if draws.chance(50) {
-                (1, one)
-            } else {
-                (2, other)
-            };
+            let is_one = draws.chance(50);
+            let (client, last) = if is_one { (1, one) } else { (2, other) };
             let number = match draws.below(10) {
                 0 => last.saturating_add(2),
                 1..=3 => last.saturating_add(1),
-                _ => draws.older_number(*last),
+                _ => draws.older_number(last),
             };
-            tally.repeat(*last, number);
+            tally.repeat(last, number);
             if number == last.saturating_add(1) {
-                *last = number;
+                if is_one {
+                    one = number;
+                } else {
+                    other = number;
+                }
             }
             let text = draws.transaction()?;
             self.take(client, number, text, tally)?;
