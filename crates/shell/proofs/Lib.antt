@@ -1,4 +1,6 @@
 pub mod CommandLines
 pub mod CommandRows
+pub mod Groups
 pub mod Growing
+pub mod Judging
 pub mod Scripts

@@ -1,19 +1,69 @@
--- What is printed of an audit.
-use Rattle.std.specs.Prelude.{◌≡◌, ◌++◌, ℕ, zero, suc, List, Option, codes}
+-- What an audit says of what was recorded, and what is printed of it.
+use Rattle.std.specs.Prelude.{◌≡◌, ◌≢◌, ◌++◌, ℕ, zero, suc, List, [], ◌∷◌, Option, codes, length, map}
 use Rattle.std.specs.Io.KnownBytes.{Appends}
-use Rattle.auditor.specs.Faults.{refusal_of}
+use Rattle.std.specs.declared.vec.Vec.{Vec}
+use Rattle.std.specs.declared.alloc.Global.{Global}
+use Rattle.auditor.specs.Audited.{Explains, IsFirst}
+use Rattle.auditor.specs.Behind.{Records}
+use Rattle.auditor.specs.Faults.{refusal_of, NoneAre, OfRun}
+use Rattle.auditor.specs.Rising.{Rise, IsOrderFault}
 use Rattle.auditor.specs.declared.recorded.AuditFault.{AuditFault}
+use Rattle.auditor.specs.declared.recorded.AuditFault.TheVariants.{NoMemory}
+use Rattle.auditor.specs.declared.recorded.Recorded.{Recorded as Judged}
 use Rattle.fault.specs.Refusal.{shown}
+use Rattle.flight.specs.declared.flight.Recorded.{Recorded}
+use Rattle.flight.specs.declared.life.Life.{Life}
+use Rattle.model.specs.Agreement.{Agree}
+use Rattle.model.specs.Worlds.{Event, new_world}
+use Rattle.sqlchecks.specs.Columns.{Tables}
+use Rattle.sqlread.specs.Meaning.{schema_of}
+use Rattle.shell.specs.Group.{IsRunIn}
+
+-- ---- what is audited
+
+-- an answer of a node, as an audit takes it
+abbrev pub judged_of : ℕ → Recorded → Judged
+judged_of node a = record { node = node; mark = a.mark; query = a.query; answer = a.answer }
+
+-- the answers of the nodes from this one on
+abbrev pub judged_from : ℕ → List (Vec Recorded Global) → List Judged
+judged_from node [] = []
+judged_from node (own ∷ later) = map (judged_of node) own.items ++ judged_from (suc node) later
+
+-- a group with these tables, and node by node its lives and answers
+abbrev pub records_of : Tables → List (Vec Life Global) → List (Vec Recorded Global) → Records
+records_of tables lives answers = record { tables = tables; lives = lives; answers = judged_from 1 answers }
+
+-- ---- what an audit says
+
+-- Marks rise, and the events of one run explain what was recorded; all members agree about these events.
+abbrev pub IsExplained : Records → Type 0
+IsExplained r = Rise r.lives × ((events : List Event) × Explains r events × Agree (schema_of r.tables) (length r.lives) (new_world (length r.lives)) events)
+
+-- The fault is 53, and marks do not rise; or they do, no events explain what was recorded, and it is the first fault.
+pub record IsFaultOf (r : Records) (fault : AuditFault) : Type 0 where
+  pub found : fault ≢ NoMemory
+  pub order : IsOrderFault r.lives fault
+  pub none : OfRun (λ _. NoneAre (Explains r)) fault
+  pub first : OfRun (IsFirst r) fault
 
 -- the line that names a fault
 abbrev pub line_of : AuditFault → List ℕ
 line_of fault = codes "audit: " ++ (shown (refusal_of fault) ++ codes "\n")
 
--- With exit status 0 the line says yes, with 1 it names a fault; there is no other status.
-abbrev pub IsSaid : ℕ → List ℕ → Type 0
-IsSaid zero line = line ≡ codes "audit: yes\n"
-IsSaid (suc zero) line = (fault : AuditFault) × (line ≡ line_of fault)
-IsSaid (suc (suc more)) line = ⊥
+-- With exit status 0 the line says yes, and what was recorded is explained; with 1 it names the fault. There is no other status.
+abbrev pub IsSaid : Records → ℕ → List ℕ → Type 0
+IsSaid r zero line = (line ≡ codes "audit: yes\n") × IsExplained r
+IsSaid r (suc zero) line = (fault : AuditFault) × (line ≡ line_of fault) × IsFaultOf r fault
+IsSaid r (suc (suc more)) line = ⊥
+
+-- the texts are the flight files of a group with these tables, and this is said of the lives and answers that they hold
+pub record IsJudged (texts : List (List ℕ)) (status : ℕ) (line : List ℕ) : Type 0 where
+  pub tables : Tables
+  pub lives : List (Vec Life Global)
+  pub answers : List (Vec Recorded Global)
+  pub run : IsRunIn texts tables lives answers
+  pub said : IsSaid (records_of tables lives answers) status line
 
 -- known bytes grow by some text
 abbrev pub Grows : Option (List ℕ) → Option (List ℕ) → Type 0

@@ -1,3 +1,6 @@
 pub mod Audit
 pub mod CommandLine
+pub mod Group
+pub mod Live
+pub mod Reading
 pub mod Sim

@@ -1,22 +1,20 @@
 //! The command `audit`, and the audit at the end of `live`.
-ghost use Rattle.std.specs.Prelude.{◌≡◌, ◌≤◌, ◌⊎◌, ℕ, List, length, string_bytes, Err, IfOk, IfErr, OnOk, IsOk};
+ghost use Rattle.std.specs.Prelude.{◌≡◌, ◌≢◌, ◌≤◌, ◌++◌, ◌⊎◌, ℕ, List, length, map, string_bytes, Err, IfOk, IfErr, OnOk};
 ghost use Rattle.std.specs.Io.KnownBytes.{Appends};
-ghost use Rattle.auditor.specs.Audited.{Explains};
-ghost use Rattle.auditor.specs.declared.recorded.Recorded.{Recorded as Given};
-ghost use Rattle.model.specs.Worlds.{Event as Happened};
+ghost use Rattle.auditor.specs.declared.recorded.AuditFault.TheVariants.{NoMemory as NoMemoryLeft};
 ghost use Rattle.fault.specs.declared.refusal.Refusal.TheVariants.{NoMemory, BadFlight};
 ghost use Rattle.fault.specs.declared.refusal.Refusal.{Refusal as AnyRefusal};
-ghost use Rattle.shell.specs.Audit.{IsSaid, line_of};
+ghost use Rattle.shell.specs.Audit.{IsExplained, IsFaultOf, IsJudged, IsSaid, judged_of, judged_from, line_of, records_of};
+ghost use Rattle.shell.specs.Group.{IsNoGroup};
 
 use crate::flights::Flown;
+use crate::group::read_run;
 use auditor::{AuditFault, Recorded as Judged, audit};
 use fault::Refusal;
-use flight::flight::{Flight, Recorded};
+use flight::flight::Recorded;
 use flight::life::Life;
-use flight::read_flight;
 use model::member::Member;
 use schema::Schema;
-use schemaread::schemas::read_schema;
 use script::run_fault::RunFault;
 use std::alloc::{AllocError, Global};
 use std::io;
@@ -26,7 +24,9 @@ fn add_answers(
     judged: &mut Vec<Judged>,
     node: Member,
     answers: &[Recorded],
-) -> Result<(), AllocError> {
+) -> Result<(), AllocError>
+    ensures { OnOk result (judged.new.items ≡ judged.old.items ++ map (judged_of node) answers.now) }
+{
     for answer in answers {
         judged.push(Judged {
             node,
@@ -38,27 +38,14 @@ fn add_answers(
     Ok(())
 }
 
-fn all_answers(alloc: Global, answers: &[Vec<Recorded>]) -> Result<Vec<Judged>, AllocError> {
+fn all_answers(alloc: Global, answers: &[Vec<Recorded>]) -> Result<Vec<Judged>, AllocError>
+    ensures { IfOk result (λ all. all.items ≡ judged_from 1 answers.now) }
+{
     let mut judged = Vec::new(alloc);
     for (at, given) in answers.iter().enumerate() {
-        add_answers(&mut judged, at.saturating_add(1), given.as_slice())?;
+        add_answers(&mut judged, at + 1, given.as_slice())?;
     }
     Ok(judged)
-}
-
-// Whether the events of a run explain all lives and answers of a group of 3 to 7 nodes.
-fn explain(
-    alloc: Global,
-    schema: &Schema,
-    lives: &[Vec<Life>],
-    answers: &[Judged],
-) -> Result<(), AuditFault>
-    requires least { 3 ≤ length lives.now }
-    requires most { length lives.now ≤ 7 }
-    ensures { OnOk result ((events : List Happened) × Explains (record { tables = schema.now; lives = lives.now; answers = answers.now }) events) }
-{
-    let _events = audit(alloc, schema, lives, answers)?;
-    Ok(())
 }
 
 fn fault_line(alloc: Global, fault: AuditFault) -> Result<String, AllocError>
@@ -68,13 +55,35 @@ fn fault_line(alloc: Global, fault: AuditFault) -> Result<String, AllocError>
     format!(in alloc; "audit: {refusal}\n")
 }
 
-// The exit status and the line to print of an audit.
-fn said_of(alloc: Global, explained: Result<(), AuditFault>) -> Result<(u8, String), Refusal>
-    ensures said { IfOk result (λ said. IsSaid said.0 (string_bytes said.1)) }
-    ensures yes { IfOk result (λ said. said.0 ≡ 0 → IsOk explained) }
+// Whether the events of one run explain all lives and answers of a group of 3 to 7 nodes.
+fn explain(
+    alloc: Global,
+    schema: &Schema,
+    lives: &[Vec<Life>],
+    answers: &[Judged],
+) -> Result<(), AuditFault>
+    requires least { 3 ≤ length lives.now }
+    requires most { length lives.now ≤ 7 }
+    ensures yes { OnOk result (IsExplained (record { tables = schema.now; lives = lives.now; answers = answers.now })) }
+    ensures no { IfErr result (λ fault. fault ≢ NoMemoryLeft → IsFaultOf (record { tables = schema.now; lives = lives.now; answers = answers.now }) fault) }
+{
+    let _events = audit(alloc, schema, lives, answers)?;
+    Ok(())
+}
+
+// The exit status and the line to print of an audit of a group of 3 to 7 nodes. The error is want of memory.
+fn said_of(
+    alloc: Global,
+    schema: &Schema,
+    lives: &[Vec<Life>],
+    answers: &[Judged],
+) -> Result<(u8, String), Refusal>
+    requires least { 3 ≤ length lives.now }
+    requires most { length lives.now ≤ 7 }
+    ensures said { IfOk result (λ said. IsSaid (record { tables = schema.now; lives = lives.now; answers = answers.now }) said.0 (string_bytes said.1)) }
     ensures err { IfErr result (λ refusal. refusal ≡ NoMemory) }
 {
-    match explained {
+    match explain(alloc, schema, lives, answers) {
         Ok(()) => Ok((0, format!(in alloc; "audit: yes\n")?)),
         Err(AuditFault::NoMemory) => Err(Refusal::NoMemory),
         Err(fault) => Ok((1, fault_line(alloc, fault)?)),
@@ -82,127 +91,44 @@ fn said_of(alloc: Global, explained: Result<(), AuditFault>) -> Result<(u8, Stri
 }
 
 /// What an audit says of these lives and answers, node by node: the exit status, 0 or where it says no 1, and the line to
-/// print. 43 for want of memory, 50 of another group than one of 3 to 7 nodes.
+/// print. 50 exactly of another group than one of 3 to 7 nodes, else 43 for want of memory.
 pub(crate) fn audit_line(
     alloc: Global,
     schema: &Schema,
-    lives: &[Vec<Life>],
-    answers: &[Vec<Recorded>],
+    flown: &Flown,
 ) -> Result<(u8, String), Refusal>
-    ensures said { IfOk result (λ said. IsSaid said.0 (string_bytes said.1)) }
-    ensures yes { IfOk result (λ said. said.0 ≡ 0 → (judged : List Given) × (events : List Happened)
-        × Explains (record { tables = schema.now; lives = lives.now; answers = judged }) events) }
-    ensures err { IfErr result (λ refusal. (refusal ≡ NoMemory) ⊎ (refusal ≡ BadFlight)) }
+    ensures said { IfOk result (λ said. IsSaid (records_of schema.now flown.now.lives.items flown.now.answers.items) said.0 (string_bytes said.1)) }
+    ensures err { IfErr result (λ refusal. (refusal ≡ NoMemory) ⊎ ((refusal ≡ BadFlight) × (3 ≤ length flown.now.lives.items → length flown.now.lives.items ≤ 7 → ⊥))) }
 {
-    if lives.len() < 3 || lives.len() > 7 {
+    if flown.lives.len() < 3 || flown.lives.len() > 7 {
         return Err(Refusal::BadFlight);
     }
-    let answers = all_answers(alloc, answers)?;
-    said_of(alloc, explain(alloc, schema, lives, answers.as_slice()))
+    let judged = all_answers(alloc, flown.answers.as_slice())?;
+    let lives = flown.lives.as_slice();
+    said_of(alloc, schema, lives, judged.as_slice())
 }
 
-// Whether the node has no flight here yet.
-fn is_free(places: &[Option<Flight>], node: Member) -> bool {
-    matches!(places.get(node.saturating_sub(1)), Some(None))
-}
-
-fn free_places(alloc: Global, members: usize) -> Result<Vec<Option<Flight>>, AllocError> {
-    let mut places = Vec::new(alloc);
-    for _ in 0..members {
-        places.push(None)?;
-    }
-    Ok(places)
-}
-
-// Puts each flight in its node's place. 50 where two differ in members or schema, or one node has two.
-fn in_places(alloc: Global, flights: Vec<Flight>) -> Result<Vec<Option<Flight>>, Refusal>
-    ensures err { IfErr result (λ refusal. (refusal ≡ NoMemory) ⊎ (refusal ≡ BadFlight)) }
-{
-    let (members, schema) = match flights.first() {
-        Some(flight) => (flight.members, flight.schema.clone()?),
-        None => return Err(Refusal::BadFlight),
-    };
-    let mut places = free_places(alloc, members)?;
-    for flight in flights {
-        if flight.members != members || flight.schema != schema || !is_free(&places, flight.node) {
-            return Err(Refusal::BadFlight);
-        }
-        if let Some(place) = places.get_mut(flight.node.saturating_sub(1)) {
-            *place = Some(flight);
-        }
-    }
-    Ok(places)
-}
-
-// What the flights hold, node by node. 50 where a node has none.
-fn run_of(alloc: Global, places: Vec<Option<Flight>>) -> Result<Flown, Refusal>
-    ensures err { IfErr result (λ refusal. (refusal ≡ NoMemory) ⊎ (refusal ≡ BadFlight)) }
-{
-    let mut lives = Vec::new(alloc);
-    let mut answers = Vec::new(alloc);
-    for place in places {
-        let Some(flight) = place else {
-            return Err(Refusal::BadFlight);
-        };
-        let Flight {
-            node: _,
-            members: _,
-            schema: _,
-            lives: led,
-            answers: given,
-        } = flight;
-        lives.push(led)?;
-        answers.push(given)?;
-    }
-    Ok(Flown { lives, answers })
-}
-
-fn read_flights(alloc: Global, texts: &[String]) -> Result<Vec<Flight>, Refusal>
-    ensures err { IfErr result (λ refusal. (refusal ≡ NoMemory) ⊎ (refusal ≡ BadFlight)) }
-{
-    let mut flights = Vec::new(alloc);
-    for text in texts {
-        flights.push(read_flight(alloc, text.as_str())?)?;
-    }
-    Ok(flights)
-}
-
-// The schema that a flight names.
-fn schema_of(alloc: Global, flights: &[Flight]) -> Result<Schema, Refusal>
-    ensures err { IfErr result (λ refusal. (refusal ≡ NoMemory) ⊎ (refusal ≡ BadFlight)) }
-{
-    let Some(flight) = flights.first() else {
-        return Err(Refusal::BadFlight);
-    };
-    match read_schema(alloc, flight.schema.as_str()) {
-        Ok(schema) => Ok(schema),
-        Err(Refusal::NoMemory) => Err(Refusal::NoMemory),
-        Err(_) => Err(Refusal::BadFlight),
-    }
-}
-
-// What an audit says of the flights in these texts. 43, or 50 where they are not the flights of one run.
+// What an audit says of the flights in these texts.
 fn judge(alloc: Global, texts: &[String]) -> Result<(u8, String), Refusal>
-    ensures said { IfOk result (λ said. IsSaid said.0 (string_bytes said.1)) }
-    ensures err { IfErr result (λ refusal. (refusal ≡ NoMemory) ⊎ (refusal ≡ BadFlight)) }
+    ensures said { IfOk result (λ said. IsJudged (map string_bytes texts.now) said.0 (string_bytes said.1)) }
+    ensures err { IfErr result (λ refusal. (refusal ≡ NoMemory) ⊎ ((refusal ≡ BadFlight) × IsNoGroup (map string_bytes texts.now))) }
 {
-    let flights = read_flights(alloc, texts)?;
-    let schema = schema_of(alloc, flights.as_slice())?;
-    let run = run_of(alloc, in_places(alloc, flights)?)?;
-    audit_line(alloc, &schema, run.lives.as_slice(), run.answers.as_slice())
+    let (schema, flown) = read_run(alloc, texts)?;
+    audit_line(alloc, &schema, &flown)
 }
 
 /// Judges the flights in these texts, one of each node in any order, and prints what an audit says of them: the one line
-/// `audit: yes` with exit status 0, or `audit: ` and the fault with 1. Else it gives what ended the command, and nothing
-/// is printed: 50 where a text is no flight file, two differ in members or schema, or a node is missing or doubled; or 43;
-/// or the writer's fault.
+/// `audit: yes` with exit status 0, where the events of one run explain the lives and answers that the flights hold, or
+/// `audit: ` and the fault with 1, where none do or marks do not rise. Else it gives what ended the command, and nothing is
+/// printed: 50 exactly where the texts are not the flight files of a group, since one is no flight file, two differ in
+/// members or schema, or a node is missing or doubled; or 43; or the writer's fault.
 pub fn run_audit<W: io::Write>(
     alloc: Global,
     texts: &[String],
     writer: &mut W,
 ) -> Result<u8, RunFault>
-    ensures said { IfOk result (λ status. (line : List ℕ) × IsSaid status line × Appends (W.contents writer.old) (W.contents writer.new) line) }
-    ensures refused { (refusal : AnyRefusal) → result ≡ Err (RunFault.Refused refusal) → ((refusal ≡ NoMemory) ⊎ (refusal ≡ BadFlight)) × (writer.new ≡ writer.old) }
+    ensures said { IfOk result (λ status. (line : List ℕ) × IsJudged (map string_bytes texts.now) status line × Appends (W.contents writer.old) (W.contents writer.new) line) }
+    ensures refused { (refusal : AnyRefusal) → result ≡ Err (RunFault.Refused refusal) → ((refusal ≡ NoMemory) ⊎ ((refusal ≡ BadFlight) × IsNoGroup (map string_bytes texts.now))) × (writer.new ≡ writer.old) }
 {
     let (status, line) = judge(alloc, texts)?;
     writer.write_all(line.as_bytes())?;

@@ -6,5 +6,6 @@ pub mod command;
 pub mod command_line;
 mod databases;
 mod flights;
+mod group;
 pub mod live_run;
 pub mod sim;

@@ -1,7 +1,9 @@
 //! The command `live`.
-ghost use Rattle.std.specs.Prelude.{◌≡◌, ◌≤◌, ◌++◌, ℕ, List, IfOk, OnOk, vec_len};
+ghost use Rattle.std.specs.Prelude.{◌≡◌, ◌≤◌, ℕ, List, IfOk, OnOk, vec_len};
 ghost use Rattle.std.specs.Io.KnownBytes.{Appends};
-ghost use Rattle.shell.specs.Audit.{IsSaid, Grows};
+ghost use Rattle.shell.specs.Audit.{Grows, IsSaid, records_of};
+ghost use Rattle.shell.specs.Live.{EndsRun};
+ghost use Rattle.shell.specs.Sim.{IsOfText};
 
 use crate::audit::audit_line;
 use crate::command::Live;
@@ -140,12 +142,10 @@ fn end_run<R: AllocGlobal + Files, W: io::Write>(
     flown: Flown,
     writer: &mut W,
 ) -> Result<u8, RunFault>
-    ensures said { IfOk result (λ status. (line : List ℕ) × IsSaid status line × Appends (W.contents writer.old) (W.contents writer.new) line) }
+    ensures said { IfOk result (λ status. (line : List ℕ) × IsSaid (records_of script.now.schema flown.lives.items flown.answers.items) status line × Appends (W.contents writer.old) (W.contents writer.new) line) }
 {
     let alloc: Global = rt.alloc();
-    let lives = flown.lives.as_slice();
-    let answers = flown.answers.as_slice();
-    let (status, line) = audit_line(alloc, &script.schema, lives, answers)?;
+    let (status, line) = audit_line(alloc, &script.schema, &flown)?;
     if let Some(dir) = dir {
         write_flights(rt, alloc, dir, &script.schema_text, flown)?;
     }
@@ -169,8 +169,7 @@ where
     R: AllocGlobal + Files + Wait + Threads + Copy + Send + Drop + 'static,
     I: io::Read,
     W: io::Write,
-    ensures said { IfOk result (λ status. (played : List ℕ) × (line : List ℕ) × IsSaid status line
-        × Appends (W.contents writer.old) (W.contents writer.new) (played ++ line)) }
+    ensures said { IfOk result (λ status. IsOfText (I.remaining reader.old) (EndsRun live.entry.nodes status (W.contents writer.old) (W.contents writer.new))) }
 {
     let alloc: Global = rt.alloc();
     let text = read_text(alloc, reader)?;

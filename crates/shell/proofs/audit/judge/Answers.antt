@@ -1,0 +1,13 @@
+use Rattle.std.proofs.Common.{map, string_bytes}
+use Rattle.shell.proofs.Judging.{judged_said, never_another_group}
+use Rattle.shell.proofs.audit.judge.Goals as goal
+
+pub returns-clause-said : goal.returns-clause-said
+returns-clause-said c =
+    let flown = c.in_ok-schema.flown in
+    judged_said c.audit_line.result (map string_bytes c.args.texts.now) c.in_ok-schema.schema flown.lives.items flown.answers.items c.in_ok-schema.ensures.ok c.audit_line.ensures.said
+
+pub returns-clause-err : goal.returns-clause-err
+returns-clause-err c =
+    let flown = c.in_ok-schema.flown in
+    never_another_group c.audit_line.result (map string_bytes c.args.texts.now) c.in_ok-schema.schema flown.lives.items flown.answers.items c.in_ok-schema.ensures.ok c.audit_line.ensures.err

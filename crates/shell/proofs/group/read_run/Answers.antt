@@ -1,0 +1,9 @@
+use Rattle.std.proofs.Common.{map}
+use Rattle.flight.specs.Contents.{in_flight}
+use Rattle.shell.proofs.Groups.{held}
+use Rattle.shell.proofs.group.read_run.Goals as goal
+
+pub returns-clause-ok : goal.returns-clause-ok
+returns-clause-ok c =
+    let run = c.in_ok-run_of.field-0 in
+    (map in_flight c.in_ok-tables.flights.items, c.in_ok-tables.ensures.ok, held c.in_ok-tables.flights.items run.lives.items run.answers.items c.in_ok-run_of.ensures.lives c.in_ok-run_of.ensures.answers)
