@@ -82,10 +82,11 @@ fn new_images(alloc: Global, door: Arc<Door>) -> Result<Vec<HeldImage<MemImage>>
     ensures three { IfOk result (λ images. vec_len images ≡ 3) }
     ensures logs { IfOk result (λ images. (members : ℕ) (tables : Tables) → All (λ held. IsLog members tables (stored_in held.image)) images.items) }
 {
-    let mut images = Vec::new(alloc);
-    images.push(HeldImage::new(alloc, None))?;
-    images.push(HeldImage::new(alloc, Some(door)))?;
-    images.push(HeldImage::new(alloc, None))?;
+    let images = vec![in alloc;
+        HeldImage::new(alloc, None),
+        HeldImage::new(alloc, Some(door)),
+        HeldImage::new(alloc, None),
+    ]?;
     Ok(images)
 }
 
