@@ -22,6 +22,6 @@ pub mod KeyCut
 pub mod Orphans
 pub mod Checked
 pub mod Suspected
-pub mod Sets
+pub mod Among
 pub mod States
 pub mod Meeting

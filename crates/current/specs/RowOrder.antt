@@ -1,5 +1,7 @@
 -- The order of rows: by key, start, end, values and system start.
-use Rattle.std.specs.Prelude.{◌≡◌, Bool}
+use Rattle.std.specs.Prelude.{◌≡◌, Bool, List}
+use Rattle.std.specs.List.{list_any}
+use Rattle.std.specs.List.Sorted.{IsSorted}
 use Rattle.std.proofs.Common.{sym, subst}
 use Rattle.std.specs.Cmp.{IsTotalOrder, IsPartialOrder, IsEquivalence, on_total, then_total, nat_cmp_total, eq_by_cmp_equiv, partial_order_from_total, unsigned_ties, both_tied}
 use Rattle.std.specs.Ordering.{ordering_then, nat_cmp, is_eq, as_partial_cmp}
@@ -10,6 +12,7 @@ use Rattle.overlaps.specs.Key.{key_cmp_total, same_key-ties}
 use Rattle.rowlaws.specs.Touching.{same_row}
 use Rattle.current.specs.declared.row.Row.{Row as Declared}
 use Rattle.current.specs.Rows.{row_of}
+use denote.Ref.{Bor}
 
 -- by key, start, end, values and system start
 abbrev pub row_cmp : Row → Row → Ordering
@@ -40,3 +43,11 @@ is_same_equiv = subst (λ E. IsEquivalence E) (λ i a b. sym (is_same-ties a b) 
 
 pub row_order_partial : IsPartialOrder is_same (as_partial_cmp row_order)
 row_order_partial = subst (λ E. IsPartialOrder E (as_partial_cmp row_order)) (λ i a b. sym (is_same-ties a b) i) (partial_order_from_total row_order_total)
+
+-- rows as the code lends them, each at most the next
+abbrev pub AreInOrder : List (Bor Declared) → Type 0
+AreInOrder rows = IsSorted (λ a b. row_order a.now b.now) rows
+
+-- this row is one of them
+abbrev pub is_among : List (Bor Declared) → Declared → Bool
+is_among rows row = list_any (λ other. is_same row other.now) rows

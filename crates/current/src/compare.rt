@@ -1,17 +1,17 @@
 //! Lists of rows against each other.
-ghost use Rattle.std.specs.Prelude.{◌≡◌, ◌++◌, map, filter, not, IfOk, OnOk};
-ghost use Rattle.std.specs.BTreeSet.{contains};
+ghost use Rattle.std.specs.Prelude.{◌≡◌, ◌<◌, ◌++◌, map, filter, not, length, IfOk, OnOk, IfSome};
+ghost use Rattle.std.specs.Option.{is_some};
 ghost use Rattle.std.specs.List.{list_any};
 ghost use Rattle.rowlaws.specs.Touching.{same_row, rows_without, removed_both, added_both};
 ghost use Rattle.current.specs.Rows.{row_of};
-ghost use Rattle.current.specs.RowOrder.{row_order, is_same};
+ghost use Rattle.current.specs.RowOrder.{is_same, is_among, AreInOrder};
 ghost use Rattle.current.specs.Touched.{removed_of, added_of};
 ghost use Rattle.current.specs.declared.row.Row.{Row as DeclaredRow};
 
 use crate::line::Changes;
 use crate::row::Row;
 use std::alloc::{AllocError, Global};
-use std::collections::BTreeSet;
+use std::mem;
 
 pub(crate) fn has_row(rows: &[Row], row: &Row) -> bool
     ensures { result ≡ list_any (λ other. same_row (row_of row.now) (row_of other)) rows.now }
@@ -56,43 +56,52 @@ pub(crate) fn append(rows: &mut Vec<Row>, more: Vec<Row>) -> Result<(), AllocErr
     rows.append(&mut more)
 }
 
-// These rows, for a search that does not go through all of them.
-fn row_set(alloc: Global, rows: &[Row]) -> Result<BTreeSet<Row>, AllocError>
-    ensures { IfOk result (λ set. (row : DeclaredRow) → contains row_order set row ≡ list_any (is_same row) rows.now) }
+// The rows in order, for a search by halves.
+fn in_order<'a>(alloc: Global, rows: &'a [Row]) -> Result<Vec<&'a Row>, AllocError>
+    ensures in_order { IfOk result (λ sorted. AreInOrder sorted.items) }
+    ensures rows { IfOk result (λ sorted. (row : DeclaredRow) → is_among sorted.items row ≡ list_any (is_same row) rows.now) }
 {
-    let mut set = BTreeSet::new(alloc);
+    let mut sorted = Vec::new(alloc);
     for row in rows {
-        set.insert(row.clone()?)?;
+        sorted.push(row)?;
     }
-    Ok(set)
+    sorted.sort()?;
+    Ok(sorted)
 }
 
-// Those of these rows that a set has.
-fn common_set(
-    alloc: Global,
-    rows: &[Row],
-    known: &BTreeSet<Row>,
-) -> Result<BTreeSet<Row>, AllocError>
-    ensures { IfOk result (λ set. (row : DeclaredRow) → contains row_order set row ≡ list_any (is_same row) (filter (contains row_order known.now) rows.now)) }
+// A place where rows in order have this one. It is looked for at the near place first.
+fn place_of(sorted: &[&Row], row: &Row, near: usize) -> Option<usize>
+    requires { AreInOrder sorted.now }
+    ensures there { is_some result ≡ is_among sorted.now row.now }
+    ensures bound { IfSome result (λ place. place < length sorted.now) }
 {
-    let mut set = BTreeSet::new(alloc);
-    for row in rows {
-        if known.contains(row) {
-            set.insert(row.clone()?)?;
+    if sorted.get(near).is_some_and(|other| row.is_same(*other)) {
+        return Some(near);
+    }
+    sorted.binary_search(&row).ok()
+}
+
+// Takes those out that are among other rows, and gives them. Where both stand in order each is found at one
+// comparison. After an error the rows are of no use.
+fn take_out(alloc: Global, rows: &mut Vec<Row>, others: &[Row]) -> Result<Vec<Row>, AllocError>
+    ensures left { OnOk result (rows.new.items ≡ filter (λ row. not (list_any (is_same row) others.now)) rows.old.items) }
+    ensures taken { IfOk result (λ taken. taken.items ≡ filter (λ row. list_any (is_same row) others.now) rows.old.items) }
+{
+    let sorted = in_order(alloc, others)?;
+    let mut taken = Vec::new(alloc);
+    let mut near = 0;
+    for row in mem::replace(rows, Vec::new(alloc)) {
+        if let Some(place) = place_of(sorted.as_slice(), &row, near) {
+            taken.push(row)?;
+            near = place + 1;
+        } else {
+            rows.push(row)?;
         }
     }
-    Ok(set)
+    Ok(taken)
 }
 
-// Takes the rows of a set out.
-fn take_out(rows: &mut Vec<Row>, set: &BTreeSet<Row>)
-    ensures { rows.new.items ≡ filter (λ row. not (contains row_order set.now row)) rows.old.items }
-{
-    rows.retain(|row| !set.contains(row));
-}
-
-// Takes those rows out of both lists that each has, and copies no more than the first list. After an error both are of
-// no use.
+// Takes those rows out of both lists that each has, and copies none. After an error both are of no use.
 fn cancel(
     alloc: Global,
     added: &mut Vec<Row>,
@@ -104,10 +113,8 @@ fn cancel(
     if added.is_empty() || later_removed.is_empty() {
         return Ok(());
     }
-    let came = row_set(alloc, added.as_slice())?;
-    let went = common_set(alloc, later_removed.as_slice(), &came)?;
-    take_out(added, &went);
-    take_out(later_removed, &came);
+    let both = take_out(alloc, added, later_removed.as_slice())?;
+    take_out(alloc, later_removed, both.as_slice())?;
     Ok(())
 }
 

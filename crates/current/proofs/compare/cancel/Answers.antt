@@ -1,9 +1,6 @@
-use Rattle.std.proofs.Common.{map, filter, ap, ◌∙◌}
-use Rattle.std.specs.BTreeSet.{contains}
-use Rattle.std.specs.List.{list_any}
+use Rattle.std.proofs.Common.{map}
 use Rattle.current.specs.Rows.{row_of}
-use Rattle.current.specs.RowOrder.{row_order, is_same}
-use Rattle.current.proofs.Sets.{set_without, common_without, without_none, none_without, empty_is}
+use Rattle.current.proofs.Among.{list_without, common_left_out, without_none, none_without, empty_is}
 use Rattle.current.proofs.compare.cancel.Goals as goal
 use Rattle.current.proofs.compare.cancel.Goals.{then-is_empty-via-then-is_empty, then-is_empty-via-else-is_empty+then-is_empty-2}
 
@@ -26,14 +23,8 @@ returns-then-is_empty-clause-removed c =
     ]
 
 pub returns-clause-added : goal.returns-clause-added
-returns-clause-added c =
-    let added = c.args.added.now.items in
-    let later = c.args.later_removed.now.items in
-    ap (map row_of) c.take_out.ensures ∙ common_without added later c.in_ok-came.came c.in_ok-went.went (λ q. c.in_ok-came.ensures q ∙ ap (list_any (is_same q)) c.as_slice.ensures.value)
-    (λ q. c.in_ok-went.ensures q ∙ ap (λ xs. list_any (is_same q) (filter (contains row_order c.in_ok-came.came) xs)) c.as_slice-2.ensures.value)
+returns-clause-added c = rw (c.in_ok-both.ensures.left, c.as_slice.ensures.value) (list_without c.args.added.now.items c.args.later_removed.now.items)
 
 pub returns-clause-removed : goal.returns-clause-removed
 returns-clause-removed c =
-    let added = c.args.added.now.items in
-    let later = c.args.later_removed.now.items in
-    ap (map row_of) c.take_out-2.ensures ∙ set_without later added c.in_ok-came.came (λ q. c.in_ok-came.ensures q ∙ ap (list_any (is_same q)) c.as_slice.ensures.value)
+    rw (c.in_ok-take_out.ensures.left, c.as_slice-2.ensures.value, c.in_ok-both.ensures.taken, c.as_slice.ensures.value) (common_left_out c.args.later_removed.now.items c.args.added.now.items)
