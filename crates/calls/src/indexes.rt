@@ -8,7 +8,7 @@ use std::alloc::AllocError;
 use std::process::Abort;
 use std::test::Fail;
 
-fn days(start: u32, end: u32) -> Period
+pub(crate) fn days(start: u32, end: u32) -> Period
     requires some { start < end }
     requires real { end ≤ 3_652_058 }
 {

@@ -15,6 +15,8 @@ mod keepers;
 #[cfg(test)]
 mod locked;
 #[cfg(test)]
+mod questions;
+#[cfg(test)]
 mod scripts;
 #[cfg(test)]
 mod seven;
