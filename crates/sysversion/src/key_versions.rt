@@ -80,9 +80,9 @@ impl KeyVersions {
         self.list.end_from(start, t, count);
     }
 
-    /// Some of the versions, in the order in which they came: each whose period has the day, and none besides but those
-    /// whose periods would have it if they went on for as many days again. No other version is read, and the count rises
-    /// by at most one for each of them.
+    /// Each version whose period has the day, in the order in which they came, and maybe others among them. The count
+    /// rises by at most the number of versions whose periods have the day, or would have it if they went on for as many
+    /// days again, and no more versions are given than it then tells. Refused for want of memory alone.
     pub fn near(
         &self,
         alloc: Global,
