@@ -5,7 +5,8 @@ use Rattle.flight.specs.declared.life.Step.{Step}
 use Rattle.flight.specs.declared.life.Ending.TheVariants.{Up}
 use Rattle.flight.specs.declared.life.Packet.{Packet}
 use Rattle.flight.specs.declared.life.Life.{Life}
-use Rattle.flight.specs.Lives.{last_of, last_mark, mark_for, sent_at, all_steps, torn_step, step_of}
+use Rattle.flight.specs.declared.outcome.Outcome.{Outcome}
+use Rattle.flight.specs.Lives.{last_of, last_mark, mark_for, sent_at, all_steps, torn_step, step_of, with_outcomes}
 use Rattle.raft.specs.declared.state.Work.{Work}
 use Rattle.nodes.specs.Lives.{marks_rise, work_of}
 
@@ -49,10 +50,10 @@ rises_torn life steps s up rises m e =
     let all : all_steps life ≡ life.steps.items = ap (λ xs. life.steps.items ++ xs) no_more ∙ append-nil life.steps.items in
     rw e (marks_rise-append _ life.steps.items s (rw all at rises) (rw all at above.0) above.1)
 
--- ---- the step that a packet makes
+-- ---- the step that a packet makes, whatever it told
 
-pub made_for : (life : Life) (s : Step) (m : ℕ) (p : Packet) → s ≡ step_of m p → Some m ≡ mark_for life p → Some s.mark ≡ mark_for life s.packet
-made_for life s m p e for = rw e for
+pub made_for : (life : Life) (s : Step) (m : ℕ) (p : Packet) (outcomes : List Outcome) → s ≡ with_outcomes outcomes (step_of m p) → Some m ≡ mark_for life p → Some s.mark ≡ mark_for life s.packet
+made_for life s m p outcomes e for = rw e for
 
-pub made_of : (s : Step) (m : ℕ) (p : Packet) (w : Work) → s ≡ step_of m p → w ≡ work_of p → w ≡ work_of s.packet
-made_of s m p w e of = rw e of
+pub made_of : (s : Step) (m : ℕ) (p : Packet) (w : Work) (outcomes : List Outcome) → s ≡ with_outcomes outcomes (step_of m p) → w ≡ work_of p → w ≡ work_of s.packet
+made_of s m p w outcomes e of = rw e of

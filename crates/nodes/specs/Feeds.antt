@@ -6,6 +6,7 @@ use Rattle.node.specs.declared.node.Out.{Out as NodeOut}
 use Rattle.node.specs.declared.node.Fault.{Fault}
 use Rattle.node.specs.declared.node.Fault.TheVariants.{Kept, Down}
 use Rattle.nodes.specs.declared.cell.Out.{Out}
+use Rattle.flight.specs.Lives.{told_step}
 use Rattle.flight.specs.declared.life.Step.{Step}
 use Rattle.flight.specs.declared.life.Ending.{Ending}
 use Rattle.flight.specs.declared.life.Ending.TheVariants.{Up, Stopped, Torn}
@@ -17,9 +18,10 @@ pub record IsLifeWith (old new : Life) (more : List Step) (end : Ending) : Type 
   pub steps : new.steps.items ≡ old.steps.items ++ more
   pub ending : new.ending ≡ end
 
--- the step is recorded once: the last of those made whole or, where the node goes down, the torn ending
+-- the step is recorded once: the last of those made whole, with the outcomes that it told, or, where the node goes down, the
+-- torn ending
 abbrev pub IsRecorded : Life → Life → Step → Result Out Fault → Type 0
-IsRecorded old new s (Ok out) = IsLifeWith old new (s ∷ []) Up × (out.mark ≡ s.mark)
+IsRecorded old new s (Ok out) = IsLifeWith old new (told_step out.given.told.items s ∷ []) Up × (out.mark ≡ s.mark)
 IsRecorded old new s (Err (Kept refusal)) = IsLifeWith old new (s ∷ []) Up
 IsRecorded old new s (Err (Down t)) = IsLifeWith old new [] (Torn s)
 

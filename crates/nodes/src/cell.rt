@@ -18,7 +18,7 @@ ghost use Rattle.nodes.specs.Publishing.{items_of, AreFirst, IsPublisherOf};
 ghost use Rattle.flight.specs.declared.life.Ending.TheVariants.{Up};
 
 use crate::copies::{copy_of_entries, work_of};
-use crate::publishing::{append_all, publish_all};
+use crate::publishing::{note, publish_all};
 use fault::Refusal;
 use flight::life::{Ending, Life, Opening, Packet, Step};
 use keep::StoreError;
@@ -143,13 +143,15 @@ impl<K: Keeper> Cell<K> {
     }
 
     /// One step of the node by this packet, recorded with the mark that is one more than the greater of
-    /// the last mark and the packet's. A refused step and one without effect are recorded too. Then the entries that
+    /// the last mark and the packet's, and with what it told of requests. A refused step and one without effect are recorded
+    /// too. Then the entries that
     /// became applied are published, for which it may wait for a view that reads; where there is no memory to publish
     /// them they stay pending, and a later step publishes them.
     ///
     /// 41 where the node is down; 42 where the life has its last step or no mark is left; 43 where there is no
     /// memory to record the step: these record and change nothing. A step that goes down is recorded as torn, and so is
-    /// one where there is no memory to append the entries that became applied; nothing is published then.
+    /// one where there is no memory to record what it told or to append the entries that became applied; nothing is published
+    /// then.
     pub fn feed<R: Wait>(&mut self, rt: &R, packet: Packet) -> Result<Out, Fault>
         ensures fed { (IsTurnedAway self.old.node.is_up (mark_for self.old.life packet) result
             × IsLifeWith self.old.life self.new.life [] self.old.life.ending
@@ -180,15 +182,15 @@ impl<K: Keeper> Cell<K> {
         if self.life.steps.reserve(1).is_err() {
             return Err(Fault::Kept(Refusal::NoMemory));
         }
-        let step = Step::new(mark, packet);
+        let step = Step::new(self.alloc, mark, packet);
         match self.node.step(work) {
             Ok(given) => {
-                if append_all(&mut self.publisher, mark, &given.applied).is_err() {
+                let Ok(outcomes) = note(self.alloc, &mut self.publisher, mark, &given) else {
                     take_down(&mut self.node);
                     self.life.ending = Ending::Torn(step);
                     return Err(Fault::Down(StoreError::NoMemory));
-                }
-                self.life.steps.push_reserved(step);
+                };
+                self.life.steps.push_reserved(step.with_outcomes(outcomes));
                 publish_all(&mut self.publisher, rt);
                 Ok(Out { mark, given })
             }

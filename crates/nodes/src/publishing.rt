@@ -1,11 +1,14 @@
-//! What a step appends to a life's publisher and publishes.
-ghost use Rattle.std.specs.Prelude.{◌≡◌, ◌⊎◌, [], ◌++◌, OnOk, IsOk};
+//! What a step appends to a life's publisher and publishes, and what it told.
+ghost use Rattle.std.specs.Prelude.{◌≡◌, ◌⊎◌, [], ◌++◌, IfOk, OnOk, IsOk};
+ghost use Rattle.flight.specs.Telling.{outcomes_of};
 ghost use Rattle.view.specs.Publishing.{published, pending, given_of, IsSameLife};
 ghost use Rattle.nodes.specs.Publishing.{marked};
 
+use flight::outcome::Outcomes;
 use model::entry::Entry;
 use model::mark::Mark;
-use std::alloc::AllocError;
+use node::Out as NodeOut;
+use std::alloc::{AllocError, Global};
 use std::sync::Wait;
 use view::{Item, Publisher};
 
@@ -25,6 +28,24 @@ pub(crate) fn append_all(
         publisher.append(Item::Applied { mark, entry })?;
     }
     Ok(())
+}
+
+/// What is recorded of what the node told, with the entries that became applied at the end of what is pending, each with
+/// this mark. The error is want of memory; some of the entries may be pending then.
+pub(crate) fn note(
+    alloc: Global,
+    publisher: &mut Publisher,
+    mark: Mark,
+    given: &NodeOut,
+) -> Result<Outcomes, AllocError>
+    ensures same { IsSameLife publisher.old publisher.new × (given_of publisher.new ≡ given_of publisher.old) × (published publisher.new ≡ published publisher.old) }
+    ensures pending { OnOk result (pending publisher.new ≡ pending publisher.old ++ marked mark given.now.applied.items) }
+    ensures told { IfOk result (λ outcomes. outcomes ≡ outcomes_of given.now.told.items) }
+    ensures none { given.now.applied.items ≡ [] → given.now.told.items ≡ [] → IsOk result }
+{
+    let outcomes = Outcomes::of(alloc, &given.told)?;
+    append_all(publisher, mark, &given.applied)?;
+    Ok(outcomes)
 }
 
 /// Publishes all that is pending or, for want of memory, nothing. It may wait for a view that reads.

@@ -13,8 +13,8 @@ use sqlread::query::read_query;
 use sqlread::transaction::read_transaction;
 use std::alloc::{AllocError, Global};
 
-// The first line of a flight.
-const FLIGHT: &str = "bitable flight 1\n";
+// The beginning of a flight, of each version.
+const FLIGHT: &str = "bitable flight ";
 
 /// How an input is tried.
 #[derive(Clone, Copy)]
