@@ -1,11 +1,12 @@
 -- Two lists of events that are behind one moment leave one world.
 use Rattle.std.proofs.Common.{◌≡◌, ◌∙◌, ℕ, ℤ, zero, suc, ◌+◌, List, Option, Some, None, refl, sym, ap}
-use Rattle.std.specs.Prelude.{if◌then◌else◌, ◌&&◌, slice_get, option_and_then}
+use Rattle.std.specs.Prelude.{if◌then◌else◌, ◌&&◌, slice_get}
 use Rattle.model.specs.Lists.{nth}
 use Rattle.model.specs.Transactions.{Schema}
 use Rattle.model.specs.Members.{Node}
 use Rattle.model.specs.declared.message.Message.{Message}
 use Rattle.model.specs.Worlds.{World, Event, Job, Left, Delivery, Deliver, Torn, Old, New, happens, run, does, done, delivers, deliver, tears, torn, node_left, is_addressed}
+use Rattle.flight.specs.declared.flight.Version.{Version}
 use Rattle.flight.specs.declared.life.Life.{Life}
 use Rattle.flight.specs.declared.life.Step.{Step}
 use Rattle.flight.specs.declared.life.Ending.{Ending}
@@ -19,7 +20,7 @@ use Rattle.auditor.specs.declared.moment.Deed.TheVariants.{Opens, Takes, Tears, 
 use Rattle.auditor.specs.declared.moment.Moment.{Moment}
 use Rattle.auditor.specs.declared.recorded.Recorded.{Recorded}
 use Rattle.auditor.specs.Past.{Past, IsSent, grown, after}
-use Rattle.auditor.specs.Behind.{Records, life_at, job_event, IsJob, IsTaken, IsLeftBy, IsCut, IsAnswered, IsLifeBegun, IsLifeCut, IsBehindDeed, IsBehind}
+use Rattle.auditor.specs.Behind.{Records, life_at, step_at, job_event, IsJob, IsTaken, IsLeftBy, IsCut, IsAnswered, IsLifeBegun, IsLifeCut, IsBehindDeed, IsBehind}
 
 -- ---- one message that was sent twice
 
@@ -38,7 +39,7 @@ tears_alike : (s : Schema) (n : ℕ) (w : World) (m k j : ℕ) (reading : ℤ) (
 tears_alike s n w m k j reading left None same = refl
 tears_alike s n w m k j reading left (Some x) same = ap (λ (o : Option Message). if x.up && is_addressed m o then torn w m (node_left left x (deliver s n m reading o x)) else w) same
 
-same_sent : (p : Past) (at node : ℕ) (message : Message) (k j : ℕ) → IsSent p at node message k → IsSent p at node message j → nth p.world.sent k ≡ nth p.world.sent j
+pub same_sent : (p : Past) (at node : ℕ) (message : Message) (k j : ℕ) → IsSent p at node message k → IsSent p at node message j → nth p.world.sent k ≡ nth p.world.sent j
 same_sent p at node message k j one other = one.is ∙ sym other.is
 
 -- ---- two jobs of one packet
@@ -69,9 +70,9 @@ begun r n p node k None a b x y = absurd x
 begun r n p node zero (Some life) a b x y = x.1 ∙ sym y.1
 begun r n p node (suc k) (Some life) a b x y = x.2 ∙ sym y.2
 
-taken : (s : Schema) (n : ℕ) (p : Past) (node : ℕ) (o : Option Step) (a b : List Event) → IsTaken p node o a → IsTaken p node o b → run s n p.world a ≡ run s n p.world b
-taken s n p node None a b x y = absurd x
-taken s n p node (Some step) a b x y = ap (run s n p.world) x.2 ∙ done_alike s n p node step.packet x.0 y.0 x.1 y.1 ∙ sym (ap (run s n p.world) y.2)
+taken : (v : Version) (t : Tables) (s : Schema) (n : ℕ) (p : Past) (node : ℕ) (o : Option Step) (a b : List Event) → IsTaken v t n p node o a → IsTaken v t n p node o b → run s n p.world a ≡ run s n p.world b
+taken v t s n p node None a b x y = absurd x
+taken v t s n p node (Some step) a b x y = ap (run s n p.world) x.3 ∙ done_alike s n p node step.packet x.0 y.0 x.1 y.1 ∙ sym (ap (run s n p.world) y.3)
 
 cut : (s : Schema) (n : ℕ) (p : Past) (node : ℕ) (next : Option Life) (e : Ending) (a b : List Event) → IsCut p node next e a → IsCut p node next e b → run s n p.world a ≡ run s n p.world b
 cut s n p node next ending.Up a b x y = absurd x
@@ -91,7 +92,7 @@ asked t s n p node (Some answer) a x = ap (run s n p.world) x.5
 
 same_run : (r : Records) (s : Schema) (n : ℕ) (p : Past) (node : ℕ) (d : Deed) (a b : List Event) → IsBehindDeed r n p node d a → IsBehindDeed r n p node d b → run s n p.world a ≡ run s n p.world b
 same_run r s n p node (Opens k) a b x y = ap (run s n p.world) (begun r n p node k (life_at r.lives node k) a b x y)
-same_run r s n p node (Takes k step) a b x y = taken s n p node (option_and_then (λ (life : Life). slice_get life.steps.items step) (life_at r.lives node k)) a b x y
+same_run r s n p node (Takes k step) a b x y = taken r.version r.tables s n p node (step_at r.lives node k step) a b x y
 same_run r s n p node (Tears k) a b x y = life_cut r s n p node k (life_at r.lives node k) a b x y
 same_run r s n p node (Answers k) a b x y = asked r.tables s n p node (slice_get r.answers k) a x ∙ sym (asked r.tables s n p node (slice_get r.answers k) b y)
 same_run r s n p node (Stops k) a b x y = ap (run s n p.world) (x ∙ sym y)

@@ -4,6 +4,7 @@ use Rattle.std.specs.Prelude.{IfErr}
 use Rattle.std.specs.declared.vec.Vec.{Vec}
 use Rattle.std.specs.declared.alloc.Global.{Global}
 use Rattle.model.specs.Worlds.{Event}
+use Rattle.flight.specs.declared.flight.Version.{Version}
 use Rattle.flight.specs.declared.life.Life.{Life}
 use Rattle.sqlchecks.specs.Columns.{Tables}
 use Rattle.sqlread.specs.Meaning.{schema_of}
@@ -14,7 +15,7 @@ use Rattle.auditor.specs.declared.recorded.Recorded.{Recorded}
 use Rattle.auditor.specs.Past.{Past, after, beginning}
 use Rattle.auditor.specs.Behind.{Records, IsBehind}
 use Rattle.auditor.specs.Audited.{Leads, IsFirst, IsStuck}
-use Rattle.auditor.specs.Faults.{fault_of, IsNo, Lacks, NoneAre}
+use Rattle.auditor.specs.Faults.{IsFaultAt, IsNo, Lacks, NoneAre}
 use Rattle.std.specs.List.{All}
 use Rattle.auditor.specs.Rising.{IsMarked}
 use Rattle.auditor.specs.Moments.{IsTimeline}
@@ -32,23 +33,23 @@ leads_more r n p q (k ∷ ms) m es now led behind =
     (led.0, led.1 ++ now, ap (λ xs. xs ++ now) led.2 ∙ append_assoc led.0 led.1 now, led.3, leads_more r n (after (schema_of r.tables) n p k.mark led.0) q ms m led.1 now led.4 behind)
 
 -- one more moment
-pub led_more : (lives : List (Vec Life Global)) (answers : List Recorded) (old cur new : Replay) (ms : List Moment) (m : Moment) (es : List Event) →
-    IsLed (record { tables = tables_in old.world; lives = lives; answers = answers }) (members_in old.world) old cur ms es →
-    Follows (IsBehind (record { tables = tables_in cur.world; lives = lives; answers = answers }) (members_in cur.world) (past_of cur) m) cur new m.mark →
-    (events : List Event) × IsLed (record { tables = tables_in old.world; lives = lives; answers = answers }) (members_in old.world) old new (ms ++ m ∷ []) events
-led_more lives answers old cur new ms m es led follows =
+pub led_more : (v : Version) (lives : List (Vec Life Global)) (answers : List Recorded) (old cur new : Replay) (ms : List Moment) (m : Moment) (es : List Event) →
+    IsLed (record { version = v; tables = tables_in old.world; lives = lives; answers = answers }) (members_in old.world) old cur ms es →
+    Follows (IsBehind (record { version = v; tables = tables_in cur.world; lives = lives; answers = answers }) (members_in cur.world) (past_of cur) m) cur new m.mark →
+    (events : List Event) × IsLed (record { version = v; tables = tables_in old.world; lives = lives; answers = answers }) (members_in old.world) old new (ms ++ m ∷ []) events
+led_more v lives answers old cur new ms m es led follows =
     let now = follows.0 in
     let here = follows.2 in
-    let B : Tables → Type 0 = λ t. IsBehind (record { tables = t; lives = lives; answers = answers }) (members_in cur.world) (past_of cur) m now in
-    let C : ℕ → Type 0 = λ n. IsBehind (record { tables = tables_in old.world; lives = lives; answers = answers }) n (past_of cur) m now in
+    let B : Tables → Type 0 = λ t. IsBehind (record { version = v; tables = t; lives = lives; answers = answers }) (members_in cur.world) (past_of cur) m now in
+    let C : ℕ → Type 0 = λ n. IsBehind (record { version = v; tables = tables_in old.world; lives = lives; answers = answers }) n (past_of cur) m now in
     let behind = subst C led.members (subst B led.tables follows.1) in
     let past : past_of new ≡ after (schema_of (tables_in old.world)) (members_in old.world) (past_of cur) m.mark now =
     here.past ∙ ap (λ (t : Tables). after (schema_of t) (members_in cur.world) (past_of cur) m.mark now) led.tables ∙ ap (λ (n : ℕ). after (schema_of (tables_in old.world)) n (past_of cur) m.mark now) led.members in
-    let L : Past → Type 0 = λ q. Leads (record { tables = tables_in old.world; lives = lives; answers = answers }) (members_in old.world) (past_of old) (ms ++ m ∷ []) (es ++ now) q in (
+    let L : Past → Type 0 = λ q. Leads (record { version = v; tables = tables_in old.world; lives = lives; answers = answers }) (members_in old.world) (past_of old) (ms ++ m ∷ []) (es ++ now) q in (
       es ++ now,
       record {
         kept = here.kept ∙ ap (λ xs. xs ++ now) led.kept ∙ append_assoc (events_of old.world) es now;
-        leads = subst L (sym past) (leads_more (record { tables = tables_in old.world; lives = lives; answers = answers }) (members_in old.world) (past_of old) (past_of cur) ms m es now led.leads behind);
+        leads = subst L (sym past) (leads_more (record { version = v; tables = tables_in old.world; lives = lives; answers = answers }) (members_in old.world) (past_of old) (past_of cur) ms m es now led.leads behind);
         tables = here.tables ∙ led.tables;
         members = here.members ∙ led.members;
         live = here.live;
@@ -58,15 +59,15 @@ led_more lives answers old cur new ms m es led follows =
 -- ---- a moment that has no events
 
 -- the moments before it happened, and it has no events
-pub stuck_at : (lives : List (Vec Life Global)) (answers : List Recorded) (old cur : Replay) (all : List Moment) (i : ℕ) (m : Moment) (es : List Event) (f : AuditFault) →
-    IsLed (record { tables = tables_in old.world; lives = lives; answers = answers }) (members_in old.world) old cur (take i all) es → i < length all → m ≡ get_or all i m →
-    IsNo (Lacks (fault_of m) (IsBehind (record { tables = tables_in cur.world; lives = lives; answers = answers }) (members_in cur.world) (past_of cur) m)) f →
-    IsNo (IsStuck (record { tables = tables_in old.world; lives = lives; answers = answers }) (members_in old.world) (past_of old) all) f
-stuck_at lives answers old cur all i m es f led within is said =
-    let B : Tables → Type 0 = λ t. NoneAre (IsBehind (record { tables = t; lives = lives; answers = answers }) (members_in cur.world) (past_of cur) m) in
-    let C : ℕ → Type 0 = λ n. NoneAre (IsBehind (record { tables = tables_in old.world; lives = lives; answers = answers }) n (past_of cur) m) in
-    no_weaker (Lacks (fault_of m) (IsBehind (record { tables = tables_in cur.world; lives = lives; answers = answers }) (members_in cur.world) (past_of cur) m))
-    (IsStuck (record { tables = tables_in old.world; lives = lives; answers = answers }) (members_in old.world) (past_of old) all) f (λ g lacks. record {
+pub stuck_at : (v : Version) (lives : List (Vec Life Global)) (answers : List Recorded) (old cur : Replay) (all : List Moment) (i : ℕ) (m : Moment) (es : List Event) (f : AuditFault) →
+    IsLed (record { version = v; tables = tables_in old.world; lives = lives; answers = answers }) (members_in old.world) old cur (take i all) es → i < length all → m ≡ get_or all i m →
+    IsNo (Lacks (IsFaultAt lives (past_of cur) m) (IsBehind (record { version = v; tables = tables_in cur.world; lives = lives; answers = answers }) (members_in cur.world) (past_of cur) m)) f →
+    IsNo (IsStuck (record { version = v; tables = tables_in old.world; lives = lives; answers = answers }) (members_in old.world) (past_of old) all) f
+stuck_at v lives answers old cur all i m es f led within is said =
+    let B : Tables → Type 0 = λ t. NoneAre (IsBehind (record { version = v; tables = t; lives = lives; answers = answers }) (members_in cur.world) (past_of cur) m) in
+    let C : ℕ → Type 0 = λ n. NoneAre (IsBehind (record { version = v; tables = tables_in old.world; lives = lives; answers = answers }) n (past_of cur) m) in
+    no_weaker (Lacks (IsFaultAt lives (past_of cur) m) (IsBehind (record { version = v; tables = tables_in cur.world; lives = lives; answers = answers }) (members_in cur.world) (past_of cur) m))
+    (IsStuck (record { version = v; tables = tables_in old.world; lives = lives; answers = answers }) (members_in old.world) (past_of old) all) f (λ g lacks. record {
       before = take i all;
       moment = m;
       later = drop (suc i) all;
@@ -78,20 +79,20 @@ stuck_at lives answers old cur all i m es f led within is said =
       named = lacks.0;
     }) said
 
-pub stuck_if : {T : Type 0} (lives : List (Vec Life Global)) (answers : List Recorded) (old cur : Replay) (all : List Moment) (i : ℕ) (m : Moment) (es : List Event) (res : Result T AuditFault) →
-    IsLed (record { tables = tables_in old.world; lives = lives; answers = answers }) (members_in old.world) old cur (take i all) es → i < length all → m ≡ get_or all i m →
-    IfErr res (IsNo (Lacks (fault_of m) (IsBehind (record { tables = tables_in cur.world; lives = lives; answers = answers }) (members_in cur.world) (past_of cur) m))) →
-    IfErr res (IsNo (IsStuck (record { tables = tables_in old.world; lives = lives; answers = answers }) (members_in old.world) (past_of old) all))
-stuck_if {T} lives answers old cur all i m es (Ok x) led within is said = said
-stuck_if {T} lives answers old cur all i m es (Err f) led within is said = stuck_at lives answers old cur all i m es f led within is said
+pub stuck_if : {T : Type 0} (v : Version) (lives : List (Vec Life Global)) (answers : List Recorded) (old cur : Replay) (all : List Moment) (i : ℕ) (m : Moment) (es : List Event) (res : Result T AuditFault) →
+    IsLed (record { version = v; tables = tables_in old.world; lives = lives; answers = answers }) (members_in old.world) old cur (take i all) es → i < length all → m ≡ get_or all i m →
+    IfErr res (IsNo (Lacks (IsFaultAt lives (past_of cur) m) (IsBehind (record { version = v; tables = tables_in cur.world; lives = lives; answers = answers }) (members_in cur.world) (past_of cur) m))) →
+    IfErr res (IsNo (IsStuck (record { version = v; tables = tables_in old.world; lives = lives; answers = answers }) (members_in old.world) (past_of old) all))
+stuck_if {T} v lives answers old cur all i m es (Ok x) led within is said = said
+stuck_if {T} v lives answers old cur all i m es (Err f) led within is said = stuck_at v lives answers old cur all i m es f led within is said
 
 -- a replay that began with these tables and so many members
 pub first_from : (r : Records) (x : Replay) (moments : List Moment) (f : AuditFault) → tables_in x.world ≡ r.tables → members_in x.world ≡ length r.lives → past_of x ≡ beginning (length r.lives) →
     All (IsMarked r.lives) r.answers → IsTimeline r.lives r.answers moments →
-    IsNo (IsStuck (record { tables = tables_in x.world; lives = r.lives; answers = r.answers }) (members_in x.world) (past_of x) moments) f → IsNo (IsFirst r) f
+    IsNo (IsStuck (record { version = r.version; tables = tables_in x.world; lives = r.lives; answers = r.answers }) (members_in x.world) (past_of x) moments) f → IsNo (IsFirst r) f
 first_from r x moments f tables members past marked timeline said =
-    no_weaker (IsStuck (record { tables = tables_in x.world; lives = r.lives; answers = r.answers }) (members_in x.world) (past_of x) moments) (IsFirst r) f (λ g stuck.
-    let A : Tables → Type 0 = λ t. IsStuck (record { tables = t; lives = r.lives; answers = r.answers }) (members_in x.world) (past_of x) moments g in
+    no_weaker (IsStuck (record { version = r.version; tables = tables_in x.world; lives = r.lives; answers = r.answers }) (members_in x.world) (past_of x) moments) (IsFirst r) f (λ g stuck.
+    let A : Tables → Type 0 = λ t. IsStuck (record { version = r.version; tables = t; lives = r.lives; answers = r.answers }) (members_in x.world) (past_of x) moments g in
     let B : ℕ → Type 0 = λ n. IsStuck r n (past_of x) moments g in
     let C : Past → Type 0 = λ p. IsStuck r (length r.lives) p moments g in
     inr (moments, marked, timeline, subst C past (subst B members (subst A tables stuck)))) said

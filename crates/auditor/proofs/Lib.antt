@@ -10,5 +10,6 @@ pub mod Posting
 pub mod Sending
 pub mod Sorting
 pub mod Storing
+pub mod Taking
 pub mod Telling
 pub mod Texts

@@ -25,7 +25,7 @@ use Rattle.flight.specs.declared.life.Life.{Life}
 use Rattle.flight.specs.declared.life.Ending.{Ending}
 use Rattle.flight.specs.declared.life.Ending.TheVariants.{Torn}
 use Rattle.auditor.specs.Faults.{NoneAre}
-use Rattle.auditor.specs.Behind.{IsJob, IsTaken, IsCut}
+use Rattle.auditor.specs.Behind.{IsJob, IsCut}
 use Rattle.auditor.specs.View.{past_of, Happened, IsLive, IsSameRun}
 use Rattle.auditor.proofs.Sending.{messages_append, messages_are, sent_by, sent_after}
 
@@ -85,9 +85,6 @@ no_job x posts mark node reading message packet live same is none job h =
     let found = subst P is h in
     let Q : List Post → Type 0 = λ ps. IsPosted ps mark node message found.0 in
     none found.0 (subst Q (sym same) (is_posted x mark node message found.0 live found.1))
-
-pub nothing_taken : (p : Past) (node : ℕ) (s : Step) → ((job : ModelJob) → IsJob p node s.packet job → ⊥) → NoneAre (IsTaken p node (Some s))
-nothing_taken p node s none events h = none h.0 h.1
 
 pub nothing_cut : (p : Past) (node : ℕ) (next : Option Life) (ending : Ending) (s : Step) → ending ≡ Torn s → ((job : ModelJob) → IsJob p node s.packet job → ⊥) → NoneAre (IsCut p node next ending)
 nothing_cut p node next ending s is none events h =

@@ -14,15 +14,15 @@ use Rattle.auditor.specs.Rising.{IsMarked}
 use Rattle.auditor.specs.Moments.{IsTimeline}
 use Rattle.auditor.specs.Past.{Past, beginning, after}
 use Rattle.auditor.specs.Behind.{Records, IsBehind}
-use Rattle.auditor.specs.Faults.{NoneAre, fault_of}
+use Rattle.auditor.specs.Faults.{NoneAre, IsFaultAt}
 
 -- moment by moment these events happened, from one past up to another
 abbrev pub Leads : Records → ℕ → Past → List Moment → List Event → Past → Type 0
 Leads r n p [] events q = (events ≡ []) × (q ≡ p)
 Leads r n p (m ∷ moments) events q = (now : List Event) × (later : List Event) × (events ≡ now ++ later) × IsBehind r n p m now × Leads r n (after (schema_of r.tables) n p m.mark now) moments later q
 
--- The join of the lives is whole, and these are its events; in the run over them each node begins, takes, is cut short,
--- answers and ends as was recorded
+-- The join of the lives is whole, and these are its events; in the run over them each node begins, takes and tells, is cut
+-- short, answers and ends as was recorded
 pub record Explains (r : Records) (events : List Event) : Type 0 where
   pub marked : All (IsMarked r.lives) r.answers
   pub moments : List Moment
@@ -44,7 +44,7 @@ pub record IsStuck (r : Records) (n : ℕ) (p : Past) (moments : List Moment) (f
   pub past : Past
   pub leads : Leads r n p before events past
   pub none : NoneAre (IsBehind r n past moment)
-  pub named : fault ≡ fault_of moment
+  pub named : IsFaultAt r.lives past moment fault
 
 -- the fault of an answer that rests on no mark; where each rests on one, of the first moment of the join that has no events
 abbrev pub IsFirst : Records → AuditFault → Type 0

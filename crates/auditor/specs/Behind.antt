@@ -8,12 +8,17 @@ use Rattle.fault.specs.declared.refusal.Refusal.TheVariants.{NotClosed}
 use Rattle.model.specs.Lists.{nth}
 use Rattle.model.specs.declared.entry.Entry.{Entry}
 use Rattle.model.specs.Members.{Node}
-use Rattle.model.specs.Worlds.{Event, Output, Job, Left, Gives, happens}
+use Rattle.model.specs.Transactions.{Schema}
+use Rattle.model.specs.Worlds.{World, Event, Output, Job, Left, Gives, happens}
 use Rattle.model.specs.Worlds.Event.{Hand, Deliver, Stop, Start, Torn, Ask}
 use Rattle.model.specs.Worlds.Job.{Local, Delivery}
 use Rattle.model.specs.Worlds.Left.{Old, New}
-use Rattle.model.specs.Worlds.Output.{Answered, Refused}
+use Rattle.model.specs.Worlds.Output.{Sent, Applied, Answered, Refused}
 use Rattle.keep.specs.Durable.{Durable, blank}
+use Rattle.flight.specs.Telling.{outcome_of}
+use Rattle.flight.specs.declared.flight.Version.{Version}
+use Rattle.flight.specs.declared.flight.Version.TheVariants.{One, Two}
+use Rattle.flight.specs.declared.outcome.Outcome.{Outcome}
 use Rattle.flight.specs.declared.life.Life.{Life}
 use Rattle.flight.specs.declared.life.Opening.{Opening}
 use Rattle.flight.specs.declared.life.Step.{Step}
@@ -35,8 +40,9 @@ use Rattle.auditor.specs.declared.moment.Moment.{Moment}
 use Rattle.auditor.specs.declared.recorded.Recorded.{Recorded}
 use Rattle.auditor.specs.Past.{Past, IsSent}
 
--- what was recorded of a group with these tables: the lives of each node, and the answers
+-- what was recorded of a group with these tables, in flights of this version: the lives of each node, and the answers
 pub record Records : Type 0 where
+  pub version : Version
   pub tables : Tables
   pub lives : List (Vec Life Global)
   pub answers : List Recorded
@@ -44,6 +50,10 @@ pub record Records : Type 0 where
 -- a life of a node, by its place
 abbrev pub life_at : List (Vec Life Global) → ℕ → ℕ → Option Life
 life_at lives node k = option_and_then (λ (own : Vec Life Global). slice_get own.items k) (nth lives node)
+
+-- a step of a life, by its place
+abbrev pub step_at : List (Vec Life Global) → ℕ → ℕ → ℕ → Option Step
+step_at lives node k step = option_and_then (λ (life : Life). slice_get life.steps.items step) (life_at lives node k)
 
 -- ---- what is stored
 
@@ -81,9 +91,27 @@ abbrev pub job_event : ℕ → Job → Event
 job_event node (Local input) = Hand node input
 job_event node (Delivery k reading) = Deliver k reading
 
-abbrev pub IsTaken : Past → ℕ → Option Step → List Event → Type 0
-IsTaken p node None events = ⊥
-IsTaken p node (Some s) events = (job : Job) × IsJob p node s.packet job × (events ≡ job_event node job ∷ [])
+-- what is told among outputs, as a flight records it
+abbrev pub outcomes_in : List Output → List Outcome
+outcomes_in [] = []
+outcomes_in (Sent number message ∷ outs) = outcomes_in outs
+outcomes_in (Applied m told ∷ outs) = outcome_of told ∷ outcomes_in outs
+outcomes_in (Refused m refusal ∷ outs) = outcomes_in outs
+outcomes_in (Answered m answer ∷ outs) = outcomes_in outs
+
+-- in version 2 these are the outcomes that the outputs tell, in their order; version 1 has none
+abbrev pub AreTold : Version → List Output → List Outcome → Type 0
+AreTold One outs outcomes = Unit {0}
+AreTold Two outs outcomes = outcomes_in outs ≡ outcomes
+
+-- what the event gives tells these outcomes
+abbrev pub TellsSo : Version → Schema → ℕ → World → Event → List Outcome → Type 0
+TellsSo v schema n w event outcomes = (outs : List Output) × Gives schema n w event outs × AreTold v outs outcomes
+
+-- the packet is one that was there to be taken, and the run tells of the step what was recorded
+abbrev pub IsTaken : Version → Tables → ℕ → Past → ℕ → Option Step → List Event → Type 0
+IsTaken v t n p node None events = ⊥
+IsTaken v t n p node (Some s) events = (job : Job) × IsJob p node s.packet job × TellsSo v (schema_of t) n p.world (job_event node job) s.outcomes × (events ≡ job_event node job ∷ [])
 
 -- old exactly where the node's next life begins with what it had stored before
 abbrev pub IsLeftBy : Option Life → Option Node → Left → Type 0
@@ -125,7 +153,7 @@ IsLifeCut r p node k (Some life) events = IsCut p node (life_at r.lives node (k 
 
 abbrev pub IsBehindDeed : Records → ℕ → Past → ℕ → Deed → List Event → Type 0
 IsBehindDeed r n p node (Opens k) events = IsLifeBegun r n p node k (life_at r.lives node k) events
-IsBehindDeed r n p node (Takes k step) events = IsTaken p node (option_and_then (λ (life : Life). slice_get life.steps.items step) (life_at r.lives node k)) events
+IsBehindDeed r n p node (Takes k step) events = IsTaken r.version r.tables n p node (step_at r.lives node k step) events
 IsBehindDeed r n p node (Tears k) events = IsLifeCut r p node k (life_at r.lives node k) events
 IsBehindDeed r n p node (Answers k) events = IsAnswered r.tables n p node (slice_get r.answers k) events
 IsBehindDeed r n p node (Stops k) events = events ≡ Stop node ∷ []

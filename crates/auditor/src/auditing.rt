@@ -16,6 +16,7 @@ use crate::order::{check_marked, check_order};
 use crate::recorded::{AuditFault, Recorded};
 use crate::replay::Replay;
 use crate::running::events_in;
+use flight::flight::Version;
 use flight::life::Life;
 use schema::Schema;
 use std::alloc::Global;
@@ -24,6 +25,7 @@ use world::event::Event;
 // Each moment in turn.
 fn follow_all(
     replay: &mut Replay,
+    version: Version,
     schema: &Schema,
     lives: &[Vec<Life>],
     answers: &[Recorded],
@@ -31,11 +33,11 @@ fn follow_all(
 ) -> Result<(), AuditFault>
     requires live { IsLive replay.old }
     requires tables { schema.now ≡ tables_in replay.old.world }
-    ensures ok { OnOk result ((events : List ModelEvent) × IsLed (record { tables = tables_in replay.old.world; lives = lives.now; answers = answers.now }) (members_in replay.old.world) replay.old replay.new moments.now events) }
-    ensures fault { IfErr result (IsNo (IsStuck (record { tables = tables_in replay.old.world; lives = lives.now; answers = answers.now }) (members_in replay.old.world) (past_of replay.old) moments.now)) }
+    ensures ok { OnOk result ((events : List ModelEvent) × IsLed (record { version = version; tables = tables_in replay.old.world; lives = lives.now; answers = answers.now }) (members_in replay.old.world) replay.old replay.new moments.now events) }
+    ensures fault { IfErr result (IsNo (IsStuck (record { version = version; tables = tables_in replay.old.world; lives = lives.now; answers = answers.now }) (members_in replay.old.world) (past_of replay.old) moments.now)) }
 {
     for moment in moments {
-        replay.follow(schema, lives, answers, moment)?;
+        replay.follow(version, schema, lives, answers, moment)?;
     }
     Ok(())
 }
@@ -43,36 +45,39 @@ fn follow_all(
 // The events of a run that explains what was recorded.
 fn explain(
     alloc: Global,
+    version: Version,
     schema: &Schema,
     lives: &[Vec<Life>],
     answers: &[Recorded],
 ) -> Result<Vec<Event>, AuditFault>
     requires least { 3 ≤ length lives.now }
     requires most { length lives.now ≤ 7 }
-    ensures ok { IfOk result (λ events. Explains (record { tables = schema.now; lives = lives.now; answers = answers.now }) (map event_of events.items)) }
-    ensures fault { IfErr result (IsNo (IsFirst (record { tables = schema.now; lives = lives.now; answers = answers.now }))) }
+    ensures ok { IfOk result (λ events. Explains (record { version = version; tables = schema.now; lives = lives.now; answers = answers.now }) (map event_of events.items)) }
+    ensures fault { IfErr result (IsNo (IsFirst (record { version = version; tables = schema.now; lives = lives.now; answers = answers.now }))) }
 {
     check_marked(lives, answers)?;
     let moments = timeline(alloc, lives, answers)?;
     let mut replay = Replay::new(alloc, lives.len(), schema.clone()?)?;
-    follow_all(&mut replay, schema, lives, answers, &moments)?;
+    follow_all(&mut replay, version, schema, lives, answers, &moments)?;
     Ok(events_in(alloc, &replay.world)?)
 }
 
-/// Audits what was recorded of a group of 3 to 7 nodes: the lives of each, in the order of the nodes, and the answers
-/// that they gave. The lives are joined, moment by moment in order of marks and then of nodes, to the events of one
-/// run from its opening; a moment that the run does not have ends the audit.
+/// Audits what was recorded of a group of 3 to 7 nodes, in flights of this version: the lives of each, in the order of
+/// the nodes, and the answers that they gave. The lives are joined, moment by moment in order of marks and then of
+/// nodes, to the events of one run from its opening; a moment that the run does not have ends the audit.
 ///
-/// The events are those of a run that explains all of it: each node begins, takes what it took, is cut short, answers
-/// and ends as was recorded. All members agree about them, as `World::run` says.
+/// The events are those of a run that explains all of it: each node begins, takes what it took and tells what it told,
+/// is cut short, answers and ends as was recorded. Of flights of version 1 it is not known what the steps told, and
+/// their outcomes are not looked at. All members agree about the events, as `World::run` says.
 ///
 /// A fault is 53 exactly where the marks of a node do not rise over its openings and steps, or a message's is not
 /// below that of the step that takes it; 43 aside. Else no events explain what was recorded. It is then 54 of an answer
 /// that rests on no mark of its node; where there is none, the fault of the first moment that the run does not have:
-/// 51 of a life that begins with what the run does not have there, 52 of a message that was not sent then, or 54 of an
-/// answer that the run does not give.
+/// 51 of a life that begins with what the run does not have there, 52 of a message that was not sent then, or 54 of a
+/// step that tells other outcomes than those that were recorded, or an answer that the run does not give.
 pub fn audit(
     alloc: Global,
+    version: Version,
     schema: &Schema,
     lives: &[Vec<Life>],
     answers: &[Recorded],
@@ -80,13 +85,13 @@ pub fn audit(
     requires least { 3 ≤ length lives.now }
     requires most { length lives.now ≤ 7 }
     ensures rise { OnOk result (Rise lives.now) }
-    ensures ok { IfOk result (λ events. Explains (record { tables = schema.now; lives = lives.now; answers = answers.now }) (map event_of events.items)) }
+    ensures ok { IfOk result (λ events. Explains (record { version = version; tables = schema.now; lives = lives.now; answers = answers.now }) (map event_of events.items)) }
     ensures agree { IfOk result (λ events. Agree (schema_of schema.now) (length lives.now) (new_world (length lives.now)) (map event_of events.items)) }
     ensures order { IfErr result (IsOrderFault lives.now) }
-    ensures no { IfErr result (OfRun (λ _. NoneAre (Explains (record { tables = schema.now; lives = lives.now; answers = answers.now })))) }
-    ensures first { IfErr result (OfRun (IsFirst (record { tables = schema.now; lives = lives.now; answers = answers.now }))) }
+    ensures no { IfErr result (OfRun (λ _. NoneAre (Explains (record { version = version; tables = schema.now; lives = lives.now; answers = answers.now })))) }
+    ensures first { IfErr result (OfRun (IsFirst (record { version = version; tables = schema.now; lives = lives.now; answers = answers.now }))) }
 {
     safety::agreement();
     check_order(lives)?;
-    explain(alloc, schema, lives, answers)
+    explain(alloc, version, schema, lives, answers)
 }

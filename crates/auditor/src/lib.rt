@@ -10,6 +10,7 @@ mod recorded;
 mod replay;
 mod running;
 mod same;
+mod told;
 
 pub use auditing::audit;
 pub use recorded::{AuditFault, Recorded};

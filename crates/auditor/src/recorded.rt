@@ -31,7 +31,7 @@ pub enum AuditFault {
     Broken { node: Member, mark: Mark },
     /// 52: a delivered message that its sender did not send then.
     Unsent { node: Member, mark: Mark },
-    /// 54: an answer that the run does not give.
+    /// 54: an answer that the run does not give, or a step whose outcomes are not the run's.
     Wrong { node: Member, mark: Mark },
 }
 

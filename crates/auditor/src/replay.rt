@@ -9,8 +9,8 @@ ghost use Rattle.world.specs.Run.{tables_in, schema_in, members_in, events_of, n
 ghost use Rattle.world.specs.View.{durable_in, event_of, job_of, left_of, output_of, outputs_of, HasColumns, ShowsColumns};
 ghost use Rattle.auditor.specs.Past.{beginning};
 ghost use Rattle.keep.specs.Durable.{blank};
-ghost use Rattle.auditor.specs.Behind.{life_at, log_in, opened_with, HasStored, IsJob, IsTaken, IsCut, IsOpened, IsAnswered, IsLeftBy, IsText, IsBehind};
-ghost use Rattle.auditor.specs.Faults.{fault_of, IsNo, Lacks};
+ghost use Rattle.auditor.specs.Behind.{job_event, life_at, log_in, opened_with, HasStored, IsJob, IsTaken, IsCut, IsOpened, IsAnswered, IsLeftBy, IsText, IsBehind};
+ghost use Rattle.auditor.specs.Faults.{IsFaultAt, IsNo, IsStepFault, Lacks};
 ghost use Rattle.auditor.specs.declared.recorded.AuditFault.TheVariants.{Broken, Unsent, Wrong};
 
 use crate::moment::{Deed, Moment};
@@ -19,8 +19,10 @@ use crate::posts::{Post, number_of, post_all};
 use crate::recorded::{AuditFault, Recorded};
 use crate::running::happens;
 use crate::same::is_same_entry;
+use crate::told::are_told;
 use answertext::Lines;
 use fault::{Refusal, Text};
+use flight::flight::Version;
 use flight::life::{Ending, Life, Opening, Packet, Step};
 use model::entry::Entry;
 use model::mark::Mark;
@@ -206,7 +208,7 @@ impl Replay {
     ) -> Result<(), AuditFault>
         requires live { IsLive self.old }
         ensures ok { OnOk result (Follows (IsOpened (tables_in self.old.world) (members_in self.old.world) (past_of self.old) node place opening.now) self.old self.new mark) }
-        ensures fault { IfErr result (IsNo (Lacks (Broken node mark) (IsOpened (tables_in self.old.world) (members_in self.old.world) (past_of self.old) node place opening.now))) }
+        ensures fault { IfErr result (IsNo (Lacks (λ f. f ≡ Broken node mark) (IsOpened (tables_in self.old.world) (members_in self.old.world) (past_of self.old) node place opening.now))) }
     {
         if place == 0 {
             return if is_blank(opening) {
@@ -225,19 +227,37 @@ impl Replay {
         Ok(())
     }
 
-    // A node takes a step.
-    #[tactic(auto, using(crate::proofs::Posting::nothing_taken))]
-    fn take(&mut self, mark: Mark, node: Member, step: &Step) -> Result<(), AuditFault>
-        requires live { IsLive self.old }
-        ensures ok { OnOk result (Follows (IsTaken (past_of self.old) node (Some step.now)) self.old self.new mark) }
-        ensures fault { IfErr result (IsNo (Lacks (Unsent node mark) (IsTaken (past_of self.old) node (Some step.now)))) }
+    // The event of a packet that a node takes, none where it is a message that was not sent to it then.
+    fn event_for(&self, node: Member, packet: &Packet) -> Result<Option<Event>, AllocError>
+        requires live { IsLive self.now }
+        ensures { IfOk result (λ found. MatchOption found ((job : ModelJob) → IsJob (past_of self.now) node packet.now job → ⊥) (λ event. (job : ModelJob) × IsJob (past_of self.now) node packet.now job × (event_of event ≡ job_event node job))) }
     {
-        let event = match self.job(node, &step.packet)? {
-            None => return Err(AuditFault::Unsent { node, mark }),
-            Some(Job::Local(input)) => Event::Hand(node, input),
-            Some(Job::Delivery { message, reading }) => Event::Deliver { message, reading },
+        Ok(match self.job(node, packet)? {
+            None => None,
+            Some(Job::Local(input)) => Some(Event::Hand(node, input)),
+            Some(Job::Delivery { message, reading }) => Some(Event::Deliver { message, reading }),
+        })
+    }
+
+    // A node takes a step, and tells what was recorded.
+    fn take(
+        &mut self,
+        version: Version,
+        mark: Mark,
+        node: Member,
+        step: &Step,
+    ) -> Result<(), AuditFault>
+        requires live { IsLive self.old }
+        ensures ok { OnOk result (Follows (IsTaken version (tables_in self.old.world) (members_in self.old.world) (past_of self.old) node (Some step.now)) self.old self.new mark) }
+        ensures fault { IfErr result (IsNo (Lacks (IsStepFault (past_of self.old) node mark (Some step.now)) (IsTaken version (tables_in self.old.world) (members_in self.old.world) (past_of self.old) node (Some step.now)))) }
+    {
+        let Some(event) = self.event_for(node, &step.packet)? else {
+            return Err(AuditFault::Unsent { node, mark });
         };
-        self.happen(mark, event)?;
+        let outs = self.happen(mark, event)?;
+        if !are_told(self.alloc, version, &outs, step.outcomes.as_slice())? {
+            return Err(AuditFault::Wrong { node, mark });
+        }
         Ok(())
     }
 
@@ -270,7 +290,7 @@ impl Replay {
     ) -> Result<(), AuditFault>
         requires live { IsLive self.old }
         ensures ok { OnOk result (Follows (IsCut (past_of self.old) node (option_copied next.entry) ending.now) self.old self.new mark) }
-        ensures fault { IfErr result (IsNo (Lacks (Unsent node mark) (IsCut (past_of self.old) node (option_copied next.entry) ending.now))) }
+        ensures fault { IfErr result (IsNo (Lacks (λ f. f ≡ Unsent node mark) (IsCut (past_of self.old) node (option_copied next.entry) ending.now))) }
     {
         let Ending::Torn(step) = ending else {
             return Err(AuditFault::Unsent { node, mark });
@@ -295,7 +315,7 @@ impl Replay {
         requires live { IsLive self.old }
         requires tables { schema.now ≡ tables_in self.old.world }
         ensures ok { OnOk result (Follows (IsAnswered (tables_in self.old.world) (members_in self.old.world) (past_of self.old) node (Some recorded.now)) self.old self.new mark) }
-        ensures fault { IfErr result (IsNo (Lacks (Wrong node mark) (IsAnswered (tables_in self.old.world) (members_in self.old.world) (past_of self.old) node (Some recorded.now)))) }
+        ensures fault { IfErr result (IsNo (Lacks (λ f. f ≡ Wrong node mark) (IsAnswered (tables_in self.old.world) (members_in self.old.world) (past_of self.old) node (Some recorded.now)))) }
     {
         safety::one_answer();
         let query = match read_query(self.alloc, schema, recorded.query.as_str()) {
@@ -314,7 +334,7 @@ impl Replay {
     fn stop(&mut self, mark: Mark, node: Member) -> Result<(), AuditFault>
         requires live { IsLive self.old }
         ensures ok { OnOk result (Follows (λ events. events ≡ Stop node ∷ []) self.old self.new mark) }
-        ensures fault { IfErr result (IsNo (Lacks (Broken node mark) (λ events. events ≡ Stop node ∷ []))) }
+        ensures fault { IfErr result (IsNo (Lacks (λ f. f ≡ Broken node mark) (λ events. events ≡ Stop node ∷ []))) }
     {
         self.happen(mark, Event::Stop(node))?;
         Ok(())
@@ -323,6 +343,7 @@ impl Replay {
     /// What is recorded of a moment happens.
     pub(crate) fn follow(
         &mut self,
+        version: Version,
         schema: &Schema,
         lives: &[Vec<Life>],
         answers: &[Recorded],
@@ -330,8 +351,8 @@ impl Replay {
     ) -> Result<(), AuditFault>
         requires live { IsLive self.old }
         requires tables { schema.now ≡ tables_in self.old.world }
-        ensures ok { OnOk result (Follows (IsBehind (record { tables = tables_in self.old.world; lives = lives.now; answers = answers.now }) (members_in self.old.world) (past_of self.old) moment.now) self.old self.new moment.now.mark) }
-        ensures fault { IfErr result (IsNo (Lacks (fault_of moment.now) (IsBehind (record { tables = tables_in self.old.world; lives = lives.now; answers = answers.now }) (members_in self.old.world) (past_of self.old) moment.now))) }
+        ensures ok { OnOk result (Follows (IsBehind (record { version = version; tables = tables_in self.old.world; lives = lives.now; answers = answers.now }) (members_in self.old.world) (past_of self.old) moment.now) self.old self.new moment.now.mark) }
+        ensures fault { IfErr result (IsNo (Lacks (IsFaultAt lives.now (past_of self.old) moment.now) (IsBehind (record { version = version; tables = tables_in self.old.world; lives = lives.now; answers = answers.now }) (members_in self.old.world) (past_of self.old) moment.now))) }
     {
         let Moment { mark, node, deed } = *moment;
         match deed {
@@ -341,7 +362,7 @@ impl Replay {
             },
             Deed::Takes { life, step } => match life_of(lives, node, life) {
                 Some(found) => match found.steps.get(step) {
-                    Some(taken) => self.take(mark, node, taken),
+                    Some(taken) => self.take(version, mark, node, taken),
                     None => Err(AuditFault::Unsent { node, mark }),
                 },
                 None => Err(AuditFault::Unsent { node, mark }),

@@ -8,7 +8,7 @@ use crate::held::Door;
 use crate::stored::SCHEMA;
 use auditor::{Recorded, audit};
 use fault::{Refusal, Text};
-use flight::flight::Recorded as Answered;
+use flight::flight::{Recorded as Answered, Version};
 use flight::life::Life;
 use keep::{MemImage, MemKeeper};
 use lines::line::Line;
@@ -307,7 +307,7 @@ fn judge(
     for node in lives {
         assert!(rt; steps_in(node) >= PACKETS);
     }
-    assert!(rt; audit(alloc, schema, lives, answers).is_ok());
+    assert!(rt; audit(alloc, Version::Two, schema, lives, answers).is_ok());
 }
 
 #[test]

@@ -18,6 +18,8 @@ use Rattle.flight.specs.Ranges.{IsFlight}
 use Rattle.flight.specs.Spelling.{flight_text}
 use Rattle.flight.specs.declared.flight.Flight.{Flight}
 use Rattle.flight.specs.declared.flight.Recorded.{Recorded}
+use Rattle.flight.specs.declared.flight.Version.{Version}
+use Rattle.flight.specs.declared.flight.Version.TheVariants.{Two}
 use Rattle.flight.specs.declared.life.Life.{Life}
 use Rattle.std.specs.declared.vec.Vec.{Vec}
 use Rattle.sqlchecks.specs.Columns.{Tables}
@@ -25,7 +27,7 @@ use Rattle.shell.specs.Group.{AreFilesOf, AreHeld, IsNoGroup}
 use Rattle.shell.specs.Reading.{IsRead, AreRead, InOrder, LacksNode}
 
 blank : FlightContents
-blank = record { node = 0; members = 0; schema = []; lives = []; answers = [] }
+blank = record { version = Two; node = 0; members = 0; schema = []; lives = []; answers = [] }
 
 -- ---- lists
 
@@ -68,12 +70,12 @@ module _ {X Y : Type 0} (R : X → Y → Type 0) where
 
 -- ---- texts and flights
 
-module _ (texts : List (List ℕ)) (tables : Tables) (flights : List FlightContents) (are : AreFilesOf texts tables flights) where
+module _ (texts : List (List ℕ)) (version : Version) (tables : Tables) (flights : List FlightContents) (are : AreFilesOf texts version tables flights) where
   -- each text is the file of a flight
   pub file_of : (t : List ℕ) → Contains texts t → (g : FlightContents) × Contains flights g × IsFileOf t g
   file_of t has =
       let found : (g : FlightContents) × Contains flights g × (flight_text g ≡ t) = from_map flight_text blank flights t (Contains-permutation texts (map flight_text flights) t are.files has) in
-      let good : IsFlight found.0 × (found.0.members ≡ length flights) × (found.0.schema ≡ are.schema) = All-contains (λ f. IsFlight f × (f.members ≡ length flights) × (f.schema ≡ are.schema)) flights found.0 are.each found.1 in
+      let good : IsFlight found.0 × (found.0.version ≡ version) × (found.0.members ≡ length flights) × (found.0.schema ≡ are.schema) = All-contains (λ f. IsFlight f × (f.version ≡ version) × (f.members ≡ length flights) × (f.schema ≡ are.schema)) flights found.0 are.each found.1 in
       (found.0, found.1, (good.0, sym found.2))
 
   -- each flight's file is a text
@@ -85,7 +87,7 @@ module _ (texts : List (List ℕ)) (tables : Tables) (flights : List FlightConte
 
 -- a text that is no flight's file is of no group
 pub no_file : (texts : List (List ℕ)) (t : List ℕ) → Contains texts t → ((g : FlightContents) → IsFileOf t g → ⊥) → IsNoGroup texts
-no_file texts t has none tables flights are = let found : (g : FlightContents) × Contains flights g × IsFileOf t g = file_of texts tables flights are t has in none found.0 found.2
+no_file texts t has none version tables flights are = let found : (g : FlightContents) × Contains flights g × IsFileOf t g = file_of texts version tables flights are t has in none found.0 found.2
 
 -- ---- the order of nodes
 
@@ -153,53 +155,55 @@ module _ (texts : List (String Global)) (fs : List Flight) (read : AreRead texts
   as_many_read : length bytes ≡ length fs
   as_many_read = length-map texts string_bytes ∙ zip_length IsRead texts fs read
 
-  -- what is read of the files of a group is of as many members, and has its schema
-  pub alike : (tables : Tables) (flights : List FlightContents) (are : AreFilesOf bytes tables flights) (f : Flight) → Contains fs f
-      → (f.members ≡ length fs) × (f.schema ≡ are.schema)
-  alike tables flights are f has =
+  -- what is read of the files of a group is of its version and of as many members, and has its schema
+  pub alike : (version : Version) (tables : Tables) (flights : List FlightContents) (are : AreFilesOf bytes version tables flights) (f : Flight) → Contains fs f
+      → (f.version ≡ version) × (f.members ≡ length fs) × (f.schema ≡ are.schema)
+  alike version tables flights are f has =
       let from : (x : String Global) × Contains texts x × IsRead x f = read_of texts fs read f has in
-      let found : (g : FlightContents) × Contains flights g × IsFileOf (string_bytes from.0) g = file_of bytes tables flights are (string_bytes from.0) (to_map string_bytes texts from.0 from.1) in
+      let found : (g : FlightContents) × Contains flights g × IsFileOf (string_bytes from.0) g = file_of bytes version tables flights are (string_bytes from.0) (to_map string_bytes texts from.0 from.1) in
       let good : IsFlight found.0 × (found.0.members ≡ length flights) × (found.0.schema ≡ are.schema) = All-contains (λ g. IsFlight g × (g.members ≡ length flights) × (g.schema ≡ are.schema)) flights found.0 are.each found.1 in
       let same : found.0 ≡ in_flight f = from.2.1 found.0 found.2 in
-      (ap (λ g. g.members) (sym same) ∙ good.1 ∙ as_many bytes tables flights are ∙ as_many_read, ap (λ g. g.schema) (sym same) ∙ good.2)
+      (ap (λ g. g.version) (sym same) ∙ good.1, ap (λ g. g.members) (sym same) ∙ good.2 ∙ as_many bytes version tables flights are ∙ as_many_read, ap (λ g. g.schema) (sym same) ∙ good.3)
 
-  pub none_unlike : (first : Flight) → Contains fs first → (All (λ f. (f.members ≡ length fs) × (f.schema ≡ first.schema)) fs → ⊥) → IsNoGroup bytes
-  none_unlike first has unlike tables flights are =
-      let mine : (first.members ≡ length fs) × (first.schema ≡ are.schema) = alike tables flights are first has in
-      unlike (λ k d b. let its : ((get_or fs k d).members ≡ length fs) × ((get_or fs k d).schema ≡ are.schema) = alike tables flights are (get_or fs k d) (Contains-get_or fs k d b) in (its.0, its.1 ∙ sym mine.1))
+  pub none_unlike : (first : Flight) → Contains fs first → (All (λ f. (f.version ≡ first.version) × (f.members ≡ length fs) × (f.schema ≡ first.schema)) fs → ⊥) → IsNoGroup bytes
+  none_unlike first has unlike version tables flights are =
+      let mine : (first.version ≡ version) × (first.members ≡ length fs) × (first.schema ≡ are.schema) = alike version tables flights are first has in
+      unlike (λ k d b.
+      let its : ((get_or fs k d).version ≡ version) × ((get_or fs k d).members ≡ length fs) × ((get_or fs k d).schema ≡ are.schema) = alike version tables flights are (get_or fs k d) (Contains-get_or fs k d b) in
+      (its.0 ∙ sym mine.0, its.1, its.2 ∙ sym mine.2))
 
   pub none_lacking : LacksNode fs → IsNoGroup bytes
-  none_lacking (k, above, most, none) tables flights are =
-      let within : k - 1 < length flights = omega (arith, above, most, as_many bytes tables flights are, as_many_read) in
+  none_lacking (k, above, most, none) version tables flights are =
+      let within : k - 1 < length flights = omega (arith, above, most, as_many bytes version tables flights are, as_many_read) in
       let g : FlightContents = get_or flights (k - 1) blank in
       let has : Contains flights g = Contains-get_or flights (k - 1) blank within in
       let node : g.node ≡ k - 1 + 1 = are.nodes (k - 1) blank within in
-      let found : (f : Flight) × Contains fs f × IsFileOf (flight_text g) (in_flight f) × IsOnlyOf (flight_text g) (in_flight f) = flight_of texts fs read (flight_text g) (text_of bytes tables flights are g has) in
-      let good : IsFlight g × (g.members ≡ length flights) × (g.schema ≡ are.schema) = All-contains (λ g. IsFlight g × (g.members ≡ length flights) × (g.schema ≡ are.schema)) flights g are.each has in
+      let found : (f : Flight) × Contains fs f × IsFileOf (flight_text g) (in_flight f) × IsOnlyOf (flight_text g) (in_flight f) = flight_of texts fs read (flight_text g) (text_of bytes version tables flights are g has) in
+      let good : IsFlight g × (g.version ≡ version) × (g.members ≡ length flights) × (g.schema ≡ are.schema) = All-contains (λ g. IsFlight g × (g.version ≡ version) × (g.members ≡ length flights) × (g.schema ≡ are.schema)) flights g are.each has in
       let same : g ≡ in_flight found.0 = found.3 g (good.0, refl) in
       let its : found.0.node ≡ g.node = ap (λ g. g.node) (sym same) in
       All-contains (λ (f : Flight). f.node ≢ k) fs found.0 none found.1 (omega (arith, its, node, above))
 
   pub none_empty : length fs ≡ 0 → IsNoGroup bytes
-  none_empty is tables flights are = omega (arith, is, as_many bytes tables flights are, as_many_read, are.least)
+  none_empty is version tables flights are = omega (arith, is, as_many bytes version tables flights are, as_many_read, are.least)
 
   pub each_flight : (f : Flight) → Contains fs f → IsFlight (in_flight f)
   each_flight f has = (read_of texts fs read f has).2.0.0
 
-  pub group_read : (tables : Tables) (first : Flight) → Contains fs first → All (λ f. (f.members ≡ length fs) × (f.schema ≡ first.schema)) fs → SchemaSays first.schema (Ok tables)
-      → (ordered : List Flight) → IsPermutation fs ordered → InOrder ordered → AreFilesOf bytes tables (map in_flight ordered)
+  pub group_read : (tables : Tables) (first : Flight) → Contains fs first → All (λ f. (f.version ≡ first.version) × (f.members ≡ length fs) × (f.schema ≡ first.schema)) fs → SchemaSays first.schema (Ok tables)
+      → (ordered : List Flight) → IsPermutation fs ordered → InOrder ordered → AreFilesOf bytes first.version tables (map in_flight ordered)
   group_read tables first has same says ordered moved in_order =
       let many : length (map in_flight ordered) ≡ length fs = length-map ordered in_flight ∙ length_permutation fs ordered moved in
-      let P : FlightContents → Type 0 = λ g. IsFlight g × (g.members ≡ length (map in_flight ordered)) × (g.schema ≡ first.schema) in
+      let P : FlightContents → Type 0 = λ g. IsFlight g × (g.version ≡ first.version) × (g.members ≡ length (map in_flight ordered)) × (g.schema ≡ first.schema) in
       let good : All (λ f. P (in_flight f)) fs = λ k d b.
       let f : Flight = get_or fs k d in
-      let its : (f.members ≡ length fs) × (f.schema ≡ first.schema) = same k d b in
-      (each_flight f (Contains-get_or fs k d b), its.0 ∙ sym many, its.1) in
-      let firsts : (first.members ≡ length fs) × (first.schema ≡ first.schema) = All-contains (λ f. (f.members ≡ length fs) × (f.schema ≡ first.schema)) fs first same has in
+      let its : (f.version ≡ first.version) × (f.members ≡ length fs) × (f.schema ≡ first.schema) = same k d b in
+      (each_flight f (Contains-get_or fs k d b), its.0, its.1 ∙ sym many, its.2) in
+      let firsts : (first.version ≡ first.version) × (first.members ≡ length fs) × (first.schema ≡ first.schema) = All-contains (λ f. (f.version ≡ first.version) × (f.members ≡ length fs) × (f.schema ≡ first.schema)) fs first same has in
       let is : IsFlight (in_flight first) = each_flight first has in
       let large : 3 ≤ first.members = is.0.0 in
       record {
-        least = omega (arith, large, firsts.0, many);
+        least = omega (arith, large, firsts.1, many);
         schema = first.schema;
         declares = says;
         each = All-map P in_flight ordered (All-permutation (λ f. P (in_flight f)) fs ordered moved good);

@@ -12,6 +12,8 @@ use Rattle.flight.specs.Contents.{FlightContents, in_life}
 use Rattle.flight.specs.Ranges.{IsFlight}
 use Rattle.auditor.specs.declared.recorded.Recorded.{Recorded as Judged}
 use Rattle.flight.specs.declared.flight.Recorded.{Recorded}
+use Rattle.flight.specs.declared.flight.Version.{Version}
+use Rattle.flight.specs.declared.flight.Version.TheVariants.{Two}
 use Rattle.flight.specs.declared.life.Life.{Life}
 use Rattle.sqlchecks.specs.Columns.{Tables}
 use Rattle.auditor.specs.Audited.{Explains, IsFirst}
@@ -41,23 +43,23 @@ judged_more xs i own less is =
     ap (judged_from 1) grown ∙ (judged_append 1 (take i xs) own ∙ ap (λ n. judged_from 1 (take i xs) ++ map (judged_of (n + 1)) own.items) (length-take-le i xs less'))
 
 -- flight files that were read are of 3 to 7 nodes
-pub run_size : (texts : List (List ℕ)) (tables : Tables) (lives : List (Vec Life Global)) (answers : List (Vec Recorded Global)) → IsRunIn texts tables lives answers
+pub run_size : (texts : List (List ℕ)) (version : Version) (tables : Tables) (lives : List (Vec Life Global)) (answers : List (Vec Recorded Global)) → IsRunIn texts version tables lives answers
     → (3 ≤ length lives) × (length lives ≤ 7)
-run_size texts tables lives answers (flights, are, held) =
+run_size texts version tables lives answers (flights, are, held) =
     let many : length lives ≡ length flights = sym (length-map lives (λ (own : Vec Life Global). map in_life own.items)) ∙ (ap length held.lived ∙ length-map flights (λ (f : FlightContents). f.lives)) in
-    let blank : FlightContents = record { node = 0; members = 0; schema = []; lives = []; answers = [] } in
+    let blank : FlightContents = record { version = Two; node = 0; members = 0; schema = []; lives = []; answers = [] } in
     let least : 3 ≤ length flights = are.least in
-    let first : IsFlight (get_or flights 0 blank) × ((get_or flights 0 blank).members ≡ length flights) × ((get_or flights 0 blank).schema ≡ are.schema) = are.each 0 blank (omega (arith, least)) in
+    let first : IsFlight (get_or flights 0 blank) × ((get_or flights 0 blank).version ≡ version) × ((get_or flights 0 blank).members ≡ length flights) × ((get_or flights 0 blank).schema ≡ are.schema) = are.each 0 blank (omega (arith, least)) in
     let most : (get_or flights 0 blank).members ≤ 7 = first.0.0.1 in
-    (omega (arith, many, least), omega (arith, many, most, first.1))
+    (omega (arith, many, least), omega (arith, many, most, first.2))
 
-pub never_another_group : {T : Type 0} (r : Result T Refusal) (texts : List (List ℕ)) (tables : Tables) (lives : List (Vec Life Global)) (answers : List (Vec Recorded Global)) → IsRunIn texts tables lives answers
+pub never_another_group : {T : Type 0} (r : Result T Refusal) (texts : List (List ℕ)) (version : Version) (tables : Tables) (lives : List (Vec Life Global)) (answers : List (Vec Recorded Global)) → IsRunIn texts version tables lives answers
     → IfErr r (λ refusal. (refusal ≡ NoMemory) ⊎ ((refusal ≡ BadFlight) × (3 ≤ length lives → length lives ≤ 7 → ⊥)))
     → IfErr r (λ refusal. (refusal ≡ NoMemory) ⊎ ((refusal ≡ BadFlight) × IsNoGroup texts))
-never_another_group (Ok v) texts tables lives answers run said = said
-never_another_group (Err e) texts tables lives answers run (inl h) = inl h
-never_another_group (Err e) texts tables lives answers run (inr (h, none)) =
-    let size : (3 ≤ length lives) × (length lives ≤ 7) = run_size texts tables lives answers run in
+never_another_group (Ok v) texts version tables lives answers run said = said
+never_another_group (Err e) texts version tables lives answers run (inl h) = inl h
+never_another_group (Err e) texts version tables lives answers run (inr (h, none)) =
+    let size : (3 ≤ length lives) × (length lives ≤ 7) = run_size texts version tables lives answers run in
     absurd (none size.0 size.1)
 
 -- ---- what is said
@@ -68,14 +70,14 @@ pub fault_told : {T : Type 0} (r : Records) (a : Result T AuditFault) → IfErr 
 fault_told r (Ok v) order none first = order
 fault_told r (Err fault) order none first = λ found. record { found = found; order = order; none = none; first = first }
 
-pub said_same : {E : Type 0} (r : Result (ℕ × String Global) E) (tables : Tables) (led lives : List (Vec Life Global)) (a b : List Judged) → led ≡ lives → a ≡ b
-    → IfOk r (λ said. IsSaid (record { tables = tables; lives = led; answers = a }) said.0 (string_bytes said.1))
-    → IfOk r (λ said. IsSaid (record { tables = tables; lives = lives; answers = b }) said.0 (string_bytes said.1))
-said_same r tables led lives a b l same h =
-    let P : List (Vec Life Global) → List Judged → Type 0 = λ ls xs. IfOk r (λ said. IsSaid (record { tables = tables; lives = ls; answers = xs }) said.0 (string_bytes said.1)) in
+pub said_same : {E : Type 0} (r : Result (ℕ × String Global) E) (version : Version) (tables : Tables) (led lives : List (Vec Life Global)) (a b : List Judged) → led ≡ lives → a ≡ b
+    → IfOk r (λ said. IsSaid (record { version = version; tables = tables; lives = led; answers = a }) said.0 (string_bytes said.1))
+    → IfOk r (λ said. IsSaid (record { version = version; tables = tables; lives = lives; answers = b }) said.0 (string_bytes said.1))
+said_same r version tables led lives a b l same h =
+    let P : List (Vec Life Global) → List Judged → Type 0 = λ ls xs. IfOk r (λ said. IsSaid (record { version = version; tables = tables; lives = ls; answers = xs }) said.0 (string_bytes said.1)) in
     subst (P lives) same (subst (λ ls. P ls a) l h)
 
-pub judged_said : {E : Type 0} (r : Result (ℕ × String Global) E) (texts : List (List ℕ)) (tables : Tables) (lives : List (Vec Life Global)) (answers : List (Vec Recorded Global))
-    → IsRunIn texts tables lives answers → IfOk r (λ said. IsSaid (records_of tables lives answers) said.0 (string_bytes said.1)) → IfOk r (λ said. IsJudged texts said.0 (string_bytes said.1))
-judged_said (Ok said) texts tables lives answers run h = record { tables = tables; lives = lives; answers = answers; run = run; said = h }
-judged_said (Err e) texts tables lives answers run h = h
+pub judged_said : {E : Type 0} (r : Result (ℕ × String Global) E) (texts : List (List ℕ)) (version : Version) (tables : Tables) (lives : List (Vec Life Global)) (answers : List (Vec Recorded Global))
+    → IsRunIn texts version tables lives answers → IfOk r (λ said. IsSaid (records_of version tables lives answers) said.0 (string_bytes said.1)) → IfOk r (λ said. IsJudged texts said.0 (string_bytes said.1))
+judged_said (Ok said) texts version tables lives answers run h = record { version = version; tables = tables; lives = lives; answers = answers; run = run; said = h }
+judged_said (Err e) texts version tables lives answers run h = h

@@ -12,6 +12,7 @@ use Rattle.auditor.specs.declared.recorded.AuditFault.TheVariants.{NoMemory}
 use Rattle.auditor.specs.declared.recorded.Recorded.{Recorded as Judged}
 use Rattle.fault.specs.Refusal.{shown}
 use Rattle.flight.specs.declared.flight.Recorded.{Recorded}
+use Rattle.flight.specs.declared.flight.Version.{Version}
 use Rattle.flight.specs.declared.life.Life.{Life}
 use Rattle.model.specs.Agreement.{Agree}
 use Rattle.model.specs.Worlds.{Event, new_world}
@@ -30,9 +31,9 @@ abbrev pub judged_from : ℕ → List (Vec Recorded Global) → List Judged
 judged_from node [] = []
 judged_from node (own ∷ later) = map (judged_of node) own.items ++ judged_from (suc node) later
 
--- a group with these tables, and node by node its lives and answers
-abbrev pub records_of : Tables → List (Vec Life Global) → List (Vec Recorded Global) → Records
-records_of tables lives answers = record { tables = tables; lives = lives; answers = judged_from 1 answers }
+-- a group with these tables, and node by node its lives and answers, in flights of this version
+abbrev pub records_of : Version → Tables → List (Vec Life Global) → List (Vec Recorded Global) → Records
+records_of version tables lives answers = record { version = version; tables = tables; lives = lives; answers = judged_from 1 answers }
 
 -- ---- what an audit says
 
@@ -59,11 +60,12 @@ IsSaid r (suc (suc more)) line = ⊥
 
 -- the texts are the flight files of a group with these tables, and this is said of the lives and answers that they hold
 pub record IsJudged (texts : List (List ℕ)) (status : ℕ) (line : List ℕ) : Type 0 where
+  pub version : Version
   pub tables : Tables
   pub lives : List (Vec Life Global)
   pub answers : List (Vec Recorded Global)
-  pub run : IsRunIn texts tables lives answers
-  pub said : IsSaid (records_of tables lives answers) status line
+  pub run : IsRunIn texts version tables lives answers
+  pub said : IsSaid (records_of version tables lives answers) status line
 
 -- known bytes grow by some text
 abbrev pub Grows : Option (List ℕ) → Option (List ℕ) → Type 0

@@ -11,7 +11,7 @@ use crate::flights::Flown;
 use crate::group::read_run;
 use auditor::{AuditFault, Recorded as Judged, audit};
 use fault::Refusal;
-use flight::flight::Recorded;
+use flight::flight::{Recorded, Version};
 use flight::life::Life;
 use model::member::Member;
 use schema::Schema;
@@ -58,46 +58,49 @@ fn fault_line(alloc: Global, fault: AuditFault) -> Result<String, AllocError>
 // Whether the events of one run explain all lives and answers of a group of 3 to 7 nodes.
 fn explain(
     alloc: Global,
+    version: Version,
     schema: &Schema,
     lives: &[Vec<Life>],
     answers: &[Judged],
 ) -> Result<(), AuditFault>
     requires least { 3 ≤ length lives.now }
     requires most { length lives.now ≤ 7 }
-    ensures yes { OnOk result (IsExplained (record { tables = schema.now; lives = lives.now; answers = answers.now })) }
-    ensures no { IfErr result (λ fault. fault ≢ NoMemoryLeft → IsFaultOf (record { tables = schema.now; lives = lives.now; answers = answers.now }) fault) }
+    ensures yes { OnOk result (IsExplained (record { version = version; tables = schema.now; lives = lives.now; answers = answers.now })) }
+    ensures no { IfErr result (λ fault. fault ≢ NoMemoryLeft → IsFaultOf (record { version = version; tables = schema.now; lives = lives.now; answers = answers.now }) fault) }
 {
-    let _events = audit(alloc, schema, lives, answers)?;
+    let _events = audit(alloc, version, schema, lives, answers)?;
     Ok(())
 }
 
 // The exit status and the line to print of an audit of a group of 3 to 7 nodes. The error is want of memory.
 fn said_of(
     alloc: Global,
+    version: Version,
     schema: &Schema,
     lives: &[Vec<Life>],
     answers: &[Judged],
 ) -> Result<(u8, String), Refusal>
     requires least { 3 ≤ length lives.now }
     requires most { length lives.now ≤ 7 }
-    ensures said { IfOk result (λ said. IsSaid (record { tables = schema.now; lives = lives.now; answers = answers.now }) said.0 (string_bytes said.1)) }
+    ensures said { IfOk result (λ said. IsSaid (record { version = version; tables = schema.now; lives = lives.now; answers = answers.now }) said.0 (string_bytes said.1)) }
     ensures err { IfErr result (λ refusal. refusal ≡ NoMemory) }
 {
-    match explain(alloc, schema, lives, answers) {
+    match explain(alloc, version, schema, lives, answers) {
         Ok(()) => Ok((0, format!(in alloc; "audit: yes\n")?)),
         Err(AuditFault::NoMemory) => Err(Refusal::NoMemory),
         Err(fault) => Ok((1, fault_line(alloc, fault)?)),
     }
 }
 
-/// What an audit says of these lives and answers, node by node: the exit status, 0 or where it says no 1, and the line to
+/// What an audit says of these lives and answers, node by node, in flights of this version: the exit status, 0 or where it says no 1, and the line to
 /// print. 50 exactly of another group than one of 3 to 7 nodes, else 43 for want of memory.
 pub(crate) fn audit_line(
     alloc: Global,
+    version: Version,
     schema: &Schema,
     flown: &Flown,
 ) -> Result<(u8, String), Refusal>
-    ensures said { IfOk result (λ said. IsSaid (records_of schema.now flown.now.lives.items flown.now.answers.items) said.0 (string_bytes said.1)) }
+    ensures said { IfOk result (λ said. IsSaid (records_of version schema.now flown.now.lives.items flown.now.answers.items) said.0 (string_bytes said.1)) }
     ensures err { IfErr result (λ refusal. (refusal ≡ NoMemory) ⊎ ((refusal ≡ BadFlight) × (3 ≤ length flown.now.lives.items → length flown.now.lives.items ≤ 7 → ⊥))) }
 {
     if flown.lives.len() < 3 || flown.lives.len() > 7 {
@@ -105,7 +108,7 @@ pub(crate) fn audit_line(
     }
     let judged = all_answers(alloc, flown.answers.as_slice())?;
     let lives = flown.lives.as_slice();
-    said_of(alloc, schema, lives, judged.as_slice())
+    said_of(alloc, version, schema, lives, judged.as_slice())
 }
 
 // What an audit says of the flights in these texts.
@@ -113,15 +116,15 @@ fn judge(alloc: Global, texts: &[String]) -> Result<(u8, String), Refusal>
     ensures said { IfOk result (λ said. IsJudged (map string_bytes texts.now) said.0 (string_bytes said.1)) }
     ensures err { IfErr result (λ refusal. (refusal ≡ NoMemory) ⊎ ((refusal ≡ BadFlight) × IsNoGroup (map string_bytes texts.now))) }
 {
-    let (schema, flown) = read_run(alloc, texts)?;
-    audit_line(alloc, &schema, &flown)
+    let (version, schema, flown) = read_run(alloc, texts)?;
+    audit_line(alloc, version, &schema, &flown)
 }
 
 /// Judges the flights in these texts, one of each node in any order, and prints what an audit says of them: the one line
 /// `audit: yes` with exit status 0, where the events of one run explain the lives and answers that the flights hold, or
 /// `audit: ` and the fault with 1, where none do or marks do not rise. Else it gives what ended the command, and nothing is
 /// printed: 50 exactly where the texts are not the flight files of a group, since one is no flight file, two differ in
-/// members or schema, or a node is missing or doubled; or 43; or the writer's fault.
+/// version, members or schema, or a node is missing or doubled; or 43; or the writer's fault.
 pub fn run_audit<W: io::Write>(
     alloc: Global,
     texts: &[String],

@@ -10,8 +10,8 @@ ghost use Rattle.shell.specs.Group.{AreFilesOf, IsNoGroup, IsRunIn};
 ghost use Rattle.shell.specs.Reading.{AreRead, InOrder, LacksNode};
 
 use crate::flights::Flown;
-use fault::{Refusal, Text};
-use flight::flight::Flight;
+use fault::Refusal;
+use flight::flight::{Flight, Version};
 use flight::read_flight;
 use model::member::Member;
 use schema::Schema;
@@ -30,12 +30,16 @@ fn read_flights(alloc: Global, texts: &[String]) -> Result<Vec<Flight>, Refusal>
     Ok(flights)
 }
 
-// Whether all are flights of a group of so many nodes as there are flights, with this schema.
-fn are_alike(flights: &[Flight], schema: &Text) -> bool
-    ensures { IsTrue result ↔ All (λ f. (f.members ≡ length flights.now) × (f.schema ≡ schema.now)) flights.now }
+// Whether all are flights of a group of so many nodes as there are flights, of this one's version and with its schema.
+fn are_alike(flights: &[Flight], first: &Flight) -> bool
+    ensures { IsTrue result ↔ All (λ f. (f.version ≡ first.now.version) × (f.members ≡ length flights.now) × (f.schema ≡ first.now.schema)) flights.now }
 {
     let members = flights.len();
-    flights.iter().all(|flight| flight.members == members && flight.schema == *schema)
+    flights.iter().all(|flight| {
+        flight.version == first.version
+            && flight.members == members
+            && flight.schema == first.schema
+    })
 }
 
 // The tables that a flight's schema declares. The error is want of memory.
@@ -71,21 +75,22 @@ fn in_order(alloc: Global, flights: Vec<Flight>) -> Result<Vec<Flight>, Refusal>
     Ok(ordered)
 }
 
-// The flights of which the texts are the files, in the order of their nodes, and the tables of their schema. 43, or 50
-// where the texts are not the flight files of a group.
-fn read_group(alloc: Global, texts: &[String]) -> Result<(Schema, Vec<Flight>), Refusal>
-    ensures ok { IfOk result (λ group. AreFilesOf (map string_bytes texts.now) group.0 (map in_flight group.1.items)) }
+// The flights of which the texts are the files, in the order of their nodes, their version, and the tables of their schema.
+// 43, or 50 where the texts are not the flight files of a group.
+fn read_group(alloc: Global, texts: &[String]) -> Result<(Version, Schema, Vec<Flight>), Refusal>
+    ensures ok { IfOk result (λ group. AreFilesOf (map string_bytes texts.now) group.0 group.1 (map in_flight group.2.items)) }
     ensures err { IfErr result (λ refusal. (refusal ≡ NoMemory) ⊎ ((refusal ≡ BadFlight) × IsNoGroup (map string_bytes texts.now))) }
 {
     let flights = read_flights(alloc, texts)?;
     let Some(first) = flights.first() else {
         return Err(Refusal::BadFlight);
     };
-    if !are_alike(&flights, &first.schema) {
+    if !are_alike(&flights, first) {
         return Err(Refusal::BadFlight);
     }
+    let version = first.version;
     let tables = tables_of(alloc, first)?;
-    Ok((tables, in_order(alloc, flights)?))
+    Ok((version, tables, in_order(alloc, flights)?))
 }
 
 // What the flights hold.
@@ -97,6 +102,7 @@ fn run_of(alloc: Global, flights: Vec<Flight>) -> Result<Flown, AllocError>
     let mut answers = Vec::new(alloc);
     for flight in flights {
         let Flight {
+            version: _,
             node: _,
             members: _,
             schema: _,
@@ -109,12 +115,12 @@ fn run_of(alloc: Global, flights: Vec<Flight>) -> Result<Flown, AllocError>
     Ok(Flown { lives, answers })
 }
 
-/// The tables of the group of which these texts are the flight files, one of each node in any order, and what the flights
-/// hold, node by node. 50 where the texts are not the flight files of a group, 43 for want of memory.
-pub(crate) fn read_run(alloc: Global, texts: &[String]) -> Result<(Schema, Flown), Refusal>
-    ensures ok { IfOk result (λ run. IsRunIn (map string_bytes texts.now) run.0 run.1.lives.items run.1.answers.items) }
+/// The version and the tables of the group of which these texts are the flight files, one of each node in any order, and
+/// what the flights hold, node by node. 50 where the texts are not the flight files of a group, 43 for want of memory.
+pub(crate) fn read_run(alloc: Global, texts: &[String]) -> Result<(Version, Schema, Flown), Refusal>
+    ensures ok { IfOk result (λ run. IsRunIn (map string_bytes texts.now) run.0 run.1 run.2.lives.items run.2.answers.items) }
     ensures err { IfErr result (λ refusal. (refusal ≡ NoMemory) ⊎ ((refusal ≡ BadFlight) × IsNoGroup (map string_bytes texts.now))) }
 {
-    let (tables, flights) = read_group(alloc, texts)?;
-    Ok((tables, run_of(alloc, flights)?))
+    let (version, tables, flights) = read_group(alloc, texts)?;
+    Ok((version, tables, run_of(alloc, flights)?))
 }

@@ -2,4 +2,4 @@ use Rattle.auditor.proofs.Judging.{no_if}
 use Rattle.auditor.proofs.auditing.audit.Goals as goal
 
 pub returns-clause-no : goal.returns-clause-no
-returns-clause-no c = no_if (record { tables = c.args.schema.now; lives = c.args.lives.now; answers = c.args.answers.now }) c.explain.result c.explain.ensures.fault
+returns-clause-no c = no_if (record { version = c.args.version; tables = c.args.schema.now; lives = c.args.lives.now; answers = c.args.answers.now }) c.explain.result c.explain.ensures.fault

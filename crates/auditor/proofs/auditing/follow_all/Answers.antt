@@ -1,7 +1,7 @@
 use Rattle.std.proofs.Common.{rules, ◌≡◌, ◌∙◌, ◌+◌, ◌<◌, List, [], ◌∷◌, ◌++◌, take, length, ap, sym, subst, refl, append-nil}
 use Rattle.std.specs.Prelude.{IfErr}
 use Rattle.auditor.specs.Behind.{Records, IsBehind}
-use Rattle.auditor.specs.Faults.{fault_of, IsNo, Lacks}
+use Rattle.auditor.specs.Faults.{IsFaultAt, IsNo, Lacks}
 use Rattle.std.proofs.lemmas.List.{take_more}
 use Rattle.model.specs.Worlds.{Event}
 use Rattle.world.specs.Run.{tables_in, members_in, events_of}
@@ -22,8 +22,8 @@ loop-moment-preserved c =
     let within : i < length ms = search rules in
     let inv = c.loop-moment.invariant in
     let next : take i ms ++ m ∷ [] ≡ take (i + 1) ms = ap (λ (x : Moment). take i ms ++ x ∷ []) c.moment-item.is ∙ sym (take_more ms i m within) in
-    let P : List Moment → Type 0 = λ xs. (events : List Event) × IsLed (record { tables = tables_in old.world; lives = c.args.lives.now; answers = c.args.answers.now }) (members_in old.world) old c.follow.new.self xs events in
-    subst P next (led_more c.args.lives.now c.args.answers.now old c.loop-moment.replay c.follow.new.self (take i ms) m inv.0 inv.1 c.in_ok-follow.ensures.ok)
+    let P : List Moment → Type 0 = λ xs. (events : List Event) × IsLed (record { version = c.args.version; tables = tables_in old.world; lives = c.args.lives.now; answers = c.args.answers.now }) (members_in old.world) old c.follow.new.self xs events in
+    subst P next (led_more c.args.version c.args.lives.now c.args.answers.now old c.loop-moment.replay c.follow.new.self (take i ms) m inv.0 inv.1 c.in_ok-follow.ensures.ok)
 
 pub returns-in_err-follow-clause-fault : goal.returns-in_err-follow-clause-fault
 returns-in_err-follow-clause-fault c =
@@ -33,6 +33,6 @@ returns-in_err-follow-clause-fault c =
     let cur = c.loop-moment.replay in
     let within : i < length ms = search rules in
     let inv = c.loop-moment.invariant in
-    let r : Records = record { tables = tables_in cur.world; lives = c.args.lives.now; answers = c.args.answers.now } in
-    let said : IfErr c.from_residual.result (IsNo (Lacks (fault_of m) (IsBehind r (members_in cur.world) (past_of cur) m))) = search rules in
-    stuck_if c.args.lives.now c.args.answers.now c.args.replay.now cur ms i m inv.0 c.from_residual.result inv.1 within c.moment-item.is said
+    let r : Records = record { version = c.args.version; tables = tables_in cur.world; lives = c.args.lives.now; answers = c.args.answers.now } in
+    let said : IfErr c.from_residual.result (IsNo (Lacks (IsFaultAt c.args.lives.now (past_of cur) m) (IsBehind r (members_in cur.world) (past_of cur) m))) = search rules in
+    stuck_if c.args.version c.args.lives.now c.args.answers.now c.args.replay.now cur ms i m inv.0 c.from_residual.result inv.1 within c.moment-item.is said

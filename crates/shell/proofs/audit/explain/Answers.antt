@@ -13,7 +13,7 @@ use Rattle.shell.proofs.audit.explain.Goals as goal
 
 pub returns-in_err-_events-clause-no : goal.returns-in_err-_events-clause-no
 returns-in_err-_events-clause-no c =
-    let r : Records = record { tables = c.args.schema.now; lives = c.args.lives.now; answers = c.args.answers.now } in
+    let r : Records = record { version = c.args.version; tables = c.args.schema.now; lives = c.args.lives.now; answers = c.args.answers.now } in
     let order : IfErr c.from_residual.result (IsOrderFault c.args.lives.now) = search rules in
     let none : IfErr c.from_residual.result (OfRun (λ _. NoneAre (Explains r))) = search rules in
     let first : IfErr c.from_residual.result (OfRun (IsFirst r)) = search rules in

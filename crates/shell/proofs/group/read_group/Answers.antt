@@ -41,5 +41,5 @@ returns-clause-ok c =
     let fs : List Flown = c.in_ok-flights.flights.items in
     let held : Contains c.deref.result.now first = (0, c.in-Some.ensures.item.3.0, sym c.in-Some.ensures.item.1) in
     let has : Contains fs first = rw c.deref.ensures.value at held in
-    let same : All (λ (f : Flown). (f.members ≡ length fs) × (f.schema ≡ first.schema)) fs = rw c.deref-2.ensures.value at (c.if-not-are_alike.ensures.0 refl) in
+    let same : All (λ (f : Flown). (f.version ≡ first.version) × (f.members ≡ length fs) × (f.schema ≡ first.schema)) fs = rw c.deref-2.ensures.value at (c.if-not-are_alike.ensures.0 refl) in
     group_read c.args.texts.now fs c.in_ok-flights.ensures.ok c.in_ok-tables.tables first has same c.in_ok-tables.ensures.ok c.in_ok-in_order.field-0.items c.in_ok-in_order.ensures.ok.0 c.in_ok-in_order.ensures.ok.1
