@@ -72,7 +72,7 @@ pub(crate) fn are_told(
         Version::One => Ok(true),
         Version::Two => {
             let told = told_in(alloc, outputs)?;
-            Ok(are_same_outcomes(&told, outcomes))
+            Ok(are_same_outcomes(outcomes, &told))
         }
     }
 }
