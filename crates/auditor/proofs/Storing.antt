@@ -8,14 +8,11 @@ use Rattle.model.specs.Members.{Node}
 use Rattle.model.specs.Worlds.{happens, Start}
 use Rattle.model.specs.declared.entry.Entry.{Entry}
 use Rattle.keep.specs.Durable.{Durable, blank}
-use Rattle.node.specs.View.{durable_of}
-use Rattle.node.specs.Answered.{stored_of}
-use Rattle.node.specs.declared.durable.Stored.{Stored}
 use Rattle.raft.specs.View.{hard_of}
 use Rattle.flight.specs.declared.life.Opening.{Opening}
 use Rattle.sqlchecks.specs.Columns.{Tables}
 use Rattle.sqlread.specs.Meaning.{schema_of}
-use Rattle.world.specs.View.{if_up, durable_in, entry_in, commit_in}
+use Rattle.world.specs.View.{Stored, durable_of, stored_of, if_up, durable_in, entry_in, commit_in}
 use Rattle.world.specs.Run.{tables_in, members_in, member_of}
 use Rattle.auditor.specs.declared.replay.Replay.{Replay}
 use Rattle.auditor.specs.Past.{Past}

@@ -14,7 +14,6 @@ use Rattle.model.specs.Worlds.Job.{Local, Delivery}
 use Rattle.model.specs.Worlds.Left.{Old, New}
 use Rattle.model.specs.Worlds.Output.{Answered, Refused}
 use Rattle.keep.specs.Durable.{Durable, blank}
-use Rattle.node.specs.View.{durable_of}
 use Rattle.flight.specs.declared.life.Life.{Life}
 use Rattle.flight.specs.declared.life.Opening.{Opening}
 use Rattle.flight.specs.declared.life.Step.{Step}
@@ -29,7 +28,7 @@ use Rattle.sqlchecks.specs.Columns.{Tables}
 use Rattle.sqlread.specs.Meaning.{schema_of, select_of}
 use Rattle.sqlread.specs.Shapes.{QueryShape}
 use Rattle.sqlread.specs.Texts.{query_in}
-use Rattle.world.specs.View.{if_up}
+use Rattle.world.specs.View.{durable_of, if_up}
 use Rattle.auditor.specs.declared.moment.Deed.{Deed}
 use Rattle.auditor.specs.declared.moment.Deed.TheVariants.{Opens, Takes, Tears, Answers, Stops}
 use Rattle.auditor.specs.declared.moment.Moment.{Moment}

@@ -2,6 +2,7 @@
 use Rattle.std.specs.Prelude.{◌≡◌, ℕ, false, List, ◌++◌, map}
 use Rattle.model.specs.Worlds.{Event}
 use Rattle.world.specs.Run.{tables_in, schema_in, members_in, events_of, now_of}
+pub use Rattle.world.specs.View.{event_of}
 use Rattle.auditor.specs.declared.replay.Replay.{Replay}
 use Rattle.auditor.specs.declared.moment.Moment.{Moment}
 use Rattle.auditor.specs.Past.{Past, after}

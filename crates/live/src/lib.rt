@@ -11,4 +11,6 @@ mod round;
 pub mod station;
 
 pub use driver::Driver;
+pub use nodes::cluster::{Cluster, Config};
+pub use nodes::gate::{Gate, Point};
 pub use reading::{LiveScript, read_live};

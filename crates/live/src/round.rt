@@ -6,9 +6,9 @@ use fault::Refusal;
 use flight::life::Packet;
 use model::member::Member;
 use model::message::{Body, Input, Message};
-use node::{Fault, Out as Given};
 use nodes::cell::Out;
 use nodes::seat::Report;
+use nodes::{Fault, Given};
 use std::sync::Wait;
 
 // What a packet was, for when its report comes.

@@ -7,10 +7,10 @@ use answertext::Lines;
 use fault::{Refusal, Text};
 use flight::flight::Recorded;
 use model::mark::Mark;
+use nodes::View;
 use schema::Schema;
 use sqlread::query::read_query;
 use std::alloc::{AllocError, Global};
-use view::View;
 
 /// One node, as its driver sees it.
 #[derive(Drop)]

@@ -13,6 +13,7 @@ use Rattle.keep.specs.declared.change.Change.{Change}
 use Rattle.keep.specs.declared.error.StoreError.{StoreError}
 use Rattle.keep.specs.declared.error.StoreError.TheVariants.{NoMemory, StoreFault}
 use Rattle.raft.specs.View.{hard_of}
+pub use Rattle.apply.specs.View.{IsAskedOf}
 use Rattle.node.specs.declared.node.Out.{Out}
 use Rattle.node.specs.declared.node.Fault.{Fault}
 use Rattle.node.specs.declared.node.Fault.TheVariants.{Kept, Down}

@@ -8,3 +8,6 @@ pub mod gate;
 pub mod locked;
 mod publishing;
 pub mod seat;
+
+pub use node::{Fault, Out as Given};
+pub use view::View;

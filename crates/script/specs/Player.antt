@@ -8,6 +8,7 @@ use Rattle.script.specs.Plays.{stage_of}
 use Rattle.script.specs.Stage.{Stage, Played}
 use Rattle.world.specs.declared.history.World.{World}
 use Rattle.world.specs.Run.{member_of}
+pub use Rattle.world.specs.Run.{tables_in, members_in, now_of}
 use Rattle.world.specs.View.{commit_in}
 
 -- whether a line of the player ended in a fault

@@ -14,7 +14,7 @@ use Rattle.answer.specs.declared.Answer.{Answer}
 use Rattle.answer.specs.Answers.{answer_of}
 use Rattle.sqlread.specs.Shapes.{QueryShape}
 use Rattle.sqlread.specs.Meaning.{select_of}
-use Rattle.apply.specs.View.{IsAskedOf}
+use Rattle.node.specs.View.{IsAskedOf}
 use Rattle.world.specs.View.{IsAskedAt}
 
 answered_in : (schema : TheSchema) (m : ℕ) (q : QueryShape) (list : List Entry) (a : Answer) (out : List Output) → IsAskedOf schema q list (Ok a) → out ≡ Answered m (answer_of a) ∷ [] → IsGivenIn schema m list (closed_query (select_of q) (closed list)) out

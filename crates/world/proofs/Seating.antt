@@ -19,14 +19,13 @@ use Rattle.raft.specs.declared.state.Core.{Core}
 use Rattle.raft.specs.declared.state.Work.{Work}
 use Rattle.raft.specs.View.{node_of, works}
 use Rattle.answer.specs.declared.Answer.{Answer}
-use Rattle.apply.specs.View.{IsAskedOf}
 use Rattle.sqlread.specs.Shapes.{QueryShape}
 use Rattle.node.specs.Answered.{stored_of}
 use Rattle.node.specs.declared.durable.Stored.{Stored}
 use Rattle.node.specs.declared.node.Fault.{Fault}
 use Rattle.node.specs.declared.node.Fault.TheVariants.{Kept}
 use Rattle.node.specs.declared.node.Out.{Out}
-use Rattle.node.specs.View.{durable_of, told_between, IsEmpty, IsGiven}
+use Rattle.node.specs.View.{durable_of, told_between, IsAskedOf, IsEmpty, IsGiven}
 use Rattle.world.specs.View.{at_rest, commit_in, durable_in, IsAskedAt, node_in, occupant, rest, works_at, IsMember, IsSeat, IsStep}
 use Rattle.world.specs.declared.seat.Seat.{Seat}
 use Rattle.world.specs.declared.seat.Seat.TheVariants.{Down}

@@ -17,11 +17,11 @@ use Rattle.model.specs.Worlds.{World, Event, Output, done, effect_gives, fresh, 
 use Rattle.model.specs.Worlds.Output.{Sent, Applied, Refused, Answered}
 use Rattle.keep.specs.Durable.{Durable, stored_in}
 use Rattle.keep.specs.Log.{IsLog}
-use Rattle.node.specs.Answered.{stored_of}
-use Rattle.node.specs.View.{durable_of, IsGiven}
+pub use Rattle.node.specs.Answered.{stored_of}
+pub use Rattle.node.specs.View.{durable_of}
+use Rattle.node.specs.View.{IsAskedOf, IsGiven}
 use Rattle.node.specs.declared.node.Out.{Out as Taken}
-use Rattle.apply.specs.View.{IsAskedOf}
-use Rattle.node.specs.declared.durable.Stored.{Stored}
+pub use Rattle.node.specs.declared.durable.Stored.{Stored}
 use Rattle.raft.specs.declared.state.Core.{Core}
 use Rattle.raft.specs.declared.state.Work.{Work}
 use Rattle.raft.specs.View.{node_of, works}

@@ -7,3 +7,5 @@ pub mod history;
 mod opening;
 pub mod output;
 mod seat;
+
+pub use node::durable::Stored;

@@ -6,7 +6,7 @@ use Rattle.auditor.specs.Rising.{IsOrderFault}
 use Rattle.auditor.specs.Behind.{Records}
 use Rattle.auditor.specs.declared.recorded.AuditFault.{AuditFault}
 use Rattle.auditor.specs.declared.recorded.AuditFault.TheVariants.{NoMemory as NoMemoryLeft}
-use Rattle.world.specs.View.{event_of}
+use Rattle.auditor.specs.View.{event_of}
 use Rattle.shell.specs.Audit.{IsFaultOf}
 use Rattle.shell.proofs.Judging.{fault_told}
 use Rattle.shell.proofs.audit.explain.Goals as goal
