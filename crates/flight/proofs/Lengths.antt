@@ -12,9 +12,12 @@ use Rattle.flight.specs.declared.life.Packet.TheVariants.{Local, Delivered}
 use Rattle.flight.specs.declared.life.Step.{Step}
 use Rattle.flight.specs.declared.life.Ending.{Ending}
 use Rattle.flight.specs.declared.life.Ending.TheVariants.{Up, Stopped, Torn}
+use Rattle.flight.specs.declared.outcome.Outcome.{Outcome}
+use Rattle.flight.specs.declared.flight.Version.{Version}
+use Rattle.flight.specs.declared.flight.Version.TheVariants.{One, Two}
 use Rattle.flight.specs.declared.flight.Recorded.{Recorded}
 use Rattle.flight.specs.Contents.{LifeContents}
-use Rattle.flight.specs.Spelling.{number_text, spaced, ended, reading_text, flag_number, flag_text, vote_number, vote_text, block_text, each_text, request_text, asked_text, entry_text, entries_text, body_text, message_text, packet_text, made_text, step_text, ending_text, life_text, answer_text}
+use Rattle.flight.specs.Spelling.{number_text, spaced, ended, reading_text, flag_number, flag_text, vote_number, vote_text, block_text, each_text, request_text, asked_text, entry_text, entries_text, body_text, message_text, packet_text, made_text, outcome_text, outcomes_text, step_text, ending_text, life_text, answer_text}
 
 after_word : (word rest : List ℕ) → length rest ≤ length (word ++ rest)
 after_word word rest = omega (arith, length-append word rest)
@@ -83,26 +86,49 @@ after_made : (s : Step) (rest : List ℕ) → length rest < length (made_text s 
 after_made s rest =
     omega (arith, after_packet s.packet rest, after_word (signed_decimal s.reading) (32 ∷ packet_text s.packet rest), after_number 32 s.mark (reading_text s.reading (packet_text s.packet rest)))
 
-pub after_step : (s : Step) (rest : List ℕ) → length rest < length (step_text s rest)
-after_step s rest = omega (arith, after_made s rest, after_word (codes "step ") (made_text s rest))
+pub after_outcome : (o : Outcome) (rest : List ℕ) → length rest < length (outcome_text o rest)
+after_outcome o rest =
+    let words = codes "text " ++ block_text o.text rest in
+    omega (
+      arith,
+      after_block o.text rest,
+      after_word (codes "text ") (block_text o.text rest),
+      after_number 10 o.number words,
+      after_number 32 o.client (ended o.number words),
+      after_number 32 o.index (spaced o.client (ended o.number words)),
+      after_word (codes "outcome ") (spaced o.index (spaced o.client (ended o.number words))),
+    )
+
+after_each_outcome : (os : List Outcome) (rest : List ℕ) → length rest ≤ length (each_text outcome_text os rest)
+after_each_outcome [] rest = omega arith
+after_each_outcome (o ∷ os) rest = omega (arith, after_each_outcome os rest, after_outcome o (each_text outcome_text os rest))
+
+after_outcomes : (v : Version) (os : List Outcome) (rest : List ℕ) → length rest ≤ length (outcomes_text v os rest)
+after_outcomes One os rest = omega arith
+after_outcomes Two os rest = after_each_outcome os rest
+
+pub after_step : (v : Version) (s : Step) (rest : List ℕ) → length rest < length (step_text v s rest)
+after_step v s rest =
+    let told = outcomes_text v s.outcomes rest in
+    omega (arith, after_outcomes v s.outcomes rest, after_made s told, after_word (codes "step ") (made_text s told))
 
 after_ending : (e : Ending) (rest : List ℕ) → length rest < length (ending_text e rest)
 after_ending Up rest = omega arith
 after_ending Stopped rest = omega arith
 after_ending (Torn s) rest = omega (arith, after_made s rest, after_word (codes "torn ") (made_text s rest))
 
-after_steps : (steps : List Step) (rest : List ℕ) → length rest ≤ length (each_text step_text steps rest)
-after_steps [] rest = omega arith
-after_steps (s ∷ steps) rest = omega (arith, after_steps steps rest, after_step s (each_text step_text steps rest))
+after_steps : (v : Version) (steps : List Step) (rest : List ℕ) → length rest ≤ length (each_text (step_text v) steps rest)
+after_steps v [] rest = omega arith
+after_steps v (s ∷ steps) rest = omega (arith, after_steps v steps rest, after_step v s (each_text (step_text v) steps rest))
 
-pub after_life : (l : LifeContents) (rest : List ℕ) → length rest < length (life_text l rest)
-after_life l rest =
-    let course = each_text step_text l.steps (ending_text l.ending rest) in
+pub after_life : (v : Version) (l : LifeContents) (rest : List ℕ) → length rest < length (life_text v l rest)
+after_life v l rest =
+    let course = each_text (step_text v) l.steps (ending_text l.ending rest) in
     let o = l.opening in
     omega (
       arith,
       after_ending l.ending rest,
-      after_steps l.steps (ending_text l.ending rest),
+      after_steps v l.steps (ending_text l.ending rest),
       after_counted o.entries course,
       after_number 32 (vote_number o.hard.vote) (entries_text o.entries course),
       after_number 32 o.hard.term (vote_text o.hard.vote (entries_text o.entries course)),

@@ -7,4 +7,5 @@ pub mod Marks
 pub mod Messages
 pub mod Numbers
 pub mod Stories
+pub mod Tellings
 pub mod Whole

@@ -6,53 +6,59 @@ use Rattle.fault.specs.declared.refusal.Refusal.TheVariants.{BadFlight}
 use Rattle.flight.specs.declared.life.Step.{Step}
 use Rattle.flight.specs.declared.life.Ending.{Ending}
 use Rattle.flight.specs.declared.life.Ending.TheVariants.{Up, Stopped, Torn}
+use Rattle.flight.specs.declared.flight.Version.{Version}
 use Rattle.flight.specs.declared.flight.Recorded.{Recorded}
 use Rattle.flight.specs.Contents.{OpeningContents, LifeContents}
-use Rattle.flight.specs.Spelling.{each_text, step_text, made_text, ending_text, opening_text, life_text, answer_text, closing_text}
+use Rattle.flight.specs.Spelling.{each_text, step_text, ending_text, opening_text, life_text, answer_text, closing_text}
 use Rattle.flight.specs.Ranges.{IsOpening, IsLife}
-use Rattle.flight.specs.Courses.{course_text, IsCourse, until_text, IsUntil}
+use Rattle.flight.specs.Courses.{course_text, IsCourse, until_text, IsUntil, IsNoOutcome}
 use Rattle.flight.specs.Reading.{Spells, SpellsOnly, IsUnread, IsNotBegun, IsAfter}
-use Rattle.flight.proofs.Lists.{TakenUntil, until_broken, until_unread, until_only}
+use Rattle.flight.proofs.Lists.{TakenUntil, until_broken, until_unread, until_only, unread_to}
 
 -- the byte of a text at a place
 abbrev at : ℕ → List ℕ → ℕ
 at i text = get_or text i 0
 
-pub step_begins : (s : Step) (r : List ℕ) → (m : List ℕ) × (step_text s r ≡ codes "step " ++ m)
-step_begins s r = (made_text s r, refl)
+pub step_begins : (v : Version) (s : Step) (r : List ℕ) → (m : List ℕ) × (step_text v s r ≡ codes "step " ++ m)
+step_begins v s r = (_, refl)
 
--- no ending is a step
-pub ending_no_step : (e : Ending) (other : List ℕ) → IsNotBegun (codes "step ") (ending_text e other)
-ending_no_step Up other = λ r e. absurd (omega (arith, ap (at 0) e))
-ending_no_step Stopped other = λ r e. absurd (omega (arith, ap (at 2) e))
-ending_no_step (Torn s) other = λ r e. absurd (omega (arith, ap (at 0) e))
+-- no step is an outcome
+pub steps_no_outcome : (v : Version) (steps : List Step) (other : List ℕ) → IsNoOutcome other → IsNoOutcome (each_text (step_text v) steps other)
+steps_no_outcome v [] other not = not
+steps_no_outcome v (s ∷ steps) other not = λ r e. absurd (omega (arith, ap (at 0) e))
 
-pub life_begins : (l : LifeContents) (r : List ℕ) → (m : List ℕ) × (life_text l r ≡ codes "life " ++ m)
-life_begins l r = (_, refl)
+-- no ending is a step or an outcome
+pub ending_no_step : (e : Ending) (other : List ℕ) → IsNotBegun (codes "step ") (ending_text e other) × IsNoOutcome (ending_text e other)
+ending_no_step Up other = (λ r e. absurd (omega (arith, ap (at 0) e)), λ r e. absurd (omega (arith, ap (at 0) e)))
+ending_no_step Stopped other = (λ r e. absurd (omega (arith, ap (at 2) e)), λ r e. absurd (omega (arith, ap (at 0) e)))
+ending_no_step (Torn s) other = (λ r e. absurd (omega (arith, ap (at 0) e)), λ r e. absurd (omega (arith, ap (at 0) e)))
+
+pub life_begins : (v : Version) (l : LifeContents) (r : List ℕ) → (m : List ℕ) × (life_text v l r ≡ codes "life " ++ m)
+life_begins v l r = (_, refl)
 
 pub answer_begins : (a : Recorded) (r : List ℕ) → (m : List ℕ) × (answer_text a r ≡ codes "answer " ++ m)
 answer_begins a r = (_, refl)
 
 -- what follows the lives is no life
-pub closing_no_life : (answers : List Recorded) (other : List ℕ) → IsNotBegun (codes "life ") (closing_text answers other)
-closing_no_life [] other = λ r e. absurd (omega (arith, ap (at 0) e))
-closing_no_life (a ∷ answers) other = λ r e. absurd (omega (arith, ap (at 0) e))
+pub closing_no_life : (answers : List Recorded) (other : List ℕ) → IsNotBegun (codes "life ") (closing_text answers other) × ⊤
+closing_no_life [] other = (λ r e. absurd (omega (arith, ap (at 0) e)), tt)
+closing_no_life (a ∷ answers) other = (λ r e. absurd (omega (arith, ap (at 0) e)), tt)
 
-pub end_no_answer : (other : List ℕ) → IsNotBegun (codes "answer ") (codes "end\n" ++ other)
-end_no_answer other = λ r e. absurd (omega (arith, ap (at 0) e))
+pub end_no_answer : (other : List ℕ) → IsNotBegun (codes "answer ") (codes "end\n" ++ other) × ⊤
+end_no_answer other = (λ r e. absurd (omega (arith, ap (at 0) e)), tt)
 
 -- ---- a life is its opening and its course
 
-module _ (node : ℕ) (text : List ℕ) (opening : OpeningContents) (rest : List ℕ) (openings : SpellsOnly IsOpening opening_text text opening rest) where
-  course_in : (w : LifeContents) (other : List ℕ) → IsLife node w → text ≡ life_text w other → (w.opening ≡ opening) × (rest ≡ course_text (w.steps, w.ending) other)
-  course_in w other is e = let o = openings w.opening (course_text (w.steps, w.ending) other) is.0 e in (o.0, sym o.1)
+module _ (version : Version) (node : ℕ) (text : List ℕ) (opening : OpeningContents) (rest : List ℕ) (openings : SpellsOnly IsOpening opening_text text opening rest) where
+  course_in : (w : LifeContents) (other : List ℕ) → IsLife version node w → text ≡ life_text version w other → (w.opening ≡ opening) × (rest ≡ course_text version (w.steps, w.ending) other)
+  course_in w other is e = let o = openings w.opening (course_text version (w.steps, w.ending) other) is.0 e in (o.0, sym o.1)
 
-  pub life_unread : (r : Refusal) → IsUnread (IsCourse node) course_text rest r → IsUnread (IsLife node) life_text text r
+  pub life_unread : (r : Refusal) → IsUnread (IsCourse version node) (course_text version) rest r → IsUnread (IsLife version node) (life_text version) text r
   life_unread r (inl memory) = inl memory
   life_unread r (inr (bad, none)) = inr (bad, λ w other is e. none (w.steps, w.ending) other (is.1, is.2) (course_in w other is e).1)
 
-  pub life_only : (steps : List Step) (ending : Ending) (left : List ℕ) → SpellsOnly (IsCourse node) course_text rest (steps, ending) left
-      → SpellsOnly (IsLife node) life_text text (record { opening = opening; steps = steps; ending = ending }) left
+  pub life_only : (steps : List Step) (ending : Ending) (left : List ℕ) → SpellsOnly (IsCourse version node) (course_text version) rest (steps, ending) left
+      → SpellsOnly (IsLife version node) (life_text version) text (record { opening = opening; steps = steps; ending = ending }) left
   life_only steps ending left only = λ w other is e.
       let c = course_in w other is e in
       let o = only (w.steps, w.ending) other (is.1, is.2) c.1 in
@@ -60,7 +66,7 @@ module _ (node : ℕ) (text : List ℕ) (opening : OpeningContents) (rest : List
 
 -- ---- the answers and the last line
 
-module _ (Is : Recorded → Type 0) (text : List ℕ) (taken : List Recorded) (left : List ℕ) (t : TakenUntil Is answer_text (codes "answer ") text taken left) where
+module _ (Is : Recorded → Type 0) (text : List ℕ) (taken : List Recorded) (left : List ℕ) (t : TakenUntil Is answer_text (codes "answer ") (λ _. ⊤) (λ ys other free. tt) text taken left) where
   abbrev last_line : Unit {0} → List ℕ → List ℕ
   last_line u rest = codes "end\n" ++ rest
 
@@ -72,16 +78,16 @@ module _ (Is : Recorded → Type 0) (text : List ℕ) (taken : List Recorded) (l
   without_end r (inr (bad, none)) = inr (bad, λ w other is e. none (w, tt) other (is, tt) e)
 
   pub answers_broken : (r : List ℕ) × (left ≡ codes "answer " ++ r) → (f : Refusal) → IsUnread Is answer_text left f → IsUnread (All Is) closing_text text f
-  answers_broken begun f unread = without_end f (until_broken Is answer_text (codes "answer ") text taken left IsLastLine last_line (λ u other. end_no_answer other) t begun f unread)
+  answers_broken begun f unread = without_end f (until_broken Is answer_text (codes "answer ") (λ _. ⊤) (λ ys other free. tt) text taken left IsLastLine last_line (λ u other. end_no_answer other) t begun f (unread_to Is answer_text left f unread))
 
   module _ (over : IsNotBegun (codes "answer ") left) where
     pub answers_unended : (f : Refusal) → f ≡ BadFlight → IsNotBegun (codes "end\n") left → IsUnread (All Is) closing_text text f
     answers_unended f bad not =
-        without_end f (until_unread Is answer_text (codes "answer ") text taken left IsLastLine last_line (λ u other. end_no_answer other) answer_begins t over f (inr (bad, λ u other is e. not other e)))
+        without_end f (until_unread Is answer_text (codes "answer ") (λ _. ⊤) (λ ys other free. tt) text taken left IsLastLine last_line (λ u other. end_no_answer other) answer_begins t over f (inr (bad, λ u other is e. not other e)))
 
     pub answers_only : (rest : List ℕ) → IsAfter (codes "end\n") left rest → SpellsOnly (All Is) closing_text text taken rest
     answers_only rest after = λ w other is e.
-        let o = until_only Is answer_text (codes "answer ") text taken left IsLastLine last_line (λ u other. end_no_answer other) answer_begins t over tt rest (λ u last ok p. (refl, after.1 last p)) (w, tt) other (is, tt) e in
+        let o = until_only Is answer_text (codes "answer ") (λ _. ⊤) (λ ys other free. tt) text taken left IsLastLine last_line (λ u other. end_no_answer other) answer_begins t over tt rest (λ u last ok p. (refl, after.1 last p)) (w, tt) other (is, tt) e in
         (ap (λ p. p.0) o.0, o.1)
 
     pub answers_whole : (rest : List ℕ) → IsAfter (codes "end\n") left rest → Spells (All Is) closing_text text taken rest

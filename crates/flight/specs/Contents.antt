@@ -7,6 +7,7 @@ use Rattle.flight.specs.declared.life.Opening.{Opening}
 use Rattle.flight.specs.declared.life.Ending.{Ending}
 use Rattle.flight.specs.declared.life.Life.{Life}
 use Rattle.flight.specs.declared.flight.Recorded.{Recorded}
+use Rattle.flight.specs.declared.flight.Version.{Version}
 use Rattle.flight.specs.declared.flight.Flight.{Flight}
 
 pub record OpeningContents : Type 0 where
@@ -20,6 +21,7 @@ pub record LifeContents : Type 0 where
   pub ending : Ending
 
 pub record FlightContents : Type 0 where
+  pub version : Version
   pub node : ℕ
   pub members : ℕ
   pub schema : List ℕ
@@ -33,4 +35,4 @@ abbrev pub in_life : Life → LifeContents
 in_life l = record { opening = in_opening l.opening; steps = l.steps.items; ending = l.ending }
 
 abbrev pub in_flight : Flight → FlightContents
-in_flight f = record { node = f.node; members = f.members; schema = f.schema; lives = map in_life f.lives.items; answers = f.answers.items }
+in_flight f = record { version = f.version; node = f.node; members = f.members; schema = f.schema; lives = map in_life f.lives.items; answers = f.answers.items }

@@ -1,12 +1,14 @@
 -- Elements up to what ends them.
-use Rattle.std.specs.Prelude.{ℕ, List, All}
+use Rattle.std.specs.Prelude.{ℕ, List, All, codes}
 use Rattle.flight.specs.declared.life.Step.{Step}
 use Rattle.flight.specs.declared.life.Ending.{Ending}
+use Rattle.flight.specs.declared.flight.Version.{Version}
 use Rattle.flight.specs.declared.flight.Recorded.{Recorded}
 use Rattle.flight.specs.Contents.{LifeContents}
 use Rattle.sqlchecks.specs.Columns.{Tables}
 use Rattle.flight.specs.Spelling.{each_text, step_text, ending_text, life_text, closing_text}
 use Rattle.flight.specs.Ranges.{IsStep, IsEnding, IsLife, IsAnswer}
+use Rattle.flight.specs.Reading.{IsNotBegun}
 
 -- the elements in turn, and then what ends them
 abbrev pub until_text : {A E : Type 0} → (A → List ℕ → List ℕ) → (E → List ℕ → List ℕ) → List A × E → List ℕ → List ℕ
@@ -16,15 +18,19 @@ abbrev pub IsUntil : {A E : Type 0} → (A → Type 0) → (E → Type 0) → Li
 IsUntil Is IsLast w = All Is w.0 × IsLast w.1
 
 -- the steps of a life and its ending
-abbrev pub course_text : List Step × Ending → List ℕ → List ℕ
-course_text w rest = until_text step_text ending_text w rest
+abbrev pub course_text : Version → List Step × Ending → List ℕ → List ℕ
+course_text version w rest = until_text (step_text version) ending_text w rest
 
-abbrev pub IsCourse : ℕ → List Step × Ending → Type 0
-IsCourse node w = IsUntil (IsStep node) (IsEnding node) w
+abbrev pub IsCourse : Version → ℕ → List Step × Ending → Type 0
+IsCourse version node w = IsUntil (IsStep version node) (IsEnding node) w
+
+-- what stands here is no further outcome of a step
+abbrev pub IsNoOutcome : List ℕ → Type 0
+IsNoOutcome text = IsNotBegun (codes "outcome ") text
 
 -- the lives, and the answers up to the end
-abbrev pub lives_text : List LifeContents × List Recorded → List ℕ → List ℕ
-lives_text w rest = until_text life_text closing_text w rest
+abbrev pub lives_text : Version → List LifeContents × List Recorded → List ℕ → List ℕ
+lives_text version w rest = until_text (life_text version) closing_text w rest
 
-abbrev pub AreLives : ℕ → Tables → List LifeContents × List Recorded → Type 0
-AreLives node tables w = IsUntil (IsLife node) (All (IsAnswer tables)) w
+abbrev pub AreLives : Version → ℕ → Tables → List LifeContents × List Recorded → Type 0
+AreLives version node tables w = IsUntil (IsLife version node) (All (IsAnswer tables)) w

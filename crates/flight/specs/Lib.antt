@@ -10,3 +10,4 @@ pub mod Ranges
 pub mod Reading
 pub mod Rows
 pub mod Spelling
+pub mod Telling

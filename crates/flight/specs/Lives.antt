@@ -1,6 +1,7 @@
--- The marks of a life, and what a step records of a packet.
+-- The marks of a life, and what a step records.
 use Rattle.std.specs.Prelude.{ℕ, ℤ, pos, max, nat_le, Option, None, List, [], ◌∷◌, ◌++◌, length, if◌then◌else◌}
 use Rattle.model.specs.Marks.{mark_after}
+use Rattle.model.specs.declared.entry.Told.{Told}
 use Rattle.model.specs.declared.message.Input.TheVariants as input
 use Rattle.flight.specs.declared.life.Packet.{Packet}
 use Rattle.flight.specs.declared.life.Packet.TheVariants.{Local, Delivered}
@@ -8,6 +9,8 @@ use Rattle.flight.specs.declared.life.Step.{Step}
 use Rattle.flight.specs.declared.life.Ending.{Ending}
 use Rattle.flight.specs.declared.life.Ending.TheVariants.{Up, Stopped, Torn}
 use Rattle.flight.specs.declared.life.Life.{Life}
+use Rattle.flight.specs.declared.outcome.Outcome.{Outcome}
+use Rattle.flight.specs.Telling.{outcomes_of}
 
 -- the torn step, if there is one
 abbrev pub torn_step : Ending → List Step
@@ -45,6 +48,14 @@ shown (Local (input.Close reading)) = reading
 shown (Local (input.Submit reading request)) = reading
 shown (Delivered mark reading message) = reading
 
--- the step that this packet makes at this mark
+-- the step that this packet makes at this mark, before it told anything
 abbrev pub step_of : ℕ → Packet → Step
-step_of m p = record { mark = m; reading = shown p; packet = p }
+step_of m p = record { mark = m; reading = shown p; packet = p; outcomes = [] }
+
+-- with other outcomes
+abbrev pub with_outcomes : List Outcome → Step → Step
+with_outcomes outcomes s = record { mark = s.mark; reading = s.reading; packet = s.packet; outcomes = outcomes }
+
+-- the step that told this
+abbrev pub told_step : List Told → Step → Step
+told_step told s = with_outcomes (outcomes_of told) s

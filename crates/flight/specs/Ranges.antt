@@ -16,6 +16,9 @@ use Rattle.flight.specs.declared.life.Packet.TheVariants.{Local, Delivered}
 use Rattle.flight.specs.declared.life.Step.{Step}
 use Rattle.flight.specs.declared.life.Ending.{Ending}
 use Rattle.flight.specs.declared.life.Ending.TheVariants.{Up, Stopped, Torn}
+use Rattle.flight.specs.declared.outcome.Outcome.{Outcome}
+use Rattle.flight.specs.declared.flight.Version.{Version}
+use Rattle.flight.specs.declared.flight.Version.TheVariants.{One, Two}
 use Rattle.flight.specs.declared.flight.Recorded.{Recorded}
 use Rattle.flight.specs.Contents.{OpeningContents, LifeContents, FlightContents}
 
@@ -67,13 +70,25 @@ IsPacket node reading (Local (input.Close own)) = own ≡ reading
 IsPacket node reading (Local (input.Submit own request)) = (own ≡ reading) × IsRequest request
 IsPacket node reading (Delivered mark own message) = (own ≡ reading) × IsMark mark × IsMessage node message
 
-abbrev pub IsStep : ℕ → Step → Type 0
-IsStep node s = IsMark s.mark × IsSigned s.reading × IsPacket node s.reading s.packet
+-- a step that told nothing
+abbrev pub IsSilent : ℕ → Step → Type 0
+IsSilent node s = IsMark s.mark × IsSigned s.reading × IsPacket node s.reading s.packet × (s.outcomes ≡ [])
+
+abbrev pub IsOutcome : Outcome → Type 0
+IsOutcome o = IsNumber o.index × IsClient o.client × IsRequestNumber o.number
+
+-- version 1 has none
+abbrev pub AreOutcomes : Version → List Outcome → Type 0
+AreOutcomes One outcomes = outcomes ≡ []
+AreOutcomes Two outcomes = All IsOutcome outcomes
+
+abbrev pub IsStep : Version → ℕ → Step → Type 0
+IsStep version node s = IsMark s.mark × IsSigned s.reading × IsPacket node s.reading s.packet × AreOutcomes version s.outcomes
 
 abbrev pub IsEnding : ℕ → Ending → Type 0
 IsEnding node Up = ⊤
 IsEnding node Stopped = ⊤
-IsEnding node (Torn s) = IsStep node s
+IsEnding node (Torn s) = IsSilent node s
 
 -- ---- lives, answers and the whole
 
@@ -84,8 +99,8 @@ IsVote (Some member) = (0 < member) × IsNumber member
 abbrev pub IsOpening : OpeningContents → Type 0
 IsOpening o = IsMark o.mark × IsNumber o.hard.term × IsVote o.hard.vote × All IsEntry o.entries
 
-abbrev pub IsLife : ℕ → LifeContents → Type 0
-IsLife node l = IsOpening l.opening × All (IsStep node) l.steps × IsEnding node l.ending
+abbrev pub IsLife : Version → ℕ → LifeContents → Type 0
+IsLife version node l = IsOpening l.opening × All (IsStep version node) l.steps × IsEnding node l.ending
 
 -- its query reads over these tables
 abbrev pub IsAnswer : Tables → Recorded → Type 0
@@ -115,4 +130,4 @@ abbrev pub IsAsking : List ℕ → List Recorded → Type 0
 IsAsking schema answers = (tables : Tables) × SchemaSays schema (Ok tables) × All (IsAnswer tables) answers
 
 abbrev pub IsFlight : FlightContents → Type 0
-IsFlight f = IsGroup f.node f.members × IsAsking f.schema f.answers × All (IsLife f.node) f.lives × (one_at_a_time f.lives ≡ true)
+IsFlight f = IsGroup f.node f.members × IsAsking f.schema f.answers × All (IsLife f.version f.node) f.lives × (one_at_a_time f.lives ≡ true)

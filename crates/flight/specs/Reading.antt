@@ -16,6 +16,14 @@ module _ {A : Type 0} (Is : A → Type 0) (spell : A → List ℕ → List ℕ) 
   abbrev pub IsUnread : Refusal → Type 0
   IsUnread r = (r ≡ NoMemory) ⊎ ((r ≡ BadFlight) × ((w : A) (other : List ℕ) → Is w → text ≢ spell w other))
 
+-- of values before what fits behind them
+module _ {A : Type 0} (Is : A → Type 0) (spell : A → List ℕ → List ℕ) (Fits : List ℕ → Type 0) (text : List ℕ) where
+  abbrev pub SpellsOnlyTo : A → List ℕ → Type 0
+  SpellsOnlyTo v rest = (w : A) (other : List ℕ) → Is w → Fits other → text ≡ spell w other → (w ≡ v) × (other ≡ rest)
+
+  abbrev pub IsUnreadTo : Refusal → Type 0
+  IsUnreadTo r = (r ≡ NoMemory) ⊎ ((r ≡ BadFlight) × ((w : A) (other : List ℕ) → Is w → Fits other → text ≢ spell w other))
+
 -- the text does not begin with this word
 abbrev pub IsNotBegun : List ℕ → List ℕ → Type 0
 IsNotBegun word text = (rest : List ℕ) → text ≢ word ++ rest

@@ -13,6 +13,9 @@ use Rattle.flight.specs.declared.life.Packet.TheVariants.{Local, Delivered}
 use Rattle.flight.specs.declared.life.Step.{Step}
 use Rattle.flight.specs.declared.life.Ending.{Ending}
 use Rattle.flight.specs.declared.life.Ending.TheVariants.{Up, Stopped, Torn}
+use Rattle.flight.specs.declared.outcome.Outcome.{Outcome}
+use Rattle.flight.specs.declared.flight.Version.{Version}
+use Rattle.flight.specs.declared.flight.Version.TheVariants.{One, Two}
 use Rattle.flight.specs.declared.flight.Recorded.{Recorded}
 use Rattle.flight.specs.Contents.{OpeningContents, LifeContents, FlightContents}
 
@@ -93,11 +96,20 @@ packet_text (Local (input.Close reading)) rest = codes "close\n" ++ rest
 packet_text (Local (input.Submit reading request)) rest = codes "submit " ++ request_text request rest
 packet_text (Delivered mark reading message) rest = codes "from " ++ message_text mark message rest
 
+-- a step but for its outcomes
 abbrev pub made_text : Step → List ℕ → List ℕ
 made_text s rest = spaced s.mark (reading_text s.reading (packet_text s.packet rest))
 
-abbrev pub step_text : Step → List ℕ → List ℕ
-step_text s rest = codes "step " ++ made_text s rest
+abbrev pub outcome_text : Outcome → List ℕ → List ℕ
+outcome_text o rest = codes "outcome " ++ spaced o.index (spaced o.client (ended o.number (codes "text " ++ block_text o.text rest)))
+
+-- version 1 has none
+abbrev pub outcomes_text : Version → List Outcome → List ℕ → List ℕ
+outcomes_text One outcomes rest = rest
+outcomes_text Two outcomes rest = each_text outcome_text outcomes rest
+
+abbrev pub step_text : Version → Step → List ℕ → List ℕ
+step_text version s rest = codes "step " ++ made_text s (outcomes_text version s.outcomes rest)
 
 abbrev pub ending_text : Ending → List ℕ → List ℕ
 ending_text Up rest = codes "up\n" ++ rest
@@ -109,8 +121,8 @@ ending_text (Torn s) rest = codes "torn " ++ made_text s rest
 abbrev pub opening_text : OpeningContents → List ℕ → List ℕ
 opening_text o rest = codes "life " ++ spaced o.mark (spaced o.hard.term (vote_text o.hard.vote (entries_text o.entries rest)))
 
-abbrev pub life_text : LifeContents → List ℕ → List ℕ
-life_text l rest = opening_text l.opening (each_text step_text l.steps (ending_text l.ending rest))
+abbrev pub life_text : Version → LifeContents → List ℕ → List ℕ
+life_text version l rest = opening_text l.opening (each_text (step_text version) l.steps (ending_text l.ending rest))
 
 abbrev pub answer_text : Recorded → List ℕ → List ℕ
 answer_text a rest = codes "answer " ++ ended a.mark (codes "query " ++ block_text a.query (codes "text " ++ block_text a.answer rest))
@@ -119,12 +131,20 @@ answer_text a rest = codes "answer " ++ ended a.mark (codes "query " ++ block_te
 abbrev pub closing_text : List Recorded → List ℕ → List ℕ
 closing_text answers rest = each_text answer_text answers (codes "end\n" ++ rest)
 
--- the first line names the version
+abbrev pub version_number : Version → ℕ
+version_number One = 1
+version_number Two = 2
+
+-- the first line
+abbrev pub version_text : Version → List ℕ → List ℕ
+version_text version rest = codes "bitable flight " ++ ended (version_number version) rest
+
 abbrev pub head_text : ℕ → ℕ → List ℕ → List ℕ
-head_text node members rest = codes "bitable flight 1\n" ++ (codes "node " ++ spaced node (codes "of " ++ ended members rest))
+head_text node members rest = codes "node " ++ spaced node (codes "of " ++ ended members rest)
 
 abbrev pub file_text : FlightContents → List ℕ → List ℕ
-file_text f rest = head_text f.node f.members (codes "schema " ++ block_text f.schema (each_text life_text f.lives (closing_text f.answers rest)))
+file_text f rest =
+    version_text f.version (head_text f.node f.members (codes "schema " ++ block_text f.schema (each_text (life_text f.version) f.lives (closing_text f.answers rest))))
 
 -- the whole file
 abbrev pub flight_text : FlightContents → List ℕ

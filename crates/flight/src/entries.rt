@@ -19,7 +19,7 @@ pub(crate) fn read_request(alloc: Global, text: &str) -> Result<(Request, &str),
     ensures err { IfErr result (IsUnread IsRequest request_text text.now) }
 {
     let (client, rest) = read_client(text)?;
-    let (number, rest) = read_request_number(rest)?;
+    let (number, rest) = read_request_number(rest, ' ')?;
     let (text, rest) = read_block(alloc, rest)?;
     let request = Request {
         client,

@@ -4,6 +4,15 @@ use fault::Text;
 use model::mark::Mark;
 use model::member::Member;
 
+/// In which form a flight is recorded.
+#[derive(Clone, Copy, Debug, PartialEq, Eq)]
+pub enum Version {
+    /// Its steps bear no outcomes.
+    One,
+    /// Each step bears the outcomes that it told.
+    Two,
+}
+
 /// A question that a view of the node was asked, and what it answered.
 #[derive(Debug, Drop)]
 pub struct Recorded {
@@ -17,6 +26,7 @@ pub struct Recorded {
 /// A node's record of its lives, in order, and of the questions that it answered.
 #[derive(Debug, Drop)]
 pub struct Flight {
+    pub version: Version,
     pub node: Member,
     /// How many members the group has.
     pub members: usize,

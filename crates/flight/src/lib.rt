@@ -9,6 +9,7 @@ pub mod flight;
 pub mod laws;
 pub mod life;
 mod lives;
+pub mod outcome;
 mod packets;
 mod parts;
 mod reading;
@@ -16,6 +17,6 @@ mod steps;
 mod writing;
 
 pub use file::{WriteFault, write_flight};
-pub use flight::{Flight, Recorded};
+pub use flight::{Flight, Recorded, Version};
 pub use reading::read_flight;
 pub use writing::text_of_flight;

@@ -1,11 +1,13 @@
 //! What is recorded of a node from one start to the end that follows.
 ghost use Rattle.std.specs.Prelude.{◌≡◌};
-ghost use Rattle.flight.specs.Lives.{last_mark, sent_at, mark_for, shown, step_of};
+ghost use Rattle.flight.specs.Lives.{last_mark, sent_at, mark_for, shown, step_of, with_outcomes};
 
+use crate::outcome::Outcomes;
 use keep::hard_state::HardState;
 use model::entry::Entry;
 use model::mark::Mark;
 use model::message::{Input, Message};
+use std::alloc::Global;
 
 /// How many steps a life may have.
 pub const LIFE_STEPS: usize = 200_000;
@@ -28,6 +30,8 @@ pub struct Step {
     /// What the clock showed, in microseconds since 1970: the reading that the packet bears, if it bears one.
     pub reading: i64,
     pub packet: Packet,
+    /// What it told of the requests that became applied. A torn step told nothing.
+    pub outcomes: Outcomes,
 }
 
 /// What was stored as a life began.
@@ -81,8 +85,9 @@ impl Packet {
 }
 
 impl Step {
-    /// The step that this packet makes at this mark, with the reading that it bears, else 0.
-    pub fn new(mark: Mark, packet: Packet) -> Step
+    /// The step that this packet makes at this mark, with the reading that it bears, else 0, and with no outcomes.
+    /// Takes no memory.
+    pub fn new(alloc: Global, mark: Mark, packet: Packet) -> Step
         ensures { result ≡ step_of mark packet }
     {
         let reading = packet.shown();
@@ -90,6 +95,25 @@ impl Step {
             mark,
             reading,
             packet,
+            outcomes: Outcomes::none(alloc),
+        }
+    }
+
+    /// The step with these outcomes in place of its own. Takes no memory.
+    pub fn with_outcomes(self, outcomes: Outcomes) -> Step
+        ensures { result ≡ with_outcomes outcomes self }
+    {
+        let Step {
+            mark,
+            reading,
+            packet,
+            outcomes: _,
+        } = self;
+        Step {
+            mark,
+            reading,
+            packet,
+            outcomes,
         }
     }
 }

@@ -8,7 +8,7 @@ ghost use Rattle.flight.specs.Reading.{Spells, SpellsOnly, IsUnread};
 
 use crate::answers::read_answers;
 use crate::entries::read_entries;
-use crate::flight::Recorded;
+use crate::flight::{Recorded, Version};
 use crate::life::{Ending, Life, Opening};
 use crate::parts::{begins, past, read_mark, read_number, read_vote};
 use crate::steps::read_course;
@@ -39,13 +39,18 @@ fn read_opening(alloc: Global, text: &str) -> Result<(Opening, &str), Refusal>
 }
 
 // One life of the node.
-fn read_life(alloc: Global, node: Member, text: &str) -> Result<(Life, &str), Refusal>
-    ensures ok { IfOk result (λ p. Spells (IsLife node) life_text text.now (in_life p.0) p.1.now) }
-    ensures only { IfOk result (λ p. SpellsOnly (IsLife node) life_text text.now (in_life p.0) p.1.now) }
-    ensures err { IfErr result (IsUnread (IsLife node) life_text text.now) }
+fn read_life(
+    alloc: Global,
+    version: Version,
+    node: Member,
+    text: &str,
+) -> Result<(Life, &str), Refusal>
+    ensures ok { IfOk result (λ p. Spells (IsLife version node) (life_text version) text.now (in_life p.0) p.1.now) }
+    ensures only { IfOk result (λ p. SpellsOnly (IsLife version node) (life_text version) text.now (in_life p.0) p.1.now) }
+    ensures err { IfErr result (IsUnread (IsLife version node) (life_text version) text.now) }
 {
     let (opening, rest) = read_opening(alloc, text)?;
-    let (steps, ending, rest) = read_course(alloc, node, rest)?;
+    let (steps, ending, rest) = read_course(alloc, version, node, rest)?;
     let life = Life {
         opening,
         steps,
@@ -57,18 +62,19 @@ fn read_life(alloc: Global, node: Member, text: &str) -> Result<(Life, &str), Re
 // The lives of the node, and the answers up to the end of the file.
 pub(crate) fn read_lives<'a>(
     alloc: Global,
+    version: Version,
     node: Member,
     schema: &Schema,
     text: &'a str,
 ) -> Result<(Vec<Life>, Vec<Recorded>, &'a str), Refusal>
-    ensures ok { IfOk result (λ p. Spells (AreLives node schema.now) lives_text text.now (map in_life p.0.items, p.1.items) p.2.now) }
-    ensures only { IfOk result (λ p. SpellsOnly (AreLives node schema.now) lives_text text.now (map in_life p.0.items, p.1.items) p.2.now) }
-    ensures err { IfErr result (IsUnread (AreLives node schema.now) lives_text text.now) }
+    ensures ok { IfOk result (λ p. Spells (AreLives version node schema.now) (lives_text version) text.now (map in_life p.0.items, p.1.items) p.2.now) }
+    ensures only { IfOk result (λ p. SpellsOnly (AreLives version node schema.now) (lives_text version) text.now (map in_life p.0.items, p.1.items) p.2.now) }
+    ensures err { IfErr result (IsUnread (AreLives version node schema.now) (lives_text version) text.now) }
 {
     let mut lives = Vec::new(alloc);
     let mut rest = text;
     while begins(rest, "life ") {
-        let (life, left) = read_life(alloc, node, rest)?;
+        let (life, left) = read_life(alloc, version, node, rest)?;
         lives.push(life)?;
         rest = left;
     }

@@ -1,14 +1,15 @@
 //! Readers of packets.
 ghost use Rattle.std.specs.Prelude.{◌≡◌, IfOk, IfErr};
 ghost use Rattle.lines.specs.Number.{IsSigned};
-ghost use Rattle.flight.specs.Spelling.{packet_text, made_text, step_text};
-ghost use Rattle.flight.specs.Ranges.{IsPacket, IsStep};
+ghost use Rattle.flight.specs.Spelling.{packet_text, made_text};
+ghost use Rattle.flight.specs.Ranges.{IsPacket, IsSilent};
 ghost use Rattle.flight.specs.Packets.{delivery_text, IsDelivery};
 ghost use Rattle.flight.specs.Reading.{Spells, SpellsOnly, IsUnread};
 
 use crate::bodies::read_said;
 use crate::entries::read_request;
 use crate::life::{Packet, Step};
+use crate::outcome::Outcomes;
 use crate::parts::{after, past, read_mark, read_number, read_reading};
 use fault::Refusal;
 use model::mark::Mark;
@@ -72,11 +73,11 @@ fn read_packet(
     Ok((packet, rest))
 }
 
-// A step after its word.
+// A step after its word, without outcomes.
 pub(crate) fn read_made(alloc: Global, node: Member, text: &str) -> Result<(Step, &str), Refusal>
-    ensures ok { IfOk result (λ p. Spells (IsStep node) made_text text.now p.0 p.1.now) }
-    ensures only { IfOk result (λ p. SpellsOnly (IsStep node) made_text text.now p.0 p.1.now) }
-    ensures err { IfErr result (IsUnread (IsStep node) made_text text.now) }
+    ensures ok { IfOk result (λ p. Spells (IsSilent node) made_text text.now p.0 p.1.now) }
+    ensures only { IfOk result (λ p. SpellsOnly (IsSilent node) made_text text.now p.0 p.1.now) }
+    ensures err { IfErr result (IsUnread (IsSilent node) made_text text.now) }
 {
     let (mark, rest) = read_mark(text, ' ')?;
     let (reading, rest) = read_reading(rest)?;
@@ -85,15 +86,7 @@ pub(crate) fn read_made(alloc: Global, node: Member, text: &str) -> Result<(Step
         mark,
         reading,
         packet,
+        outcomes: Outcomes::none(alloc),
     };
     Ok((step, rest))
-}
-
-pub(crate) fn read_step(alloc: Global, node: Member, text: &str) -> Result<(Step, &str), Refusal>
-    ensures ok { IfOk result (λ p. Spells (IsStep node) step_text text.now p.0 p.1.now) }
-    ensures only { IfOk result (λ p. SpellsOnly (IsStep node) step_text text.now p.0 p.1.now) }
-    ensures err { IfErr result (IsUnread (IsStep node) step_text text.now) }
-{
-    let rest = past(text, "step ")?;
-    read_made(alloc, node, rest)
 }

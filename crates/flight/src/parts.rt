@@ -2,10 +2,11 @@
 ghost use Rattle.std.specs.Prelude.{◌≡◌, ◌≢◌, ◌<◌, ℕ, List, ◌++◌, ◌∷◌, IfSome, IfNone, IfOk, IfErr, MatchBool, ⊤};
 ghost use Rattle.fault.specs.declared.refusal.Refusal.TheVariants.{BadFlight};
 ghost use Rattle.lines.specs.Number.{IsSigned};
-ghost use Rattle.flight.specs.Spelling.{number_text, reading_text, flag_text, vote_text, block_text};
+ghost use Rattle.flight.specs.Spelling.{number_text, reading_text, flag_text, vote_text, block_text, version_text};
 ghost use Rattle.flight.specs.Ranges.{IsNumber, IsMark, IsClient, IsRequestNumber, IsStamp, IsVote};
 ghost use Rattle.flight.specs.Reading.{Spells, SpellsOnly, IsUnread, IsAfter, IsNotBegun, Lacks};
 
+use crate::flight::Version;
 use fault::{Refusal, Text};
 use lines::number::{read_number as number_of, read_signed};
 use model::mark::{LAST_MARK, Mark};
@@ -96,6 +97,21 @@ pub(crate) fn read_flag(text: &str, end: char) -> Result<(bool, &str), Refusal>
     }
 }
 
+// The first line, which names the version.
+pub(crate) fn read_version(text: &str) -> Result<(Version, &str), Refusal>
+    ensures ok { IfOk result (λ p. Spells (λ _. ⊤) version_text text.now p.0 p.1.now) }
+    ensures only { IfOk result (λ p. SpellsOnly (λ _. ⊤) version_text text.now p.0 p.1.now) }
+    ensures err { IfErr result (IsUnread (λ _. ⊤) version_text text.now) }
+{
+    let rest = past(text, "bitable flight ")?;
+    let (number, rest) = read_number(rest, '\n')?;
+    match number {
+        1 => Ok((Version::One, rest)),
+        2 => Ok((Version::Two, rest)),
+        _ => Err(Refusal::BadFlight),
+    }
+}
+
 // The mark of an opening or a step, up to the character that ends it.
 pub(crate) fn read_mark(text: &str, end: char) -> Result<(Mark, &str), Refusal>
     requires { end < 48 }
@@ -139,13 +155,14 @@ pub(crate) fn read_client(text: &str) -> Result<(Client, &str), Refusal>
     Ok((client, rest))
 }
 
-// The number of a request, up to a space.
-pub(crate) fn read_request_number(text: &str) -> Result<(RequestNumber, &str), Refusal>
-    ensures ok { IfOk result (λ p. Spells IsRequestNumber (number_text 32) text.now p.0 p.1.now) }
-    ensures only { IfOk result (λ p. SpellsOnly IsRequestNumber (number_text 32) text.now p.0 p.1.now) }
-    ensures err { IfErr result (IsUnread IsRequestNumber (number_text 32) text.now) }
+// The number of a request, up to the character that ends it.
+pub(crate) fn read_request_number(text: &str, end: char) -> Result<(RequestNumber, &str), Refusal>
+    requires { end < 48 }
+    ensures ok { IfOk result (λ p. Spells IsRequestNumber (number_text end) text.now p.0 p.1.now) }
+    ensures only { IfOk result (λ p. SpellsOnly IsRequestNumber (number_text end) text.now p.0 p.1.now) }
+    ensures err { IfErr result (IsUnread IsRequestNumber (number_text end) text.now) }
 {
-    let (number, rest) = read_number(text, ' ')?;
+    let (number, rest) = read_number(text, end)?;
     let Some(number) = RequestNumber::new(number) else {
         return Err(Refusal::BadFlight);
     };

@@ -10,7 +10,7 @@ ghost use Rattle.flight.specs.Reading.{Spells, SpellsOnly, IsUnread};
 
 use crate::flight::Flight;
 use crate::lives::{are_one_at_a_time, read_lives};
-use crate::parts::{past, read_block, read_number};
+use crate::parts::{past, read_block, read_number, read_version};
 use fault::Refusal;
 use model::member::Member;
 use schema::Schema;
@@ -25,14 +25,13 @@ struct Head {
     members: usize,
 }
 
-// The lines before the schema.
+// The line of the node and its group.
 fn read_head(text: &str) -> Result<(Head, &str), Refusal>
     ensures ok { IfOk result (λ p. Spells IsHead heading_text text.now p.0 p.1.now) }
     ensures only { IfOk result (λ p. SpellsOnly IsHead heading_text text.now p.0 p.1.now) }
     ensures err { IfErr result (IsUnread IsHead heading_text text.now) }
 {
-    let rest = past(text, "bitable flight 1\n")?;
-    let rest = past(rest, "node ")?;
+    let rest = past(text, "node ")?;
     let (node, rest) = read_number(rest, ' ')?;
     let rest = past(rest, "of ")?;
     let (members, rest) = read_number(rest, '\n')?;
@@ -62,8 +61,8 @@ fn read_tables(alloc: Global, text: &str) -> Result<Schema, Refusal>
 
 /// The flight whose file this is, which has one spelling: each of its lines ends with LF, numbers are in decimal
 /// without leading zeros, each count and each length is the true one, the schema is one that `read_schema`
-/// accepts and each query one that `read_query` accepts over it, there is a life, and none but the last is still
-/// up.
+/// accepts and each query one that `read_query` accepts over it, there is a life, none but the last is still up, and
+/// where steps bear outcomes the version is 2.
 ///
 /// Any other text is refused 50. The only other refusal is 43, for want of memory.
 pub fn read_flight(alloc: Global, text: &str) -> Result<Flight, Refusal>
@@ -71,12 +70,13 @@ pub fn read_flight(alloc: Global, text: &str) -> Result<Flight, Refusal>
     ensures only { IfOk result (λ f. IsOnlyOf text.now (in_flight f)) }
     ensures err { IfErr result (IsNoFile text.now) }
 {
-    let (head, rest) = read_head(text)?;
+    let (version, rest) = read_version(text)?;
+    let (head, rest) = read_head(rest)?;
     let Head { node, members } = head;
     let rest = past(rest, "schema ")?;
     let (schema, rest) = read_block(alloc, rest)?;
     let tables = read_tables(alloc, schema.as_str())?;
-    let (lives, answers, rest) = read_lives(alloc, node, &tables, rest)?;
+    let (lives, answers, rest) = read_lives(alloc, version, node, &tables, rest)?;
     if !rest.is_empty() {
         return Err(Refusal::BadFlight);
     }
@@ -84,6 +84,7 @@ pub fn read_flight(alloc: Global, text: &str) -> Result<Flight, Refusal>
         return Err(Refusal::BadFlight);
     }
     Ok(Flight {
+        version,
         node,
         members,
         schema,

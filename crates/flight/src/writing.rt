@@ -1,11 +1,12 @@
 //! The text of a flight file.
 ghost use Rattle.std.specs.Prelude.{◌≡◌, IfOk, OnOk, map, codes, ◌++◌, string_bytes};
 ghost use Rattle.flight.specs.Contents.{in_opening, in_life, in_flight};
-ghost use Rattle.flight.specs.Spelling.{spaced, ended, block_text, request_text, entry_text, entries_text, each_text, flag_number, body_text, packet_text, made_text, step_text, ending_text, opening_text, life_text, answer_text, flight_text};
+ghost use Rattle.flight.specs.Spelling.{spaced, ended, block_text, request_text, entry_text, entries_text, each_text, flag_number, body_text, packet_text, made_text, outcome_text, outcomes_text, step_text, ending_text, opening_text, life_text, answer_text, version_number, version_text, flight_text};
 ghost use Rattle.flight.specs.Additions.{Adds};
 
-use crate::flight::{Flight, Recorded};
+use crate::flight::{Flight, Recorded, Version};
 use crate::life::{Ending, Life, Opening, Packet, Step};
+use crate::outcome::Outcome;
 use model::entry::{Entry, Request};
 use model::message::{Body, Input};
 use std::alloc::{AllocError, Global};
@@ -105,7 +106,7 @@ fn put_packet(packet: &Packet, text: &mut String) -> Result<(), AllocError>
     }
 }
 
-// A step after its word.
+// A step after its word, without its outcomes.
 fn put_made(step: &Step, text: &mut String) -> Result<(), AllocError>
     ensures { OnOk result (Adds (string_bytes text.old) (string_bytes text.new) (made_text step.now)) }
 {
@@ -115,18 +116,52 @@ fn put_made(step: &Step, text: &mut String) -> Result<(), AllocError>
     put_packet(&step.packet, text)
 }
 
-fn put_step(step: &Step, text: &mut String) -> Result<(), AllocError>
-    ensures { OnOk result (Adds (string_bytes text.old) (string_bytes text.new) (step_text step.now)) }
+fn put_outcome(outcome: &Outcome, text: &mut String) -> Result<(), AllocError>
+    ensures { OnOk result (Adds (string_bytes text.old) (string_bytes text.new) (outcome_text outcome.now)) }
 {
-    text.push_str("step ")?;
-    put_made(step, text)
+    let index = outcome.index;
+    let client = outcome.client.get();
+    let number = outcome.number.get();
+    let words = outcome.text.as_str();
+    let length = words.len();
+    write!(
+        text,
+        "outcome {index} {client} {number}\ntext {length}\n{words}\n"
+    )
 }
 
-fn put_steps(steps: &[Step], text: &mut String) -> Result<(), AllocError>
-    ensures { OnOk result (Adds (string_bytes text.old) (string_bytes text.new) (each_text step_text steps.now)) }
+fn put_each_outcome(outcomes: &[Outcome], text: &mut String) -> Result<(), AllocError>
+    ensures { OnOk result (Adds (string_bytes text.old) (string_bytes text.new) (each_text outcome_text outcomes.now)) }
+{
+    for outcome in outcomes {
+        put_outcome(outcome, text)?;
+    }
+    Ok(())
+}
+
+// The outcomes of a step, which version 1 leaves out.
+fn put_outcomes(version: Version, outcomes: &[Outcome], text: &mut String) -> Result<(), AllocError>
+    ensures { OnOk result (Adds (string_bytes text.old) (string_bytes text.new) (outcomes_text version outcomes.now)) }
+{
+    match version {
+        Version::One => Ok(()),
+        Version::Two => put_each_outcome(outcomes, text),
+    }
+}
+
+fn put_step(version: Version, step: &Step, text: &mut String) -> Result<(), AllocError>
+    ensures { OnOk result (Adds (string_bytes text.old) (string_bytes text.new) (step_text version step.now)) }
+{
+    text.push_str("step ")?;
+    put_made(step, text)?;
+    put_outcomes(version, step.outcomes.as_slice(), text)
+}
+
+fn put_steps(version: Version, steps: &[Step], text: &mut String) -> Result<(), AllocError>
+    ensures { OnOk result (Adds (string_bytes text.old) (string_bytes text.new) (each_text (step_text version) steps.now)) }
 {
     for step in steps {
-        put_step(step, text)?;
+        put_step(version, step, text)?;
     }
     Ok(())
 }
@@ -157,19 +192,19 @@ fn put_opening(opening: &Opening, text: &mut String) -> Result<(), AllocError>
     put_entries(&opening.entries, text)
 }
 
-fn put_life(life: &Life, text: &mut String) -> Result<(), AllocError>
-    ensures { OnOk result (Adds (string_bytes text.old) (string_bytes text.new) (life_text (in_life life.now))) }
+fn put_life(version: Version, life: &Life, text: &mut String) -> Result<(), AllocError>
+    ensures { OnOk result (Adds (string_bytes text.old) (string_bytes text.new) (life_text version (in_life life.now))) }
 {
     put_opening(&life.opening, text)?;
-    put_steps(&life.steps, text)?;
+    put_steps(version, &life.steps, text)?;
     put_ending(&life.ending, text)
 }
 
-fn put_lives(lives: &[Life], text: &mut String) -> Result<(), AllocError>
-    ensures { OnOk result (Adds (string_bytes text.old) (string_bytes text.new) (each_text life_text (map in_life lives.now))) }
+fn put_lives(version: Version, lives: &[Life], text: &mut String) -> Result<(), AllocError>
+    ensures { OnOk result (Adds (string_bytes text.old) (string_bytes text.new) (each_text (life_text version) (map in_life lives.now))) }
 {
     for life in lives {
-        put_life(life, text)?;
+        put_life(version, life, text)?;
     }
     Ok(())
 }
@@ -195,11 +230,21 @@ fn put_answers(answers: &[Recorded], text: &mut String) -> Result<(), AllocError
     Ok(())
 }
 
-// The line that names the version.
-fn put_version(text: &mut String) -> Result<(), AllocError>
-    ensures { OnOk result (Adds (string_bytes text.old) (string_bytes text.new) (λ rest. codes "bitable flight 1\n" ++ rest)) }
+fn version_number(version: Version) -> u8
+    ensures { result ≡ version_number version }
 {
-    text.push_str("bitable flight 1\n")
+    match version {
+        Version::One => 1,
+        Version::Two => 2,
+    }
+}
+
+// The line that names the version.
+fn put_version(version: Version, text: &mut String) -> Result<(), AllocError>
+    ensures { OnOk result (Adds (string_bytes text.old) (string_bytes text.new) (version_text version)) }
+{
+    let number = version_number(version);
+    write!(text, "bitable flight {number}\n")
 }
 
 // The line that names the node and its group.
@@ -224,10 +269,10 @@ pub fn text_of_flight(alloc: Global, flight: &Flight) -> Result<String, AllocErr
     ensures { IfOk result (λ text. string_bytes text ≡ flight_text (in_flight flight.now)) }
 {
     let mut text = String::new(alloc);
-    put_version(&mut text)?;
+    put_version(flight.version, &mut text)?;
     put_group(flight, &mut text)?;
     put_schema(flight, &mut text)?;
-    put_lives(&flight.lives, &mut text)?;
+    put_lives(flight.version, &flight.lives, &mut text)?;
     put_answers(&flight.answers, &mut text)?;
     text.push_str("end\n")?;
     Ok(text)

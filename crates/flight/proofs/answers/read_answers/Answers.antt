@@ -1,9 +1,9 @@
 use Rattle.std.proofs.Common.{◌≡◌, ℕ, List, ◌++◌, ◌∷◌, [], length, ap, rules, arith}
-use Rattle.std.specs.Prelude.{codes}
+use Rattle.std.specs.Prelude.{codes, ⊤}
 use Rattle.flight.specs.Spelling.{answer_text}
 use Rattle.flight.specs.Ranges.{IsAnswer}
 use Rattle.flight.specs.Reading.{IsNotBegun}
-use Rattle.flight.proofs.Lists.{until_more}
+use Rattle.flight.proofs.Lists.{until_more, only_to}
 use Rattle.flight.proofs.Lengths.{after_answer}
 use Rattle.flight.proofs.Stories.{answers_broken, answers_unended, answers_only, answers_whole}
 use Rattle.flight.proofs.answers.read_answers.Goals as goal
@@ -17,8 +17,8 @@ returns-in_err-answer-clause-err c =
 pub loop-alloc-preserved : goal.loop-alloc-preserved
 loop-alloc-preserved c =
     let begun : (r : List ℕ) × (c.loop-alloc.rest.now ≡ codes "answer " ++ r) = search rules in
-    let more = until_more (IsAnswer c.args.schema.now) answer_text (codes "answer ") c.args.text.now c.loop-alloc.answers.items c.loop-alloc.rest.now c.in_ok-answer.answer c.in_ok-answer.left.now
-    c.loop-alloc.invariant.taken begun c.in_ok-answer.ensures.ok c.in_ok-answer.ensures.only in
+    let more = until_more (IsAnswer c.args.schema.now) answer_text (codes "answer ") (λ _. ⊤) (λ ys other free. tt) c.args.text.now c.loop-alloc.answers.items c.loop-alloc.rest.now c.in_ok-answer.answer c.in_ok-answer.left.now
+    c.loop-alloc.invariant.taken begun c.in_ok-answer.ensures.ok (only_to (IsAnswer c.args.schema.now) answer_text c.loop-alloc.rest.now c.in_ok-answer.answer c.in_ok-answer.left.now c.in_ok-answer.ensures.only) in
     let items : c.push.new.self.items ≡ c.loop-alloc.answers.items ++ c.in_ok-answer.answer ∷ [] = search rules in
     record { utf8 = search rules; taken = rw items more }
 

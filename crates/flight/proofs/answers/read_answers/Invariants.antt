@@ -1,5 +1,5 @@
 use Rattle.std.proofs.Common.{length}
-use Rattle.std.specs.Prelude.{codes}
+use Rattle.std.specs.Prelude.{codes, ⊤}
 use Rattle.std.specs.Str.{IsUtf8}
 use Rattle.flight.specs.Spelling.{answer_text}
 use Rattle.flight.specs.Ranges.{IsAnswer}
@@ -7,7 +7,7 @@ use Rattle.flight.proofs.Lists.{TakenUntil}
 use Rattle.flight.proofs.answers.read_answers.Given as goal
 
 abbrev pub invariant-loop-alloc : goal.invariant-loop-alloc
-invariant-loop-alloc l = record { utf8 : IsUtf8 l.rest; taken : TakenUntil (IsAnswer l.schema) answer_text (codes "answer ") l.text l.answers.items l.rest }
+invariant-loop-alloc l = record { utf8 : IsUtf8 l.rest; taken : TakenUntil (IsAnswer l.schema) answer_text (codes "answer ") (λ _. ⊤) (λ ys other free. tt) l.text l.answers.items l.rest }
 
 abbrev pub decreases-loop-alloc : goal.decreases-loop-alloc
 decreases-loop-alloc l = length l.rest

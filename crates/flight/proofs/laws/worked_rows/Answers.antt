@@ -17,3 +17,11 @@ returns-clause-vote c = λ rest. refl
 pub returns-clause-tear : goal.returns-clause-tear
 unfolding digits
 returns-clause-tear c = λ rest. refl
+
+pub returns-clause-nothing_two : goal.returns-clause-nothing_two
+unfolding digits
+returns-clause-nothing_two c = refl
+
+pub returns-clause-outcome : goal.returns-clause-outcome
+unfolding digits
+returns-clause-outcome c = λ rest. refl

@@ -1,5 +1,5 @@
 use Rattle.std.proofs.Common.{length}
-use Rattle.std.specs.Prelude.{codes, map}
+use Rattle.std.specs.Prelude.{codes, map, ⊤}
 use Rattle.std.specs.Str.{IsUtf8}
 use Rattle.flight.specs.Contents.{in_life}
 use Rattle.flight.specs.Spelling.{life_text}
@@ -7,8 +7,8 @@ use Rattle.flight.specs.Ranges.{IsLife}
 use Rattle.flight.proofs.Lists.{TakenUntil}
 use Rattle.flight.proofs.lives.read_lives.Given as goal
 
-abbrev pub invariant-loop-rest : goal.invariant-loop-rest
-invariant-loop-rest l = record { utf8 : IsUtf8 l.rest; taken : TakenUntil (IsLife l.node) life_text (codes "life ") l.text (map in_life l.lives.items) l.rest }
+abbrev pub invariant-loop-version : goal.invariant-loop-version
+invariant-loop-version l = record { utf8 : IsUtf8 l.rest; taken : TakenUntil (IsLife l.version l.node) (life_text l.version) (codes "life ") (λ _. ⊤) (λ ys other free. tt) l.text (map in_life l.lives.items) l.rest }
 
-abbrev pub decreases-loop-rest : goal.decreases-loop-rest
-decreases-loop-rest l = length l.rest
+abbrev pub decreases-loop-version : goal.decreases-loop-version
+decreases-loop-version l = length l.rest

@@ -5,4 +5,4 @@ use Rattle.flight.specs.Additions.{Adds}
 use Rattle.flight.proofs.writing.put_lives.Given as goal
 
 abbrev pub invariant-loop-life : goal.invariant-loop-life
-invariant-loop-life l = Adds (string_bytes l.initial.text) (string_bytes l.text) (each_text life_text (map in_life (take l.life-index l.lives)))
+invariant-loop-life l = Adds (string_bytes l.initial.text) (string_bytes l.text) (each_text (life_text l.version) (map in_life (take l.life-index l.lives)))

@@ -6,4 +6,4 @@ use Rattle.flight.proofs.writing.put_steps.Goals as goal
 pub loop-step-preserved : goal.loop-step-preserved
 loop-step-preserved c =
     let within : c.loop-step.step-index < length c.args.steps.now = omega arith in
-    adds_one c.args.steps.now _ _ _ c.loop-step.step-index c.step-item.result within c.step-item.is step_text c.loop-step.invariant c.in_ok-put_step.ensures
+    adds_one c.args.steps.now c.loop-step.step-index c.step-item.result within c.step-item.is _ _ _ (step_text c.args.version) c.loop-step.invariant c.in_ok-put_step.ensures
