@@ -3,7 +3,7 @@ use anyhow::{Result, bail};
 use auditor::{AuditFault, Recorded as Judged, audit};
 use fault::{Refusal, Text};
 use flight::life::Life;
-use flight::{Flight, Recorded, read_flight};
+use flight::{Flight, Recorded, Version, read_flight};
 use schema::Schema;
 use schemaread::schemas::read_schema;
 use std::alloc::{AllocError, Global};
@@ -18,7 +18,7 @@ pub enum Verdict {
     NoText,
     /// 50: a file is no flight.
     NoFlight,
-    /// 50: a file is a flight of another node, another number of members or another schema.
+    /// 50: a file is a flight of another version, another node, another number of members or another schema.
     NoGroup,
     /// 51.
     Broken,
@@ -35,6 +35,7 @@ pub enum Verdict {
 #[derive(Drop)]
 pub struct Group {
     alloc: Global,
+    version: Version,
     /// The text of the schema, and its tables.
     schema: Text,
     tables: Schema,
@@ -55,6 +56,7 @@ impl Group {
         let first = read_flight(alloc, text_of_file(rt, 1)?.as_str())?;
         let mut group = Group {
             alloc,
+            version: first.version,
             tables: read_schema(alloc, first.schema.as_str())?,
             schema: first.schema,
             lives: Vec::new(alloc),
@@ -82,10 +84,15 @@ impl Group {
 
     // What is said where this node has this flight.
     fn judge_flight(&mut self, node: usize, flight: Flight) -> Result<Verdict> {
-        if flight.node != node || flight.members != 3 || flight.schema != self.schema {
+        let is_of_node = flight.node == node && flight.members == 3;
+        if !is_of_node || flight.version != self.version || flight.schema != self.schema {
             return Ok(Verdict::NoGroup);
         }
-        let Flight { mut lives, mut answers, .. } = flight;
+        let Flight {
+            mut lives,
+            mut answers,
+            ..
+        } = flight;
         self.exchange(node, &mut lives, &mut answers);
         let verdict = self.verdict();
         self.exchange(node, &mut lives, &mut answers);
@@ -121,7 +128,7 @@ impl Group {
         if self.lives.len() < 3 || self.lives.len() > 7 {
             bail!("a group has 3 to 7 nodes");
         }
-        match audit(self.alloc, &self.tables, &self.lives, &judged) {
+        match audit(self.alloc, self.version, &self.tables, &self.lives, &judged) {
             Ok(_) => Ok(Verdict::Yes),
             Err(AuditFault::Broken { .. }) => Ok(Verdict::Broken),
             Err(AuditFault::Unsent { .. }) => Ok(Verdict::Unsent),
