@@ -6,6 +6,13 @@ use std::alloc::{AllocError, Global};
 use std::fs;
 use std::rt::Files;
 
+// Bytes of a file, from the first to before the last.
+#[derive(Clone, Copy)]
+struct Part {
+    start: usize,
+    end: usize,
+}
+
 /// Tries each file cut after each of its bytes but the last, which has to be no flight.
 pub fn try_cuts<R: AllocGlobal + Files + Print>(rt: &R, group: &mut Group) -> Result<()> {
     let mut tally = Tally::default();
@@ -34,11 +41,12 @@ pub fn try_exchanges(rt: &impl Print, group: &mut Group) -> Result<()> {
 pub fn try_bytes<R: AllocGlobal + Files + Print>(rt: &R, group: &mut Group) -> Result<()> {
     for node in 1..=3 {
         let text = text_of_file(rt, node)?;
-        let free = free_places(rt, node, text.as_str())?;
+        let free = free_parts(rt, node, text.as_str())?;
         let mut said = Said::default();
         let mut bytes = Vec::from_slice(rt.alloc(), text.as_bytes())?;
-        for (place, is_free) in free.iter().enumerate() {
-            try_values(group, node, &mut bytes, place, *is_free, &mut said)?;
+        for place in 0..text.len() {
+            let is_free = free.iter().any(|part| part.start <= place && place < part.end);
+            try_values(group, node, &mut bytes, place, is_free, &mut said)?;
         }
         let name = format!(in rt.alloc(); "bytes of node {node} changed")?;
         said.print(rt, name.as_str())?;
@@ -74,26 +82,20 @@ fn set(bytes: &mut Vec<u8>, place: usize, value: u8) {
     }
 }
 
-// Of each byte of a flight whether it is free: no rule depends on it, so that another one there may be a yes. The file
-// `nodeN.free` has the lines of the flight that have such bytes, with these in brackets.
-fn free_places<R: AllocGlobal + Files>(rt: &R, node: usize, text: &str) -> Result<Vec<bool>> {
+// The parts of a flight that are free: no rule is about them, so that another byte there may be a yes. The file
+// `nodeN.free` has the lines of the flight that have such parts, with these in brackets.
+fn free_parts<R: AllocGlobal + Files>(rt: &R, node: usize, text: &str) -> Result<Vec<Part>> {
     let alloc = rt.alloc();
     let lines = fs::read_to_string(rt, format!(in alloc; "node{node}.free")?.as_str())?;
-    let mut free = Vec::new(alloc);
-    for _ in 0..text.len() {
-        free.push(false)?;
-    }
+    let mut parts = Vec::new(alloc);
     for line in lines.lines() {
-        let (start, end) = free_part(alloc, text, line)?;
-        for is_free in free.iter_mut().take(end).skip(start) {
-            *is_free = true;
-        }
+        parts.push(free_part(alloc, text, line)?)?;
     }
-    Ok(free)
+    Ok(parts)
 }
 
 // Where in a text the part in brackets of a line begins and ends.
-fn free_part(alloc: Global, text: &str, line: &str) -> Result<(usize, usize)> {
+fn free_part(alloc: Global, text: &str, line: &str) -> Result<Part> {
     let (before, rest) = line.split_once('[').unwrap_or((line, ""));
     let (part, after) = rest.split_once(']').unwrap_or((rest, ""));
     let whole = format!(in alloc; "\n{before}{part}{after}\n")?;
@@ -101,7 +103,10 @@ fn free_part(alloc: Global, text: &str, line: &str) -> Result<(usize, usize)> {
         bail!("the flight has no line {line}");
     };
     let start = found.saturating_add(1).saturating_add(before.len());
-    Ok((start, start.saturating_add(part.len())))
+    Ok(Part {
+        start,
+        end: start.saturating_add(part.len()),
+    })
 }
 
 /// Tries each file with each of its lines left out, there twice, and exchanged with the next one: none is a yes.
@@ -131,23 +136,35 @@ fn try_line(
     let Some((line, after)) = rest.split_first() else {
         return Ok(());
     };
-    let left_out = joined(alloc, &[before, after])?;
+    let left_out = joined(alloc, before, &[], after)?;
     said.note(group.judge(node, left_out.as_bytes())?, false);
-    let doubled = joined(alloc, &[before, &[*line, *line], after])?;
+    let doubled = joined(alloc, before, &[*line, *line], after)?;
     said.note(group.judge(node, doubled.as_bytes())?, false);
     if let Some((next, after)) = after.split_first() {
-        let exchanged = joined(alloc, &[before, &[*next, *line], after])?;
+        let exchanged = joined(alloc, before, &[*next, *line], after)?;
         said.note(group.judge(node, exchanged.as_bytes())?, false);
     }
     Ok(())
 }
 
 // The text of all these lines.
-fn joined(alloc: Global, parts: &[&[&str]]) -> Result<String, AllocError> {
+fn joined(
+    alloc: Global,
+    before: &[&str],
+    between: &[&str],
+    after: &[&str],
+) -> Result<String, AllocError> {
     let mut text = String::new(alloc);
-    for line in parts.iter().flat_map(|part| part.iter()) {
+    add_lines(&mut text, before)?;
+    add_lines(&mut text, between)?;
+    add_lines(&mut text, after)?;
+    Ok(text)
+}
+
+fn add_lines(text: &mut String, lines: &[&str]) -> Result<(), AllocError> {
+    for line in lines {
         text.push_str(line)?;
         text.push('\n')?;
     }
-    Ok(text)
+    Ok(())
 }

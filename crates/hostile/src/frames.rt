@@ -109,14 +109,14 @@ fn in_lower_case(alloc: Global, text: &str) -> Result<String, AllocError> {
 // The text, with what stands in braces as many times as it says there.
 fn repeated(alloc: Global, text: &str) -> Result<String> {
     let mut made = String::new(alloc);
-    let mut pieces = text.split('{');
-    made.push_str(pieces.next().unwrap_or(""))?;
-    for piece in pieces {
-        let Some((inside, after)) = piece.split_once('}') else {
-            bail!("a brace is open");
-        };
-        add_repeated(alloc, inside, &mut made)?;
-        made.push_str(after)?;
+    for piece in text.split('{') {
+        match piece.split_once('}') {
+            Some((inside, after)) => {
+                add_repeated(alloc, inside, &mut made)?;
+                made.push_str(after)?;
+            }
+            None => made.push_str(piece)?,
+        }
     }
     Ok(made)
 }

@@ -93,19 +93,13 @@ impl Group {
             mut answers,
             ..
         } = flight;
-        self.exchange(node, &mut lives, &mut answers);
-        let verdict = self.verdict();
-        self.exchange(node, &mut lives, &mut answers);
-        verdict
-    }
-
-    // Gives this node these lives and answers for its own.
-    fn exchange(&mut self, node: usize, lives: &mut Vec<Life>, answers: &mut Vec<Recorded>) {
         let at = node.saturating_sub(1);
-        if let (Some(led), Some(given)) = (self.lives.get_mut(at), self.answers.get_mut(at)) {
-            mem::swap(led, lives);
-            mem::swap(given, answers);
-        }
+        exchange(&mut self.lives, at, &mut lives);
+        exchange(&mut self.answers, at, &mut answers);
+        let verdict = self.verdict();
+        exchange(&mut self.lives, at, &mut lives);
+        exchange(&mut self.answers, at, &mut answers);
+        verdict
     }
 
     /// What is said where these two nodes have the lives of one another.
@@ -136,6 +130,13 @@ impl Group {
             Err(AuditFault::Wrong { .. }) => Ok(Verdict::Wrong),
             Err(AuditFault::NoMemory) => bail!("there is no memory"),
         }
+    }
+}
+
+// Puts an item in the place of the one that stands here, which it becomes.
+fn exchange<T>(items: &mut Vec<T>, at: usize, item: &mut T) {
+    if let Some(found) = items.get_mut(at) {
+        mem::swap(found, item);
     }
 }
 

@@ -27,7 +27,7 @@ impl Tally {
 }
 
 /// What was said of changed files.
-#[derive(Clone, Copy, Default)]
+#[derive(Clone, Copy, Debug, Default)]
 pub struct Said {
     tried: u64,
     no_text: u64,
@@ -63,11 +63,7 @@ impl Said {
 
     /// Prints how many there are of each.
     pub fn print(&self, rt: &impl Print, name: &str) -> Result<()> {
-        let Said { tried, no_text, no_flight, no_group, .. } = *self;
-        let Said { broken, unsent, unordered, wrong, yes, unexplained, .. } = *self;
-        println!(rt; "{name}: {tried}")?;
-        println!(rt; "  no text {no_text}, 50 no flight {no_flight}, 50 no group {no_group}")?;
-        println!(rt; "  51 {broken}, 52 {unsent}, 53 {unordered}, 54 {wrong}, yes {yes}, of these unexplained {unexplained}")?;
+        println!(rt; "{name}: {self:?}")?;
         Ok(())
     }
 }
