@@ -1,5 +1,5 @@
 //! Flight files that are cut or changed, and what is said of each.
-use crate::group::{Group, Verdict, text_of_file};
+use crate::group::{Group, Verdict, judge_all};
 use crate::tally::{Said, Tally};
 use anyhow::{Result, bail};
 use std::alloc::{AllocError, Global};
@@ -13,80 +13,121 @@ struct Part {
     end: usize,
 }
 
+/// Tries the files as they are, which is a yes.
+pub fn try_group(rt: &impl Print, group: &Group) -> Result<()> {
+    let mut said = Said::default();
+    for (place, text) in group.texts.iter().enumerate() {
+        said.note(group.judge(place, text.as_bytes())?, true);
+    }
+    said.print(rt, "flights as they are")
+}
+
 /// Tries each file cut after each of its bytes but the last, which has to be no flight.
-pub fn try_cuts<R: AllocGlobal + Files + Print>(rt: &R, group: &mut Group) -> Result<()> {
+pub fn try_cuts(rt: &impl Print, group: &Group) -> Result<()> {
     let mut tally = Tally::default();
-    for node in 1..=3 {
-        let text = text_of_file(rt, node)?;
-        for length in 0..text.len() {
-            let Some((cut, _)) = text.split_at_checked(length) else {
-                bail!("the flights are ASCII");
-            };
-            tally.note(group.judge(node, cut.as_bytes())? == Verdict::NoFlight);
-        }
+    for (place, text) in group.texts.iter().enumerate() {
+        try_file_cut(group, place, text.as_bytes(), &mut tally)?;
     }
     tally.print(rt, "flights cut short")
 }
 
-/// Tries the lives of each two nodes exchanged, of which there is no run.
-pub fn try_exchanges(rt: &impl Print, group: &mut Group) -> Result<()> {
+fn try_file_cut(group: &Group, place: usize, bytes: &[u8], tally: &mut Tally) -> Result<()> {
+    for length in 0..bytes.len() {
+        let (cut, _) = bytes.split_at(length);
+        tally.note(group.judge(place, cut)? == Verdict::NoFlight);
+    }
+    Ok(())
+}
+
+/// Tries the lives and answers of each two nodes exchanged, of which there is no run.
+pub fn try_exchanges(rt: &impl Print, group: &Group) -> Result<()> {
+    let [first, second, third] = group.texts.as_slice() else {
+        bail!("a group has three files");
+    };
     let mut said = Said::default();
-    for (one, other) in [(0, 1), (0, 2), (1, 2)] {
-        said.note(group.judge_swapped(one, other)?, false);
+    let (first, second, third) = (first.as_str(), second.as_str(), third.as_str());
+    for order in [[second, first, third], [third, second, first], [first, third, second]] {
+        said.note(judge_renamed(group.alloc, order)?, false);
     }
     said.print(rt, "lives exchanged")
 }
 
+// What is said of these files where each is named as that of the node of its place.
+fn judge_renamed(alloc: Global, order: [&str; 3]) -> Result<Verdict> {
+    let [first, second, third] = order;
+    let first = renamed(alloc, first, 1)?;
+    let second = renamed(alloc, second, 2)?;
+    let third = renamed(alloc, third, 3)?;
+    judge_all(alloc, &[first.as_str(), second.as_str(), third.as_str()])
+}
+
+fn renamed(alloc: Global, text: &str, node: usize) -> Result<String> {
+    let Some((_, rest)) = text.split_once(" of 3\n") else {
+        bail!("the flights are of three nodes");
+    };
+    Ok(format!(in alloc; "bitable flight 2\nnode {node} of 3\n{rest}")?)
+}
+
 /// Tries each file with each of its bytes changed to each other one. A yes is right where the byte is free.
-pub fn try_bytes<R: AllocGlobal + Files + Print>(rt: &R, group: &mut Group) -> Result<()> {
-    for node in 1..=3 {
-        let text = text_of_file(rt, node)?;
-        let free = free_parts(rt, node, text.as_str())?;
+pub fn try_bytes<R: AllocGlobal + Files + Print>(rt: &R, group: &Group) -> Result<()> {
+    let names = ["node1.free", "node2.free", "node3.free"];
+    for (place, (text, name)) in group.texts.iter().zip(names.iter()).enumerate() {
+        let lines = fs::read_to_string(rt, name)?;
+        let free = free_parts(group.alloc, text.as_str(), lines.as_str())?;
         let mut said = Said::default();
-        let mut bytes = Vec::from_slice(rt.alloc(), text.as_bytes())?;
-        for place in 0..text.len() {
-            let is_free = free.iter().any(|part| part.start <= place && place < part.end);
-            try_values(group, node, &mut bytes, place, is_free, &mut said)?;
-        }
-        let name = format!(in rt.alloc(); "bytes of node {node} changed")?;
-        said.print(rt, name.as_str())?;
+        try_file_bytes(group, place, text.as_bytes(), &free, &mut said)?;
+        let node = place.saturating_add(1);
+        said.print(rt, format!(in group.alloc; "bytes of node {node} changed")?.as_str())?;
     }
     Ok(())
 }
 
-// Tries each other byte at this place, and leaves the bytes as they were.
-fn try_values(
-    group: &mut Group,
-    node: usize,
-    bytes: &mut Vec<u8>,
+fn try_file_bytes(
+    group: &Group,
     place: usize,
+    text: &[u8],
+    free: &[Part],
+    said: &mut Said,
+) -> Result<()> {
+    let mut bytes = Vec::from_slice(group.alloc, text)?;
+    for at in 0..text.len() {
+        let is_free = free.iter().any(|part| part.start <= at && at < part.end);
+        try_values(group, place, &mut bytes, at, is_free, said)?;
+    }
+    Ok(())
+}
+
+// Tries each other byte here, and leaves the bytes as they were.
+fn try_values(
+    group: &Group,
+    place: usize,
+    bytes: &mut Vec<u8>,
+    at: usize,
     is_free: bool,
     said: &mut Said,
 ) -> Result<()> {
-    let Some(old) = bytes.get(place).copied() else {
+    let Some(old) = bytes.get(at).copied() else {
         return Ok(());
     };
     for value in 0..=255_u8 {
         if value != old {
-            set(bytes, place, value);
-            said.note(group.judge(node, bytes)?, is_free);
+            set(bytes, at, value);
+            said.note(group.judge(place, bytes)?, is_free);
         }
     }
-    set(bytes, place, old);
+    set(bytes, at, old);
     Ok(())
 }
 
-fn set(bytes: &mut Vec<u8>, place: usize, value: u8) {
-    if let Some(byte) = bytes.get_mut(place) {
+fn set(bytes: &mut Vec<u8>, at: usize, value: u8) {
+    if let Some(byte) = bytes.get_mut(at) {
         *byte = value;
     }
 }
 
-// The parts of a flight that are free: no rule is about them, so that another byte there may be a yes. The file
-// `nodeN.free` has the lines of the flight that have such parts, with these in brackets.
-fn free_parts<R: AllocGlobal + Files>(rt: &R, node: usize, text: &str) -> Result<Vec<Part>> {
-    let alloc = rt.alloc();
-    let lines = fs::read_to_string(rt, format!(in alloc; "node{node}.free")?.as_str())?;
+// The parts of a flight that are free: no rule is about them, so that another byte there may be a yes. The lines are
+// those of the flight that have such parts, with these in brackets.
+fn free_parts(alloc: Global, text: &str, lines: &str) -> Result<Vec<Part>> {
     let mut parts = Vec::new(alloc);
     for line in lines.lines() {
         parts.push(free_part(alloc, text, line)?)?;
@@ -110,39 +151,41 @@ fn free_part(alloc: Global, text: &str, line: &str) -> Result<Part> {
 }
 
 /// Tries each file with each of its lines left out, there twice, and exchanged with the next one: none is a yes.
-pub fn try_lines<R: AllocGlobal + Files + Print>(rt: &R, group: &mut Group) -> Result<()> {
-    let alloc = rt.alloc();
+pub fn try_lines(rt: &impl Print, group: &Group) -> Result<()> {
     let mut said = Said::default();
-    for node in 1..=3 {
-        let text = text_of_file(rt, node)?;
-        let lines: Vec<&str> = text.lines().collect(alloc)?;
-        for place in 0..lines.len() {
-            try_line(alloc, group, node, &lines, place, &mut said)?;
-        }
+    for (place, text) in group.texts.iter().enumerate() {
+        let lines: Vec<&str> = text.lines().collect(group.alloc)?;
+        try_file_lines(group, place, &lines, &mut said)?;
     }
     said.print(rt, "lines left out, doubled, exchanged")
 }
 
+fn try_file_lines(group: &Group, place: usize, lines: &[&str], said: &mut Said) -> Result<()> {
+    for at in 0..lines.len() {
+        let (before, rest) = lines.split_at(at);
+        if let Some((line, after)) = rest.split_first() {
+            try_line(group, place, before, line, after, said)?;
+        }
+    }
+    Ok(())
+}
+
 // The three changes of a line.
 fn try_line(
-    alloc: Global,
-    group: &mut Group,
-    node: usize,
-    lines: &[&str],
+    group: &Group,
     place: usize,
+    before: &[&str],
+    line: &str,
+    after: &[&str],
     said: &mut Said,
 ) -> Result<()> {
-    let (before, rest) = lines.split_at(place.min(lines.len()));
-    let Some((line, after)) = rest.split_first() else {
-        return Ok(());
-    };
-    let left_out = joined(alloc, before, &[], after)?;
-    said.note(group.judge(node, left_out.as_bytes())?, false);
-    let doubled = joined(alloc, before, &[*line, *line], after)?;
-    said.note(group.judge(node, doubled.as_bytes())?, false);
+    let left_out = joined(group.alloc, before, &[], after)?;
+    said.note(group.judge(place, left_out.as_bytes())?, false);
+    let doubled = joined(group.alloc, before, &[line, line], after)?;
+    said.note(group.judge(place, doubled.as_bytes())?, false);
     if let Some((next, after)) = after.split_first() {
-        let exchanged = joined(alloc, before, &[*next, *line], after)?;
-        said.note(group.judge(node, exchanged.as_bytes())?, false);
+        let exchanged = joined(group.alloc, before, &[next, line], after)?;
+        said.note(group.judge(place, exchanged.as_bytes())?, false);
     }
     Ok(())
 }

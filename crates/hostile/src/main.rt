@@ -17,7 +17,7 @@ mod sizes;
 mod tally;
 mod texts;
 
-use crate::flights::{try_bytes, try_cuts, try_exchanges, try_lines};
+use crate::flights::{try_bytes, try_cuts, try_exchanges, try_group, try_lines};
 use crate::frames::try_frames;
 use crate::group::Group;
 use crate::places::try_places;
@@ -32,10 +32,10 @@ fn main(rt: HostRuntime) -> Result<()> {
     }
     try_sizes(&rt, &reader)?;
     try_places(&rt, &reader)?;
-    let mut group = Group::open(&rt)?;
-    println!(rt; "flights as they are: {:?}", group.verdict()?)?;
-    try_cuts(&rt, &mut group)?;
-    try_exchanges(&rt, &mut group)?;
-    try_lines(&rt, &mut group)?;
-    try_bytes(&rt, &mut group)
+    let group = Group::open(&rt)?;
+    try_group(&rt, &group)?;
+    try_cuts(&rt, &group)?;
+    try_exchanges(&rt, &group)?;
+    try_lines(&rt, &group)?;
+    try_bytes(&rt, &group)
 }
