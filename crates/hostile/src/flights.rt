@@ -46,7 +46,11 @@ pub fn try_exchanges(rt: &impl Print, group: &Group) -> Result<()> {
     };
     let mut said = Said::default();
     let (first, second, third) = (first.as_str(), second.as_str(), third.as_str());
-    for order in [[second, first, third], [third, second, first], [first, third, second]] {
+    for order in [
+        [second, first, third],
+        [third, second, first],
+        [first, third, second],
+    ] {
         said.note(judge_renamed(group.alloc, order)?, false);
     }
     said.print(rt, "lives exchanged")
@@ -77,7 +81,10 @@ pub fn try_bytes<R: AllocGlobal + Files + Print>(rt: &R, group: &Group) -> Resul
         let mut said = Said::default();
         try_file_bytes(group, place, text.as_bytes(), &free, &mut said)?;
         let node = place.saturating_add(1);
-        said.print(rt, format!(in group.alloc; "bytes of node {node} changed")?.as_str())?;
+        said.print(
+            rt,
+            format!(in group.alloc; "bytes of node {node} changed")?.as_str(),
+        )?;
     }
     Ok(())
 }

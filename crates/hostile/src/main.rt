@@ -27,7 +27,13 @@ use anyhow::Result;
 
 fn main(rt: HostRuntime) -> Result<()> {
     let reader = Reader::open(&rt)?;
-    for file in ["names.cases", "numbers.cases", "texts.cases", "times.cases", "counts.cases"] {
+    for file in [
+        "names.cases",
+        "numbers.cases",
+        "texts.cases",
+        "times.cases",
+        "counts.cases",
+    ] {
         try_frames(&rt, &reader, file)?;
     }
     try_sizes(&rt, &reader)?;

@@ -52,12 +52,7 @@ pub fn try_places<R: AllocGlobal + Files + Print>(rt: &R, reader: &Reader) -> Re
 }
 
 // How many of the texts are read that have another character at a place.
-fn try_sample(
-    rt: &impl Print,
-    reader: &Reader,
-    sample: Sample,
-    tally: &mut Tally,
-) -> Result<u64> {
+fn try_sample(rt: &impl Print, reader: &Reader, sample: Sample, tally: &mut Tally) -> Result<u64> {
     let mut read: u64 = 0;
     for place in 0..sample.text.len() {
         read = read.saturating_add(try_place(rt, reader, sample, place, tally)?);

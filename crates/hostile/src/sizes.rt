@@ -6,15 +6,23 @@ use std::alloc::{AllocError, Global};
 
 // How many bytes a schema has at most, and how many a transaction or a query.
 const SCHEMA: usize = 65536;
+
 const TEXT: usize = 4096;
 
 // The blanks.
 const BLANKS: [char; 4] = [' ', '\t', '\n', '\r'];
 
-const TABLE: &str = "CREATE TABLE X (K INTEGER, F DATE, U DATE, A TIMESTAMP(6) GENERATED ALWAYS AS ROW START, B TIMESTAMP(6) GENERATED ALWAYS AS ROW END, PERIOD FOR P (F, U), PERIOD FOR SYSTEM_TIME (A, B), PRIMARY KEY (K, P WITHOUT OVERLAPS)) WITH SYSTEM VERSIONING;";
-const INSERT: &str = "INSERT INTO T (K, V, W, F, U) VALUES (1, 2, 'abc', DATE '2026-01-01', DATE '2027-01-01');";
-const UPDATE: &str = "UPDATE T FOR PORTION OF P FROM DATE '2026-03-01' TO DATE '2026-04-01' SET V = V + 1 WHERE K = 1;";
-const SELECT: &str = "SELECT * FROM T WHERE K = 1 AND P OVERLAPS PERIOD (DATE '2026-03-01', DATE '2026-04-01');";
+const TABLE: &str =
+    "CREATE TABLE X (K INTEGER, F DATE, U DATE, A TIMESTAMP(6) GENERATED ALWAYS AS ROW START, B TIMESTAMP(6) GENERATED ALWAYS AS ROW END, PERIOD FOR P (F, U), PERIOD FOR SYSTEM_TIME (A, B), PRIMARY KEY (K, P WITHOUT OVERLAPS)) WITH SYSTEM VERSIONING;";
+
+const INSERT: &str =
+    "INSERT INTO T (K, V, W, F, U) VALUES (1, 2, 'abc', DATE '2026-01-01', DATE '2027-01-01');";
+
+const UPDATE: &str =
+    "UPDATE T FOR PORTION OF P FROM DATE '2026-03-01' TO DATE '2026-04-01' SET V = V + 1 WHERE K = 1;";
+
+const SELECT: &str =
+    "SELECT * FROM T WHERE K = 1 AND P OVERLAPS PERIOD (DATE '2026-03-01', DATE '2026-04-01');";
 
 /// Tries each text with blanks at each of its places that may have more, so many that it is one byte shorter than it may
 /// be, as long, and one byte longer, which is too large.
@@ -59,7 +67,10 @@ fn try_place(
 ) -> Result<()> {
     let length = before.len().saturating_add(after.len());
     for (excess, wanted) in [(0, 0), (1, 0), (2, 17)] {
-        let count = limit.saturating_sub(1).saturating_add(excess).saturating_sub(length);
+        let count = limit
+            .saturating_sub(1)
+            .saturating_add(excess)
+            .saturating_sub(length);
         let text = widened(reader.alloc, before, after, count)?;
         let number = reader.number(kind, text.as_str());
         tally.note(number == wanted);
