@@ -10,7 +10,7 @@
 //! - those of `set_of`, as `b`, a blank, `d`, a digit, and `o`, before a `=`, where a blank, `<` or `>` may stand.
 //! - any other: the byte itself.
 use crate::tally::Tally;
-use crate::texts::{Kind, Reader};
+use crate::forms::{Form, Reader};
 use anyhow::{Result, bail};
 use std::alloc::{AllocError, Global};
 use std::fs;
@@ -25,7 +25,7 @@ const DIGITS: usize = 8;
 // A text, and below each of its bytes what may stand there.
 #[derive(Clone, Copy)]
 struct Sample<'a> {
-    kind: Kind,
+    form: Form,
     text: &'a [u8],
     classes: &'a [u8],
 }
@@ -34,18 +34,18 @@ struct Sample<'a> {
 pub fn try_places<R: AllocGlobal + Files + Print>(rt: &R, reader: &Reader) -> Result<()> {
     let samples = fs::read_to_string(rt, "places.bytes")?;
     let mut lines = samples.lines();
-    while let (Some(kind), Some(text), Some(classes)) = (lines.next(), lines.next(), lines.next()) {
+    while let (Some(form), Some(text), Some(classes)) = (lines.next(), lines.next(), lines.next()) {
         if text.len() != classes.len() {
             bail!("each byte has a class: {text}");
         }
         let sample = Sample {
-            kind: Kind::of(kind)?,
+            form: Form::of(form)?,
             text: text.as_bytes(),
             classes: classes.as_bytes(),
         };
         let mut tally = Tally::default();
         let read = try_sample(rt, reader, sample, &mut tally)?;
-        tally.print(rt, kind)?;
+        tally.print(rt, form)?;
         println!(rt; "{read} of them are read")?;
     }
     Ok(())
@@ -70,7 +70,7 @@ fn try_place(
     let mut read: u64 = 0;
     for code in 0..=255_u8 {
         let text = with_character(reader.alloc, sample.text, place, code)?;
-        let number = reader.number(sample.kind, text.as_str());
+        let number = reader.number(sample.form, text.as_str());
         let is_right = if may_stand(sample, place, code, text.as_bytes()) {
             number == 0
         } else {

@@ -11,20 +11,20 @@ use std::rt::Files;
 
 /// What a text is read as.
 #[derive(Clone, Copy)]
-pub enum Kind {
+pub enum Form {
     Schema,
     Transaction,
     Query,
 }
 
-impl Kind {
+impl Form {
     /// Of this name.
-    pub fn of(name: &str) -> Result<Kind> {
+    pub fn of(name: &str) -> Result<Form> {
         match name {
-            "schema" => Ok(Kind::Schema),
-            "transaction" => Ok(Kind::Transaction),
-            "query" => Ok(Kind::Query),
-            _ => bail!("there is no kind {name}"),
+            "schema" => Ok(Form::Schema),
+            "transaction" => Ok(Form::Transaction),
+            "query" => Ok(Form::Query),
+            _ => bail!("there is no form {name}"),
         }
     }
 }
@@ -46,17 +46,17 @@ impl Reader {
     }
 
     // Why a text is refused, or none where it is read.
-    fn refusal(&self, kind: Kind, text: &str) -> Option<Refusal> {
-        match kind {
-            Kind::Schema => read_schema(self.alloc, text).err(),
-            Kind::Transaction => read_transaction(self.alloc, &self.schema, text).err(),
-            Kind::Query => read_query(self.alloc, &self.schema, text).err(),
+    fn refusal(&self, form: Form, text: &str) -> Option<Refusal> {
+        match form {
+            Form::Schema => read_schema(self.alloc, text).err(),
+            Form::Transaction => read_transaction(self.alloc, &self.schema, text).err(),
+            Form::Query => read_query(self.alloc, &self.schema, text).err(),
         }
     }
 
     /// The number of the refusal of a text, 0 where it is read.
-    pub fn number(&self, kind: Kind, text: &str) -> u8 {
-        match self.refusal(kind, text) {
+    pub fn number(&self, form: Form, text: &str) -> u8 {
+        match self.refusal(form, text) {
             Some(refusal) => refusal.number(),
             None => 0,
         }

@@ -1,11 +1,11 @@
 //! Texts that are made from a frame and what is put into it.
 //!
-//! In a file of `.cases` a line `frame KIND NUMBER TEXT` is a frame, and a line `put NUMBER TEXT` is put in the place of
+//! In a file of `.cases` a line `frame FORM NUMBER TEXT` is a frame, and a line `put NUMBER TEXT` is put in the place of
 //! each `@` of each of the frames right before the `put` lines. NUMBER is that of the refusal which has to come, 0 where
 //! the text has to be read, and for `put` a `=` says that it is the frame's. `{16 X}` is X 16 times, where each `#` is
 //! the count, from 1. Each text is tried as it stands and in lower case, since neither words nor names know of case.
 use crate::tally::Tally;
-use crate::texts::{Kind, Reader};
+use crate::forms::{Form, Reader};
 use anyhow::{Result, bail};
 use std::alloc::{AllocError, Global};
 use std::fs;
@@ -14,7 +14,7 @@ use std::rt::Files;
 // A frame, with the number of what has to come of what is well put into it.
 #[derive(Clone, Copy)]
 struct Frame<'a> {
-    kind: Kind,
+    form: Form,
     number: u8,
     text: &'a str,
 }
@@ -50,14 +50,14 @@ pub fn try_frames<R: AllocGlobal + Files + Print>(
 }
 
 fn frame_of(line: &str) -> Result<Frame<'_>> {
-    let Some((kind, rest)) = line.split_once(' ') else {
-        bail!("a frame has a kind");
+    let Some((form, rest)) = line.split_once(' ') else {
+        bail!("a frame has a form");
     };
     let Some((number, text)) = rest.split_once(' ') else {
         bail!("a frame has a number");
     };
     Ok(Frame {
-        kind: Kind::of(kind)?,
+        form: Form::of(form)?,
         number: number.parse()?,
         text,
     })
@@ -79,9 +79,9 @@ fn put_all(
         };
         let text = frame.text.replace(reader.alloc, "@", filling)?;
         let text = repeated(reader.alloc, text.as_str())?;
-        try_text(rt, reader, frame.kind, wanted, text.as_str(), tally)?;
+        try_text(rt, reader, frame.form, wanted, text.as_str(), tally)?;
         let lower = in_lower_case(reader.alloc, text.as_str())?;
-        try_text(rt, reader, frame.kind, wanted, lower.as_str(), tally)?;
+        try_text(rt, reader, frame.form, wanted, lower.as_str(), tally)?;
     }
     Ok(())
 }
@@ -89,12 +89,12 @@ fn put_all(
 fn try_text(
     rt: &impl Print,
     reader: &Reader,
-    kind: Kind,
+    form: Form,
     wanted: u8,
     text: &str,
     tally: &mut Tally,
 ) -> Result<()> {
-    let number = reader.number(kind, text);
+    let number = reader.number(form, text);
     tally.note(number == wanted);
     if number != wanted {
         println!(rt; "{number} in place of {wanted}: {text}")?;

@@ -1,6 +1,6 @@
 //! Texts as long as may be, and one byte longer.
 use crate::tally::Tally;
-use crate::texts::{Kind, Reader};
+use crate::forms::{Form, Reader};
 use anyhow::Result;
 use std::alloc::{AllocError, Global};
 
@@ -28,18 +28,18 @@ const SELECT: &str =
 /// be, as long, and one byte longer, which is too large.
 pub fn try_sizes(rt: &impl Print, reader: &Reader) -> Result<()> {
     let mut tally = Tally::default();
-    try_text(rt, reader, Kind::Schema, TABLE, SCHEMA, &mut tally)?;
+    try_text(rt, reader, Form::Schema, TABLE, SCHEMA, &mut tally)?;
     for text in [INSERT, UPDATE] {
-        try_text(rt, reader, Kind::Transaction, text, TEXT, &mut tally)?;
+        try_text(rt, reader, Form::Transaction, text, TEXT, &mut tally)?;
     }
-    try_text(rt, reader, Kind::Query, SELECT, TEXT, &mut tally)?;
+    try_text(rt, reader, Form::Query, SELECT, TEXT, &mut tally)?;
     tally.print(rt, "sizes")
 }
 
 fn try_text(
     rt: &impl Print,
     reader: &Reader,
-    kind: Kind,
+    form: Form,
     text: &str,
     limit: usize,
     tally: &mut Tally,
@@ -51,7 +51,7 @@ fn try_text(
         if place > 0 && !after.is_empty() && !after.starts_with(' ') {
             continue;
         }
-        try_place(rt, reader, kind, before, after, limit, tally)?;
+        try_place(rt, reader, form, before, after, limit, tally)?;
     }
     Ok(())
 }
@@ -59,7 +59,7 @@ fn try_text(
 fn try_place(
     rt: &impl Print,
     reader: &Reader,
-    kind: Kind,
+    form: Form,
     before: &str,
     after: &str,
     limit: usize,
@@ -72,7 +72,7 @@ fn try_place(
             .saturating_add(excess)
             .saturating_sub(length);
         let text = widened(reader.alloc, before, after, count)?;
-        let number = reader.number(kind, text.as_str());
+        let number = reader.number(form, text.as_str());
         tally.note(number == wanted);
         if number != wanted {
             println!(rt; "{number} in place of {wanted}: {count} blanks after {before}")?;
