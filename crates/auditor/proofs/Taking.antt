@@ -77,6 +77,9 @@ taken_as v t n p node s job event outs there is gives told = (job, there, (outs,
 
 pub told_otherwise : (v : Version) (t : Tables) (n : ℕ) (p : Past) (node mark : ℕ) (s : Step) (job : Job) (event : Event) (outs : List Output) → IsJob p node s.packet job → event ≡ job_event node job → Gives (schema_of t) n p.world event outs →
     (AreTold v outs s.outcomes → ⊥) → Lacks (IsStepFault p node mark (Some s)) (IsTaken v t n p node (Some s)) (Wrong node mark)
-told_otherwise v t n p node mark s job event outs there is gives untold = (inr (refl, (job, there)), λ events h.
-    let same = given_alike (schema_of t) n p node s.packet h.0 job h.2.0 outs h.1 there h.2.1 (subst (λ e. Gives (schema_of t) n p.world e outs) is gives) in
-    untold (subst (λ xs. AreTold v xs s.outcomes) same h.2.2))
+told_otherwise v t n p node mark s job event outs there is gives untold = (
+  inr (refl, (job, there)),
+  λ events h.
+      let same = given_alike (schema_of t) n p node s.packet h.0 job h.2.0 outs h.1 there h.2.1 (subst (λ e. Gives (schema_of t) n p.world e outs) is gives) in
+      untold (subst (λ xs. AreTold v xs s.outcomes) same h.2.2),
+)

@@ -32,11 +32,7 @@ fn are_same_outcomes(some: &[Outcome], others: &[Outcome]) -> bool
 }
 
 // Adds what an output tells, if it tells of a request.
-fn add_told(
-    alloc: Global,
-    outcomes: &mut Vec<Outcome>,
-    output: &Output,
-) -> Result<(), AllocError>
+fn add_told(alloc: Global, outcomes: &mut Vec<Outcome>, output: &Output) -> Result<(), AllocError>
     ensures { OnOk result (outcomes.new.items ≡ outcomes.old.items ++ outcomes_in (output_of output.now ∷ [])) }
 {
     match output {

@@ -1,6 +1,6 @@
 //! Texts as long as may be, and one byte longer.
-use crate::tally::Tally;
 use crate::forms::{Form, Reader};
+use crate::tally::Tally;
 use anyhow::Result;
 use std::alloc::{AllocError, Global};
 

@@ -161,7 +161,7 @@ module _ (texts : List (String Global)) (fs : List Flight) (read : AreRead texts
   alike version tables flights are f has =
       let from : (x : String Global) × Contains texts x × IsRead x f = read_of texts fs read f has in
       let found : (g : FlightContents) × Contains flights g × IsFileOf (string_bytes from.0) g = file_of bytes version tables flights are (string_bytes from.0) (to_map string_bytes texts from.0 from.1) in
-      let good : IsFlight found.0 × (found.0.members ≡ length flights) × (found.0.schema ≡ are.schema) = All-contains (λ g. IsFlight g × (g.members ≡ length flights) × (g.schema ≡ are.schema)) flights found.0 are.each found.1 in
+      let good : IsFlight found.0 × (found.0.version ≡ version) × (found.0.members ≡ length flights) × (found.0.schema ≡ are.schema) = All-contains (λ g. IsFlight g × (g.version ≡ version) × (g.members ≡ length flights) × (g.schema ≡ are.schema)) flights found.0 are.each found.1 in
       let same : found.0 ≡ in_flight f = from.2.1 found.0 found.2 in
       (ap (λ g. g.version) (sym same) ∙ good.1, ap (λ g. g.members) (sym same) ∙ good.2 ∙ as_many bytes version tables flights are ∙ as_many_read, ap (λ g. g.schema) (sym same) ∙ good.3)
 
