@@ -1,4 +1,5 @@
-//! Tries each case of the folder that it runs in. It tells how many print what they should, and which do not.
+//! Tries each case of the folder that it runs in, and tells how many print what they should, and which do not. Then it tries
+//! what an enemy would make, as `hostile` says.
 //!
 //! A case is an input, whose ending says how it is tried, and beside it NAME.output, which is what it prints. For a
 //! script NAME.told may stand in its place, which leaves out the messages that were sent.
@@ -23,6 +24,14 @@
 
 mod broken;
 mod databases;
+mod flights;
+mod forms;
+mod frames;
+mod group;
+mod hostile;
+mod places;
+mod sizes;
+mod tally;
 mod text;
 mod trial;
 
@@ -37,11 +46,17 @@ use trial::{Kind, play, tell};
 const SHORT: usize = 20000;
 
 fn main(rt: HostRuntime) -> Result<()> {
+    try_cases(&rt)?;
+    hostile::try_all(&rt)
+}
+
+// Tries each case.
+fn try_cases<R: AllocGlobal + Files + Print + Clone + Drop>(rt: &R) -> Result<()> {
     let alloc = rt.alloc();
-    let names = names_of_inputs(&rt, alloc)?;
+    let names = names_of_inputs(rt, alloc)?;
     let mut wrong: usize = 0;
     for name in &names {
-        let fault = match fault_of(&rt, alloc, name) {
+        let fault = match fault_of(rt, alloc, name) {
             Ok(None) => continue,
             Ok(Some(fault)) => fault,
             Err(error) => format!(in alloc; "{error}")?,
