@@ -3,6 +3,7 @@ ghost use Rattle.std.specs.Prelude.{◌≡◌, ◌≤◌, [], IfOk, IfErr};
 ghost use Rattle.sqlread.specs.Meaning.{schema_of};
 ghost use Rattle.keep.specs.Durable.{stored_in};
 ghost use Rattle.keep.specs.Log.{IsLog};
+ghost use Rattle.node.specs.Member.{me_of, members_of, tables_of};
 ghost use Rattle.view.specs.Publishing.{IsSameLife};
 ghost use Rattle.flight.specs.Lives.{all_steps};
 
@@ -38,7 +39,7 @@ pub(crate) fn start<R: Wait>(
 ) -> Result<Cell<MemKeeper>, (Refusal, MemImage)>
     requires member { (1 ≤ me) × (me ≤ 3) }
     requires log { IsLog 3 (schema_of schema.now) (stored_in image) }
-    ensures group { IfOk result (λ c. (c.node.core.members ≡ 3) × (c.node.core.schema ≡ schema.now) × (c.node.core.me ≡ me)) }
+    ensures group { IfOk result (λ c. (members_of c.node ≡ 3) × (tables_of c.node ≡ schema.now) × (me_of c.node ≡ me)) }
     ensures none { IfOk result (λ c. all_steps c.life ≡ []) }
     ensures log { IfErr result (λ e. IsLog 3 (schema_of schema.now) (stored_in e.1)) }
 {
@@ -77,7 +78,7 @@ fn steps_of(life: &Life) -> (u64, usize) {
 
 // Stands for election and is given a vote.
 pub(crate) fn lead<R: Wait>(rt: &R, cell: &mut Cell<MemKeeper>) -> Result<(), Fault>
-    ensures group { (cell.new.node.core.members ≡ cell.old.node.core.members) × (cell.new.node.core.schema ≡ cell.old.node.core.schema) }
+    ensures group { (members_of cell.new.node ≡ members_of cell.old.node) × (tables_of cell.new.node ≡ tables_of cell.old.node) }
     ensures life { IsSameLife cell.old.publisher cell.new.publisher }
 {
     let _ = cell.feed(rt, timeout())?;
@@ -87,7 +88,7 @@ pub(crate) fn lead<R: Wait>(rt: &R, cell: &mut Cell<MemKeeper>) -> Result<(), Fa
 
 // The first life of member 1, of whose store this call fails, a save. How it goes down, and what it leaves.
 fn first_life(rt: &(impl Abort + Wait), mut cell: Cell<MemKeeper>, call: u64) -> (MemImage, Life)
-    ensures { IsLog cell.node.core.members (schema_of cell.node.core.schema) (stored_in result.0) }
+    ensures { IsLog (members_of cell.node) (schema_of (tables_of cell.node)) (stored_in result.0) }
 {
     let down = lead(rt, &mut cell);
     let late = cell.feed(rt, beat());
@@ -234,7 +235,7 @@ fn fill(
     mut cell: Cell<MemKeeper>,
     beats: usize,
 ) -> Result<(MemImage, Life), Fail>
-    ensures { IfOk result (λ p. IsLog cell.node.core.members (schema_of cell.node.core.schema) (stored_in p.0)) }
+    ensures { IfOk result (λ p. IsLog (members_of cell.node) (schema_of (tables_of cell.node)) (stored_in p.0)) }
 {
     for _ in 0..beats {
         let _ = cell.feed(rt, beat())?;

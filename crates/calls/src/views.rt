@@ -1,5 +1,6 @@
 //! What cells publish, and cells under a lock.
 ghost use Rattle.std.specs.Prelude.{◌≡◌, ◌<◌, []};
+ghost use Rattle.node.specs.Member.{me_of};
 ghost use Rattle.view.specs.Publishing.{book_of};
 ghost use Rattle.view.specs.Viewing.{name_told, IsOwn};
 ghost use Rattle.flight.specs.Lives.{all_steps};
@@ -91,10 +92,10 @@ fn published(
     cell: &mut Cell<MemKeeper>,
     other: &Told,
 ) -> Result<(), Fail>
-    requires me { cell.old.node.core.me ≡ 1 }
+    requires me { me_of cell.old.node ≡ 1 }
     requires other { (name_told other.now).node ≡ 2 }
 {
-    let query = read_query(alloc, &cell.node.core.schema, QUESTION)?;
+    let query = read_query(alloc, cell.node.schema(), QUESTION)?;
     let mut first = cell.take_view()?;
     let mut second = cell.take_view()?;
     lead(rt, cell)?;

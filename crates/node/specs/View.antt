@@ -12,7 +12,8 @@ use Rattle.keep.specs.Durable.{Durable, after, IsBeforeOrAfter}
 use Rattle.keep.specs.declared.change.Change.{Change}
 use Rattle.keep.specs.declared.error.StoreError.{StoreError}
 use Rattle.keep.specs.declared.error.StoreError.TheVariants.{NoMemory, StoreFault}
-use Rattle.raft.specs.View.{hard_of}
+pub use Rattle.raft.specs.View.{hard_of, works, Grows}
+pub use Rattle.raft.specs.Memory.{spares_memory}
 pub use Rattle.apply.specs.View.{IsAskedOf}
 use Rattle.node.specs.declared.node.Out.{Out}
 use Rattle.node.specs.declared.node.Fault.{Fault}

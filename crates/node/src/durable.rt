@@ -4,7 +4,6 @@ ghost use Rattle.sqlread.specs.Meaning.{schema_of};
 ghost use Rattle.keep.specs.Errors.{IsAnswered};
 ghost use Rattle.model.specs.Lists.{nth};
 ghost use Rattle.keep.specs.Durable.{Durable};
-ghost use Rattle.raft.specs.View.{node_of};
 ghost use Rattle.node.specs.View.{durable_of, HasCause};
 ghost use Rattle.node.specs.Answered.{stored_of, IsFaultOf};
 
@@ -43,9 +42,11 @@ fn fetch<K: Keeper>(
 }
 
 impl<K: Keeper> Node<K> {
+    ghost use Rattle.node.specs.Member.{member_of, IsSameSeat};
+
     /// What is stored, which takes no memory and asks no store: 41 where the node is down.
     pub fn durable(&self) -> Result<Stored, Fault>
-        ensures ok { IfOk result (λ stored. (self.now.is_up ≡ true) × (stored ≡ stored_of (durable_of (node_of self.now.core)))) }
+        ensures ok { IfOk result (λ stored. (self.now.is_up ≡ true) × (stored ≡ stored_of (durable_of (member_of self.now)))) }
         ensures kept { IfOk result (λ stored. K.is_honest self.now.keeper → stored ≡ stored_of (K.stored self.now.keeper)) }
         ensures down { IfErr result (λ fault. (self.now.is_up ≡ false) × (fault ≡ Fault.Kept Refusal.NodeDown)) }
     {
@@ -61,12 +62,14 @@ impl<K: Keeper> Node<K> {
     /// The entry at an index of the log, counted from 1, as it is stored; none where there is none.
     /// 41 where the node is down, with nothing changed; after 40 and 43 it is down.
     pub fn entry(&mut self, index: usize) -> Result<Option<Entry>, Fault>
-        ensures ok { IfOk result (λ found. K.is_honest self.new.keeper → found ≡ nth self.old.core.log.items index) }
+        ensures ok { IfOk result (λ found. K.is_honest self.new.keeper → found ≡ nth (member_of self.old).log index) }
         ensures up { OnOk result ((self.old.is_up ≡ true) × (self.new.is_up ≡ true)) }
         ensures fails { IfErr result (IsFaultOf self.old.is_up self.new.is_up) }
         ensures cause { IfErr result (HasCause (K.failed self.old.keeper) (K.failed self.new.keeper)) }
         ensures stays { self.old.is_up ≡ false → self.new ≡ self.old }
         ensures core { self.new.core ≡ self.old.core }
+        ensures member { member_of self.new ≡ member_of self.old }
+        ensures group { IsSameSeat self.old self.new }
         ensures left { (d : Durable) → K.may_hold self.new.keeper d → K.may_hold self.old.keeper d }
     {
         if !self.is_up {

@@ -7,3 +7,4 @@ mod reading;
 mod telling;
 
 pub use node::{Fault, Node, Out};
+pub use raft::state::Work;

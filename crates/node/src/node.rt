@@ -11,7 +11,7 @@ ghost use Rattle.model.specs.Kept.{node_after};
 ghost use Rattle.model.specs.Members.{applied};
 ghost use Rattle.keep.specs.Durable.{Durable, IsBeforeOrAfter};
 ghost use Rattle.raft.specs.Memory.{spares_memory};
-ghost use Rattle.raft.specs.View.{node_of, works, Grows};
+ghost use Rattle.raft.specs.View.{hard_of, node_of, Grows};
 ghost use Rattle.node.specs.View.{durable_of, after_change, Fits, Gave, IsKept, IsSame, IsTorn, IsCause, HasCause, LeavesUp, started_from, told_between};
 
 use crate::reading::{Found, read_stored};
@@ -21,6 +21,7 @@ use apply::Tables;
 use fault::Refusal;
 use keep::change::Change;
 use keep::error::StoreError;
+use keep::hard_state::HardState;
 use keep::keeper::Keeper;
 use model::entry::{Entry, Told};
 use model::member::Member;
@@ -28,7 +29,7 @@ use model::message::Message;
 use raft::state::{Core, Effect, Taken, Work};
 use schema::Schema;
 use sqlread::query::Query;
-use std::alloc::Global;
+use std::alloc::{AllocError, Global};
 use thiserror::Error;
 
 /// What a step gives, once what it changed is stored.
@@ -59,7 +60,7 @@ pub enum Fault {
 pub struct Node<K: Keeper> {
     pub(crate) alloc: Global,
     /// What the member knows.
-    pub core: Core,
+    pub(crate) core: Core,
     /// Where its hard state and log are stored.
     pub keeper: K,
     /// The tables of the schema after the applied entries.
@@ -148,6 +149,8 @@ fn finish<K: Keeper>(
 }
 
 impl<K: Keeper> Node<K> {
+    ghost use Rattle.node.specs.Member.{effect_at, me_of, member_of, members_of, tables_of, IsSameSeat};
+
     /// Opens what the image holds, as a follower with the hard state and the log that are stored,
     /// which knows of no leader and has applied nothing. `me` is one of the group: from 1 to `members`, of
     /// which there are up to 7; the caller sees to this, and to what the keeper asks of an image.
@@ -165,9 +168,9 @@ impl<K: Keeper> Node<K> {
         requires few { members ≤ 7 }
         requires member { (1 ≤ me) × (me ≤ members) }
         requires suits { K.suits image members (schema_of schema) }
-        ensures opened { IfOk result (λ n. node_of n.core ≡ started_from (durable_of (node_of n.core))) }
-        ensures found { IfOk result (λ n. K.is_honest n.keeper → K.holds image (durable_of (node_of n.core))) }
-        ensures group { IfOk result (λ n. (n.is_up ≡ true) × (n.core.schema ≡ schema) × (n.core.members ≡ members) × (n.core.me ≡ me)) }
+        ensures opened { IfOk result (λ n. member_of n ≡ started_from (durable_of (member_of n))) }
+        ensures found { IfOk result (λ n. K.is_honest n.keeper → K.holds image (durable_of (member_of n))) }
+        ensures group { IfOk result (λ n. (n.is_up ≡ true) × (tables_of n ≡ schema) × (members_of n ≡ members) × (me_of n ≡ me)) }
         ensures back { IfErr result (λ e. (d : Durable) → K.holds e.1 d → K.holds image d) }
         ensures suits { IfErr result (λ e. K.suits e.1 members (schema_of schema)) }
         ensures bad { IfErr result (λ e. e.0 ≡ StoreError.BadStore → K.is_bad e.1 members (schema_of schema) ⊎ ((d : Durable) → K.holds e.1 d → ⊥)) }
@@ -201,20 +204,20 @@ impl<K: Keeper> Node<K> {
     /// after it. A timeout, a beat or a close that is refused or ignored takes no memory, and never takes the node down.
     #[tactic(auto, using(crate::proofs::Stored::fits, crate::proofs::Stored::small, crate::proofs::Stored::synced))]
     pub fn step(&mut self, work: Work) -> Result<Out, Fault>
-        ensures done { self.old.is_up ≡ true → Gave (node_of self.old.core) (node_of self.new.core) (works self.old.core.schema self.old.core.members self.old.core.me work (node_of self.old.core)) result }
-        ensures grows { OnOk result (Grows (node_of self.old.core) (node_of self.new.core)) }
-        ensures applied { IfOk result (λ out. out.applied.items ≡ slice_range self.new.core.log.items self.old.core.commit self.new.core.commit) }
-        ensures told { IfOk result (λ out. out.told.items ≡ told_between (schema_of self.old.core.schema) self.new.core.log.items self.old.core.commit self.new.core.commit) }
-        ensures spares { spares_memory self.old.core.members self.old.core.me work (node_of self.old.core) ≡ true → IfErr result IsKept }
-        ensures same { IfErr result (IsSame (node_of self.old.core) (node_of self.new.core)) }
-        ensures torn { IsTorn (durable_of (node_of self.old.core)) (durable_of (node_after (node_of self.old.core) (works self.old.core.schema self.old.core.members self.old.core.me work (node_of self.old.core)))) (K.may_hold self.new.keeper) result }
+        ensures done { self.old.is_up ≡ true → Gave (member_of self.old) (member_of self.new) (effect_at self.old work) result }
+        ensures grows { OnOk result (Grows (member_of self.old) (member_of self.new)) }
+        ensures applied { IfOk result (λ out. out.applied.items ≡ slice_range (member_of self.new).log (member_of self.old).commit (member_of self.new).commit) }
+        ensures told { IfOk result (λ out. out.told.items ≡ told_between (schema_of (tables_of self.old)) (member_of self.new).log (member_of self.old).commit (member_of self.new).commit) }
+        ensures spares { spares_memory (members_of self.old) (me_of self.old) work (member_of self.old) ≡ true → IfErr result IsKept }
+        ensures same { IfErr result (IsSame (member_of self.old) (member_of self.new)) }
+        ensures torn { IsTorn (durable_of (member_of self.old)) (durable_of (node_after (member_of self.old) (effect_at self.old work))) (K.may_hold self.new.keeper) result }
         ensures up { OnOk result ((self.old.is_up ≡ true) × (self.new.is_up ≡ true)) }
         ensures down { self.old.is_up ≡ false → result ≡ Err (Fault.Kept Refusal.NodeDown) }
         ensures stays { self.old.is_up ≡ false → self.new ≡ self.old }
         ensures ends { IfErr result (λ f. f ≡ Fault.Kept Refusal.NodeDown → self.new.is_up ≡ self.old.is_up) }
         ensures leaves { IfErr result (LeavesUp self.old.is_up self.new.is_up) }
         ensures cause { IfErr result (HasCause (K.failed self.old.keeper) (K.failed self.new.keeper)) }
-        ensures group { (self.new.core.schema ≡ self.old.core.schema) × (self.new.core.members ≡ self.old.core.members) × (self.new.core.me ≡ self.old.core.me) }
+        ensures group { IsSameSeat self.old self.new }
     {
         if !self.is_up {
             return Err(Fault::Kept(Refusal::NodeDown));
@@ -250,8 +253,8 @@ impl<K: Keeper> Node<K> {
     /// time, the stamp of the last of them. `NodeDown` where the node is down, `NotClosed` with the closed time where the
     /// question's last instant is later than it, or where nothing is applied, `NoMemory` where memory is refused.
     pub fn ask(&self, query: &Query) -> Result<Answer, Refusal>
-        ensures asked { self.now.is_up ≡ true → IsAskedOf (schema_of self.now.core.schema) (query_of query.now) (applied (node_of self.now.core)) result }
-        ensures columns { IfOk result (λ a. a.columns.items ≡ columns_in self.now.core.schema query.now.table) }
+        ensures asked { self.now.is_up ≡ true → IsAskedOf (schema_of (tables_of self.now)) (query_of query.now) (applied (member_of self.now)) result }
+        ensures columns { IfOk result (λ a. a.columns.items ≡ columns_in (tables_of self.now) query.now.table) }
         ensures down { self.now.is_up ≡ false → result ≡ Err Refusal.NodeDown }
     {
         if !self.is_up {
@@ -269,7 +272,7 @@ impl<K: Keeper> Node<K> {
 
     /// Up to which index of the log it has applied, none where it is down.
     pub fn commit(&self) -> Option<usize>
-        ensures { result ≡ (if self.now.is_up then Some self.now.core.commit else None) }
+        ensures { result ≡ (if self.now.is_up then Some (member_of self.now).commit else None) }
     {
         if !self.is_up {
             return None;
@@ -277,12 +280,51 @@ impl<K: Keeper> Node<K> {
         Some(self.core.commit())
     }
 
+    /// Takes it down, as a step that fails does.
+    pub fn take_down(&mut self)
+        ensures member { member_of self.new ≡ member_of self.old }
+        ensures group { IsSameSeat self.old self.new }
+        ensures keeper { self.new.keeper ≡ self.old.keeper }
+        ensures down { self.new.is_up ≡ false }
+        ensures held { self.old.is_up ≡ true → (d : Durable) → K.may_hold self.new.keeper d → d ≡ durable_of (member_of self.old) }
+    {
+        self.is_up = false;
+    }
+
+    /// The tables that it was started with.
+    pub fn schema(&self) -> &Schema
+        ensures { result.now ≡ tables_of self.now }
+    {
+        &self.core.schema
+    }
+
+    /// Which member of its group it is.
+    pub fn me(&self) -> Member
+        ensures { result ≡ me_of self.now }
+    {
+        self.core.me
+    }
+
+    /// Its term and its vote, which it keeps over a restart.
+    pub fn hard_state(&self) -> HardState
+        ensures { result ≡ hard_of (member_of self.now) }
+    {
+        self.core.hard_state()
+    }
+
+    /// A copy of its log.
+    pub fn entries(&self) -> Result<Vec<Entry>, AllocError>
+        ensures { IfOk result (λ entries. entries.items ≡ (member_of self.now).log) }
+    {
+        self.core.log().to_vec(self.alloc)
+    }
+
     /// Stops it, and gives the image up. Of a node that is up the image holds the hard state and
     /// the log that it has.
     pub fn stop(self) -> K::Image
         ensures held { (d : Durable) → K.holds result d → K.may_hold self.keeper d }
-        ensures suits { K.suits result self.core.members (schema_of self.core.schema) }
-        ensures last { self.is_up ≡ true → (d : Durable) → K.holds result d → d ≡ durable_of (node_of self.core) }
+        ensures suits { K.suits result (members_of self) (schema_of (tables_of self)) }
+        ensures last { self.is_up ≡ true → (d : Durable) → K.holds result d → d ≡ durable_of (member_of self) }
     {
         self.keeper.close()
     }

@@ -1,5 +1,5 @@
 -- What a life with one step more publishes.
-use Rattle.std.proofs.Common.{◌≡◌, ◌∙◌, ℕ, zero, ◌+◌, ◌-◌, List, [], ◌∷◌, ◌++◌, length, take, drop, map, fold, refl, sym, ap, arith, append-nil, append_assoc, inl, inr, ⊎_elim, Result, Ok, Err, is_err, false, OnOk}
+use Rattle.std.proofs.Common.{◌≡◌, ◌∙◌, ℕ, zero, ◌+◌, ◌-◌, List, [], ◌∷◌, ◌++◌, length, take, drop, fold, refl, sym, ap, arith, append-nil, append_assoc, inl, inr, ⊎_elim, Result, Ok, Err, is_err, false, OnOk}
 use Rattle.std.specs.List.{slice_range}
 use Rattle.std.proofs.Math.Seq.{take-add}
 use Rattle.std.proofs.lemmas.List.{map-append}
@@ -9,11 +9,9 @@ use Rattle.model.specs.Members.{Node, applied}
 use Rattle.model.specs.Kept.{node_after}
 use Rattle.model.specs.Steps.{Effect}
 use Rattle.keep.specs.Durable.{Durable, IsBeforeOrAfter}
-use Rattle.raft.specs.declared.state.Core.{Core}
-use Rattle.raft.specs.declared.state.Work.{Work}
-use Rattle.raft.specs.View.{node_of, works, Grows}
 use Rattle.node.specs.declared.node.Out.{Out}
-use Rattle.node.specs.View.{IsGiven, durable_of, started_from}
+use Rattle.node.specs.View.{IsGiven, durable_of, started_from, works, Grows}
+use Rattle.node.specs.Work.{Work}
 use Rattle.history.specs.declared.item.Item.{Item}
 use Rattle.history.specs.Items.{entry_of, entries_of}
 use Rattle.flight.specs.declared.life.Step.{Step}
@@ -22,14 +20,14 @@ use Rattle.nodes.specs.Lives.{stepped, opened_with}
 use Rattle.view.specs.declared.publisher.Publisher.{Publisher}
 use Rattle.view.specs.Publishing.{IsSameLife}
 use Rattle.nodes.specs.Publishing.{marked, items_by, items_from, AreFirst, IsPublisherOf}
-use Rattle.nodes.proofs.Replays.{taken_through, replayed}
+use Rattle.nodes.proofs.Replays.{taken_through, replayed, Seated}
 
 -- what becomes applied in the steps from an opening on
-abbrev pub items_in : Core → Opening → List Step → List Item
+abbrev pub items_in : Seated → Opening → List Step → List Item
 items_in c o steps = items_from c.schema c.members c.me (started_from (opened_with o)) steps
 
 -- the seat is the same
-pub same_items : (old new : Core) (o : Opening) (steps : List Step) → new.schema ≡ old.schema → new.members ≡ old.members → new.me ≡ old.me → items_in new o steps ≡ items_in old o steps
+pub same_items : (old new : Seated) (o : Opening) (steps : List Step) → new.schema ≡ old.schema → new.members ≡ old.members → new.me ≡ old.me → items_in new o steps ≡ items_in old o steps
 same_items old new o steps a b c = rw (a, b, c) refl
 
 -- one step more
@@ -57,14 +55,14 @@ items_none mark x y e =
     ap (λ (v : Node). items_by mark x v) e ∙ ap (λ (k : ℕ). marked mark (take k (drop x.commit x.log))) none
 
 -- what a longer life publishes
-pub record OneMore (old new : Core) (o : Opening) (before after : List Step) (s : Step) : Type 0 where
-  pub items : items_in new o after ≡ items_in old o before ++ items_by s.mark (node_of old) (node_of new)
+pub record OneMore (old new : Seated) (o : Opening) (before after : List Step) (s : Step) : Type 0 where
+  pub items : items_in new o after ≡ items_in old o before ++ items_by s.mark old.member new.member
   pub entries : entries_of (items_in new o after) ≡ applied (taken_through new o after)
 
-pub one_more : (old new : Core) (o : Opening) (before after : List Step) (s : Step) → new.schema ≡ old.schema → new.members ≡ old.members → new.me ≡ old.me → after ≡ before ++ s ∷ [] → node_of old ≡ taken_through old o before → stepped old.schema old.members old.me (node_of old) s ≡ node_of new → Grows (node_of old) (node_of new) → entries_of (items_in old o before) ≡ applied (taken_through old o before) → OneMore old new o before after s
+pub one_more : (old new : Seated) (o : Opening) (before after : List Step) (s : Step) → new.schema ≡ old.schema → new.members ≡ old.members → new.me ≡ old.me → after ≡ before ++ s ∷ [] → old.member ≡ taken_through old o before → stepped old.schema old.members old.me old.member s ≡ new.member → Grows old.member new.member → entries_of (items_in old o before) ≡ applied (taken_through old o before) → OneMore old new o before after s
 one_more old new o before after s a b c e was is grows had =
-    let x : Node = node_of old in
-    let y : Node = node_of new in
+    let x : Node = old.member in
+    let y : Node = new.member in
     let items : items_in new o after ≡ items_in old o before ++ items_by s.mark x y =
     same_items old new o after a b c
     ∙ ap (items_in old o) e
@@ -101,26 +99,26 @@ pub are_first : (shown waits items shown' items' : List Item) → shown ++ waits
 are_first shown waits items shown' items' was a b = rw (a, b, ← was) (first_of shown waits)
 
 -- a step that was made whole, of which what is stored is left
-pub whole_left : (x : Node) (schema : Tables) (n me : ℕ) (w : Work) (c : Core) (out : Out) (d : Durable) → IsGiven x (node_of c) (works schema n me w x) out → d ≡ durable_of (node_of c) → IsBeforeOrAfter (durable_of x) (durable_of (node_after x (works schema n me w x))) d
-whole_left x schema n me w c out d gave is = ⊎_elim
+pub whole_left : (x : Node) (schema : Tables) (n me : ℕ) (w : Work) (y : Node) (out : Out) (d : Durable) → IsGiven x y (works schema n me w x) out → d ≡ durable_of y → IsBeforeOrAfter (durable_of x) (durable_of (node_after x (works schema n me w x))) d
+whole_left x schema n me w y out d gave is = ⊎_elim
     (λ moved. inr (is ∙ ap (λ (effect : Effect). durable_of (node_after x effect)) moved))
     (λ ignored. inl (is ∙ ap durable_of ignored.1))
     gave
 
 -- ---- where nothing was made
 
-pub listed_none : (c : Core) (o : Opening) (steps : List Step) → steps ≡ [] → entries_of (items_in c o steps) ≡ applied (taken_through c o steps)
+pub listed_none : (c : Seated) (o : Opening) (steps : List Step) → steps ≡ [] → entries_of (items_in c o steps) ≡ applied (taken_through c o steps)
 unfolding items_from
 listed_none c o steps e = rw e refl
 
-pub whole_none : (c : Core) (o : Opening) (steps : List Step) (shown waits : List Item) → steps ≡ [] → shown ≡ [] → waits ≡ [] → shown ++ waits ≡ items_in c o steps
+pub whole_none : (c : Seated) (o : Opening) (steps : List Step) (shown waits : List Item) → steps ≡ [] → shown ≡ [] → waits ≡ [] → shown ++ waits ≡ items_in c o steps
 unfolding items_from
 whole_none c o steps shown waits e a b = rw (e, a, b) refl
 
-pub items_still : (old new : Core) (o : Opening) (before after : List Step) → new.schema ≡ old.schema → new.members ≡ old.members → new.me ≡ old.me → after ≡ before → items_in new o after ≡ items_in old o before
+pub items_still : (old new : Seated) (o : Opening) (before after : List Step) → new.schema ≡ old.schema → new.members ≡ old.members → new.me ≡ old.me → after ≡ before → items_in new o after ≡ items_in old o before
 items_still old new o before after a b c e = rw (a, b, c, e) refl
 
-pub listed_still : (old new : Core) (o : Opening) (before after : List Step) → new.schema ≡ old.schema → new.members ≡ old.members → new.me ≡ old.me → after ≡ before → entries_of (items_in old o before) ≡ applied (taken_through old o before) → entries_of (items_in new o after) ≡ applied (taken_through new o after)
+pub listed_still : (old new : Seated) (o : Opening) (before after : List Step) → new.schema ≡ old.schema → new.members ≡ old.members → new.me ≡ old.me → after ≡ before → entries_of (items_in old o before) ≡ applied (taken_through old o before) → entries_of (items_in new o after) ≡ applied (taken_through new o after)
 listed_still old new o before after a b c e was = rw (a, b, c, e) was
 
 pub named_still : (schema schema' : Tables) (me me' opening : ℕ) (p q : Publisher) → IsPublisherOf schema me opening p → IsSameLife p q → schema' ≡ schema → me' ≡ me → IsPublisherOf schema' me' opening q

@@ -7,7 +7,7 @@ use Rattle.flight.specs.declared.life.Packet.{Packet}
 use Rattle.flight.specs.declared.life.Life.{Life}
 use Rattle.flight.specs.declared.outcome.Outcome.{Outcome}
 use Rattle.flight.specs.Lives.{last_of, last_mark, mark_for, sent_at, all_steps, torn_step, step_of, with_outcomes}
-use Rattle.raft.specs.declared.state.Work.{Work}
+use Rattle.node.specs.Work.{Work}
 use Rattle.nodes.specs.Lives.{marks_rise, work_of}
 
 both : (a b : Bool) → (a && b) ≡ true → (a ≡ true) × (b ≡ true)

@@ -4,10 +4,9 @@ use Rattle.sqlchecks.specs.Columns.{Tables}
 use Rattle.model.specs.Members.{Node}
 use Rattle.model.specs.Kept.{node_after}
 use Rattle.keep.specs.Durable.{Durable, IsBeforeOrAfter}
-use Rattle.raft.specs.declared.state.Work.{Work}
-use Rattle.raft.specs.declared.state.Work.TheVariants as work
-use Rattle.raft.specs.View.{works}
-use Rattle.node.specs.View.{durable_of, started_from}
+use Rattle.node.specs.View.{durable_of, started_from, works}
+use Rattle.node.specs.Work as work
+use Rattle.node.specs.Work.{Work}
 use Rattle.flight.specs.declared.life.Packet.{Packet}
 use Rattle.flight.specs.declared.life.Packet.TheVariants.{Local, Delivered}
 use Rattle.flight.specs.declared.life.Step.{Step}

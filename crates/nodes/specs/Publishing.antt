@@ -4,7 +4,8 @@ use Rattle.model.specs.declared.entry.Entry.{Entry}
 use Rattle.model.specs.Members.{Node}
 use Rattle.sqlchecks.specs.Columns.{Tables}
 use Rattle.node.specs.View.{started_from}
-use Rattle.raft.specs.declared.state.Core.{Core}
+use Rattle.node.specs.Member.{me_of, members_of, tables_of}
+use Rattle.node.specs.declared.node.Node.{Node as NodeUp}
 use Rattle.history.specs.declared.item.Item.{Item}
 use Rattle.history.specs.declared.item.Item.TheVariants.{Applied}
 use Rattle.view.specs.declared.publisher.Publisher.{Publisher}
@@ -27,8 +28,8 @@ items_from schema n me x [] = []
 items_from schema n me x (s ∷ steps) = items_by s.mark x (stepped schema n me x s) ++ items_from schema n me (stepped schema n me x s) steps
 
 -- what becomes applied in a life: each entry with the mark of its step. A torn step adds nothing
-abbrev pub items_of : Core → Life → List Item
-items_of c life = items_from c.schema c.members c.me (started_from (opened_with life.opening)) life.steps.items
+abbrev pub items_of : {K I : Type 0} {g : _} {s : _} → NodeUp K I g s → Life → List Item
+items_of x life = items_from (tables_of x) (members_of x) (me_of x) (started_from (opened_with life.opening)) life.steps.items
 
 -- xs are the first of ys
 abbrev pub AreFirst : List Item → List Item → Type 0

@@ -2,9 +2,8 @@
 ghost use Rattle.std.specs.Prelude.{◌≡◌, ◌≢◌, ◌≤◌, ◌<◌, ◌+◌, ◌⊎◌, [], ◌++◌, ◌∷◌, true, false, Some, None, Err, IfOk, IfErr, OnOk, OnErr, MatchOption, MatchResult, slice_range, unwrap_or};
 ghost use Rattle.sqlread.specs.Meaning.{schema_of};
 ghost use Rattle.keep.specs.Durable.{Durable};
-ghost use Rattle.raft.specs.Memory.{spares_memory};
-ghost use Rattle.raft.specs.View.{node_of, works};
-ghost use Rattle.node.specs.View.{durable_of, Gave, IsKept, LeavesUp, HasCause, told_between};
+ghost use Rattle.node.specs.View.{durable_of, spares_memory, Gave, IsKept, LeavesUp, HasCause, told_between};
+ghost use Rattle.node.specs.Member.{effect_at, me_of, member_of, members_of, tables_of, IsSameSeat};
 ghost use Rattle.model.specs.Marks.{mark_after};
 ghost use Rattle.model.specs.Members.{applied};
 ghost use Rattle.fault.specs.declared.refusal.Refusal.TheVariants.{NoMemory, NoView, BadStore};
@@ -17,7 +16,7 @@ ghost use Rattle.nodes.specs.Feeds.{IsLifeWith, IsRecorded, given_of, IsTurnedAw
 ghost use Rattle.nodes.specs.Publishing.{items_of, AreFirst, IsPublisherOf};
 ghost use Rattle.flight.specs.declared.life.Ending.TheVariants.{Up};
 
-use crate::copies::{copy_of_entries, work_of};
+use crate::copies::work_of;
 use crate::publishing::{note, publish_all};
 use fault::Refusal;
 use flight::life::{Ending, Life, Opening, Packet, Step};
@@ -50,14 +49,14 @@ pub struct Cell<K: Keeper> {
     pub node: Node<K>,
     pub life: Life,
     pub publisher: Publisher,
-    pub ghost replayed: { node.is_up ≡ true → (node_of node.core ≡ replay node.core.schema node.core.members node.core.me life) × (life.ending ≡ Up) },
+    pub ghost replayed: { node.is_up ≡ true → (member_of node ≡ replay (tables_of node) (members_of node) (me_of node) life) × (life.ending ≡ Up) },
     pub ghost torn: { node.is_up ≡ false → torn_step life.ending ≢ [] },
     pub ghost rising: { marks_rise life.opening.mark (all_steps life) ≡ true },
-    pub ghost held: { node.is_up ≡ false → (d : Durable) → K.may_hold node.keeper d → ∥ IsLeft node.core.schema node.core.members node.core.me life d ∥₁ },
-    pub ghost listed: { entries_of (items_of node.core life) ≡ applied (replay node.core.schema node.core.members node.core.me life) },
-    pub ghost whole: { node.is_up ≡ true → published publisher ++ pending publisher ≡ items_of node.core life },
-    pub ghost shown: { node.is_up ≡ false → AreFirst (published publisher) (items_of node.core life) },
-    pub ghost named: { IsPublisherOf node.core.schema node.core.me life.opening.mark publisher },
+    pub ghost held: { node.is_up ≡ false → (d : Durable) → K.may_hold node.keeper d → ∥ IsLeft (tables_of node) (members_of node) (me_of node) life d ∥₁ },
+    pub ghost listed: { entries_of (items_of node life) ≡ applied (replay (tables_of node) (members_of node) (me_of node) life) },
+    pub ghost whole: { node.is_up ≡ true → published publisher ++ pending publisher ≡ items_of node life },
+    pub ghost shown: { node.is_up ≡ false → AreFirst (published publisher) (items_of node life) },
+    pub ghost named: { IsPublisherOf (tables_of node) (me_of node) life.opening.mark publisher },
 }
 
 /// A publisher of a life that opens. The error is want of memory.
@@ -73,15 +72,6 @@ fn open_publisher<R: Wait>(
     ensures given { IfOk result (λ p. views_of p ≡ 0) }
 {
     Publisher::start(rt, alloc, Name { node, opening }, schema.clone()?)
-}
-
-/// Takes a node down that is up: what its store holds is then what is stored.
-fn take_down<K: Keeper>(node: &mut Node<K>)
-    ensures same { (node.new.core ≡ node.old.core) × (node.new.keeper ≡ node.old.keeper) }
-    ensures down { node.new.is_up ≡ false }
-    ensures held { node.old.is_up ≡ true → (d : Durable) → K.may_hold node.new.keeper d → d ≡ durable_of (node_of node.old.core) }
-{
-    node.is_up = false;
 }
 
 impl<K: Keeper> Cell<K> {
@@ -104,7 +94,7 @@ impl<K: Keeper> Cell<K> {
         requires suits { K.suits image members (schema_of schema) }
         ensures opened { IfOk result (λ c. (c.node.is_up ≡ true) × (c.life.steps.items ≡ []) × (Some c.life.opening.mark ≡ mark_after (unwrap_or last 0))) }
         ensures stored { IfOk result (λ c. K.is_honest c.node.keeper → K.holds image (opened_with c.life.opening)) }
-        ensures group { IfOk result (λ c. (c.node.core.schema ≡ schema) × (c.node.core.members ≡ members) × (c.node.core.me ≡ me)) }
+        ensures group { IfOk result (λ c. (tables_of c.node ≡ schema) × (members_of c.node ≡ members) × (me_of c.node ≡ me)) }
         ensures none { IfOk result (λ c. (published c.publisher ≡ []) × (pending c.publisher ≡ []) × (views_of c.publisher ≡ 0)) }
         ensures refused { IfErr result (λ e. IsStartRefusal (mark_after (unwrap_or last 0)) e.0) }
         ensures bad { IfErr result (λ e. e.0 ≡ BadStore → K.is_bad e.1 members (schema_of schema) ⊎ ((d : Durable) → K.holds e.1 d → ⊥)) }
@@ -118,15 +108,15 @@ impl<K: Keeper> Cell<K> {
             Ok(node) => node,
             Err((error, image)) => return Err((Refusal::from(error), image)),
         };
-        let Ok(entries) = copy_of_entries(alloc, &node.core.log) else {
+        let Ok(entries) = node.entries() else {
             return Err((Refusal::NoMemory, node.stop()));
         };
-        let Ok(publisher) = open_publisher(rt, alloc, me, mark, &node.core.schema) else {
+        let Ok(publisher) = open_publisher(rt, alloc, me, mark, node.schema()) else {
             return Err((Refusal::NoMemory, node.stop()));
         };
         let opening = Opening {
             mark,
-            hard: node.core.hard_state(),
+            hard: node.hard_state(),
             entries,
         };
         let life = Life {
@@ -158,17 +148,17 @@ impl<K: Keeper> Cell<K> {
             × (self.new.node ≡ self.old.node) × (self.new.publisher ≡ self.old.publisher))
             ⊎ ((self.old.node.is_up ≡ true)
             × MatchOption (mark_for self.old.life packet) ⊥ (λ m. IsRecorded self.old.life self.new.life (step_of m packet) result)
-            × Gave (node_of self.old.node.core) (node_of self.new.node.core) (works self.old.node.core.schema self.old.node.core.members self.old.node.core.me (work_of packet) (node_of self.old.node.core)) (given_of result)) }
-        ensures applied { IfOk result (λ out. out.given.applied.items ≡ slice_range self.new.node.core.log.items self.old.node.core.commit self.new.node.core.commit) }
-        ensures told { IfOk result (λ out. out.given.told.items ≡ told_between (schema_of self.old.node.core.schema) self.new.node.core.log.items self.old.node.core.commit self.new.node.core.commit) }
-        ensures published { (published self.new.publisher ≡ published self.old.publisher) ⊎ (published self.new.publisher ≡ items_of self.new.node.core self.new.life) }
+            × Gave (member_of self.old.node) (member_of self.new.node) (effect_at self.old.node (work_of packet)) (given_of result)) }
+        ensures applied { IfOk result (λ out. out.given.applied.items ≡ slice_range (member_of self.new.node).log (member_of self.old.node).commit (member_of self.new.node).commit) }
+        ensures told { IfOk result (λ out. out.given.told.items ≡ told_between (schema_of (tables_of self.old.node)) (member_of self.new.node).log (member_of self.old.node).commit (member_of self.new.node).commit) }
+        ensures published { (published self.new.publisher ≡ published self.old.publisher) ⊎ (published self.new.publisher ≡ items_of self.new.node self.new.life) }
         ensures silent { OnErr result (published self.new.publisher ≡ published self.old.publisher) }
         ensures life { IsSameLife self.old.publisher self.new.publisher × (views_of self.new.publisher ≡ views_of self.old.publisher) }
-        ensures spares { spares_memory self.old.node.core.members self.old.node.core.me (work_of packet) (node_of self.old.node.core) ≡ true → IfErr result IsKept }
+        ensures spares { spares_memory (members_of self.old.node) (me_of self.old.node) (work_of packet) (member_of self.old.node) ≡ true → IfErr result IsKept }
         ensures up { OnOk result ((self.old.node.is_up ≡ true) × (self.new.node.is_up ≡ true)) }
         ensures leaves { IfErr result (LeavesUp self.old.node.is_up self.new.node.is_up) }
         ensures cause { IfErr result (HasCause (K.failed self.old.node.keeper) (K.failed self.new.node.keeper)) }
-        ensures group { (self.new.node.core.schema ≡ self.old.node.core.schema) × (self.new.node.core.members ≡ self.old.node.core.members) × (self.new.node.core.me ≡ self.old.node.core.me) }
+        ensures group { IsSameSeat self.old.node self.new.node }
     {
         if !self.node.is_up {
             return Err(Fault::Kept(Refusal::NodeDown));
@@ -186,7 +176,7 @@ impl<K: Keeper> Cell<K> {
         match self.node.step(work) {
             Ok(given) => {
                 let Ok(outcomes) = note(self.alloc, &mut self.publisher, mark, &given) else {
-                    take_down(&mut self.node);
+                    self.node.take_down();
                     self.life.ending = Ending::Torn(step);
                     return Err(Fault::Down(StoreError::NoMemory));
                 };
@@ -207,7 +197,7 @@ impl<K: Keeper> Cell<K> {
 
     /// Tells of what is published. Takes no memory.
     pub fn told(&self) -> Told
-        ensures { IsTold (record { node = self.now.node.core.me; opening = self.now.life.opening.mark }) (book_of self.now.publisher) (published self.now.publisher) result }
+        ensures { IsTold (record { node = me_of self.now.node; opening = self.now.life.opening.mark }) (book_of self.now.publisher) (published self.now.publisher) result }
     {
         self.publisher.told()
     }
@@ -220,7 +210,7 @@ impl<K: Keeper> Cell<K> {
         ensures given { MatchResult result (λ v. (views_of self.old.publisher < 8) × (views_of self.new.publisher ≡ views_of self.old.publisher + 1)) (λ e. views_of self.new.publisher ≡ views_of self.old.publisher) }
         ensures ninth { 8 ≤ views_of self.old.publisher → result ≡ Err NoView }
         ensures refused { IfErr result (λ e. (e ≡ NoView) ⊎ (e ≡ NoMemory)) }
-        ensures life { IfOk result (λ v. (name_seen v ≡ record { node = self.old.node.core.me; opening = self.old.life.opening.mark }) × (schema_seen v ≡ self.old.node.core.schema) × (book_seen v ≡ book_of self.old.publisher)) }
+        ensures life { IfOk result (λ v. (name_seen v ≡ record { node = me_of self.old.node; opening = self.old.life.opening.mark }) × (schema_seen v ≡ tables_of self.old.node) × (book_seen v ≡ book_of self.old.publisher)) }
         ensures seen { IfOk result (λ v. seen_by v ≡ published self.old.publisher) }
     {
         self.publisher.take_view()
@@ -230,9 +220,9 @@ impl<K: Keeper> Cell<K> {
     /// stored before that step or after it. It may wait for a view that reads; from then on views are refused 45.
     pub(crate) fn leave<R: Wait>(self, rt: &R) -> (K::Image, Life)
         ensures life { result.1 ≡ self.life }
-        ensures suits { K.suits result.0 self.node.core.members (schema_of self.node.core.schema) }
-        ensures stored { self.node.is_up ≡ true → (d : Durable) → K.holds result.0 d → d ≡ durable_of (replay self.node.core.schema self.node.core.members self.node.core.me self.life) }
-        ensures torn { self.node.is_up ≡ false → (d : Durable) → K.holds result.0 d → ∥ IsLeft self.node.core.schema self.node.core.members self.node.core.me self.life d ∥₁ }
+        ensures suits { K.suits result.0 (members_of self.node) (schema_of (tables_of self.node)) }
+        ensures stored { self.node.is_up ≡ true → (d : Durable) → K.holds result.0 d → d ≡ durable_of (replay (tables_of self.node) (members_of self.node) (me_of self.node) self.life) }
+        ensures torn { self.node.is_up ≡ false → (d : Durable) → K.holds result.0 d → ∥ IsLeft (tables_of self.node) (members_of self.node) (me_of self.node) self.life d ∥₁ }
     {
         let Cell {
             alloc: _,
@@ -249,9 +239,9 @@ impl<K: Keeper> Cell<K> {
     /// refused 45. Takes no memory.
     pub fn stop<R: Wait>(self, rt: &R) -> (K::Image, Life)
         ensures life { IsLifeWith self.life result.1 [] (ending_of self.node.is_up self.life.ending) }
-        ensures suits { K.suits result.0 self.node.core.members (schema_of self.node.core.schema) }
-        ensures stored { self.node.is_up ≡ true → (d : Durable) → K.holds result.0 d → d ≡ durable_of (replay self.node.core.schema self.node.core.members self.node.core.me self.life) }
-        ensures torn { self.node.is_up ≡ false → (d : Durable) → K.holds result.0 d → ∥ IsLeft self.node.core.schema self.node.core.members self.node.core.me self.life d ∥₁ }
+        ensures suits { K.suits result.0 (members_of self.node) (schema_of (tables_of self.node)) }
+        ensures stored { self.node.is_up ≡ true → (d : Durable) → K.holds result.0 d → d ≡ durable_of (replay (tables_of self.node) (members_of self.node) (me_of self.node) self.life) }
+        ensures torn { self.node.is_up ≡ false → (d : Durable) → K.holds result.0 d → ∥ IsLeft (tables_of self.node) (members_of self.node) (me_of self.node) self.life d ∥₁ }
     {
         let is_up = self.node.is_up;
         let (image, mut life) = self.leave(rt);

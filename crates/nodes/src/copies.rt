@@ -1,18 +1,10 @@
-//! Copies of entries and packets.
+//! Copies of packets.
 ghost use Rattle.std.specs.Prelude.{◌≡◌, IfOk};
 ghost use Rattle.nodes.specs.Lives.{work_of};
 
 use flight::life::Packet;
-use model::entry::Entry;
-use raft::state::Work;
-use std::alloc::{AllocError, Global};
-
-/// The same entries.
-pub(crate) fn copy_of_entries(alloc: Global, entries: &[Entry]) -> Result<Vec<Entry>, AllocError>
-    ensures { IfOk result (λ copy. copy.items ≡ entries.now) }
-{
-    entries.to_vec(alloc)
-}
+use node::Work;
+use std::alloc::AllocError;
 
 /// A copy of the packet, as a member takes it.
 pub(crate) fn work_of(packet: &Packet) -> Result<Work, AllocError>

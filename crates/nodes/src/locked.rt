@@ -1,8 +1,8 @@
 //! A cell for several threads to feed under a lock, and the shares of those that feed it.
 ghost use Rattle.std.specs.Prelude.{◌≡◌, ◌≤◌, ◌<◌, ◌+◌, ◌⊎◌, [], ◌∷◌, length, true, Some, Err, IfOk, IfErr, OnOk, OnErr, MatchOption, MatchResult, slice_range};
 ghost use Rattle.sqlread.specs.Meaning.{schema_of};
-ghost use Rattle.raft.specs.View.{node_of, works};
 ghost use Rattle.node.specs.View.{Gave, LeavesUp, told_between};
+ghost use Rattle.node.specs.Member.{effect_at, me_of, member_of, tables_of};
 ghost use Rattle.fault.specs.declared.refusal.Refusal.TheVariants.{NoMemory, NoView};
 ghost use Rattle.view.specs.Publishing.{published, book_of, given_of};
 ghost use Rattle.view.specs.Viewing.{seen_by, name_seen, book_seen, book_told, IsTold};
@@ -76,10 +76,10 @@ impl<K: Keeper, L: Naming> LockedNode<K, L> {
             × (self.new.cell.node ≡ self.old.cell.node) × (self.new.cell.publisher ≡ self.old.cell.publisher))
             ⊎ ((self.old.cell.node.is_up ≡ true)
             × MatchOption (mark_for self.old.cell.life packet) ⊥ (λ m. IsRecorded self.old.cell.life self.new.cell.life (step_of m packet) result)
-            × Gave (node_of self.old.cell.node.core) (node_of self.new.cell.node.core) (works self.old.cell.node.core.schema self.old.cell.node.core.members self.old.cell.node.core.me (work_of packet) (node_of self.old.cell.node.core)) (node_gave result)) }
-        ensures applied { IfOk result (λ out. out.given.applied.items ≡ slice_range self.new.cell.node.core.log.items self.old.cell.node.core.commit self.new.cell.node.core.commit) }
-        ensures told { IfOk result (λ out. out.given.told.items ≡ told_between (schema_of self.old.cell.node.core.schema) self.new.cell.node.core.log.items self.old.cell.node.core.commit self.new.cell.node.core.commit) }
-        ensures published { (published self.new.cell.publisher ≡ published self.old.cell.publisher) ⊎ (published self.new.cell.publisher ≡ items_of self.new.cell.node.core self.new.cell.life) }
+            × Gave (member_of self.old.cell.node) (member_of self.new.cell.node) (effect_at self.old.cell.node (work_of packet)) (node_gave result)) }
+        ensures applied { IfOk result (λ out. out.given.applied.items ≡ slice_range (member_of self.new.cell.node).log (member_of self.old.cell.node).commit (member_of self.new.cell.node).commit) }
+        ensures told { IfOk result (λ out. out.given.told.items ≡ told_between (schema_of (tables_of self.old.cell.node)) (member_of self.new.cell.node).log (member_of self.old.cell.node).commit (member_of self.new.cell.node).commit) }
+        ensures published { (published self.new.cell.publisher ≡ published self.old.cell.publisher) ⊎ (published self.new.cell.publisher ≡ items_of self.new.cell.node self.new.cell.life) }
         ensures leaves { IfErr result (LeavesUp self.old.cell.node.is_up self.new.cell.node.is_up) }
         ensures counted { share.new.amount + length (all_steps self.old.cell.life) ≡ share.old.amount + length (all_steps self.new.cell.life) }
         ensures parts { share.new.parts ≡ share.old.parts }
@@ -103,7 +103,7 @@ impl<K: Keeper, L: Naming> LockedNode<K, L> {
 
     /// `Cell::told`.
     pub fn told(&self) -> Told
-        ensures told { IsTold (record { node = self.now.cell.node.core.me; opening = self.now.cell.life.opening.mark }) L.history (published self.now.cell.publisher) result }
+        ensures told { IsTold (record { node = me_of self.now.cell.node; opening = self.now.cell.life.opening.mark }) L.history (published self.now.cell.publisher) result }
     {
         self.cell.told()
     }

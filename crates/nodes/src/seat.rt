@@ -1,6 +1,7 @@
 //! What runs on a node's thread.
 ghost use Rattle.std.specs.Prelude.{◌≡◌, ◌≤◌, IfOk, IfErr};
 ghost use Rattle.sqlread.specs.Meaning.{schema_of};
+ghost use Rattle.node.specs.Member.{members_of, tables_of};
 
 use crate::cell::{Cell, Out};
 use crate::gate::{Gate, Point};
@@ -59,9 +60,9 @@ fn serve<K: Keeper, G: Gate, R: Wait>(
     reports: &Address<Report>,
     gate: &G,
 ) -> Cell<K>
-    ensures { (result.node.core.schema ≡ cell.node.core.schema) × (result.node.core.members ≡ cell.node.core.members) }
+    ensures { (tables_of result.node ≡ tables_of cell.node) × (members_of result.node ≡ members_of cell.node) }
 {
-    let me = cell.node.core.me;
+    let me = cell.node.me();
     for _ in rt.forever() {
         match orders.next(rt) {
             Some(Order::Feed(packet)) => {
@@ -90,7 +91,7 @@ fn open<K: Keeper, R: Wait>(
     lives: &[Life],
 ) -> Result<Cell<K>, (Refusal, K::Image)>
     requires suits { K.suits image post.now.members (schema_of post.now.schema) }
-    ensures group { IfOk result (λ c. (c.node.core.schema ≡ post.now.schema) × (c.node.core.members ≡ post.now.members)) }
+    ensures group { IfOk result (λ c. (tables_of c.node ≡ post.now.schema) × (members_of c.node ≡ post.now.members)) }
     ensures suits { IfErr result (λ e. K.suits e.1 post.now.members (schema_of post.now.schema)) }
 {
     let last = lives.last().map(|life| life.last_mark());
@@ -102,7 +103,7 @@ fn open<K: Keeper, R: Wait>(
 
 // Ends a life: as stopped where that is told, else as it is.
 fn end<K: Keeper, R: Wait>(rt: &R, cell: Cell<K>, control: &Inbox<Control>) -> (K::Image, Life)
-    ensures { K.suits result.0 cell.node.core.members (schema_of cell.node.core.schema) }
+    ensures { K.suits result.0 (members_of cell.node) (schema_of (tables_of cell.node)) }
 {
     match control.next(rt) {
         Some(_) => cell.stop(rt),

@@ -11,7 +11,7 @@ use Rattle.model.specs.declared.message.Input.{Input}
 use Rattle.fault.specs.declared.refusal.Refusal.TheVariants.{NodeDown}
 use Rattle.sqlchecks.specs.Columns.{Tables}
 use Rattle.sqlread.specs.Meaning.{schema_of}
-use Rattle.raft.specs.declared.state.Work.TheVariants.{Local, Delivered}
+use Rattle.node.specs.Work.{Local, Delivered}
 use Rattle.world.specs.View.{brings, brought}
 
 -- a member that is down refuses

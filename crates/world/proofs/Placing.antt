@@ -12,7 +12,7 @@ use Rattle.model.specs.declared.message.Message.{Message}
 use Rattle.fault.specs.declared.refusal.Refusal.{Refusal}
 use Rattle.node.specs.declared.node.Out.{Out}
 use Rattle.node.specs.View.{IsEmpty}
-use Rattle.raft.specs.declared.state.Work.{Work}
+use Rattle.node.specs.Work.{Work}
 use Rattle.sqlchecks.specs.Columns.{Tables}
 use Rattle.sqlread.specs.Meaning.{schema_of}
 use Rattle.world.specs.declared.seat.Seat.{Seat}

@@ -4,8 +4,8 @@ use Rattle.model.specs.Members.{Node}
 use Rattle.model.specs.Steps.{Refuses}
 use Rattle.model.specs.Worlds.{World, Job, Left, Old, New, effect, is_for, node_left, started, starts, stopped, stops, tears, with_node}
 use Rattle.fault.specs.declared.refusal.Refusal.TheVariants.{NodeDown}
-use Rattle.raft.specs.declared.state.Work.{Work}
-use Rattle.raft.specs.View.{works}
+use Rattle.node.specs.Work.{Work}
+use Rattle.node.specs.View.{works}
 use Rattle.sqlchecks.specs.Columns.{Tables}
 use Rattle.sqlread.specs.Meaning.{schema_of}
 use Rattle.world.specs.declared.seat.Seat.{Seat}

@@ -19,12 +19,12 @@ use Rattle.keep.specs.Durable.{Durable, stored_in}
 use Rattle.keep.specs.Log.{IsLog}
 pub use Rattle.node.specs.Answered.{stored_of}
 pub use Rattle.node.specs.View.{durable_of}
-use Rattle.node.specs.View.{IsAskedOf, IsGiven}
+use Rattle.node.specs.View.{works, IsAskedOf, IsGiven}
+use Rattle.node.specs.Member.{me_of, member_of, members_of, tables_of}
+use Rattle.node.specs.Work.{Work}
+use Rattle.node.specs.declared.node.Node.{Node as NodeUp}
 use Rattle.node.specs.declared.node.Out.{Out as Taken}
 pub use Rattle.node.specs.declared.durable.Stored.{Stored}
-use Rattle.raft.specs.declared.state.Core.{Core}
-use Rattle.raft.specs.declared.state.Work.{Work}
-use Rattle.raft.specs.View.{node_of, works}
 use Rattle.answer.specs.declared.Answer.{Answer}
 use Rattle.answer.specs.Answers.{answer_of, columns_in}
 use Rattle.sqlchecks.specs.Columns.{Tables}
@@ -96,24 +96,29 @@ abbrev pub at_rest : Durable → Node
 at_rest d = stopped (record (fresh d.hard.term d.hard.vote) { log = d.log })
 
 abbrev pub node_in : Seat → Node
-node_in (Up x) = node_of x.core
+node_in (Up x) = member_of x
 node_in (Down image) = at_rest (stored_in image)
 
 -- what a seat has of a member that is up
 pub record Occupant : Type 0 where
-  pub core : Core
+  pub tables : Tables
+  pub members : ℕ
+  pub me : ℕ
   pub is_up : Bool
 
+abbrev pub occupant_of : {K I : Type 0} {g : _} {s : _} → NodeUp K I g s → Occupant
+occupant_of x = record { tables = tables_of x; members = members_of x; me = me_of x; is_up = x.is_up }
+
 abbrev pub occupant : Seat → Option Occupant
-occupant (Up x) = Some (record { core = x.core; is_up = x.is_up })
+occupant (Up x) = Some (occupant_of x)
 occupant (Down image) = None
 
 -- member m of n, which no step took down
 pub record IsMember (tables : Tables) (n m : ℕ) (o : Occupant) : Type 0 where
   pub is_up : o.is_up ≡ true
-  pub schema : o.core.schema ≡ tables
-  pub members : o.core.members ≡ n
-  pub me : o.core.me ≡ m
+  pub schema : o.tables ≡ tables
+  pub members : o.members ≡ n
+  pub me : o.me ≡ m
 
 -- what a seat has of a member that is down
 abbrev pub rest : Seat → Option Durable

@@ -1,5 +1,6 @@
 use Rattle.std.proofs.Common.{◌≡◌}
+use Rattle.node.specs.Member.{members_of, tables_of}
 use Rattle.calls.proofs.cells.fill.Given as goal
 
 abbrev pub invariant-loop : goal.invariant-loop
-invariant-loop g l = (l.cell.node.core.members ≡ l.initial.cell.node.core.members) × (l.cell.node.core.schema ≡ l.initial.cell.node.core.schema)
+invariant-loop g l = (members_of l.cell.node ≡ members_of l.initial.cell.node) × (tables_of l.cell.node ≡ tables_of l.initial.cell.node)

@@ -2,6 +2,7 @@ use Rattle.std.proofs.Common.{◌≡◌, ◌∙◌, ℕ, ◌+◌, ◌≤◌, fal
 use Rattle.std.specs.Vec.{vec_capacity}
 use Rattle.sqlchecks.specs.Columns.{Tables}
 use Rattle.sqlread.specs.Meaning.{schema_of}
+use Rattle.node.specs.Member.{members_of, tables_of}
 use Rattle.nodes.proofs.Items.{on_ok}
 use Rattle.nodes.proofs.Carried.{carried}
 use Rattle.nodes.proofs.seat.lead.Goals as goal
@@ -17,4 +18,4 @@ returns g c =
     let opened = c.in-Ok.ensures.group in
     let served = c.serve-cell.ensures in
     let P : ℕ → Tables → Type 0 = λ n t. g.K.Keeper.suits c.end-image.result.0 n (schema_of t) in
-    carried P c.args.post.now.members c.serve-cell.result.node.core.members c.args.post.now.schema c.serve-cell.result.node.core.schema (served.1 ∙ opened.1) (served.0 ∙ opened.0) c.end-image.ensures
+    carried P c.args.post.now.members (members_of c.serve-cell.result.node) c.args.post.now.schema (tables_of c.serve-cell.result.node) (served.1 ∙ opened.1) (served.0 ∙ opened.0) c.end-image.ensures

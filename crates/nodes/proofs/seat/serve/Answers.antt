@@ -1,4 +1,3 @@
-use Rattle.std.proofs.Common.{◌≡◌, ◌∙◌}
 use Rattle.nodes.proofs.seat.serve.Goals as goal
 use Rattle.nodes.proofs.seat.serve.Goals.{in-None, in-Some+in-Some-Feed+then-is_err, in-Some+in-None-next}
 

@@ -19,6 +19,12 @@ returns-then-not-self-clause-stays g c = search rules
 pub returns-then-not-self-clause-core : goal.returns-then-not-self-clause-core
 returns-then-not-self-clause-core g c = search rules
 
+pub returns-then-not-self-clause-member : goal.returns-then-not-self-clause-member
+returns-then-not-self-clause-member g c = search rules
+
+pub returns-then-not-self-clause-group : goal.returns-then-not-self-clause-group
+returns-then-not-self-clause-group g c = search rules
+
 pub returns-then-not-self-clause-left : goal.returns-then-not-self-clause-left
 returns-then-not-self-clause-left g c = search rules
 
@@ -39,6 +45,12 @@ returns-in_default-clause-stays g c = search rules
 
 pub returns-in_default-clause-core : goal.returns-in_default-clause-core
 returns-in_default-clause-core g c = search rules
+
+pub returns-in_default-clause-member : goal.returns-in_default-clause-member
+returns-in_default-clause-member g c = search rules
+
+pub returns-in_default-clause-group : goal.returns-in_default-clause-group
+returns-in_default-clause-group g c = search rules
 
 pub returns-in_default-clause-left : goal.returns-in_default-clause-left
 returns-in_default-clause-left g c = search rules
@@ -61,6 +73,12 @@ returns-in-Ok-clause-stays g c = search rules
 pub returns-in-Ok-clause-core : goal.returns-in-Ok-clause-core
 returns-in-Ok-clause-core g c = search rules
 
+pub returns-in-Ok-clause-member : goal.returns-in-Ok-clause-member
+returns-in-Ok-clause-member g c = search rules
+
+pub returns-in-Ok-clause-group : goal.returns-in-Ok-clause-group
+returns-in-Ok-clause-group g c = search rules
+
 pub returns-in-Ok-clause-left : goal.returns-in-Ok-clause-left
 returns-in-Ok-clause-left g c = search rules
 
@@ -81,6 +99,12 @@ returns-in-Err-clause-stays g c = search rules
 
 pub returns-in-Err-clause-core : goal.returns-in-Err-clause-core
 returns-in-Err-clause-core g c = search rules
+
+pub returns-in-Err-clause-member : goal.returns-in-Err-clause-member
+returns-in-Err-clause-member g c = search rules
+
+pub returns-in-Err-clause-group : goal.returns-in-Err-clause-group
+returns-in-Err-clause-group g c = search rules
 
 pub returns-in-Err-clause-left : goal.returns-in-Err-clause-left
 returns-in-Err-clause-left g c = search rules

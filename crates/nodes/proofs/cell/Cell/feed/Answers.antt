@@ -1,13 +1,12 @@
 use Rattle.std.proofs.Common.{◌≡◌, ◌∙◌, List, [], ◌++◌, ◌∷◌, refl, sym, ap}
-use Rattle.raft.specs.declared.state.Core.{Core}
-use Rattle.raft.specs.View.{node_of}
+use Rattle.node.specs.Member.{me_of, member_of, members_of, tables_of}
 use Rattle.history.specs.declared.item.Item.{Item}
 use Rattle.view.specs.Publishing.{published, pending}
 use Rattle.flight.specs.Lives.{step_of, with_outcomes}
 use Rattle.flight.specs.declared.life.Step.{Step}
 use Rattle.nodes.specs.Publishing.{marked, items_by}
 use Rattle.nodes.proofs.Rising.{rises_whole, rises_torn, made_for, made_of}
-use Rattle.nodes.proofs.Replays.{stepped_given, stepped_refused, replayed_given, replayed_refused, torn_left}
+use Rattle.nodes.proofs.Replays.{seated, stepped_given, stepped_refused, replayed_given, replayed_refused, torn_left}
 use Rattle.nodes.proofs.Items.{items_in, one_more, OneMore, same_grows, all_listed, still_listed, are_first, whole_left, items_still, listed_still, named_still}
 use Rattle.nodes.proofs.cell.Cell.feed.Goals as goal
 
@@ -21,7 +20,7 @@ invariant_of-self-in-Ok-step-clause-replayed g c = λ up.
     let made : s ≡ with_outcomes c.in-Ok-note.outcomes (step_of c.in-Some.mark c.args.packet) = c.with_outcomes.ensures ∙ ap (λ (x : Step). with_outcomes c.in-Ok-note.outcomes x) c.new-step.ensures in
     let items = c.push_reserved.ensures.items ∙ ap (λ xs. xs ++ s ∷ []) c.reserve.ensures.items in
     let seat = c.step.ensures.group in
-    (replayed_given old.node.core c.step.new.self.core old.life.opening old.life.steps.items _ s _ c.in-Ok-step.given seat.0 seat.1 seat.2 items (made_of s c.in-Some.mark c.args.packet c.in-Ok.work c.in-Ok-note.outcomes made c.in-Ok.ensures) was.0 (c.in-Ok-step.ensures.done c.in-Ok-step.ensures.up.0), was.1)
+    (replayed_given (seated old.node) (seated c.step.new.self) old.life.opening old.life.steps.items _ s _ c.in-Ok-step.given seat.0 seat.1 seat.2 items (made_of s c.in-Some.mark c.args.packet c.in-Ok.work c.in-Ok-note.outcomes made c.in-Ok.ensures) was.0 (c.in-Ok-step.ensures.done c.in-Ok-step.ensures.up.0), was.1)
 
 pub invariant_of-self-in-Ok-step-clause-rising : goal.invariant_of-self-in-Ok-step-clause-rising
 invariant_of-self-in-Ok-step-clause-rising g c =
@@ -39,33 +38,33 @@ invariant_of-self-in-Ok-step-clause-listed g c =
     let made : s ≡ with_outcomes c.in-Ok-note.outcomes (step_of c.in-Some.mark c.args.packet) = c.with_outcomes.ensures ∙ ap (λ (x : Step). with_outcomes c.in-Ok-note.outcomes x) c.new-step.ensures in
     let items = c.push_reserved.ensures.items ∙ ap (λ xs. xs ++ s ∷ []) c.reserve.ensures.items in
     let seat = c.step.ensures.group in
-    let is = stepped_given old.node.core.schema old.node.core.members old.node.core.me (node_of old.node.core) s c.in-Ok.work c.step.new.self.core c.in-Ok-step.given (made_of s c.in-Some.mark c.args.packet c.in-Ok.work c.in-Ok-note.outcomes made c.in-Ok.ensures) (c.in-Ok-step.ensures.done up) in
-    (one_more old.node.core c.step.new.self.core old.life.opening old.life.steps.items c.push_reserved.new.self.items s seat.0 seat.1 seat.2 items (old.replayed up).0 is c.in-Ok-step.ensures.grows old.listed).entries
+    let is = stepped_given (tables_of old.node) (members_of old.node) (me_of old.node) (member_of old.node) s c.in-Ok.work (member_of c.step.new.self) c.in-Ok-step.given (made_of s c.in-Some.mark c.args.packet c.in-Ok.work c.in-Ok-note.outcomes made c.in-Ok.ensures) (c.in-Ok-step.ensures.done up) in
+    (one_more (seated old.node) (seated c.step.new.self) old.life.opening old.life.steps.items c.push_reserved.new.self.items s seat.0 seat.1 seat.2 items (old.replayed up).0 is c.in-Ok-step.ensures.grows old.listed).entries
 
 pub invariant_of-self-in-Ok-step-clause-whole : goal.invariant_of-self-in-Ok-step-clause-whole
 invariant_of-self-in-Ok-step-clause-whole g c = λ now.
     let old = c.args.self.now in
-    let new = c.step.new.self.core in
+    let new = c.step.new.self in
     let up = c.in-Ok-step.ensures.up.0 in
     let s : Step = c.with_outcomes.result in
     let made : s ≡ with_outcomes c.in-Ok-note.outcomes (step_of c.in-Some.mark c.args.packet) = c.with_outcomes.ensures ∙ ap (λ (x : Step). with_outcomes c.in-Ok-note.outcomes x) c.new-step.ensures in
     let items = c.push_reserved.ensures.items ∙ ap (λ xs. xs ++ s ∷ []) c.reserve.ensures.items in
     let seat = c.step.ensures.group in
-    let is = stepped_given old.node.core.schema old.node.core.members old.node.core.me (node_of old.node.core) s c.in-Ok.work new c.in-Ok-step.given (made_of s c.in-Some.mark c.args.packet c.in-Ok.work c.in-Ok-note.outcomes made c.in-Ok.ensures) (c.in-Ok-step.ensures.done up) in
-    let more : OneMore old.node.core new old.life.opening old.life.steps.items c.push_reserved.new.self.items s = one_more old.node.core new old.life.opening old.life.steps.items c.push_reserved.new.self.items s seat.0 seat.1 seat.2 items (old.replayed up).0 is c.in-Ok-step.ensures.grows old.listed in
+    let is = stepped_given (tables_of old.node) (members_of old.node) (me_of old.node) (member_of old.node) s c.in-Ok.work (member_of new) c.in-Ok-step.given (made_of s c.in-Some.mark c.args.packet c.in-Ok.work c.in-Ok-note.outcomes made c.in-Ok.ensures) (c.in-Ok-step.ensures.done up) in
+    let more : OneMore (seated old.node) (seated new) old.life.opening old.life.steps.items c.push_reserved.new.self.items s = one_more (seated old.node) (seated new) old.life.opening old.life.steps.items c.push_reserved.new.self.items s seat.0 seat.1 seat.2 items (old.replayed up).0 is c.in-Ok-step.ensures.grows old.listed in
     let entries = c.in-Ok-step.ensures.applied in
-    let by : List Item = items_by s.mark (node_of old.node.core) (node_of new) in
-    let waits : pending c.note.new.publisher ≡ pending old.publisher ++ by = c.in-Ok-note.ensures.pending ∙ ap (λ es. pending old.publisher ++ marked c.in-Some.mark es) entries ∙ ap (λ (x : Step). pending old.publisher ++ items_by x.mark (node_of old.node.core) (node_of new)) (sym made) in
+    let by : List Item = items_by s.mark (member_of old.node) (member_of new) in
+    let waits : pending c.note.new.publisher ≡ pending old.publisher ++ by = c.in-Ok-note.ensures.pending ∙ ap (λ es. pending old.publisher ++ marked c.in-Some.mark es) entries ∙ ap (λ (x : Step). pending old.publisher ++ items_by x.mark (member_of old.node) (member_of new)) (sym made) in
     let all : published c.publish_all.new.publisher ++ pending c.publish_all.new.publisher ≡ published old.publisher ++ pending c.note.new.publisher = c.publish_all.ensures.all ∙ ap (λ (xs : List Item). xs ++ pending c.note.new.publisher) c.note.ensures.same.2 in
-    all_listed (items_in old.node.core old.life.opening old.life.steps.items) (published old.publisher) (pending old.publisher) (items_in new old.life.opening c.push_reserved.new.self.items) by (pending c.note.new.publisher) _ (old.whole up) waits more.items all
+    all_listed (items_in (seated old.node) old.life.opening old.life.steps.items) (published old.publisher) (pending old.publisher) (items_in (seated new) old.life.opening c.push_reserved.new.self.items) by (pending c.note.new.publisher) _ (old.whole up) waits more.items all
 
 pub invariant_of-self-in-Ok-step-clause-named : goal.invariant_of-self-in-Ok-step-clause-named
 invariant_of-self-in-Ok-step-clause-named g c =
     let old = c.args.self.now in
-    let core = old.node.core in
+    let node = old.node in
     let seat = c.step.ensures.group in
-    let first = named_still core.schema core.schema core.me core.me old.life.opening.mark old.publisher c.note.new.publisher old.named c.note.ensures.same.0 refl refl in
-    named_still core.schema c.step.new.self.core.schema core.me c.step.new.self.core.me old.life.opening.mark c.note.new.publisher c.publish_all.new.publisher first c.publish_all.ensures.same.0 seat.0 seat.2
+    let first = named_still (tables_of node) (tables_of node) (me_of node) (me_of node) old.life.opening.mark old.publisher c.note.new.publisher old.named c.note.ensures.same.0 refl refl in
+    named_still (tables_of node) (tables_of c.step.new.self) (me_of node) (me_of c.step.new.self) old.life.opening.mark c.note.new.publisher c.publish_all.new.publisher first c.publish_all.ensures.same.0 seat.0 seat.2
 
 -- ---- a step that was refused
 
@@ -77,7 +76,7 @@ invariant_of-self-in-Err-Kept-clause-replayed g c = λ up.
     let s : Step = c.new-step.result in
     let items = c.push_reserved-in-Err-Kept.ensures.items ∙ ap (λ xs. xs ++ s ∷ []) c.reserve.ensures.items in
     let seat = c.step.ensures.group in
-    (replayed_refused old.node.core c.step.new.self.core old.life.opening old.life.steps.items _ s _ _ seat.0 seat.1 seat.2 items (made_of s c.in-Some.mark c.args.packet c.in-Ok.work [] c.new-step.ensures c.in-Ok.ensures) was.0 (step.done c.if-not-self.false) step.same, was.1)
+    (replayed_refused (seated old.node) (seated c.step.new.self) old.life.opening old.life.steps.items _ s _ _ seat.0 seat.1 seat.2 items (made_of s c.in-Some.mark c.args.packet c.in-Ok.work [] c.new-step.ensures c.in-Ok.ensures) was.0 (step.done c.if-not-self.false) step.same, was.1)
 
 pub invariant_of-self-in-Err-Kept-clause-rising : goal.invariant_of-self-in-Err-Kept-clause-rising
 invariant_of-self-in-Err-Kept-clause-rising g c =
@@ -89,34 +88,34 @@ invariant_of-self-in-Err-Kept-clause-rising g c =
 pub invariant_of-self-in-Err-Kept-clause-listed : goal.invariant_of-self-in-Err-Kept-clause-listed
 invariant_of-self-in-Err-Kept-clause-listed g c =
     let old = c.args.self.now in
-    let new = c.step.new.self.core in
+    let new = c.step.new.self in
     let step = rw c.in-Err-Kept.field-0-is at c.in-Err-Kept.ensures in
     let up = c.if-not-self.false in
     let s : Step = c.new-step.result in
     let items = c.push_reserved-in-Err-Kept.ensures.items ∙ ap (λ xs. xs ++ s ∷ []) c.reserve.ensures.items in
     let seat = c.step.ensures.group in
-    let is = stepped_refused old.node.core.schema old.node.core.members old.node.core.me (node_of old.node.core) s c.in-Ok.work new _ (made_of s c.in-Some.mark c.args.packet c.in-Ok.work [] c.new-step.ensures c.in-Ok.ensures) (step.done up) step.same in
-    (one_more old.node.core new old.life.opening old.life.steps.items c.push_reserved-in-Err-Kept.new.self.items s seat.0 seat.1 seat.2 items (old.replayed up).0 is (same_grows (node_of old.node.core) (node_of new) step.same) old.listed).entries
+    let is = stepped_refused (tables_of old.node) (members_of old.node) (me_of old.node) (member_of old.node) s c.in-Ok.work (member_of new) _ (made_of s c.in-Some.mark c.args.packet c.in-Ok.work [] c.new-step.ensures c.in-Ok.ensures) (step.done up) step.same in
+    (one_more (seated old.node) (seated new) old.life.opening old.life.steps.items c.push_reserved-in-Err-Kept.new.self.items s seat.0 seat.1 seat.2 items (old.replayed up).0 is (same_grows (member_of old.node) (member_of new) step.same) old.listed).entries
 
 pub invariant_of-self-in-Err-Kept-clause-whole : goal.invariant_of-self-in-Err-Kept-clause-whole
 invariant_of-self-in-Err-Kept-clause-whole g c = λ now.
     let old = c.args.self.now in
-    let new = c.step.new.self.core in
+    let new = c.step.new.self in
     let step = rw c.in-Err-Kept.field-0-is at c.in-Err-Kept.ensures in
     let up = c.if-not-self.false in
     let s : Step = c.new-step.result in
     let items = c.push_reserved-in-Err-Kept.ensures.items ∙ ap (λ xs. xs ++ s ∷ []) c.reserve.ensures.items in
     let seat = c.step.ensures.group in
-    let is = stepped_refused old.node.core.schema old.node.core.members old.node.core.me (node_of old.node.core) s c.in-Ok.work new _ (made_of s c.in-Some.mark c.args.packet c.in-Ok.work [] c.new-step.ensures c.in-Ok.ensures) (step.done up) step.same in
-    let more : OneMore old.node.core new old.life.opening old.life.steps.items c.push_reserved-in-Err-Kept.new.self.items s = one_more old.node.core new old.life.opening old.life.steps.items c.push_reserved-in-Err-Kept.new.self.items s seat.0 seat.1 seat.2 items (old.replayed up).0 is (same_grows (node_of old.node.core) (node_of new) step.same) old.listed in
-    still_listed s.mark (node_of old.node.core) (node_of new) (items_in old.node.core old.life.opening old.life.steps.items) (items_in new old.life.opening c.push_reserved-in-Err-Kept.new.self.items) (published old.publisher ++ pending old.publisher) step.same (old.whole up) more.items
+    let is = stepped_refused (tables_of old.node) (members_of old.node) (me_of old.node) (member_of old.node) s c.in-Ok.work (member_of new) _ (made_of s c.in-Some.mark c.args.packet c.in-Ok.work [] c.new-step.ensures c.in-Ok.ensures) (step.done up) step.same in
+    let more : OneMore (seated old.node) (seated new) old.life.opening old.life.steps.items c.push_reserved-in-Err-Kept.new.self.items s = one_more (seated old.node) (seated new) old.life.opening old.life.steps.items c.push_reserved-in-Err-Kept.new.self.items s seat.0 seat.1 seat.2 items (old.replayed up).0 is (same_grows (member_of old.node) (member_of new) step.same) old.listed in
+    still_listed s.mark (member_of old.node) (member_of new) (items_in (seated old.node) old.life.opening old.life.steps.items) (items_in (seated new) old.life.opening c.push_reserved-in-Err-Kept.new.self.items) (published old.publisher ++ pending old.publisher) step.same (old.whole up) more.items
 
 pub invariant_of-self-in-Err-Kept-clause-named : goal.invariant_of-self-in-Err-Kept-clause-named
 invariant_of-self-in-Err-Kept-clause-named g c =
     let old = c.args.self.now in
-    let core = old.node.core in
+    let node = old.node in
     let seat = c.step.ensures.group in
-    named_still core.schema c.step.new.self.core.schema core.me c.step.new.self.core.me old.life.opening.mark old.publisher old.publisher old.named (refl, refl, refl) seat.0 seat.2
+    named_still (tables_of node) (tables_of c.step.new.self) (me_of node) (me_of c.step.new.self) old.life.opening.mark old.publisher old.publisher old.named (refl, refl, refl) seat.0 seat.2
 
 -- ---- a step that went down
 
@@ -133,27 +132,27 @@ invariant_of-self-in-Err-Down-clause-held g c = λ down d may.
     let was = old.replayed c.if-not-self.false in
     let s : Step = c.new-step.result in
     let seat = c.step.ensures.group in
-    torn_left old.node.core c.step.new.self.core old.life.opening old.life.steps.items _ s _ d seat.0 seat.1 seat.2 c.reserve.ensures.items (made_of s c.in-Some.mark c.args.packet c.in-Ok.work [] c.new-step.ensures c.in-Ok.ensures) was.0 (step.torn d may)
+    torn_left (seated old.node) (seated c.step.new.self) old.life.opening old.life.steps.items _ s _ d seat.0 seat.1 seat.2 c.reserve.ensures.items (made_of s c.in-Some.mark c.args.packet c.in-Ok.work [] c.new-step.ensures c.in-Ok.ensures) was.0 (step.torn d may)
 
 pub invariant_of-self-in-Err-Down-clause-listed : goal.invariant_of-self-in-Err-Down-clause-listed
 invariant_of-self-in-Err-Down-clause-listed g c =
     let old = c.args.self.now in
     let seat = c.step.ensures.group in
-    listed_still old.node.core c.step.new.self.core old.life.opening old.life.steps.items c.reserve.new.self.items seat.0 seat.1 seat.2 c.reserve.ensures.items old.listed
+    listed_still (seated old.node) (seated c.step.new.self) old.life.opening old.life.steps.items c.reserve.new.self.items seat.0 seat.1 seat.2 c.reserve.ensures.items old.listed
 
 pub invariant_of-self-in-Err-Down-clause-shown : goal.invariant_of-self-in-Err-Down-clause-shown
 invariant_of-self-in-Err-Down-clause-shown g c = λ down.
     let old = c.args.self.now in
     let seat = c.step.ensures.group in
-    let items = items_still old.node.core c.step.new.self.core old.life.opening old.life.steps.items c.reserve.new.self.items seat.0 seat.1 seat.2 c.reserve.ensures.items in
-    are_first (published old.publisher) (pending old.publisher) (items_in old.node.core old.life.opening old.life.steps.items) (published old.publisher) _ (old.whole c.if-not-self.false) refl items
+    let items = items_still (seated old.node) (seated c.step.new.self) old.life.opening old.life.steps.items c.reserve.new.self.items seat.0 seat.1 seat.2 c.reserve.ensures.items in
+    are_first (published old.publisher) (pending old.publisher) (items_in (seated old.node) old.life.opening old.life.steps.items) (published old.publisher) _ (old.whole c.if-not-self.false) refl items
 
 pub invariant_of-self-in-Err-Down-clause-named : goal.invariant_of-self-in-Err-Down-clause-named
 invariant_of-self-in-Err-Down-clause-named g c =
     let old = c.args.self.now in
-    let core = old.node.core in
+    let node = old.node in
     let seat = c.step.ensures.group in
-    named_still core.schema c.step.new.self.core.schema core.me c.step.new.self.core.me old.life.opening.mark old.publisher old.publisher old.named (refl, refl, refl) seat.0 seat.2
+    named_still (tables_of node) (tables_of c.step.new.self) (me_of node) (me_of c.step.new.self) old.life.opening.mark old.publisher old.publisher old.named (refl, refl, refl) seat.0 seat.2
 
 -- ---- a step whose entries, or whose outcomes, found no memory
 
@@ -166,34 +165,33 @@ invariant_of-self-in_default-note-clause-rising g c =
 pub invariant_of-self-in_default-note-clause-held : goal.invariant_of-self-in_default-note-clause-held
 invariant_of-self-in_default-note-clause-held g c = λ down d may.
     let old = c.args.self.now in
-    let core = c.take_down.new.node.core in
-    let same = c.take_down.ensures.same.0 in
+    let same = c.take_down.ensures.group in
     let was = old.replayed c.if-not-self.false in
     let s : Step = c.new-step.result in
     let seat = c.step.ensures.group in
     let is = c.take_down.ensures.held c.in-Ok-step.ensures.up.1 d may in
-    let left = whole_left (node_of old.node.core) old.node.core.schema old.node.core.members old.node.core.me c.in-Ok.work c.step.new.self.core c.in-Ok-step.given d (c.in-Ok-step.ensures.done c.in-Ok-step.ensures.up.0) is in
-    torn_left old.node.core core old.life.opening old.life.steps.items _ s c.in-Ok.work d (ap (λ (x : Core). x.schema) same ∙ seat.0) (ap (λ (x : Core). x.members) same ∙ seat.1) (ap (λ (x : Core). x.me) same ∙ seat.2) c.reserve.ensures.items (made_of s c.in-Some.mark c.args.packet c.in-Ok.work [] c.new-step.ensures c.in-Ok.ensures) was.0 left
+    let left = whole_left (member_of old.node) (tables_of old.node) (members_of old.node) (me_of old.node) c.in-Ok.work (member_of c.step.new.self) c.in-Ok-step.given d (c.in-Ok-step.ensures.done c.in-Ok-step.ensures.up.0) is in
+    torn_left (seated old.node) (seated c.take_down.new.self) old.life.opening old.life.steps.items _ s c.in-Ok.work d (same.0 ∙ seat.0) (same.1 ∙ seat.1) (same.2 ∙ seat.2) c.reserve.ensures.items (made_of s c.in-Some.mark c.args.packet c.in-Ok.work [] c.new-step.ensures c.in-Ok.ensures) was.0 left
 
 pub invariant_of-self-in_default-note-clause-listed : goal.invariant_of-self-in_default-note-clause-listed
 invariant_of-self-in_default-note-clause-listed g c =
     let old = c.args.self.now in
-    let same = c.take_down.ensures.same.0 in
+    let same = c.take_down.ensures.group in
     let seat = c.step.ensures.group in
-    listed_still old.node.core c.take_down.new.node.core old.life.opening old.life.steps.items c.reserve.new.self.items (ap (λ (x : Core). x.schema) same ∙ seat.0) (ap (λ (x : Core). x.members) same ∙ seat.1) (ap (λ (x : Core). x.me) same ∙ seat.2) c.reserve.ensures.items old.listed
+    listed_still (seated old.node) (seated c.take_down.new.self) old.life.opening old.life.steps.items c.reserve.new.self.items (same.0 ∙ seat.0) (same.1 ∙ seat.1) (same.2 ∙ seat.2) c.reserve.ensures.items old.listed
 
 pub invariant_of-self-in_default-note-clause-shown : goal.invariant_of-self-in_default-note-clause-shown
 invariant_of-self-in_default-note-clause-shown g c = λ down.
     let old = c.args.self.now in
-    let same = c.take_down.ensures.same.0 in
+    let same = c.take_down.ensures.group in
     let seat = c.step.ensures.group in
-    let items = items_still old.node.core c.take_down.new.node.core old.life.opening old.life.steps.items c.reserve.new.self.items (ap (λ (x : Core). x.schema) same ∙ seat.0) (ap (λ (x : Core). x.members) same ∙ seat.1) (ap (λ (x : Core). x.me) same ∙ seat.2) c.reserve.ensures.items in
-    are_first (published old.publisher) (pending old.publisher) (items_in old.node.core old.life.opening old.life.steps.items) (published c.note.new.publisher) _ (old.whole c.if-not-self.false) c.note.ensures.same.2 items
+    let items = items_still (seated old.node) (seated c.take_down.new.self) old.life.opening old.life.steps.items c.reserve.new.self.items (same.0 ∙ seat.0) (same.1 ∙ seat.1) (same.2 ∙ seat.2) c.reserve.ensures.items in
+    are_first (published old.publisher) (pending old.publisher) (items_in (seated old.node) old.life.opening old.life.steps.items) (published c.note.new.publisher) _ (old.whole c.if-not-self.false) c.note.ensures.same.2 items
 
 pub invariant_of-self-in_default-note-clause-named : goal.invariant_of-self-in_default-note-clause-named
 invariant_of-self-in_default-note-clause-named g c =
     let old = c.args.self.now in
-    let core = old.node.core in
-    let same = c.take_down.ensures.same.0 in
+    let node = old.node in
+    let same = c.take_down.ensures.group in
     let seat = c.step.ensures.group in
-    named_still core.schema c.take_down.new.node.core.schema core.me c.take_down.new.node.core.me old.life.opening.mark old.publisher c.note.new.publisher old.named c.note.ensures.same.0 (ap (λ (x : Core). x.schema) same ∙ seat.0) (ap (λ (x : Core). x.me) same ∙ seat.2)
+    named_still (tables_of node) (tables_of c.take_down.new.self) (me_of node) (me_of c.take_down.new.self) old.life.opening.mark old.publisher c.note.new.publisher old.named c.note.ensures.same.0 (same.0 ∙ seat.0) (same.2 ∙ seat.2)

@@ -1,6 +1,6 @@
 use Rattle.std.proofs.Common.{rules, ◌≡◌, ◌∙◌, Some, ap, FitsSigned, w64}
 use Rattle.std.proofs.lemmas.Int.{to_z-of_z}
-use Rattle.raft.specs.declared.state.Work.TheVariants.{Delivered}
+use Rattle.node.specs.Work.{Delivered}
 use Rattle.std.proofs.lemmas.Result.{IfOk-weaker}
 use Rattle.model.specs.Lists.{nth}
 use Rattle.world.specs.View.{brings, brought, world_of}

@@ -1,5 +1,5 @@
 use Rattle.std.proofs.Common.{rules, ◌≡◌, ◌∙◌, ap}
-use Rattle.raft.specs.declared.state.Work.TheVariants.{Local}
+use Rattle.node.specs.Work.{Local}
 use Rattle.std.proofs.lemmas.Result.{IfOk-weaker}
 use Rattle.model.specs.Lists.{nth}
 use Rattle.world.specs.View.{brings, brought, world_of}

@@ -1,5 +1,6 @@
-use Rattle.std.proofs.Common.{ap, sym}
-use Rattle.world.specs.View.{node_in, occupant}
+use Rattle.std.proofs.Common.{ap, refl, sym}
+use Rattle.node.specs.Member.{member_of}
+use Rattle.world.specs.View.{node_in, occupant, occupant_of}
 use Rattle.world.proofs.Seating.{at_rest_there, stopped_there, suited_there}
 use Rattle.world.proofs.seat.Seat.stop.Goals as goal
 
@@ -7,10 +8,10 @@ pub returns-in-Up-clause-seat : goal.returns-in-Up-clause-seat
 returns-in-Up-clause-seat c t n m seat =
     let x = c.in-Up.node in
     let is = sym c.in-Up.ensures.value in
-    at_rest_there t n m c.stop.result (suited_there t n m c.args.self.now x.core x.is_up (ap occupant is) (ap node_in is) seat c.stop.result c.stop.ensures.suits)
+    at_rest_there t n m c.stop.result (suited_there t n m c.args.self.now (occupant_of x) (ap occupant is) (member_of x) refl (ap node_in is) seat c.stop.result c.stop.ensures.suits)
 
 pub returns-in-Up-clause-node : goal.returns-in-Up-clause-node
 returns-in-Up-clause-node c t n m seat =
     let x = c.in-Up.node in
     let is = sym c.in-Up.ensures.value in
-    stopped_there t n m c.args.self.now x.core x.is_up (ap occupant is) (ap node_in is) seat c.stop.result (λ up d held. c.stop.ensures.last up d held)
+    stopped_there t n m c.args.self.now (occupant_of x) (ap occupant is) (member_of x) refl (ap node_in is) seat c.stop.result (λ up d held. c.stop.ensures.last up d held)
