@@ -25,9 +25,8 @@ pub(crate) fn tell_requests<R: Print + Clock>(
     schema: &Schema,
 ) -> Result<()> {
     for count in [1_000, 5_000] {
-        let mut player = led_group(rt, alloc, schema)?;
-        let decided = rate(count, decide_all(rt, alloc, &mut player, count)?);
-        let answered = rate(count, ask_all(rt, alloc, &mut player, count)?);
+        let (decided, answered) = time_group(rt, alloc, schema, Work::Requests, count)?;
+        let (decided, answered) = (rate(count, decided), rate(count, answered));
         println!(rt;
             "{count} requests: {decided} decided in a second, then {answered} questions by key answered in a second"
         )?;
@@ -42,8 +41,8 @@ pub(crate) fn tell_elections<R: Print + Clock>(
     schema: &Schema,
 ) -> Result<()> {
     let count = 1_000;
-    let mut player = led_group(rt, alloc, schema)?;
-    let held = rate(count, elect_all(rt, alloc, &mut player, count)?);
+    let (held, _none) = time_group(rt, alloc, schema, Work::Elections, count)?;
+    let held = rate(count, held);
     println!(rt; "{count} elections: {held} in a second")?;
     Ok(())
 }
@@ -55,11 +54,10 @@ pub(crate) fn tell_restarts<R: Print + Clock>(
     schema: &Schema,
 ) -> Result<()> {
     for count in [1_000, 10_000] {
-        let mut player = led_group(rt, alloc, schema)?;
-        let closed = close_without(rt, alloc, &mut player, count)? / 1_000_000;
-        let micros = catch_up(rt, alloc, &mut player, count)? / 1_000;
+        let (closed, caught_up) = time_group(rt, alloc, schema, Work::Restarts, count)?;
+        let (millis, micros) = (closed / 1_000_000, caught_up / 1_000);
         println!(rt;
-            "{count} entries decided in {closed} milliseconds reach a member that was down in {micros} microseconds"
+            "{count} entries decided in {millis} milliseconds reach a member that was down in {micros} microseconds"
         )?;
     }
     Ok(())
@@ -68,19 +66,60 @@ pub(crate) fn tell_restarts<R: Print + Clock>(
 /// Plays a little of each, and prints how much was as it should be.
 pub(crate) fn tell_checks<R: Print + Clock>(rt: &R, alloc: Global, schema: &Schema) -> Result<()> {
     let count = 20;
-    let mut player = led_group(rt, alloc, schema)?;
-    let _ = decide_all(rt, alloc, &mut player, count)?;
+    let _ = time_group(rt, alloc, schema, Work::Requests, count)?;
     println!(rt; "{count} requests: accepted at each node")?;
-    let _ = ask_all(rt, alloc, &mut player, count)?;
     println!(rt; "{count} questions by key: a row each")?;
-    let mut player = led_group(rt, alloc, schema)?;
-    let _ = elect_all(rt, alloc, &mut player, count)?;
+    let _ = time_group(rt, alloc, schema, Work::Elections, count)?;
     println!(rt; "{count} elections: a new leader each")?;
-    let mut player = led_group(rt, alloc, schema)?;
-    let _ = close_without(rt, alloc, &mut player, count)?;
-    let _ = catch_up(rt, alloc, &mut player, count)?;
+    let _ = time_group(rt, alloc, schema, Work::Restarts, count)?;
     println!(rt; "{count} entries: at a member that was down")?;
     Ok(())
+}
+
+// What a new group does so many times.
+#[derive(Clone, Copy)]
+enum Work {
+    // Decides requests, and then answers questions by key.
+    Requests,
+    // Holds elections.
+    Elections,
+    // Decides entries while a member is down, which then gets them.
+    Restarts,
+}
+
+// The nanoseconds of the work of a new group, and of what it then does.
+fn time_group<R: Clock>(
+    rt: &R,
+    alloc: Global,
+    schema: &Schema,
+    work: Work,
+    count: usize,
+) -> Result<(u128, u128)> {
+    let mut player = Player::new(alloc, MEMBERS, schema.clone()?)?;
+    time_work(rt, alloc, &mut player, work, count)
+}
+
+// Of a group that does nothing yet. Member 1 comes to lead it, and one entry, stamped 0, is decided. All clocks show 0,
+// so each entry after it is stamped one more.
+fn time_work<R: Clock>(
+    rt: &R,
+    alloc: Global,
+    player: &mut Player,
+    work: Work,
+    count: usize,
+) -> Result<(u128, u128)> {
+    let _ = elect(rt, alloc, player, 1, 1)?;
+    match work {
+        Work::Requests => {
+            let decided = decide_all(rt, alloc, player, count)?;
+            Ok((decided, ask_all(rt, alloc, player, count)?))
+        }
+        Work::Elections => Ok((elect_all(rt, alloc, player, count)?, 0)),
+        Work::Restarts => {
+            let closed = close_without(rt, alloc, player, count)?;
+            Ok((closed, catch_up(rt, alloc, player, count)?))
+        }
+    }
 }
 
 // How many of so many are done in a second, where all took so many nanoseconds.
@@ -92,13 +131,36 @@ fn rate(count: usize, nanos: u128) -> u128 {
 fn play<R: Clock>(rt: &R, alloc: Global, player: &mut Player, script: &str) -> Result<Played> {
     let lines = lines_of(alloc, script)?;
     let mut printed = Vec::new(alloc);
-    let start = Instant::now(rt)?;
-    for line in &lines {
-        player.play(line, &mut printed)?;
-    }
-    let nanos = start.elapsed(rt)?.as_nanos();
+    let nanos = play_all(rt, player, &lines, &mut printed)?;
     let printed = String::from_utf8(printed)?;
     Ok(Played { printed, nanos })
+}
+
+// The nanoseconds of playing these lines.
+fn play_all<R: Clock>(
+    rt: &R,
+    player: &mut Player,
+    lines: &[Line],
+    printed: &mut Vec<u8>,
+) -> Result<u128> {
+    let start = Instant::now(rt)?;
+    for line in lines {
+        player.play(line, printed)?;
+    }
+    Ok(start.elapsed(rt)?.as_nanos())
+}
+
+// Plays lines of a script, which are to print this, and takes the time of that alone.
+fn play_for<R: Clock>(
+    rt: &R,
+    alloc: Global,
+    player: &mut Player,
+    script: &str,
+    wanted: &str,
+) -> Result<u128> {
+    let Played { printed, nanos } = play(rt, alloc, player, script)?;
+    ensure!(printed.as_str().contains(wanted), "not printed: {wanted}");
+    Ok(nanos)
 }
 
 fn lines_of(alloc: Global, script: &str) -> Result<Vec<Line>> {
@@ -122,14 +184,6 @@ fn has_line(printed: &str, beginning: &str) -> bool {
     false
 }
 
-// A group that member 1 leads, in which one entry, stamped 0, is decided. All clocks show 0, so each entry after it is
-// stamped one more.
-fn led_group<R: Clock>(rt: &R, alloc: Global, schema: &Schema) -> Result<Player> {
-    let mut player = Player::new(alloc, MEMBERS, schema.clone()?)?;
-    let _ = elect(rt, alloc, &mut player, 1, 1)?;
-    Ok(player)
-}
-
 // The nanoseconds of so many requests, each of which is decided before the next is submitted.
 fn decide_all<R: Clock>(rt: &R, alloc: Global, player: &mut Player, count: usize) -> Result<u128> {
     let mut nanos = 0u128;
@@ -144,16 +198,21 @@ fn decide<R: Clock>(rt: &R, alloc: Global, player: &mut Player, number: usize) -
     let script = format!(in alloc;
         "submit 1 7 {number} INSERT INTO Dept (DNo, DStart, DEnd, DName) VALUES ({number}, DATE '2000-01-01', DATE '2020-01-01', 'Test');\nsettle\n"
     )?;
-    let played = play(rt, alloc, player, script.as_str())?;
+    let Played { printed, nanos } = play(rt, alloc, player, script.as_str())?;
     for node in 1..=MEMBERS {
-        let index = number.saturating_add(1);
-        let told = format!(in alloc;
-            "node {node} entry {index} request 7 {number} accepted 1970-01-01 00:00:00.{number:06}"
-        )?;
-        let is_told = has_line(played.printed.as_str(), told.as_str());
-        ensure!(is_told, "request {number} is not accepted at node {node}");
+        check_accepted(alloc, printed.as_str(), node, number)?;
     }
-    Ok(played.nanos)
+    Ok(nanos)
+}
+
+// A member is to tell that a request was accepted.
+fn check_accepted(alloc: Global, printed: &str, node: usize, number: usize) -> Result<()> {
+    let index = number.saturating_add(1);
+    let told = format!(in alloc;
+        "node {node} entry {index} request 7 {number} accepted 1970-01-01 00:00:00.{number:06}"
+    )?;
+    ensure!(has_line(printed, told.as_str()), "not told: {told}");
+    Ok(())
 }
 
 // The nanoseconds of so many questions, of each key after so many rows with a key of their own.
@@ -177,15 +236,17 @@ fn ask<R: Clock>(
     let script = format!(in alloc;
         "ask {node} SELECT * FROM Dept FOR SYSTEM_TIME AS OF TIMESTAMP '1970-01-01 00:00:00.{rows:06}' WHERE DNo = {key};\n"
     )?;
-    let played = play(rt, alloc, player, script.as_str())?;
-    let printed = played.printed.as_str();
+    let Played { printed, nanos } = play(rt, alloc, player, script.as_str())?;
+    check_answered(alloc, printed.as_str(), key)?;
+    Ok(nanos)
+}
+
+// The answer is to be the one row of a key.
+fn check_answered(alloc: Global, printed: &str, key: usize) -> Result<()> {
     let row = format!(in alloc; "row {key},2000-01-01,2020-01-01,'Test',")?;
     let is_answered = has_line(printed, row.as_str()) && printed.ends_with("\nrows 1\n");
-    ensure!(
-        is_answered,
-        "node {node} does not give the row of key {key}"
-    );
-    Ok(played.nanos)
+    ensure!(is_answered, "not answered: {row}");
+    Ok(())
 }
 
 // The nanoseconds of so many elections, of one member after the other, in a group that member 1 leads in term 1.
@@ -209,14 +270,11 @@ fn elect<R: Clock>(
     term: usize,
 ) -> Result<u128> {
     let script = format!(in alloc; "timeout {node}\nsettle\n")?;
-    let played = play(rt, alloc, player, script.as_str())?;
     let other = if node == 1 { 2 } else { 1 };
     let decided = format!(in alloc;
         " {node}->{other} append term {term} prev {term} {term} commit {term} entries 0\n"
     )?;
-    let is_led = played.printed.as_str().contains(decided.as_str());
-    ensure!(is_led, "node {node} does not lead term {term}");
-    Ok(played.nanos)
+    play_for(rt, alloc, player, script.as_str(), decided.as_str())
 }
 
 // The nanoseconds of so many entries that are decided while member 3 is down.

@@ -83,10 +83,21 @@ fn measure<R: Clock + Wait + Threads + Sync>(
     views: usize,
     more: u32,
 ) -> Result<Figures> {
-    let mut publisher = open(rt, alloc, schema)?;
-    let readers = take_readers(alloc, &mut publisher, views)?;
     let query = read_query(alloc, schema, "SELECT * FROM Dept WHERE DNo = 999;")?;
     let items = items(alloc, FIRST, more)?;
+    let mut publisher = open(rt, alloc, schema)?;
+    let readers = take_readers(alloc, &mut publisher, views)?;
+    write_and_ask(rt, publisher, items, readers, &query)
+}
+
+// Publishes these items while the views are asked.
+fn write_and_ask<R: Clock + Wait + Threads + Sync>(
+    rt: &R,
+    publisher: Publisher,
+    items: Vec<Item>,
+    readers: Vec<Reader>,
+    query: &Query,
+) -> Result<Figures> {
     let stage = Stage {
         is_begun: AtomicBool::new(false),
         is_done: AtomicBool::new(false),
@@ -94,12 +105,13 @@ fn measure<R: Clock + Wait + Threads + Sync>(
     let ((publisher, nanos), readers) = thread::join(
         rt,
         || write_all(rt, publisher, items, &stage),
-        || ask_all(rt, readers, &query, &stage),
+        || ask_all(rt, readers, query, &stage),
     );
     publisher.stop(rt);
+    let readers = readers?;
     Ok(Figures {
         nanos: nanos?,
-        answers: answers_of(&readers?)?,
+        answers: answers_of(&readers)?,
     })
 }
 
