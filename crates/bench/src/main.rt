@@ -21,6 +21,8 @@ use sqlread::transaction::read_transaction;
 use std::alloc::{AllocError, Global};
 use std::env;
 use std::rt::{Clock, Env};
+use std::sync::Wait;
+use std::thread::Threads;
 use std::time::Instant;
 
 const SCHEMA: &str = "CREATE TABLE Dept (DNo INTEGER, DStart DATE, DEnd DATE, DName VARCHAR(30),
@@ -44,14 +46,24 @@ const MEASURED: usize = 1_048_576;
 fn main(rt: HostRuntime) -> Result<()> {
     let alloc = rt.alloc();
     let schema = read_schema(alloc, SCHEMA)?;
-    match words_given(&rt)? {
-        Asked::Checks => tell_checks(&rt, alloc, &schema),
-        Asked::Rates => tell_rates(&rt, alloc, &schema),
-        Asked::Tables => tables::tell(&rt, alloc, &schema),
-        Asked::Requests => groups::tell_requests(&rt, alloc, &schema),
-        Asked::Elections => groups::tell_elections(&rt, alloc, &schema),
-        Asked::Restarts => groups::tell_restarts(&rt, alloc, &schema),
-        Asked::Views => views::tell(&rt, alloc, &schema),
+    let asked = words_given(&rt)?;
+    tell(&rt, alloc, &schema, asked)
+}
+
+fn tell<R: Print + Clock + Wait + Threads + Sync>(
+    rt: &R,
+    alloc: Global,
+    schema: &Schema,
+    asked: Asked,
+) -> Result<()> {
+    match asked {
+        Asked::Checks => tell_checks(rt, alloc, schema),
+        Asked::Rates => tell_rates(rt, alloc, schema),
+        Asked::Tables => tables::tell(rt, alloc, schema),
+        Asked::Requests => groups::tell_requests(rt, alloc, schema),
+        Asked::Elections => groups::tell_elections(rt, alloc, schema),
+        Asked::Restarts => groups::tell_restarts(rt, alloc, schema),
+        Asked::Views => views::tell(rt, alloc, schema),
     }
 }
 

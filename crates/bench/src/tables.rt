@@ -1,7 +1,7 @@
 //! How long transactions and questions take: with the check of references, and with the commit to the versions.
 use anyhow::{Result, bail, ensure};
 use apply::Tables;
-use fault::Text;
+use fault::{Refusal, Text};
 use model::entry::{Entry, Request};
 use model::request::{Client, RequestNumber};
 use model::stamp::Stamp;
@@ -128,16 +128,27 @@ fn tell_rows<R: Print + Clock>(
     keys: Keys,
     rows: usize,
 ) -> Result<()> {
-    let mut book = Book::new(alloc, schema)?;
     print!(rt; "{rows:>6}")?;
+    let mut book = Book::new(alloc, schema)?;
+    tell_kinds(rt, &mut book, keys, rows)
+}
+
+// Prints what each kind takes, one after the other.
+fn tell_kinds<R: Print + Clock>(rt: &R, book: &mut Book, keys: Keys, rows: usize) -> Result<()> {
     for kind in KINDS {
         let nanos = book.measure(rt, Load { kind, keys, rows })?;
         if kind.is_told() {
-            let (micros, tenth) = (nanos / 1_000, nanos % 1_000 / 100);
-            print!(rt; "{micros:>10}.{tenth}")?;
+            tell_nanos(rt, nanos)?;
         }
     }
     println!(rt;)?;
+    Ok(())
+}
+
+// Prints so many nanoseconds as microseconds.
+fn tell_nanos<R: Print>(rt: &R, nanos: u128) -> Result<()> {
+    let (micros, tenth) = (nanos / 1_000, nanos % 1_000 / 100);
+    print!(rt; "{micros:>10}.{tenth}")?;
     Ok(())
 }
 
@@ -286,6 +297,15 @@ impl Load {
     }
 }
 
+// A transaction is to be accepted.
+fn check_accepted(outcome: Option<Result<Stamp, Refusal>>, text: &str) -> Result<()> {
+    match outcome {
+        Some(Ok(_)) => Ok(()),
+        Some(Err(refusal)) => bail!("{refusal}: {text}"),
+        None => bail!("no outcome: {text}"),
+    }
+}
+
 impl Book {
     fn new(alloc: Global, schema: &Schema) -> Result<Book> {
         Ok(Book {
@@ -324,11 +344,8 @@ impl Book {
         let start = Instant::now(rt)?;
         let outcome = self.tables.apply(&entry)?;
         let nanos = start.elapsed(rt)?.as_nanos();
-        match outcome {
-            Some(Ok(_)) => Ok(nanos),
-            Some(Err(refusal)) => bail!("{refusal}: {text}"),
-            None => bail!("no outcome: {text}"),
-        }
+        check_accepted(outcome, text)?;
+        Ok(nanos)
     }
 
     // The entry of the next request, stamped with its number.
