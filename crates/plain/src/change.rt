@@ -3,6 +3,7 @@ use crate::line::{Cell, KeyDay, Line};
 use crate::meaning::{in_portion, is_edge, is_met, set};
 use crate::row::Row;
 use fault::Refusal;
+use model::value::Value;
 use period::Period;
 use sqlchecks::comparison::Comparison;
 use sqlread::statement::{Delete, Insert, Update};
@@ -40,6 +41,11 @@ pub(crate) fn inserted(
     for day in line.days.iter() {
         days.push(inserted_day(day, insert, t)?)?;
     }
+    with_days(line, days)
+}
+
+// The key with other days.
+fn with_days(line: &Line, days: Vec<KeyDay>) -> Result<Line, AllocError> {
     Ok(Line {
         key: line.key.clone()?,
         days,
@@ -59,6 +65,20 @@ fn lies_in_met(
     }
 }
 
+/// SET of the cell's values inside the portion, and these values outside it.
+fn updated_values(
+    alloc: Global,
+    cell: &Cell,
+    number: u32,
+    update: &Update,
+) -> Result<Vec<Value>, Refusal> {
+    if in_portion(update.portion, number) {
+        set(alloc, &update.assignments, &cell.values)?.ok_or(Refusal::NumberRange)
+    } else {
+        Ok(cell.values.clone()?)
+    }
+}
+
 /// A day of a row that is met is born anew, and inside the portion has SET of its values; the portion's edges cut the row.
 fn updated_day(
     alloc: Global,
@@ -70,11 +90,7 @@ fn updated_day(
     let Some(cell) = &day.cell else {
         return Ok(day.clone()?);
     };
-    let values = if in_portion(update.portion, day.number) {
-        set(alloc, &update.assignments, &cell.values)?.ok_or(Refusal::NumberRange)?
-    } else {
-        cell.values.clone()?
-    };
+    let values = updated_values(alloc, cell, day.number, update)?;
     let is_new_cut = is_edge(update.portion, day.number) && line.is_joined(day);
     Ok(KeyDay {
         number: day.number,
@@ -84,6 +100,22 @@ fn updated_day(
         }),
         is_cut: day.is_cut || is_new_cut,
     })
+}
+
+/// A day is updated where it lies in one of the rows that are met.
+fn day_after_update(
+    alloc: Global,
+    line: &Line,
+    rows: &[Row],
+    day: &KeyDay,
+    update: &Update,
+    t: u64,
+) -> Result<KeyDay, Refusal> {
+    if lies_in_met(rows, &update.conditions, update.portion, day) {
+        updated_day(alloc, line, day, update, t)
+    } else {
+        Ok(day.clone()?)
+    }
 }
 
 /// `NumberRange` where SET is out of range on a day in the portion of a row that is met.
@@ -96,18 +128,9 @@ pub(crate) fn updated(
     let rows = line.rows(alloc)?;
     let mut days = Vec::new(alloc);
     for day in line.days.iter() {
-        let is_met = lies_in_met(&rows, &update.conditions, update.portion, day);
-        let new = if is_met {
-            updated_day(alloc, line, day, update, t)?
-        } else {
-            day.clone()?
-        };
-        days.push(new)?;
+        days.push(day_after_update(alloc, line, &rows, day, update, t)?)?;
     }
-    Ok(Line {
-        key: line.key.clone()?,
-        days,
-    })
+    Ok(with_days(line, days)?)
 }
 
 /// A day of a row that is met becomes empty inside the portion, and is born anew outside it.
@@ -121,6 +144,20 @@ fn deleted_day(day: &KeyDay, delete: &Delete, t: u64) -> Result<KeyDay, AllocErr
     Ok(new)
 }
 
+/// A day is deleted where it lies in one of the rows that are met.
+fn day_after_delete(
+    rows: &[Row],
+    day: &KeyDay,
+    delete: &Delete,
+    t: u64,
+) -> Result<KeyDay, AllocError> {
+    if lies_in_met(rows, &delete.conditions, delete.portion, day) {
+        deleted_day(day, delete, t)
+    } else {
+        day.clone()
+    }
+}
+
 pub(crate) fn deleted(
     alloc: Global,
     line: &Line,
@@ -130,16 +167,7 @@ pub(crate) fn deleted(
     let rows = line.rows(alloc)?;
     let mut days = Vec::new(alloc);
     for day in line.days.iter() {
-        let is_met = lies_in_met(&rows, &delete.conditions, delete.portion, day);
-        let new = if is_met {
-            deleted_day(day, delete, t)?
-        } else {
-            day.clone()?
-        };
-        days.push(new)?;
+        days.push(day_after_delete(&rows, day, delete, t)?)?;
     }
-    Ok(Line {
-        key: line.key.clone()?,
-        days,
-    })
+    with_days(line, days)
 }

@@ -125,6 +125,20 @@ impl Judge {
         last
     }
 
+    /// What the tables after all entries make of a transaction.
+    fn outcome(
+        &self,
+        schema: &Schema,
+        stamp: Stamp,
+        transaction: &Transaction,
+    ) -> Result<Outcome, AllocError> {
+        let state = self.now(schema)?;
+        outcome_of(
+            state.transacted(self.alloc, schema, transaction, stamp.micros()),
+            stamp,
+        )
+    }
+
     fn execute(
         &mut self,
         schema: &Schema,
@@ -133,9 +147,7 @@ impl Judge {
         number: u64,
         transaction: Transaction,
     ) -> Result<Outcome, AllocError> {
-        let state = self.now(schema)?;
-        let next = state.transacted(self.alloc, schema, &transaction, stamp.micros());
-        let outcome = outcome_of(next, stamp)?;
+        let outcome = self.outcome(schema, stamp, &transaction)?;
         match &outcome {
             Ok(_) => self.accepted.push(Accepted { stamp, transaction })?,
             Err(_) => drop(transaction),

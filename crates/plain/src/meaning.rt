@@ -127,6 +127,18 @@ fn in_range(number: i128) -> Option<Value> {
     }
 }
 
+/// SET of the value in a place, none where it is out of range.
+fn set_value(
+    assignments: &[Assignment],
+    place: usize,
+    old: &Value,
+) -> Result<Option<Value>, AllocError> {
+    match assignments.iter().find(|a| a.place == place) {
+        Some(assignment) => new_value(&assignment.value, old),
+        None => Ok(Some(old.clone()?)),
+    }
+}
+
 /// SET of the values, each from the old one in its place: none where one is out of range.
 pub(crate) fn set(
     alloc: Global,
@@ -135,12 +147,10 @@ pub(crate) fn set(
 ) -> Result<Option<Vec<Value>>, AllocError> {
     let mut values = Vec::new(alloc);
     for (place, value) in old.iter().enumerate() {
-        let new = match assignments.iter().find(|a| a.place == place) {
-            Some(assignment) => new_value(&assignment.value, value)?,
-            None => Some(value.clone()?),
-        };
-        let Some(new) = new else { return Ok(None) };
-        values.push(new)?;
+        match set_value(assignments, place, value)? {
+            Some(new) => values.push(new)?,
+            None => return Ok(None),
+        }
     }
     Ok(Some(values))
 }

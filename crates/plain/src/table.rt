@@ -7,6 +7,7 @@ use model::value::Value;
 use period::Period;
 use sqlread::statement::{Delete, Insert, Update};
 use std::alloc::{AllocError, Global};
+use std::cmp::Ordering;
 
 /// How many rows a table may have.
 const ROWS_MOST: usize = 20_000;
@@ -24,6 +25,22 @@ fn is_same(key: &[Value], other: &[Value]) -> bool {
     key.cmp(&other).is_eq()
 }
 
+// Adds the lines whose keys compare so with this one.
+fn push_copies(
+    with: &mut Vec<Line>,
+    lines: &[Line],
+    key: &[Value],
+    wanted: Ordering,
+) -> Result<(), AllocError> {
+    for line in lines
+        .iter()
+        .filter(|line| line.key.as_slice().cmp(&key) == wanted)
+    {
+        with.push(line.clone()?)?;
+    }
+    Ok(())
+}
+
 /// The lines with one for the key, in order.
 fn with_key(
     alloc: Global,
@@ -32,19 +49,9 @@ fn with_key(
     new: Line,
 ) -> Result<Vec<Line>, AllocError> {
     let mut with = Vec::new(alloc);
-    for line in lines
-        .iter()
-        .filter(|line| line.key.as_slice().cmp(&key).is_lt())
-    {
-        with.push(line.clone()?)?;
-    }
+    push_copies(&mut with, lines, key, Ordering::Less)?;
     with.push(new)?;
-    for line in lines
-        .iter()
-        .filter(|line| line.key.as_slice().cmp(&key).is_gt())
-    {
-        with.push(line.clone()?)?;
-    }
+    push_copies(&mut with, lines, key, Ordering::Greater)?;
     Ok(with)
 }
 
