@@ -4,6 +4,7 @@ ghost use Rattle.flight.specs.Lives.{all_steps};
 ghost use Rattle.sqlread.specs.Meaning.{schema_of};
 ghost use Rattle.keep.specs.Durable.{stored_in};
 ghost use Rattle.keep.specs.Log.{IsLog, log_prop};
+ghost use Rattle.node.specs.Member.{me_of, members_of, tables_of};
 
 use answer::Answer;
 use fault::Refusal;
@@ -29,7 +30,7 @@ pub(crate) fn start<R: Wait>(
 ) -> Result<Cell<MemKeeper>, (Refusal, MemImage)>
     requires member { (1 ≤ me) × (me ≤ 3) }
     requires log { IsLog 3 (schema_of schema.now) (stored_in image) }
-    ensures group { IfOk result (λ c. (c.node.core.members ≡ 3) × (c.node.core.schema ≡ schema.now) × (c.node.core.me ≡ me)) }
+    ensures group { IfOk result (λ c. (members_of c.node ≡ 3) × (tables_of c.node ≡ schema.now) × (me_of c.node ≡ me)) }
     ensures none { IfOk result (λ c. all_steps c.life ≡ []) }
     ensures log { IfErr result (λ e. IsLog 3 (schema_of schema.now) (stored_in e.1)) }
 {
@@ -53,7 +54,7 @@ struct Running {
     schema: Schema,
     cell: Cell<MemKeeper>,
     ghost member: { (1 ≤ me) × (me ≤ 3) },
-    ghost group: { (cell.node.core.members ≡ 3) × (cell.node.core.schema ≡ schema) },
+    ghost group: { (members_of cell.node ≡ 3) × (tables_of cell.node ≡ schema) },
 }
 
 // A member that does not run: what it has stored, and the last mark of its lives before.
@@ -82,20 +83,22 @@ impl Running {
 
 impl Resting {
     fn start<R: Wait>(self, rt: &R, alloc: Global) -> Result<Running, (Refusal, Resting)> {
+        let last = self.last;
         let Resting {
             me,
             schema,
             image,
-            last,
+            last: kept,
         } = self;
-        match start(rt, alloc, image, &schema, me, last) {
+        let started = start(rt, alloc, image, &schema, me, last);
+        match started {
             Ok(cell) => Ok(Running { me, schema, cell }),
             Err((refusal, image)) => {
                 let resting = Resting {
                     me,
                     schema,
                     image,
-                    last,
+                    last: kept,
                 };
                 Err((refusal, resting))
             }
