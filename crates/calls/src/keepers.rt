@@ -72,6 +72,21 @@ fn is_down(alloc: Global, keeper: &mut MemKeeper, schema: &Schema) -> Result<boo
     Ok(are_refused && keeper.failures() == failures)
 }
 
+// What was answered, and how many calls failed.
+fn judge_calls(rt: &impl Abort, call: u64, answered: Result<(), StoreError>, failures: u64) {
+    let wanted = if is_failing(call) {
+        (Err(StoreError::StoreFault), 1)
+    } else {
+        (Ok(()), 0)
+    };
+    assert_eq!(rt; (answered, failures), wanted, "call {call}");
+}
+
+// Whether it is a call of a keeper that opened.
+fn is_failing(call: u64) -> bool {
+    call == 2 || call == 3 || call == 4
+}
+
 // A keeper that opened, of whose calls this one fails. What it gives up.
 fn use_keeper(
     rt: &impl Abort,
@@ -83,19 +98,27 @@ fn use_keeper(
     requires { IsLog 3 (schema_of schema.now) (stored_by keeper) }
     ensures { IfOk result (λ image. IsLog 3 (schema_of schema.now) (stored_in image)) }
 {
-    let fails = call == 2 || call == 3 || call == 4;
     let answered = call_each(alloc, &mut keeper, schema);
-    let wanted = if fails {
-        Err(StoreError::StoreFault)
-    } else {
-        Ok(())
-    };
-    assert_eq!(rt; answered, wanted, "call {call}");
-    assert_eq!(rt; keeper.failures(), u64::from(fails));
-    if fails {
+    judge_calls(rt, call, answered, keeper.failures());
+    if is_failing(call) {
         assert!(rt; is_down(alloc, &mut keeper, schema)?);
     }
     Ok(keeper.close())
+}
+
+// What is left of a store of which this call fails.
+fn left(rt: &impl Abort, alloc: Global, call: u64, schema: &Schema) -> Result<MemImage, Fail>
+    ensures { IfOk result (λ image. IsLog 3 (schema_of schema.now) (stored_in image)) }
+{
+    let mut image = MemImage::with_hard_state(alloc, HARD_BEFORE);
+    image.fail_at(call);
+    match MemKeeper::open(alloc, image, 3, schema) {
+        Ok(keeper) => use_keeper(rt, alloc, keeper, call, schema),
+        Err((error, image)) => {
+            assert!(rt; call == 1 && error == StoreError::StoreFault);
+            Ok(image)
+        }
+    }
 }
 
 // Open, state, save and entry are calls 1 to 4. What is stored is what was so before the save, or what is so after it.
@@ -104,15 +127,7 @@ fn fails_at_each_call(rt: HostRuntime) -> Result<(), Fail> {
     let alloc = rt.alloc();
     let schema = read_schema(alloc, SCHEMA)?;
     for call in 0..6 {
-        let mut image = MemImage::with_hard_state(alloc, HARD_BEFORE);
-        image.fail_at(call);
-        let image = match MemKeeper::open(alloc, image, 3, &schema) {
-            Ok(keeper) => use_keeper(&rt, alloc, keeper, call, &schema)?,
-            Err((error, image)) => {
-                assert_eq!(rt; (call, error), (1, StoreError::StoreFault));
-                image
-            }
-        };
+        let image = left(&rt, alloc, call, &schema)?;
         let is_saved = call == 0 || call > 3;
         let wanted = if is_saved {
             (HARD_AFTER, 1)
