@@ -72,6 +72,15 @@ abbrev pub HasCause : ℕ → ℕ → Fault → Type 0
 HasCause failed failed' (Kept refusal) = Unit {0}
 HasCause failed failed' (Down error) = IsCause failed failed' error
 
+-- the cause is one of these, or that the store was not honest, which is told as its fault
+abbrev pub IsCauseOr : Type 0 → ℕ → ℕ → StoreError → Type 0
+IsCauseOr honest failed failed' error = IsCause failed failed' error ⊎ ((error ≡ StoreFault) × (honest → ⊥))
+
+-- each fault that takes the node down has such a cause
+abbrev pub HasCauseOr : Type 0 → ℕ → ℕ → Fault → Type 0
+HasCauseOr honest failed failed' (Kept refusal) = Unit {0}
+HasCauseOr honest failed failed' (Down error) = IsCauseOr honest failed failed' error
+
 -- a refusal changes nothing
 abbrev pub IsSame : Node → Node → Fault → Type 0
 IsSame old new (Kept refusal) = new ≡ old
