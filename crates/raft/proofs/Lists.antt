@@ -133,3 +133,16 @@ stands_within log (suc i) t e = elim (ltb_tells i (length log)) [
   | inl lt ↦ omega (arith, lt.1)
   | inr ge ↦ let none : has_term (slice_get log i) t ≡ false = rw (slice_get_past log i (omega (arith, ge.1))) refl in absurd (cc (none, e))
 ]
+
+-- where entries can come in any log
+pub record Reach (a b v : ℕ) : Type 0 where
+  pub low : a ≤ v
+  pub high : v ≤ b
+
+pub agreed_reach : (log es : List Entry) (i : ℕ) → Reach i (i + length es) (agreed log i es)
+agreed_reach log [] i = record { low = omega arith; high = omega arith }
+agreed_reach log (e ∷ es) i =
+    let more = agreed_reach log es (i + 1) in
+    cond_both (Reach i (i + length (e ∷ es))) (has_term (slice_get log i) e.term) _ _
+    (record { low = omega (arith, more.low); high = omega (arith, more.high) })
+    (record { low = omega arith; high = omega arith })

@@ -14,7 +14,7 @@ use Rattle.model.specs.Logs.{least_stamp}
 use Rattle.model.specs.Stamps.{TIME_LAST, above, stamp}
 use Rattle.model.specs.Transactions.{Schema}
 use Rattle.model.specs.Members.{agreed, term_of, term_at}
-use Rattle.model.specs.Steps.{accepted, continues, go_on, spells}
+use Rattle.model.specs.Steps.{TERM_LAST, accepted, continues, go_on, spells}
 use Rattle.keep.specs.Log.{is_entry, is_numbered}
 use Rattle.raft.proofs.Lists.{Between, agreed_between}
 
@@ -192,3 +192,21 @@ no_term_below term log (suc j) (suc i) first le within f other same =
     let up = terms_rise None term log j i (omega (arith, le)) (omega (arith, within)) f in
     let low = terms_below None term log i (omega (arith, within)) f in
     other (omega (arith, up, low, same))
+
+-- ---- terms that fit
+
+pub terms_pushed : (es : List Entry) (e : Entry) → list_all (λ d. nat_le d.term TERM_LAST) es ≡ true → e.term ≤ TERM_LAST → list_all (λ d. nat_le d.term TERM_LAST) (es ++ e ∷ []) ≡ true
+terms_pushed es e old new = pushed_entries (λ d. nat_le d.term TERM_LAST) es e old (le-leb e.term TERM_LAST new)
+
+pub terms_kept : (p : Entry → Bool) (k : ℕ) (old new : List Entry) → list_all p old ≡ true → list_all p new ≡ true → list_all p (take k old ++ new) ≡ true
+terms_kept p k old new h e = list_all-append p (take k old) new ∙ joint _ _ (all_first p k old h) e
+
+pub terms_turned : (p : Entry → Bool) (k n : ℕ) (es : List Entry) → list_all p es ≡ true → list_all p (take n (drop k es ++ take k es)) ≡ true
+terms_turned p k n es h = all_first p n (drop k es ++ take k es) (list_all-append p (drop k es) (take k es) ∙ joint _ _ (all_rest p k es h) (all_first p k es h))
+
+-- terms that go on up to one that fits
+pub terms_fit : (prev : Option Entry) (bound : ℕ) (es : List Entry) → bound ≤ TERM_LAST → go_on prev bound es ≡ true → list_all (λ d. nat_le d.term TERM_LAST) es ≡ true
+terms_fit prev bound [] h f = refl
+terms_fit prev bound (e ∷ es) h f =
+    let both = parts (fits prev bound e) (go_on (Some e) bound es) f in
+    joint _ _ (le-leb e.term TERM_LAST (omega (arith, h, term_below prev bound e both.0))) (terms_fit (Some e) bound es h both.1)

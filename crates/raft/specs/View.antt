@@ -1,36 +1,48 @@
 -- A core in the words of the definitions of a member and its step.
-use Rattle.std.specs.Prelude.{◌≡◌, ℕ, ◌≤◌, Bool, true, List, [], ◌∷◌, ◌++◌, take, length, Option, Some, None, MatchOption}
+use Rattle.std.specs.Prelude.{◌≡◌, ℕ, ◌+◌, ◌-◌, ◌≤◌, Bool, true, ◌&&◌, nat_lt, nat_le, if◌then◌else◌, List, [], ◌∷◌, ◌++◌, take, drop, length, Option, Some, None, MatchOption}
+use Rattle.std.specs.List.{list_all}
 use Rattle.raft.specs.declared.state.Core.{Core}
 use Rattle.raft.specs.declared.state.Before.{Before}
-use Rattle.keep.specs.declared.change.Change.{Change}
-use Rattle.keep.specs.declared.hard_state.HardState.{HardState}
+use Rattle.raft.specs.declared.state.Sending.{Sending}
+use Rattle.raft.specs.declared.state.Sending.TheVariants.{Nothing, Answer, VoteRequests, Append, Appends, Agreed}
 use Rattle.raft.specs.declared.state.Work.{Work}
 use Rattle.raft.specs.declared.state.Work.TheVariants.{Local, Delivered}
 use Rattle.raft.specs.declared.state.Effect.{Effect as Given}
 use Rattle.raft.specs.declared.state.Effect.TheVariants.{Refused, Ignored, Done}
 use Rattle.raft.specs.declared.state.Taken.{Taken}
-use Rattle.std.specs.declared.vec.Vec.{Vec}
-use Rattle.std.specs.declared.alloc.Global.{Global}
+use Rattle.keep.specs.declared.change.Change.{Change}
+use Rattle.keep.specs.declared.hard_state.HardState.{HardState}
+use Rattle.keep.specs.declared.state.State.{State}
+use Rattle.keep.specs.Durable.{Durable, after, tail_of}
+use Rattle.keep.specs.Log.{IsLog, IsSmall, is_entry, is_numbered, is_vote}
 use Rattle.model.specs.declared.message.Message.{Message}
+use Rattle.model.specs.declared.message.Body.{Body}
+use Rattle.model.specs.declared.message.Body.TheVariants as model
+use Rattle.model.specs.declared.message.Body.TheVariants.{RequestVote, Vote, Reply}
 use Rattle.model.specs.declared.message.Role.TheVariants.{Follower}
+use Rattle.model.specs.declared.message.Input.TheVariants.{Timeout, Beat, Close, Submit}
+use Rattle.model.specs.Stamps.{TIME_LAST}
 use Rattle.model.specs.declared.entry.Entry.{Entry}
 use Rattle.model.specs.declared.entry.Request.{Request}
-use Rattle.sqlchecks.specs.Columns.{Tables}
-use Rattle.sqlread.specs.Meaning.{schema_of}
+use Rattle.model.specs.Lists.{nth_or}
 use Rattle.model.specs.Members.{Node}
-use Rattle.model.specs.declared.message.Input.{Input}
-use Rattle.model.specs.declared.message.Input.TheVariants.{Timeout, Beat, Close, Submit}
-use Rattle.model.specs.Transactions.{Schema}
-use Rattle.model.specs.Steps.{After, Effect, Moves, Refuses, Nothing, on_message, go_on, spells}
-use Rattle.keep.specs.Log.{is_vote}
+use Rattle.model.specs.Steps.{After, Effect, Moves, Refuses, answer, append_to, append_to_all, commits, entries_of, on_message, vote_requests}
+use Rattle.model.specs.Steps as steps
 use Rattle.model.specs.Worlds.{hand}
 use Rattle.model.specs.Kept.{kept_at}
+use Rattle.sqlchecks.specs.Columns.{Tables}
+use Rattle.sqlread.specs.Meaning.{schema_of}
 
-abbrev pub node_of : Core → Node
-node_of c = record {
+-- the whole log, where these are the entries on the shelf
+abbrev pub log_of : Core → List Entry → List Entry
+log_of c stored = take c.log.shelved stored ++ c.log.tail.items
+
+-- the member that a core is, where these are the entries on the shelf
+abbrev pub node_of : Core → List Entry → Node
+node_of c stored = record {
   term = c.term;
   vote = c.vote;
-  log = c.log.items;
+  log = log_of c stored;
   up = true;
   role = c.role;
   commit = c.commit;
@@ -44,22 +56,38 @@ node_of c = record {
 abbrev pub hard_of : Node → HardState
 hard_of x = record { term = x.term; vote = x.vote }
 
+abbrev pub hard_in : Core → HardState
+hard_in c = record { term = c.term; vote = c.vote }
+
+-- the entries on the shelf are there
+abbrev pub Reaches : Core → List Entry → Type 0
+Reaches c stored = c.log.shelved ≤ length stored
+
+-- what is stored is what the member has
+pub record IsInStep (c : Core) (d : Durable) : Type 0 where
+  pub hard : d.hard ≡ hard_in c
+  pub log : d.log ≡ log_of c d.log
+
+-- what is read of a keeper as it starts
+pub record IsStateOf (s : State) (d : Durable) : Type 0 where
+  pub hard : s.hard ≡ d.hard
+  pub length : s.length ≡ length d.log
+  pub tail : s.tail.items ≡ tail_of d.log
+
+-- what a change makes of what is stored, if there is one
+abbrev pub after_change : Option Change → Durable → Durable
+after_change None d = d
+after_change (Some c) d = after c d
+
 -- a node with its parts from before it heard of a term
 abbrev pub forgotten : Option Before → Node → Node
 forgotten None x = x
 forgotten (Some b) x = record x { term = b.term; vote = b.vote; role = b.role; known = b.known; votes = b.votes.items; next = b.next.items; matched = b.matched.items }
 
--- it can go back to what it was: its log went on up to that term, and its vote was for one of the group
+-- it can go back to what it was: its vote was for one of the group
 abbrev pub CanForget : Option Before → Core → Type 0
 CanForget None c = Unit {0}
-CanForget (Some b) c = (go_on None b.term c.log.items ≡ true) × (is_vote c.members b.vote ≡ true)
-
--- a submitted text spells a transaction
-abbrev pub is_readable : Schema → Input → Bool
-is_readable schema Timeout = true
-is_readable schema Beat = true
-is_readable schema (Close reading) = true
-is_readable schema (Submit reading request) = spells schema (Some request)
+CanForget (Some b) c = is_vote c.members b.vote ≡ true
 
 -- a member that starts with what is stored
 abbrev pub opening : HardState → List Entry → Node
@@ -80,8 +108,27 @@ kept_of (Local input) log = length log
 kept_of (Delivered reading message) log = kept_at message.body log
 
 -- what a core is after a step, and what it sends
-abbrev pub after_of : Core → List Message → After
-after_of c messages = record { node = node_of c; sent = messages }
+abbrev pub after_of : Core → List Entry → List Message → After
+after_of c stored messages = record { node = node_of c stored; sent = messages }
+
+-- what a leader does once the log of a member is known to agree further
+abbrev pub agrees : ℕ → ℕ → ℕ → Node → After
+agrees n me sender x =
+    let y = commits n me x in
+    record {
+      node = y;
+      sent = if nat_lt x.commit y.commit then append_to_all n y me
+          else if nat_le (nth_or y.next sender 0) (length x.log) then (append_to y me sender ∷ []) else [];
+    }
+
+-- what a member sends, and what it is then
+abbrev pub sends : ℕ → ℕ → Sending → Node → After
+sends n me Nothing x = record { node = x; sent = [] }
+sends n me (Answer to body) x = record { node = x; sent = answer x me to body }
+sends n me VoteRequests x = record { node = x; sent = vote_requests n me x }
+sends n me (Append to) x = record { node = x; sent = append_to x me to ∷ [] }
+sends n me Appends x = record { node = x; sent = append_to_all n x me }
+sends n me (Agreed sender) x = agrees n me sender x
 
 -- what no step changes
 pub record IsSameSeat (old new : Core) : Type 0 where
@@ -91,22 +138,34 @@ pub record IsSameSeat (old new : Core) : Type 0 where
   pub is_spent : new.is_spent ≡ old.is_spent
 
 -- what an input or a message came to, in the words of the definitions
-abbrev pub outcome_of : Core → Given (Vec Message Global) → Effect
-outcome_of c (Refused refusal) = Refuses refusal
-outcome_of c Ignored = Nothing
-outcome_of c (Done messages) = Moves (after_of c messages.items)
+abbrev pub outcome_of : Core → List Entry → Given Sending → Effect
+outcome_of c stored (Refused refusal) = Refuses refusal
+outcome_of c stored Ignored = steps.Nothing
+outcome_of c stored (Done sending) = Moves (sends c.members c.me sending (node_of c stored))
 
 -- a refusal changes nothing
-abbrev pub SameUnlessDone : Core → Core → Given (Vec Message Global) → Type 0
-SameUnlessDone old new (Refused refusal) = node_of new ≡ node_of old
-SameUnlessDone old new Ignored = node_of new ≡ node_of old
-SameUnlessDone old new (Done messages) = Unit {0}
+abbrev pub SameUnlessDone : Core → Core → List Entry → Given Sending → Type 0
+SameUnlessDone old new stored (Refused refusal) = node_of new stored ≡ node_of old stored
+SameUnlessDone old new stored Ignored = node_of new stored ≡ node_of old stored
+SameUnlessDone old new stored (Done sending) = Unit {0}
 
 -- what a whole step came to, in the same words
-abbrev pub effect_of : Core → Given Taken → Effect
-effect_of c (Refused refusal) = Refuses refusal
-effect_of c Ignored = Nothing
-effect_of c (Done t) = Moves (after_of c t.messages.items)
+abbrev pub effect_of : Core → List Entry → Given Taken → Effect
+effect_of c stored (Refused refusal) = Refuses refusal
+effect_of c stored Ignored = steps.Nothing
+effect_of c stored (Done t) = Moves (after_of c stored t.messages.items)
+
+-- the part of a log that is looked at for a message: of an Append the entry before its entries, and as many as it may carry
+abbrev pub Sees : Body → List Entry → List Entry → Type 0
+Sees (model.Append prev prev_term es commit) log window = window ≡ take 65 (drop (prev - 1) log)
+Sees (RequestVote i t) log window = Unit {0}
+Sees (Vote given) log window = Unit {0}
+Sees (Reply ok matched) log window = Unit {0}
+
+-- it is that part of the log, and its texts spell transactions
+pub record IsWindow (schema : Tables) (body : Body) (log window : List Entry) : Type 0 where
+  pub seen : Sees body log window
+  pub reads : list_all (is_entry (schema_of schema)) window ≡ true
 
 -- what is stored is as it was
 pub record IsStoredAlready (x y : Node) : Type 0 where
@@ -128,12 +187,54 @@ abbrev pub ChangeFits : Node → Node → Option Change → Type 0
 ChangeFits x y change = MatchOption change (IsStoredAlready x y) (λ c. IsChange x y c)
 
 -- what an effect tells of the step from old to new
-abbrev pub EffectFits : Core → Core → Given Taken → Type 0
-EffectFits old new (Refused refusal) = node_of new ≡ node_of old
-EffectFits old new Ignored = node_of new ≡ node_of old
-EffectFits old new (Done t) = ChangeFits (node_of old) (node_of new) t.change × (t.committed_before ≡ old.commit)
+abbrev pub EffectFits : Core → Core → List Entry → Given Taken → Type 0
+EffectFits old new stored (Refused refusal) = node_of new stored ≡ node_of old stored
+EffectFits old new stored Ignored = node_of new stored ≡ node_of old stored
+EffectFits old new stored (Done t) = ChangeFits (node_of old stored) (node_of new stored) t.change × (t.committed_before ≡ old.commit)
+
+-- once the change is stored, that is the log of such a member, and what the core has
+pub record IsStorable (new : Core) (change : Option Change) (d : Durable) : Type 0 where
+  pub forms : IsLog new.members (schema_of new.schema) (after_change change d)
+  pub step : IsInStep new (after_change change d)
+
+abbrev pub EffectForms : Core → Durable → Given Taken → Type 0
+EffectForms new d (Refused refusal) = IsInStep new d
+EffectForms new d Ignored = IsInStep new d
+EffectForms new d (Done t) = IsStorable new t.change d
+
+-- how many messages are brought
+abbrev pub brought : Work → ℕ
+brought (Local input) = 0
+brought (Delivered reading message) = 1
+
+-- the part of the log that is looked at for this work
+abbrev pub LooksAt : Work → List Entry → List Entry → Type 0
+LooksAt (Local input) log window = Unit {0}
+LooksAt (Delivered reading message) log window = Sees message.body log window
+
+-- it brings no more entries than a message may carry
+abbrev pub IsCarried : Work → Type 0
+IsCarried (Local input) = Unit {0}
+IsCarried (Delivered reading message) = length (entries_of message.body) ≤ 64
+
+-- the stamp is an instant, the client and the number are in range
+abbrev pub is_ranged : Entry → Bool
+is_ranged e = nat_le e.stamp TIME_LAST && is_numbered e.request
+
+-- what is brought is in range, as the types of its parts keep
+abbrev pub IsRanged : Work → Type 0
+IsRanged (Local Timeout) = Unit {0}
+IsRanged (Local Beat) = Unit {0}
+IsRanged (Local (Close reading)) = Unit {0}
+IsRanged (Local (Submit reading request)) = is_numbered (Some request) ≡ true
+IsRanged (Delivered reading message) = list_all is_ranged (entries_of message.body) ≡ true
 
 -- no index that is committed is taken back, and the log stays up to there
 pub record Grows (x y : Node) : Type 0 where
   pub commit : x.commit ≤ y.commit
   pub log : take x.commit y.log ≡ take x.commit x.log
+
+-- a change of which the numbers fit the store, or none
+abbrev pub IsSmallChange : Option Change → Type 0
+IsSmallChange None = Unit {0}
+IsSmallChange (Some c) = IsSmall c

@@ -1,67 +1,64 @@
 //! What a follower takes from its leader.
-ghost use Rattle.std.specs.Prelude.{◌≡◌, ◌+◌, ◌<◌, ◌≤◌, ◌^◌, ◌||◌, length, vec_len, IfOk, true, false, nat_lt};
+ghost use Rattle.std.specs.Prelude.{◌≡◌, ◌⊎◌, ◌+◌, ◌-◌, ◌<◌, ◌≤◌, List, nat_le, length, take, drop, vec_len, IfOk, true, false};
 ghost use Rattle.std.specs.List.{list_all};
-ghost use Rattle.sqlread.specs.Meaning.{schema_of};
-ghost use Rattle.keep.specs.Log.{is_entry};
-ghost use Rattle.model.specs.Lists.{nth};
-ghost use Rattle.model.specs.Members.{agreed};
-ghost use Rattle.model.specs.Steps.{on_append, go_on, continues, cuts_below, accepted, takes_entries, follows, LOG_LIMIT};
-ghost use Rattle.raft.specs.View.{node_of, IsSameSeat, outcome_of, SameUnlessDone};
+ghost use Rattle.model.specs.declared.entry.Entry as in_log;
+ghost use Rattle.model.specs.Members.{agreed, stands};
+ghost use Rattle.model.specs.Steps.{on_append, follows, takes_entries, TERM_LAST};
+ghost use Rattle.raft.specs.View.{log_of, node_of, IsSameSeat, Reaches, outcome_of, SameUnlessDone};
 
-use crate::logs::{accept, agreed, go_on, least_at, stands, term_at};
-use crate::state::{Core, Effect};
+use crate::logs::{agreed, continues, has_term};
+use crate::state::{Core, Effect, Sending};
 use model::entry::Entry;
 use model::member::Member;
-use model::message::{Body, LOG_ROOM, Message, Role};
+use model::message::{Body, LOG_ROOM, Role};
 use std::alloc::AllocError;
 
 impl Core {
-    /// The entries go on after the one at an index, in a message of this term.
-    #[tactic(auto, using(crate::proofs::Lists::go_on_is))]
-    fn goes_on(&self, term: u64, index: usize, entries: &[Entry]) -> bool
-        ensures { result ≡ go_on (nth self.now.log.items index) term entries.now }
+    /// An entry of this term stands at `prev`, in a log of which the window shows what comes from there on; index 0 is
+    /// before each log.
+    #[tactic(auto, using(crate::proofs::Windows::stands_seen, crate::proofs::Windows::length_of, crate::proofs::Lists::stands_within))]
+    fn stands(&self, window: &[Entry], prev: usize, prev_term: u64) -> bool
+        ghost stored: { List in_log.Entry }
+        requires reaches { Reaches self.now stored }
+        ensures value { window.now ≡ take 65 (drop (prev - 1) (log_of self.now stored)) → result ≡ stands (log_of self.now stored) prev prev_term }
+        ensures within { result ≡ true → prev ≤ self.now.log.shelved + vec_len self.now.log.tail }
     {
-        go_on(
-            term_at(&self.log, index),
-            least_at(&self.log, index),
-            term,
-            entries,
-        )
+        prev == 0 || (prev <= self.log.length() && has_term(window, 0, prev_term))
     }
 
-    /// The entries go on after the one at `prev`, and those that are new after the last one that stays.
-    fn continues(&self, term: u64, prev: usize, entries: &[Entry]) -> bool
-        ensures { result ≡ continues self.now.log.items prev term entries.now }
-    {
-        if !self.goes_on(term, prev, entries) {
-            return false;
-        }
-        let index = agreed(&self.log, prev, entries);
-        let (_, new) = entries.split_at(index - prev);
-        self.goes_on(term, index, new)
-    }
-
-    /// A cut at or below commit, or a log past its limit.
-    #[tactic(auto, using(crate::proofs::Lists::room_accepted))]
-    fn cuts_too_far(&self, prev: usize, entries: &[Entry]) -> bool
-        requires fits { prev ≤ vec_len self.now.log }
+    /// Up to which index the log and the entries that come after `prev` have the same terms.
+    #[tactic(auto, using(crate::proofs::Windows::agreed_seen, crate::proofs::Windows::length_of))]
+    fn agreed(&self, window: &[Entry], prev: usize, entries: &[Entry]) -> usize
+        ghost stored: { List in_log.Entry }
+        requires reaches { Reaches self.now stored }
         requires few { length entries.now ≤ 64 }
-        ensures value { result ≡ (cuts_below self.now.commit self.now.log.items prev entries.now || nat_lt LOG_LIMIT (length (accepted self.now.log.items prev entries.now))) }
-        ensures room { result ≡ false
-            → agreed self.now.log.items prev entries.now < prev + length entries.now
-            → prev + length entries.now ≤ 100000 }
+        requires within { prev ≤ self.now.log.shelved + vec_len self.now.log.tail }
+        ensures value { window.now ≡ take 65 (drop (prev - 1) (log_of self.now stored)) → result ≡ agreed (log_of self.now stored) prev entries.now }
+        ensures low { prev ≤ result }
+        ensures high { result ≤ prev + length entries.now }
+        ensures within { result ≤ self.now.log.shelved + vec_len self.now.log.tail }
     {
-        let index = agreed(&self.log, prev, entries);
-        let end = prev + entries.len();
-        let cuts = index < end && index < self.commit;
-        let is_long = index < end && LOG_ROOM < end;
-        cuts || is_long
+        let first = prev.min(1);
+        let index = prev - first + agreed(window, first, entries);
+        index.min(self.log.length())
+    }
+
+    /// A cut at this index is below commit, or makes the log longer than it may be.
+    fn cuts_too_far(&self, index: usize, end: usize) -> bool
+        ensures keeps { result ≡ false → index < end → self.now.commit ≤ index }
+        ensures room { result ≡ false → index < end → end ≤ 100000 }
+        ensures cuts { result ≡ true → (index < end) × ((index < self.now.commit) ⊎ (100000 < end)) }
+    {
+        index < end && (index < self.commit || LOG_ROOM < end)
     }
 
     /// Takes this member for the leader.
     fn follow(&mut self, leader: Member)
-        ensures node { node_of self.new ≡ follows leader (node_of self.old) }
+        ghost stored: { List in_log.Entry }
+        ensures node { node_of self.new stored ≡ follows leader (node_of self.old stored) }
         ensures seat { IsSameSeat self.old self.new }
+        ensures log { self.new.log ≡ self.old.log }
+        ensures commit { self.new.commit ≡ self.old.commit }
     {
         self.role = Role::Follower;
         self.known = Some(leader);
@@ -70,73 +67,95 @@ impl Core {
         self.matched.clear();
     }
 
-    /// Takes the entries after `prev`, and what the leader says of its commit index.
+    /// Takes the entries after `prev`, with which the log agrees up to an index, and what the leader says of its commit
+    /// index.
     fn take_entries(
         &mut self,
+        index: usize,
         prev: usize,
-        entries: Vec<Entry>,
+        mut entries: Vec<Entry>,
         commit: usize,
     ) -> Result<(), AllocError>
-        requires fits { prev + vec_len entries < 2 ^ 63 }
-        requires stands { prev ≤ vec_len self.old.log }
-        requires keeps { cuts_below self.old.commit self.old.log.items prev entries.items ≡ false }
-        requires goes_on { continues self.old.log.items prev self.old.term entries.items ≡ true }
-        requires reads { list_all (is_entry (schema_of self.old.schema)) entries.items ≡ true }
-        requires room { agreed self.old.log.items prev entries.items < prev + vec_len entries
-            → prev + vec_len entries ≤ 100000 }
-        ensures done { IfOk result
-            (λ _. node_of self.new ≡ takes_entries prev entries.items commit (node_of self.old)) }
+        ghost stored: { List in_log.Entry }
+        requires reaches { Reaches self.old stored }
+        requires few { vec_len entries ≤ 64 }
+        requires low { prev ≤ index }
+        requires high { index ≤ prev + vec_len entries }
+        requires within { index ≤ self.old.log.shelved + vec_len self.old.log.tail }
+        requires keeps { index < prev + vec_len entries → self.old.commit ≤ index }
+        requires room { index < prev + vec_len entries → prev + vec_len entries ≤ 100000 }
+        requires terms { list_all (λ e. nat_le e.term TERM_LAST) entries.items ≡ true }
+        ensures done { index ≡ agreed (log_of self.old stored) prev entries.items → IfOk result
+            (λ _. node_of self.new stored ≡ takes_entries prev entries.items commit (node_of self.old stored)) }
         ensures seat { IsSameSeat self.old self.new }
+        ensures lower { self.new.log.shelved ≤ self.old.log.shelved }
+        ensures short { vec_len self.new.log.tail ≤ vec_len self.old.log.tail + 64 }
     {
         let end = prev + entries.len();
-        accept(&mut self.log, prev, entries)?;
+        if index < end {
+            let new = entries.split_off(index - prev)?;
+            self.log.go_on_with(index, new)?;
+        }
         self.commit = self.commit.max(commit.min(end));
         Ok(())
     }
 
-    /// Takes entries of a leader, or answers no where it has not the entry before them.
+    /// Takes entries of a leader, or answers no where it has not the entry before them. The window shows its log from that
+    /// entry on.
     #[tactic(auto, unfolding(model::specs::Steps::on_append))]
     pub(crate) fn on_append(
         &mut self,
+        window: &[Entry],
         sender: Member,
         term: u64,
         prev: usize,
         prev_term: u64,
         entries: Vec<Entry>,
         commit: usize,
-    ) -> Result<Effect<Vec<Message>>, AllocError>
+    ) -> Result<Effect<Sending>, AllocError>
+        ghost stored: { List in_log.Entry }
+        requires reaches { Reaches self.old stored }
         requires few { vec_len entries ≤ 64 }
         requires term { term ≤ self.old.term }
-        requires reads { list_all (is_entry (schema_of self.old.schema)) entries.items ≡ true }
-        ensures done { IfOk result
-            (λ o. outcome_of self.new o
-            ≡ on_append self.old.me sender term prev prev_term entries.items commit (node_of self.old)) }
-        ensures same { IfOk result (SameUnlessDone self.old self.new) }
+        requires terms { list_all (λ e. nat_le e.term TERM_LAST) entries.items ≡ true }
+        ensures done { window.now ≡ take 65 (drop (prev - 1) (log_of self.old stored)) → IfOk result
+            (λ o. outcome_of self.new stored o
+            ≡ on_append self.old.me sender term prev prev_term entries.items commit (node_of self.old stored)) }
+        ensures same { IfOk result (SameUnlessDone self.old self.new stored) }
         ensures seat { IsSameSeat self.old self.new }
+        ensures lower { self.new.log.shelved ≤ self.old.log.shelved }
+        ensures short { vec_len self.new.log.tail ≤ vec_len self.old.log.tail + 64 }
     {
-        let no = Body::Reply {
-            ok: false,
-            matched: 0,
+        let no = Sending::Answer {
+            to: sender,
+            body: Body::Reply {
+                ok: false,
+                matched: 0,
+            },
         };
         if term < self.term {
-            let messages = self.answer(sender, no)?;
-            return Ok(Effect::Done(messages));
+            return Ok(Effect::Done(no));
         }
         if self.is_leader() {
             return Ok(Effect::Ignored);
         }
-        if !stands(&self.log, prev, prev_term) {
+        if !self.stands(window, prev, prev_term) {
             self.follow(sender);
-            let messages = self.answer(sender, no)?;
-            return Ok(Effect::Done(messages));
+            return Ok(Effect::Done(no));
         }
-        if !self.continues(term, prev, &entries) || self.cuts_too_far(prev, &entries) {
+        let end = prev + entries.len();
+        let index = self.agreed(window, prev, &entries);
+        if !continues(window, prev.min(1), term, &entries) || self.cuts_too_far(index, end) {
             return Ok(Effect::Ignored);
         }
-        let matched = prev + entries.len();
         self.follow(sender);
-        self.take_entries(prev, entries, commit)?;
-        let messages = self.answer(sender, Body::Reply { ok: true, matched })?;
-        Ok(Effect::Done(messages))
+        self.take_entries(index, prev, entries, commit)?;
+        Ok(Effect::Done(Sending::Answer {
+            to: sender,
+            body: Body::Reply {
+                ok: true,
+                matched: end,
+            },
+        }))
     }
 }

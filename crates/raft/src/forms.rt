@@ -1,12 +1,12 @@
-//! Whether what was stored forms the log of a member.
-ghost use Rattle.std.specs.Prelude.{◌≡◌, IfOk, true, false, None};
+//! Whether what is stored may be that of a member, and whether texts read.
+ghost use Rattle.std.specs.Prelude.{◌≡◌, ◌⊎◌, IfOk, true, false, None, nat_le};
 ghost use Rattle.std.specs.List.{list_all};
 ghost use Rattle.sqlread.specs.Meaning.{schema_of};
-ghost use Rattle.model.specs.Steps.{go_on, spells};
-ghost use Rattle.keep.specs.Log.{IsLog, is_entry, is_vote};
+ghost use Rattle.model.specs.Steps.{spells, TERM_LAST};
+ghost use Rattle.keep.specs.Log.{is_vote};
+ghost use Rattle.raft.specs.Start.{IsStart};
 
-use crate::logs::{go_on, has_ranges};
-use keep::hard_state::HardState;
+use keep::state::{State, TAIL_MOST};
 use model::entry::{Entry, Request};
 use model::member::Member;
 use model::message::{LAST_TERM, LOG_ROOM};
@@ -31,25 +31,6 @@ pub(crate) fn reads(
     }
 }
 
-/// The entry is one by itself.
-fn is_entry(alloc: Global, schema: &Schema, entry: &Entry) -> Result<bool, AllocError>
-    ensures { IfOk result (λ yes. yes ≡ is_entry (schema_of schema.now) entry.now) }
-{
-    has_ranges(entry);
-    reads(alloc, schema, &entry.request)
-}
-
-fn are_entries(alloc: Global, schema: &Schema, log: &[Entry]) -> Result<bool, AllocError>
-    ensures { IfOk result (λ yes. yes ≡ list_all (is_entry (schema_of schema.now)) log.now) }
-{
-    for entry in log {
-        if !is_entry(alloc, schema, entry)? {
-            return Ok(false);
-        }
-    }
-    Ok(true)
-}
-
 /// None, or one of the members.
 fn is_vote(members: usize, vote: Option<Member>) -> bool
     ensures { result ≡ is_vote members vote }
@@ -60,26 +41,28 @@ fn is_vote(members: usize, vote: Option<Member>) -> bool
     }
 }
 
-/// Whether a member of a group of so many, with these tables, may have this hard state and this log:
-/// a term of at most `LAST_TERM`, a vote for one of the members or none, at most 100,000 entries, terms
-/// from 1 that do not fall and are not above the member's, stamps that rise, and texts that spell
-/// transactions. The error is want of memory.
-#[tactic(auto, using(crate::proofs::Lists::go_on_is))]
-pub fn forms_log(
-    alloc: Global,
-    schema: &Schema,
-    members: usize,
-    hard: HardState,
-    log: &[Entry],
-) -> Result<bool, AllocError>
-    ensures yes { IfOk result (λ yes. yes ≡ true → IsLog members (schema_of schema.now) (record { hard = hard; log = log.now })) }
-    ensures no { IfOk result (λ yes. yes ≡ false → IsLog members (schema_of schema.now) (record { hard = hard; log = log.now }) → ⊥) }
+/// No term is above the last.
+fn have_terms(entries: &[Entry]) -> bool
+    ensures { result ≡ list_all (λ e. nat_le e.term TERM_LAST) entries.now }
 {
-    if !(hard.term <= LAST_TERM && is_vote(members, hard.vote) && log.len() <= LOG_ROOM) {
-        return Ok(false);
+    for entry in entries {
+        if entry.term > LAST_TERM {
+            return false;
+        }
     }
-    if !go_on(0, 0, hard.term, log) {
-        return Ok(false);
-    }
-    are_entries(alloc, schema, log)
+    true
+}
+
+/// Whether a member of a group of so many may start with this state, as far as it tells: a term of at most `LAST_TERM`, a
+/// vote for one of the members or none, at most 100,000 entries, the last 1,024 of them or all, whose terms are at most
+/// `LAST_TERM`. It is so where what is stored forms a log.
+pub fn is_start(members: usize, state: &State) -> bool
+    ensures yes { result ≡ true → IsStart members state.now }
+    ensures no { result ≡ false → IsStart members state.now → ⊥ }
+{
+    state.hard.term <= LAST_TERM
+        && is_vote(members, state.hard.vote)
+        && state.length <= LOG_ROOM
+        && state.tail.len() == state.length.min(TAIL_MOST)
+        && have_terms(&state.tail)
 }

@@ -1,30 +1,31 @@
 //! Local inputs: a timeout, a beat, and entries that a leader appends.
-ghost use Rattle.std.specs.Prelude.{◌≡◌, ◌≤◌, IfOk, IsOk, IfSome, IfNone, true, false};
-ghost use Rattle.sqlread.specs.Meaning.{schema_of};
+ghost use Rattle.std.specs.Prelude.{◌≡◌, ◌+◌, ◌<◌, ◌≤◌, List, vec_len, IfOk, IsOk, IfSome, IfNone, true, false};
+ghost use Rattle.model.specs.declared.entry.Entry as in_log;
 ghost use Rattle.model.specs.Stamps.{stamp};
 ghost use Rattle.model.specs.Logs.{least_stamp};
-ghost use Rattle.model.specs.Steps.{time_out, append_own, is_time_full, is_log_full, on_input, spells};
+ghost use Rattle.model.specs.Steps.{time_out, append_own, is_time_full, is_log_full, on_input};
 ghost use Rattle.raft.specs.Memory.{is_idle};
-ghost use Rattle.raft.specs.View.{node_of, with_entry, is_readable, IsSameSeat, outcome_of, SameUnlessDone};
+ghost use Rattle.raft.specs.View.{log_of, node_of, with_entry, IsSameSeat, Reaches, outcome_of, SameUnlessDone};
 
-use crate::logs::has_ranges;
-use crate::state::{Core, Effect};
-use closedtime::{closed, stamp};
+use crate::state::{Core, Effect, Sending};
+use closedtime::stamp;
 use fault::Refusal;
 use model::entry::{Entry, Request};
-use model::message::{Input, LAST_TERM, LOG_ROOM, Message};
+use model::message::{Input, LAST_TERM, LOG_ROOM};
 use model::stamp::Stamp;
 use std::alloc::AllocError;
 
 impl Core {
     /// Stands for election; a leader does nothing.
     #[tactic(auto, unfolding(model::specs::Steps::time_out))]
-    fn time_out(&mut self) -> Result<Effect<Vec<Message>>, AllocError>
+    fn time_out(&mut self) -> Result<Effect<Sending>, AllocError>
+        ghost stored: { List in_log.Entry }
         ensures done { IfOk result
-            (λ o. outcome_of self.new o ≡ time_out self.old.members self.old.me (node_of self.old)) }
-        ensures spares { is_idle (time_out self.old.members self.old.me (node_of self.old)) ≡ true → IsOk result }
-        ensures same { IfOk result (SameUnlessDone self.old self.new) }
+            (λ o. outcome_of self.new stored o ≡ time_out self.old.members self.old.me (node_of self.old stored)) }
+        ensures spares { is_idle (time_out self.old.members self.old.me (node_of self.old stored)) ≡ true → IsOk result }
+        ensures same { IfOk result (SameUnlessDone self.old self.new stored) }
         ensures seat { IsSameSeat self.old self.new }
+        ensures log { self.new.log ≡ self.old.log }
     {
         if self.is_leader() {
             return Ok(Effect::Ignored);
@@ -33,47 +34,50 @@ impl Core {
             return Ok(Effect::Refused(Refusal::TermFull));
         }
         self.stand_up()?;
-        let messages = self.vote_requests()?;
-        Ok(Effect::Done(messages))
+        Ok(Effect::Done(Sending::VoteRequests))
     }
 
     /// The stamp of its next entry, none where no stamp is left.
+    #[tactic(auto, using(crate::proofs::Windows::least_stamp_of))]
     pub(crate) fn next_stamp(&self, reading: i64) -> Option<Stamp>
-        ensures some { IfSome result (λ t. (t ≡ stamp reading (least_stamp self.now.log.items)) × (is_time_full self.now.log.items ≡ false)) }
-        ensures later { IfSome result (λ t. least_stamp self.now.log.items ≤ t) }
-        ensures none { IfNone result (is_time_full self.now.log.items ≡ true) }
+        ghost stored: { List in_log.Entry }
+        ensures some { IfSome result (λ t. (t ≡ stamp reading (least_stamp (log_of self.now stored))) × (is_time_full (log_of self.now stored) ≡ false)) }
+        ensures none { IfNone result (is_time_full (log_of self.now stored) ≡ true) }
     {
-        stamp(reading, closed(&self.log))
+        stamp(reading, self.log.closed())
     }
 
     /// No room is left in the log.
+    #[tactic(auto, using(crate::proofs::Windows::length_of))]
     pub(crate) fn is_log_full(&self) -> bool
-        ensures { result ≡ is_log_full self.now.log.items }
+        ghost stored: { List in_log.Entry }
+        requires { Reaches self.now stored }
+        ensures value { result ≡ is_log_full (log_of self.now stored) }
+        ensures room { result ≡ false → self.now.log.shelved + vec_len self.now.log.tail < 100000 }
     {
-        self.log.len() >= LOG_ROOM
+        self.log.length() >= LOG_ROOM
     }
 
     /// Appends an entry of its own term.
+    #[tactic(auto, using(crate::proofs::Windows::log_pushed))]
     pub(crate) fn extend(
         &mut self,
         stamp: Stamp,
         request: Option<Request>,
     ) -> Result<(), AllocError>
-        requires room { is_log_full self.old.log.items ≡ false }
-        requires term { 1 ≤ self.old.term }
-        requires later { least_stamp self.old.log.items ≤ stamp }
-        requires reads { spells (schema_of self.old.schema) request ≡ true }
-        ensures done { IfOk result (λ _. node_of self.new ≡ with_entry stamp request (node_of self.old)) }
+        ghost stored: { List in_log.Entry }
+        requires { self.old.log.shelved + vec_len self.old.log.tail < 100000 }
+        ensures done { IfOk result (λ _. node_of self.new stored ≡ with_entry stamp request (node_of self.old stored)) }
         ensures seat { IsSameSeat self.old self.new }
+        ensures shelved { self.new.log.shelved ≡ self.old.log.shelved }
+        ensures short { vec_len self.new.log.tail ≤ vec_len self.old.log.tail + 1 }
     {
         let entry = Entry {
             term: self.term,
             stamp,
             request,
         };
-        has_ranges(&entry);
-        self.log.push(entry)?;
-        Ok(())
+        self.log.push(entry)
     }
 
     /// Appends an entry and sends it, if it leads and a stamp and room are left.
@@ -82,14 +86,17 @@ impl Core {
         &mut self,
         reading: i64,
         request: Option<Request>,
-    ) -> Result<Effect<Vec<Message>>, AllocError>
-        requires { spells (schema_of self.old.schema) request ≡ true }
+    ) -> Result<Effect<Sending>, AllocError>
+        ghost stored: { List in_log.Entry }
+        requires { Reaches self.old stored }
         ensures done { IfOk result
-            (λ o. outcome_of self.new o
-            ≡ append_own self.old.members self.old.me reading request (node_of self.old)) }
-        ensures spares { is_idle (append_own self.old.members self.old.me reading request (node_of self.old)) ≡ true → IsOk result }
-        ensures same { IfOk result (SameUnlessDone self.old self.new) }
+            (λ o. outcome_of self.new stored o
+            ≡ append_own self.old.members self.old.me reading request (node_of self.old stored)) }
+        ensures spares { is_idle (append_own self.old.members self.old.me reading request (node_of self.old stored)) ≡ true → IsOk result }
+        ensures same { IfOk result (SameUnlessDone self.old self.new stored) }
         ensures seat { IsSameSeat self.old self.new }
+        ensures shelved { self.new.log.shelved ≡ self.old.log.shelved }
+        ensures short { vec_len self.new.log.tail ≤ vec_len self.old.log.tail + 1 }
     {
         if !self.is_leader() {
             return Ok(Effect::Refused(Refusal::NotLeader(self.known)));
@@ -101,19 +108,21 @@ impl Core {
             return Ok(Effect::Refused(Refusal::LogFull));
         }
         self.extend(stamp, request)?;
-        let messages = self.append_to_all()?;
-        Ok(Effect::Done(messages))
+        Ok(Effect::Done(Sending::Appends))
     }
 
     /// Takes a local input; a submitted text reads.
-    pub(crate) fn on_input(&mut self, input: Input) -> Result<Effect<Vec<Message>>, AllocError>
-        requires { is_readable (schema_of self.old.schema) input ≡ true }
+    pub(crate) fn on_input(&mut self, input: Input) -> Result<Effect<Sending>, AllocError>
+        ghost stored: { List in_log.Entry }
+        requires { Reaches self.old stored }
         ensures done { IfOk result
-            (λ o. outcome_of self.new o
-            ≡ on_input self.old.members self.old.me input (node_of self.old)) }
-        ensures spares { is_idle (on_input self.old.members self.old.me input (node_of self.old)) ≡ true → IsOk result }
-        ensures same { IfOk result (SameUnlessDone self.old self.new) }
+            (λ o. outcome_of self.new stored o
+            ≡ on_input self.old.members self.old.me input (node_of self.old stored)) }
+        ensures spares { is_idle (on_input self.old.members self.old.me input (node_of self.old stored)) ≡ true → IsOk result }
+        ensures same { IfOk result (SameUnlessDone self.old self.new stored) }
         ensures seat { IsSameSeat self.old self.new }
+        ensures shelved { self.new.log.shelved ≡ self.old.log.shelved }
+        ensures short { vec_len self.new.log.tail ≤ vec_len self.old.log.tail + 1 }
     {
         match input {
             Input::Timeout => self.time_out(),
@@ -121,8 +130,7 @@ impl Core {
                 if !self.is_leader() {
                     return Ok(Effect::Ignored);
                 }
-                let messages = self.append_to_all()?;
-                Ok(Effect::Done(messages))
+                Ok(Effect::Done(Sending::Appends))
             }
             Input::Close { reading } => self.append_own(reading, None),
             Input::Submit { reading, request } => self.append_own(reading, Some(request)),

@@ -1,15 +1,15 @@
 //! What a leader does with replies.
-ghost use Rattle.std.specs.Prelude.{◌≡◌, ◌+◌, ◌-◌, ◌*◌, ◌<◌, ◌≤◌, ◌^◌, length, max, vec_len, true, IfOk, OnOk, OnErr, replicate};
+ghost use Rattle.std.specs.Prelude.{◌≡◌, ◌+◌, ◌-◌, ◌*◌, ◌<◌, ◌≤◌, ◌^◌, List, length, max, vec_len, true, false, IfOk, OnOk, OnErr, replicate};
+ghost use Rattle.model.specs.declared.entry.Entry as in_log;
 ghost use Rattle.model.specs.Members.{count_members, is_majority, is_in};
-ghost use Rattle.model.specs.Steps.{holds_to, is_matched, commits, greatest, crowned, noted, on_reply, on_reply_yes, on_reply_no};
+ghost use Rattle.model.specs.Steps.{holds_to, is_matched, greatest, crowned, noted, on_reply, on_reply_yes, on_reply_no};
 ghost use Rattle.raft.specs.Below.{greatest_below};
-ghost use Rattle.raft.specs.View.{node_of, after_of, outcome_of, IsSameSeat, SameUnlessDone};
+ghost use Rattle.raft.specs.View.{log_of, node_of, outcome_of, IsSameSeat, Reaches, SameUnlessDone};
 
 use crate::counted::{flag_at, number_at, set_number};
-use crate::logs::term_at;
-use crate::state::{Core, Effect};
+use crate::state::{Core, Effect, Sending};
 use model::member::Member;
-use model::message::{Message, Role};
+use model::message::Role;
 use std::alloc::AllocError;
 
 /// How many members gave their vote.
@@ -74,47 +74,33 @@ impl Core {
 
     /// Up to which index a majority match the log, if that is past its commit index; no index above it
     /// can be committed. It goes over what each member matches, not over the log.
-    #[tactic(auto, using(crate::proofs::Greatest::held_skip, crate::proofs::Greatest::below_less))]
-    fn held(&self) -> usize
-        ensures within { result ≤ length self.now.log.items }
-        ensures most { greatest (is_matched self.now.members self.now.me (node_of self.now)) (length self.now.log.items) ≡ greatest (is_matched self.now.members self.now.me (node_of self.now)) result }
+    #[tactic(auto, using(crate::proofs::Greatest::held_skip, crate::proofs::Greatest::below_less, crate::proofs::Windows::length_of))]
+    pub(crate) fn held(&self) -> usize
+        ensures within { result ≤ self.now.log.shelved + vec_len self.now.log.tail }
+        ensures most { (stored : List in_log.Entry) → Reaches self.now stored → greatest (is_matched self.now.members self.now.me (node_of self.now stored)) (length (log_of self.now stored)) ≡ greatest (is_matched self.now.members self.now.me (node_of self.now stored)) result }
         ensures held { self.now.commit < result → is_majority self.now.members (holds_to self.now.me self.now.matched.items result) ≡ true }
     {
-        let mut index = self.log.len();
+        let mut index = self.log.length();
         while index > self.commit && !self.is_held(index) {
             index = greatest_below(&self.matched, index);
         }
         index
     }
 
-    /// The greatest index that can be committed now: up to there a majority match, and an entry of its
-    /// own term stands there. Where the entry is of another term, so are all before it.
-    #[tactic(auto, using(crate::proofs::Greatest::commits_held, crate::proofs::Greatest::commits_none, crate::proofs::Greatest::commits_low))]
-    pub(crate) fn commits(&self) -> usize
-        ensures { result ≡ max self.now.commit (greatest (is_matched self.now.members self.now.me (node_of self.now)) (vec_len self.now.log)) }
-    {
-        let index = self.held();
-        if index <= self.commit {
-            return self.commit;
-        }
-        if term_at(&self.log, index) == self.term {
-            index
-        } else {
-            self.commit
-        }
-    }
-
     /// Takes the lead of its term, as a member does that a majority chose: it is to send each member
     /// what comes after its own log, and knows of no match yet. Changes nothing where memory is
     /// refused.
-    #[tactic(auto, using(crate::proofs::Lists::zeros))]
+    #[tactic(auto, using(crate::proofs::Lists::zeros, crate::proofs::Windows::length_of))]
     pub(crate) fn become_leader(&mut self) -> Result<(), AllocError>
-        requires { 1 ≤ self.old.term }
-        ensures node { OnOk result (node_of self.new ≡ crowned self.old.members (node_of self.old)) }
-        ensures err { OnErr result (node_of self.new ≡ node_of self.old) }
+        ghost stored: { List in_log.Entry }
+        requires term { 1 ≤ self.old.term }
+        requires reaches { Reaches self.old stored }
+        ensures node { OnOk result (node_of self.new stored ≡ crowned self.old.members (node_of self.old stored)) }
+        ensures err { OnErr result (node_of self.new stored ≡ node_of self.old stored) }
         ensures seat { IsSameSeat self.old self.new }
+        ensures log { self.new.log ≡ self.old.log }
     {
-        let first = self.log.len() + 1;
+        let first = self.log.length() + 1;
         let next = vec![in self.alloc; first; self.members]?;
         let matched = vec![in self.alloc; 0; self.members]?;
         self.role = Role::Leader;
@@ -127,9 +113,11 @@ impl Core {
     /// Notes up to where a member's log agrees.
     #[tactic(auto, using(crate::proofs::Lists::noted_within))]
     fn note(&mut self, sender: Member, matched: usize)
-        requires { matched ≤ vec_len self.old.log }
-        ensures node { node_of self.new ≡ noted sender matched (node_of self.old) }
+        ghost stored: { List in_log.Entry }
+        requires { matched ≤ self.old.log.shelved + vec_len self.old.log.tail }
+        ensures node { node_of self.new stored ≡ noted sender matched (node_of self.old stored) }
         ensures seat { IsSameSeat self.old self.new }
+        ensures log { self.new.log ≡ self.old.log }
     {
         let most = number_at(&self.matched, sender).max(matched);
         set_number(&mut self.matched, sender, most);
@@ -137,48 +125,35 @@ impl Core {
     }
 
     /// The sender's log agrees up to `matched`.
-    #[tactic(auto, unfolding(model::specs::Steps::on_reply_yes))]
-    fn on_reply_yes(
-        &mut self,
-        sender: Member,
-        matched: usize,
-    ) -> Result<Effect<Vec<Message>>, AllocError>
-        ensures done { IfOk result
-            (λ o. outcome_of self.new o
-            ≡ on_reply_yes self.old.members self.old.me sender matched (node_of self.old)) }
-        ensures same { IfOk result (SameUnlessDone self.old self.new) }
+    #[tactic(auto, unfolding(model::specs::Steps::on_reply_yes), using(crate::proofs::Windows::length_of))]
+    fn on_reply_yes(&mut self, sender: Member, matched: usize) -> Effect<Sending>
+        ghost stored: { List in_log.Entry }
+        requires { Reaches self.old stored }
+        ensures done { outcome_of self.new stored result
+            ≡ on_reply_yes self.old.members self.old.me sender matched (node_of self.old stored) }
+        ensures same { SameUnlessDone self.old self.new stored result }
         ensures seat { IsSameSeat self.old self.new }
+        ensures log { self.new.log ≡ self.old.log }
     {
-        if matched > self.log.len() {
-            return Ok(Effect::Ignored);
+        if matched > self.log.length() {
+            return Effect::Ignored;
         }
         self.note(sender, matched);
-        let commit = self.commits();
-        if self.commit < commit {
-            self.commit = commit;
-            let messages = self.append_to_all()?;
-            return Ok(Effect::Done(messages));
-        }
-        self.commit = commit;
-        if number_at(&self.next, sender) <= self.log.len() {
-            let messages = self.append_one(sender)?;
-            return Ok(Effect::Done(messages));
-        }
-        Ok(Effect::Done(Vec::new(self.alloc)))
+        Effect::Done(Sending::Agreed(sender))
     }
 
     /// The sender had not the entry before: goes one back, and sends again.
     #[tactic(auto, unfolding(model::specs::Steps::on_reply_no))]
-    fn on_reply_no(&mut self, sender: Member) -> Result<Effect<Vec<Message>>, AllocError>
-        ensures done { IfOk result
-            (λ o. outcome_of self.new o ≡ on_reply_no self.old.me sender (node_of self.old)) }
-        ensures same { IfOk result (SameUnlessDone self.old self.new) }
+    fn on_reply_no(&mut self, sender: Member) -> Effect<Sending>
+        ghost stored: { List in_log.Entry }
+        ensures done { outcome_of self.new stored result ≡ on_reply_no self.old.me sender (node_of self.old stored) }
+        ensures same { SameUnlessDone self.old self.new stored result }
         ensures seat { IsSameSeat self.old self.new }
+        ensures log { self.new.log ≡ self.old.log }
     {
         let back = number_at(&self.next, sender).saturating_sub(1).max(1);
         set_number(&mut self.next, sender, back);
-        let messages = self.append_one(sender)?;
-        Ok(Effect::Done(messages))
+        Effect::Done(Sending::Append(sender))
     }
 
     /// Takes what a follower answers to an `Append`.
@@ -188,15 +163,17 @@ impl Core {
         term: u64,
         ok: bool,
         matched: usize,
-    ) -> Result<Effect<Vec<Message>>, AllocError>
-        ensures done { IfOk result
-            (λ o. outcome_of self.new o
-            ≡ on_reply self.old.members self.old.me sender term ok matched (node_of self.old)) }
-        ensures same { IfOk result (SameUnlessDone self.old self.new) }
+    ) -> Effect<Sending>
+        ghost stored: { List in_log.Entry }
+        requires { Reaches self.old stored }
+        ensures done { outcome_of self.new stored result
+            ≡ on_reply self.old.members self.old.me sender term ok matched (node_of self.old stored) }
+        ensures same { SameUnlessDone self.old self.new stored result }
         ensures seat { IsSameSeat self.old self.new }
+        ensures log { self.new.log ≡ self.old.log }
     {
         if !(self.is_leader() && term == self.term) {
-            return Ok(Effect::Done(Vec::new(self.alloc)));
+            return Effect::Done(Sending::Nothing);
         }
         if ok {
             self.on_reply_yes(sender, matched)

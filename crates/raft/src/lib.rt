@@ -9,10 +9,13 @@ pub mod forms;
 mod inputs;
 mod leading;
 mod logs;
+mod reading;
 mod sending;
+pub mod short_log;
 pub mod state;
 mod step;
 mod voting;
 
-pub use forms::forms_log;
+pub use forms::is_start;
+pub use short_log::ShortLog;
 pub use state::{Core, Effect, Taken, Work};

@@ -1,16 +1,13 @@
 //! Logs, and entries that come to them.
-ghost use Rattle.std.specs.Prelude.{◌≡◌, ◌+◌, ◌-◌, ◌<◌, ◌≤◌, ◌^◌, length, take, slice_get, drop, vec_len, true, option_map, OnOk, OnErr, IfOk};
+ghost use Rattle.std.specs.Prelude.{◌≡◌, ◌+◌, ◌-◌, ◌<◌, ◌≤◌, ◌^◌, length, take, slice_get, drop, true, option_map};
 ghost use Rattle.model.specs.Lists.{nth};
 ghost use Rattle.model.specs.Stamps.{TIME_LAST, above};
-ghost use Rattle.model.specs.Members.{agreed, has_term, last_term, stands, term_at};
-ghost use Rattle.model.specs.Steps.{accepted};
-ghost use Rattle.model.specs.Kept.{kept_under};
+ghost use Rattle.model.specs.Members.{agreed, has_term, last_term, term_at};
+ghost use Rattle.model.specs.Steps.{go_on, continues};
 ghost use Rattle.keep.specs.Log.{is_numbered};
 ghost use Rattle.raft.specs.Follows.{may_follow, go_on_from};
 
 use model::entry::Entry;
-use model::message::CARRIED_MOST;
-use std::alloc::{AllocError, Global};
 
 /// The term of the entry at an index, 0 where there is none.
 pub(crate) fn term_at(log: &[Entry], index: usize) -> u64
@@ -58,22 +55,6 @@ pub(crate) fn last_term(log: &[Entry]) -> u64
     term_at(log, log.len())
 }
 
-pub(crate) fn copies_of(alloc: Global, entries: &[Entry]) -> Result<Vec<Entry>, AllocError>
-    ensures { IfOk result (λ copies. copies.items ≡ entries.now) }
-{
-    entries.to_vec(alloc)
-}
-
-/// The first entries after an index, as many as a message may carry.
-#[tactic(auto, using(crate::proofs::Lists::take_min, crate::proofs::Lists::drop_min))]
-pub(crate) fn carried_from(log: &[Entry], index: usize) -> &[Entry]
-    ensures { result.now ≡ take 64 (drop index log.now) }
-{
-    let (_, rest) = log.split_at(index.min(log.len()));
-    let (carried, _) = rest.split_at(rest.len().min(CARRIED_MOST));
-    carried
-}
-
 /// An entry of this term has so many others before it.
 pub(crate) fn has_term(log: &[Entry], before: usize, term: u64) -> bool
     ensures value { result ≡ has_term (slice_get log.now before) term }
@@ -102,43 +83,6 @@ pub(crate) fn agreed(log: &[Entry], start: usize, entries: &[Entry]) -> usize
     index
 }
 
-/// How much of the log the entries leave, if they are accepted.
-#[tactic(auto, unfolding(model::specs::Kept::kept_under))]
-pub(crate) fn kept_under(log: &[Entry], start: usize, entries: &[Entry]) -> usize
-    ensures value { result ≡ kept_under start entries.now log.now }
-    ensures within { result ≤ length log.now }
-{
-    let index = agreed(log, start, entries);
-    if index - start == entries.len() {
-        return log.len();
-    }
-    index.min(log.len())
-}
-
-/// Cuts the log before the first entry that is not of the same term, and appends all from there on.
-pub(crate) fn accept(
-    log: &mut Vec<Entry>,
-    start: usize,
-    mut entries: Vec<Entry>,
-) -> Result<(), AllocError>
-    requires fits { start + vec_len entries < 2 ^ 63 }
-    requires room { agreed log.old.items start entries.items < start + vec_len entries
-        → start + vec_len entries ≤ 100000 }
-    ensures ok { OnOk result (log.new.items ≡ accepted log.old.items start entries.items) }
-    ensures err { OnErr result (log.new.items ≡ log.old.items) }
-    ensures within { vec_len log.old ≤ 100000 → vec_len log.new ≤ 100000 }
-{
-    let index = agreed(log, start, &entries);
-    if index == start + entries.len() {
-        return Ok(());
-    }
-    let mut tail = entries.split_off(index - start)?;
-    log.reserve(tail.len())?;
-    log.truncate(index);
-    log.append(&mut tail)?;
-    Ok(())
-}
-
 /// An entry may follow one of this term, with at least this stamp, in a message of term `bound`.
 fn may_follow(term: u64, least: u64, bound: u64, entry: &Entry) -> bool
     ensures { result ≡ may_follow term least bound entry.now }
@@ -163,10 +107,28 @@ pub(crate) fn go_on(term: u64, least: u64, bound: u64, entries: &[Entry]) -> boo
     true
 }
 
-/// An entry of this term stands at the index; index 0 is before each log.
-pub(crate) fn stands(log: &[Entry], index: usize, term: u64) -> bool
-    ensures value { result ≡ stands log.now index term }
-    ensures within { result ≡ true → index ≤ length log.now }
+/// The entries go on after the one at an index, in a message of this term.
+#[tactic(auto, using(crate::proofs::Lists::go_on_is))]
+fn goes_on(log: &[Entry], index: usize, term: u64, entries: &[Entry]) -> bool
+    ensures { result ≡ go_on (nth log.now index) term entries.now }
 {
-    index == 0 || has_term(log, index - 1, term)
+    go_on(
+        term_at(log, index),
+        least_at(log, index),
+        term,
+        entries,
+    )
+}
+
+/// The entries go on after the one at `prev`, and those that are new after the last one that stays.
+pub(crate) fn continues(log: &[Entry], prev: usize, term: u64, entries: &[Entry]) -> bool
+    requires { prev + length entries.now < 2 ^ 63 }
+    ensures { result ≡ continues log.now prev term entries.now }
+{
+    if !goes_on(log, prev, term, entries) {
+        return false;
+    }
+    let index = agreed(log, prev, entries);
+    let (_, new) = entries.split_at(index - prev);
+    goes_on(log, index, term, new)
 }

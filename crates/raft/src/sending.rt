@@ -1,95 +1,115 @@
 //! What a member sends.
-ghost use Rattle.std.specs.Prelude.{◌≡◌, IfOk, ◌∷◌, []};
-ghost use Rattle.model.specs.Steps.{answer, append_to, append_to_all, vote_request, vote_requests};
-ghost use Rattle.raft.specs.View.{node_of};
+ghost use Rattle.std.specs.Prelude.{◌≡◌, ◌+◌, ◌*◌, ◌≤◌, IfOk, IfErr, OnOk, ◌∷◌, [], List, None, length, vec_len, true};
+ghost use Rattle.model.specs.declared.entry.Entry as in_log;
+ghost use Rattle.model.specs.Steps.{append_to, append_to_all, commits, go_on, vote_request, vote_requests};
+ghost use Rattle.raft.specs.View.{log_of, node_of, sends, after_of, agrees, IsSameSeat, Reaches};
+ghost use Rattle.raft.specs.Reading.{IsRead, IsCauseOr};
 
 use crate::counted::number_at;
-use crate::logs::{carried_from, copies_of, last_term, term_at};
-use crate::state::Core;
+use crate::state::{Core, Sending};
+use keep::error::StoreError;
+use keep::keeper::Shelf;
 use model::entry::Entries;
 use model::member::Member;
-use model::message::{Body, Message};
+use model::message::{Body, CARRIED_MOST, Message};
 use std::alloc::AllocError;
 
 impl Core {
     /// One message, to one member.
-    pub(crate) fn answer(&self, to: Member, body: Body) -> Result<Vec<Message>, AllocError>
-        ensures { IfOk result (λ ms. ms.items ≡ answer (node_of self.now) self.now.me to body) }
-    {
-        let mut messages = Vec::new(self.alloc);
-        messages.push(Message {
-            sender: self.me,
-            addressee: to,
-            term: self.term,
-            body,
-        })?;
-        Ok(messages)
-    }
-
-    /// The entries that a member is to have next, as many as a message may carry.
-    pub(crate) fn append_to(&self, to: Member) -> Result<Message, AllocError>
-        ensures { IfOk result (λ m. m ≡ append_to (node_of self.now) self.now.me to) }
-    {
-        let prev_index = number_at(&self.next, to).saturating_sub(1);
-        let entries = copies_of(self.alloc, carried_from(&self.log, prev_index))?;
-        Ok(Message {
-            sender: self.me,
-            addressee: to,
-            term: self.term,
-            body: Body::Append {
-                prev_index,
-                prev_term: term_at(&self.log, prev_index),
-                entries: Entries::new(entries),
-                commit: self.commit,
-            },
-        })
-    }
-
-    /// An `Append` to one member.
-    pub(crate) fn append_one(&self, to: Member) -> Result<Vec<Message>, AllocError>
-        ensures { IfOk result
-            (λ ms. ms.items ≡ append_to (node_of self.now) self.now.me to ∷ []) }
-    {
-        let mut messages = Vec::new(self.alloc);
-        messages.push(self.append_to(to)?)?;
-        Ok(messages)
-    }
-
-    /// An `Append` to each other member, in order.
-    #[tactic(auto, using(crate::proofs::Lists::sent_more, crate::proofs::Lists::sent_same))]
-    pub(crate) fn append_to_all(&self) -> Result<Vec<Message>, AllocError>
-        ensures { IfOk result
-            (λ ms. ms.items ≡ append_to_all self.now.members (node_of self.now) self.now.me) }
-    {
-        let mut messages = Vec::new(self.alloc);
-        for index in 0..self.members {
-            let to = index + 1;
-            if to != self.me {
-                messages.push(self.append_to(to)?)?;
-            }
-        }
-        Ok(messages)
-    }
-
-    fn vote_request(&self, to: Member) -> Message
-        ensures { result ≡ vote_request (node_of self.now) self.now.me to }
+    fn message(&self, to: Member, body: Body) -> Message
+        ensures { result ≡ record { sender = self.now.me; addressee = to; term = self.now.term; body = body } }
     {
         Message {
             sender: self.me,
             addressee: to,
             term: self.term,
-            body: Body::RequestVote {
-                last_index: self.log.len(),
-                last_term: last_term(&self.log),
-            },
+            body,
         }
+    }
+
+    /// These messages, one.
+    fn one(&self, message: Message) -> Result<Vec<Message>, AllocError>
+        ensures { IfOk result (λ ms. ms.items ≡ message ∷ []) }
+    {
+        let mut messages = Vec::new(self.alloc);
+        messages.push(message)?;
+        Ok(messages)
+    }
+
+    /// The entries that a member is to have next, as many as a message may carry.
+    fn append_to<S: Shelf>(&self, shelf: &mut S, to: Member) -> Result<Message, StoreError>
+        requires up { S.is_up shelf.old ≡ true }
+        requires reaches { S.is_honest shelf.old → Reaches self.now (S.stored shelf.old).log }
+        ensures ok { IfOk result (λ m. S.is_honest shelf.new → m ≡ append_to (node_of self.now (S.stored shelf.old).log) self.now.me to) }
+        ensures shelf { IsRead (S.is_honest shelf.old) (S.is_honest shelf.new) (S.stored shelf.old) (S.stored shelf.new) (S.may_hold shelf.old) (S.may_hold shelf.new) (S.serves shelf.old) (S.serves shelf.new) (S.failed shelf.old) (S.failed shelf.new) (S.is_up shelf.new) }
+        ensures up { OnOk result (S.is_up shelf.new ≡ true) }
+        ensures cause { IfErr result (IsCauseOr (S.is_honest shelf.new) (S.failed shelf.old) (S.failed shelf.new)) }
+        ensures asks { S.asks shelf.new ≤ S.asks shelf.old + 65 }
+    {
+        let prev_index = number_at(&self.next, to).saturating_sub(1);
+        let prev_term = self.term_at(shelf, prev_index)?;
+        let entries = self.window(shelf, prev_index, CARRIED_MOST)?;
+        let body = Body::Append {
+            prev_index,
+            prev_term,
+            entries: Entries::new(entries),
+            commit: self.commit,
+        };
+        Ok(self.message(to, body))
+    }
+
+    /// An `Append` to one member.
+    fn append_one<S: Shelf>(&self, shelf: &mut S, to: Member) -> Result<Vec<Message>, StoreError>
+        requires up { S.is_up shelf.old ≡ true }
+        requires reaches { S.is_honest shelf.old → Reaches self.now (S.stored shelf.old).log }
+        ensures ok { IfOk result (λ ms. S.is_honest shelf.new → ms.items ≡ append_to (node_of self.now (S.stored shelf.old).log) self.now.me to ∷ []) }
+        ensures shelf { IsRead (S.is_honest shelf.old) (S.is_honest shelf.new) (S.stored shelf.old) (S.stored shelf.new) (S.may_hold shelf.old) (S.may_hold shelf.new) (S.serves shelf.old) (S.serves shelf.new) (S.failed shelf.old) (S.failed shelf.new) (S.is_up shelf.new) }
+        ensures up { OnOk result (S.is_up shelf.new ≡ true) }
+        ensures cause { IfErr result (IsCauseOr (S.is_honest shelf.new) (S.failed shelf.old) (S.failed shelf.new)) }
+        ensures asks { IfOk result (λ ms. S.asks shelf.new ≤ S.asks shelf.old + 65 * length ms.items) }
+    {
+        let message = self.append_to(shelf, to)?;
+        let messages = self.one(message)?;
+        Ok(messages)
+    }
+
+    /// An `Append` to each other member, in order.
+    fn append_to_all<S: Shelf>(&self, shelf: &mut S) -> Result<Vec<Message>, StoreError>
+        requires up { S.is_up shelf.old ≡ true }
+        requires reaches { S.is_honest shelf.old → Reaches self.now (S.stored shelf.old).log }
+        ensures ok { IfOk result (λ ms. S.is_honest shelf.new → ms.items ≡ append_to_all self.now.members (node_of self.now (S.stored shelf.old).log) self.now.me) }
+        ensures shelf { IsRead (S.is_honest shelf.old) (S.is_honest shelf.new) (S.stored shelf.old) (S.stored shelf.new) (S.may_hold shelf.old) (S.may_hold shelf.new) (S.serves shelf.old) (S.serves shelf.new) (S.failed shelf.old) (S.failed shelf.new) (S.is_up shelf.new) }
+        ensures up { OnOk result (S.is_up shelf.new ≡ true) }
+        ensures cause { IfErr result (IsCauseOr (S.is_honest shelf.new) (S.failed shelf.old) (S.failed shelf.new)) }
+        ensures asks { IfOk result (λ ms. S.asks shelf.new ≤ S.asks shelf.old + 65 * length ms.items) }
+    {
+        let mut messages = Vec::new(self.alloc);
+        for index in 0..self.members {
+            let to = index + 1;
+            if to != self.me {
+                let message = self.append_to(shelf, to)?;
+                messages.push(message)?;
+            }
+        }
+        Ok(messages)
+    }
+
+    #[tactic(auto, using(crate::proofs::Windows::last_term_of, crate::proofs::Windows::length_of))]
+    fn vote_request(&self, to: Member) -> Message
+        ensures { (stored : List in_log.Entry) → Reaches self.now stored → result ≡ vote_request (node_of self.now stored) self.now.me to }
+    {
+        let body = Body::RequestVote {
+            last_index: self.log.length(),
+            last_term: self.log.last_term(),
+        };
+        self.message(to, body)
     }
 
     /// A `RequestVote` to each other member, in order.
     #[tactic(auto, using(crate::proofs::Lists::sent_more, crate::proofs::Lists::sent_same))]
-    pub(crate) fn vote_requests(&self) -> Result<Vec<Message>, AllocError>
+    fn vote_requests(&self) -> Result<Vec<Message>, AllocError>
         ensures { IfOk result
-            (λ ms. ms.items ≡ vote_requests self.now.members self.now.me (node_of self.now)) }
+            (λ ms. (stored : List in_log.Entry) → Reaches self.now stored → ms.items ≡ vote_requests self.now.members self.now.me (node_of self.now stored)) }
     {
         let mut messages = Vec::new(self.alloc);
         for index in 0..self.members {
@@ -99,5 +119,88 @@ impl Core {
             }
         }
         Ok(messages)
+    }
+
+    /// The greatest index that can be committed now: up to there a majority match, and an entry of its
+    /// own term stands there. Where the entry is of another term, so are all before it.
+    fn commits<S: Shelf>(&self, shelf: &mut S) -> Result<usize, StoreError>
+        requires up { S.is_up shelf.old ≡ true }
+        requires reaches { S.is_honest shelf.old → Reaches self.now (S.stored shelf.old).log }
+        requires rises { S.is_honest shelf.old → go_on None self.now.term (log_of self.now (S.stored shelf.old).log) ≡ true }
+        ensures ok { IfOk result (λ index. S.is_honest shelf.new → index ≡ (commits self.now.members self.now.me (node_of self.now (S.stored shelf.old).log)).commit) }
+        ensures low { IfOk result (λ index. self.now.commit ≤ index) }
+        ensures within { IfOk result (λ index. index ≤ self.now.log.shelved + vec_len self.now.log.tail) }
+        ensures shelf { IsRead (S.is_honest shelf.old) (S.is_honest shelf.new) (S.stored shelf.old) (S.stored shelf.new) (S.may_hold shelf.old) (S.may_hold shelf.new) (S.serves shelf.old) (S.serves shelf.new) (S.failed shelf.old) (S.failed shelf.new) (S.is_up shelf.new) }
+        ensures up { OnOk result (S.is_up shelf.new ≡ true) }
+        ensures cause { IfErr result (IsCauseOr (S.is_honest shelf.new) (S.failed shelf.old) (S.failed shelf.new)) }
+        ensures asks { S.asks shelf.new ≤ S.asks shelf.old + 1 }
+    {
+        let index = self.held();
+        if index <= self.commit {
+            return Ok(self.commit);
+        }
+        if self.term_at(shelf, index)? == self.term {
+            Ok(index)
+        } else {
+            Ok(self.commit)
+        }
+    }
+
+    /// Commits what can be committed now that the log of a member is known to agree further, and sends what comes of it:
+    /// to all where something is committed, else to that member what it has not yet.
+    fn on_agreed<S: Shelf>(&mut self, shelf: &mut S, sender: Member) -> Result<Vec<Message>, StoreError>
+        requires up { S.is_up shelf.old ≡ true }
+        requires reaches { S.is_honest shelf.old → Reaches self.old (S.stored shelf.old).log }
+        requires rises { S.is_honest shelf.old → go_on None self.old.term (log_of self.old (S.stored shelf.old).log) ≡ true }
+        ensures ok { IfOk result (λ ms. S.is_honest shelf.new → after_of self.new (S.stored shelf.old).log ms.items ≡ agrees self.old.members self.old.me sender (node_of self.old (S.stored shelf.old).log)) }
+        ensures seat { IsSameSeat self.old self.new }
+        ensures log { self.new.log ≡ self.old.log }
+        ensures hard { (self.new.term ≡ self.old.term) × (self.new.vote ≡ self.old.vote) }
+        ensures low { self.old.commit ≤ self.new.commit }
+        ensures shelf { IsRead (S.is_honest shelf.old) (S.is_honest shelf.new) (S.stored shelf.old) (S.stored shelf.new) (S.may_hold shelf.old) (S.may_hold shelf.new) (S.serves shelf.old) (S.serves shelf.new) (S.failed shelf.old) (S.failed shelf.new) (S.is_up shelf.new) }
+        ensures up { OnOk result (S.is_up shelf.new ≡ true) }
+        ensures cause { IfErr result (IsCauseOr (S.is_honest shelf.new) (S.failed shelf.old) (S.failed shelf.new)) }
+        ensures asks { IfOk result (λ ms. S.asks shelf.new ≤ S.asks shelf.old + (65 * length ms.items + 1)) }
+    {
+        let before = self.commit;
+        self.commit = self.commits(shelf)?;
+        if before < self.commit {
+            return self.append_to_all(shelf);
+        }
+        if number_at(&self.next, sender) <= self.log.length() {
+            return self.append_one(shelf, sender);
+        }
+        Ok(Vec::new(self.alloc))
+    }
+
+    /// The messages that are to be sent, with the entries that they take.
+    pub(crate) fn send<S: Shelf>(&mut self, shelf: &mut S, sending: Sending) -> Result<Vec<Message>, StoreError>
+        requires up { S.is_up shelf.old ≡ true }
+        requires reaches { S.is_honest shelf.old → Reaches self.old (S.stored shelf.old).log }
+        requires rises { S.is_honest shelf.old → go_on None self.old.term (log_of self.old (S.stored shelf.old).log) ≡ true }
+        ensures ok { IfOk result (λ ms. S.is_honest shelf.new → after_of self.new (S.stored shelf.old).log ms.items ≡ sends self.old.members self.old.me sending (node_of self.old (S.stored shelf.old).log)) }
+        ensures seat { IsSameSeat self.old self.new }
+        ensures log { self.new.log ≡ self.old.log }
+        ensures hard { (self.new.term ≡ self.old.term) × (self.new.vote ≡ self.old.vote) }
+        ensures low { self.old.commit ≤ self.new.commit }
+        ensures shelf { IsRead (S.is_honest shelf.old) (S.is_honest shelf.new) (S.stored shelf.old) (S.stored shelf.new) (S.may_hold shelf.old) (S.may_hold shelf.new) (S.serves shelf.old) (S.serves shelf.new) (S.failed shelf.old) (S.failed shelf.new) (S.is_up shelf.new) }
+        ensures up { OnOk result (S.is_up shelf.new ≡ true) }
+        ensures cause { IfErr result (IsCauseOr (S.is_honest shelf.new) (S.failed shelf.old) (S.failed shelf.new)) }
+        ensures asks { IfOk result (λ ms. S.asks shelf.new ≤ S.asks shelf.old + (65 * length ms.items + 1)) }
+    {
+        match sending {
+            Sending::Nothing => Ok(Vec::new(self.alloc)),
+            Sending::Answer { to, body } => {
+                let messages = self.one(self.message(to, body))?;
+                Ok(messages)
+            }
+            Sending::VoteRequests => {
+                let messages = self.vote_requests()?;
+                Ok(messages)
+            }
+            Sending::Append(to) => self.append_one(shelf, to),
+            Sending::Appends => self.append_to_all(shelf),
+            Sending::Agreed(sender) => self.on_agreed(shelf, sender),
+        }
     }
 }

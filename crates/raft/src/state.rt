@@ -1,18 +1,18 @@
 //! The state of a member, and what a step gives.
-ghost use Rattle.std.specs.Prelude.{◌≡◌, ℕ, ◌≤◌, None, true, vec_len};
-ghost use Rattle.std.specs.List.{list_all};
+ghost use Rattle.std.specs.Prelude.{◌≡◌, ℕ, List, ◌+◌, ◌≤◌, true, false, vec_len};
 ghost use Rattle.model.specs.Lists.{nth_or};
 ghost use Rattle.model.specs.Members.{is_candidate, is_leader};
-ghost use Rattle.model.specs.Steps.{go_on};
-ghost use Rattle.keep.specs.Log.{IsLog, is_entry, is_vote};
-ghost use Rattle.sqlread.specs.Meaning.{schema_of};
+ghost use Rattle.keep.specs.Log.{is_vote};
+ghost use Rattle.keep.specs.Durable.{Durable};
+ghost use Rattle.model.specs.declared.entry.Entry.{Entry};
 
+use crate::short_log::ShortLog;
 use fault::Refusal;
 use keep::change::Change;
 use keep::hard_state::HardState;
-use model::entry::Entry;
+use keep::state::State;
 use model::member::Member;
-use model::message::{Input, Message, Role};
+use model::message::{Body, Input, Message, Role};
 use schema::Schema;
 use std::alloc::Global;
 
@@ -49,6 +49,34 @@ pub enum Effect<T> {
     Done(T),
 }
 
+/// What is to be sent after a step, before the entries that it takes are fetched.
+#[derive(Debug, Drop)]
+pub(crate) enum Sending {
+    Nothing,
+    /// One message, to one member.
+    Answer { to: Member, body: Body },
+    /// A `RequestVote` to each other member.
+    VoteRequests,
+    /// An `Append` to one member.
+    Append(Member),
+    /// An `Append` to each other member.
+    Appends,
+    /// What a leader sends once the log of a member is known to agree further: entries may be committed now.
+    Agreed(Member),
+}
+
+/// What is to be known of a member before a step, to tell what the step changed of what is stored.
+#[derive(Clone, Copy)]
+pub(crate) struct Mark {
+    pub hard: HardState,
+    /// How many entries the log has.
+    pub length: usize,
+    /// How many of them the step leaves in any case.
+    pub kept: usize,
+    /// The term of the entry after these, 0 where there is none.
+    pub next_term: u64,
+}
+
 /// What a member was before it heard of a greater term.
 #[derive(Drop)]
 pub(crate) struct Before {
@@ -80,8 +108,8 @@ pub struct Core {
     pub me: Member,
     pub(crate) term: u64,
     pub(crate) vote: Option<Member>,
-    /// Up to 100,000 entries, the first of which has index 1.
-    pub log: Vec<Entry>,
+    /// Up to 100,000 entries, the first of which has index 1, and of which the last are here.
+    pub log: ShortLog,
     pub(crate) role: Role,
     /// Up to which index the log is known to be committed.
     pub commit: usize,
@@ -100,35 +128,33 @@ pub struct Core {
     ghost vote_within: { is_vote members vote ≡ true },
     ghost stands: { is_candidate role ≡ true → 1 ≤ term },
     ghost leads: { is_leader role ≡ true → 1 ≤ term },
-    ghost log_within: { vec_len log ≤ 100000 },
-    ghost rises: { go_on None term log.items ≡ true },
-    ghost entries: { list_all (is_entry (schema_of schema)) log.items ≡ true },
-    ghost commit_within: { commit ≤ vec_len log },
+    ghost commit_within: { commit ≤ log.shelved + vec_len log.tail },
     ghost matches_within: { (m : ℕ) → nth_or matched.items m 0 ≤ 100000 },
 }
 
 impl Core {
-    ghost use Rattle.std.specs.Prelude.{◌≡◌, false, ◌≤◌};
-    ghost use Rattle.model.specs.Members.{applied};
-    ghost use Rattle.raft.specs.View.{hard_of, node_of, opening};
+    ghost use Rattle.raft.specs.View.{hard_in, log_of, node_of, opening, IsInStep, IsStateOf};
+    ghost use Rattle.raft.specs.Start.{IsStart};
 
     /// A member that starts with what was stored, as a follower that knows of no leader and of no
     /// committed entry. `me` is one of the group: from 1 to `members`, of which there are up to 7. The
-    /// caller sees to this, and to it that what was stored forms the log of such a member.
+    /// caller sees to this, and by `is_start` to it that what was stored may be that of such a member.
     pub fn start(
         alloc: Global,
         schema: Schema,
         members: usize,
         me: Member,
-        hard: HardState,
-        log: Vec<Entry>,
+        state: State,
     ) -> Core
         requires few { members ≤ 7 }
         requires member { (1 ≤ me) × (me ≤ members) }
-        requires forms { IsLog members (schema_of schema) (record { hard = hard; log = log.items }) }
-        ensures node { node_of result ≡ opening hard log.items }
+        requires start { IsStart members state }
+        ensures node { (stored : List Entry) → node_of result stored ≡ opening state.hard (log_of result stored) }
+        ensures step { (d : Durable) → IsStateOf state d → IsInStep result d }
         ensures group { (result.members ≡ members) × (result.me ≡ me) × (result.schema ≡ schema) × (result.is_spent ≡ false) }
     {
+        let State { hard, length, tail } = state;
+        let log = ShortLog::new(length, tail);
         Core {
             alloc,
             schema,
@@ -149,7 +175,7 @@ impl Core {
 
     /// What it is to keep over a restart besides its log.
     pub fn hard_state(&self) -> HardState
-        ensures { result ≡ hard_of (node_of self.now) }
+        ensures { result ≡ hard_in self.now }
     {
         HardState {
             term: self.term,
@@ -157,11 +183,11 @@ impl Core {
         }
     }
 
-    /// The whole log.
-    pub fn log(&self) -> &[Entry]
-        ensures { result.now ≡ self.now.log.items }
+    /// How many entries its log has.
+    pub fn length(&self) -> usize
+        ensures { result ≡ self.now.log.shelved + vec_len self.now.log.tail }
     {
-        &self.log
+        self.log.length()
     }
 
     /// Up to which index the log is known to be committed.
@@ -169,13 +195,5 @@ impl Core {
         ensures { result ≡ self.now.commit }
     {
         self.commit
-    }
-
-    /// The log up to the commit index.
-    pub fn applied(&self) -> &[Entry]
-        ensures { result.now ≡ applied (node_of self.now) }
-    {
-        let (applied, _) = self.log.split_at(self.commit.min(self.log.len()));
-        applied
     }
 }

@@ -1,15 +1,14 @@
 //! Elections.
-ghost use Rattle.std.specs.Prelude.{◌≡◌, ◌<◌, ◌≤◌, IfOk};
+ghost use Rattle.std.specs.Prelude.{◌≡◌, ◌+◌, ◌<◌, ◌≤◌, ◌++◌, List, take, vec_len, IfOk};
 ghost use Rattle.model.specs.Members.{is_free_for, is_up_to_date, is_leader, is_candidate};
 ghost use Rattle.model.specs.Steps.{hears, grants, on_request_vote, on_vote, opened, stands_up};
-ghost use Rattle.raft.specs.View.{node_of, after_of, CanForget, IsSameSeat, forgotten};
+ghost use Rattle.model.specs.declared.entry.Entry as in_log;
+ghost use Rattle.raft.specs.View.{log_of, node_of, sends, CanForget, IsSameSeat, Reaches, forgotten};
 
 use crate::counted::set_flag;
-use crate::logs::last_term;
-use crate::state::{Before, Core};
-use model::entry::Entry;
+use crate::state::{Before, Core, Sending};
 use model::member::Member;
-use model::message::{Body, LAST_TERM, Message, Role};
+use model::message::{Body, LAST_TERM, Role};
 use std::alloc::AllocError;
 use std::mem;
 
@@ -21,15 +20,6 @@ fn is_free_for(vote: Option<Member>, candidate: Member) -> bool
         None => true,
         Some(member) => member == candidate,
     }
-}
-
-/// A log of this length and last term is at least as up to date as the other: its last term is
-/// greater, or equal where it is not shorter.
-fn is_up_to_date(last_index: usize, term: u64, log: &[Entry]) -> bool
-    ensures { result ≡ is_up_to_date term last_index log.now }
-{
-    let own = last_term(log);
-    own < term || (own == term && log.len() <= last_index)
 }
 
 impl Core {
@@ -54,12 +44,14 @@ impl Core {
     /// Takes the term of a message if it is greater, and gives what it was before then.
     #[tactic(auto, unfolding(model::specs::Steps::hears), using(crate::proofs::Lists::none_within))]
     pub(crate) fn hear(&mut self, term: u64) -> Option<Before>
+        ghost stored: { List in_log.Entry }
         requires { term ≤ LAST_TERM }
-        ensures node { node_of self.new ≡ hears term (node_of self.old) }
+        ensures node { node_of self.new stored ≡ hears term (node_of self.old stored) }
         ensures heard { term ≤ self.new.term }
         ensures can { CanForget result self.new }
-        ensures before { forgotten result (node_of self.new) ≡ node_of self.old }
+        ensures before { forgotten result (node_of self.new stored) ≡ node_of self.old stored }
         ensures seat { IsSameSeat self.old self.new }
+        ensures log { self.new.log ≡ self.old.log }
     {
         if self.term >= term {
             return None;
@@ -82,9 +74,11 @@ impl Core {
 
     /// Goes back to what it was before it heard of a term.
     pub(crate) fn forget(&mut self, heard: Option<Before>)
+        ghost stored: { List in_log.Entry }
         requires { CanForget heard self.old }
-        ensures node { node_of self.new ≡ forgotten heard (node_of self.old) }
+        ensures node { node_of self.new stored ≡ forgotten heard (node_of self.old stored) }
         ensures seat { IsSameSeat self.old self.new }
+        ensures log { self.new.log ≡ self.old.log }
     {
         let Some(
             Before {
@@ -109,13 +103,27 @@ impl Core {
         self.matched = matched;
     }
 
+    /// A log of this length and last term is at least as up to date as its own: its last term is greater, or equal where it
+    /// is not shorter.
+    #[tactic(auto, using(crate::proofs::Windows::last_term_of, crate::proofs::Windows::length_of))]
+    fn is_up_to_date(&self, last_index: usize, last_term: u64) -> bool
+        ghost stored: { List in_log.Entry }
+        requires { Reaches self.now stored }
+        ensures { result ≡ is_up_to_date last_term last_index (log_of self.now stored) }
+    {
+        let own = self.log.last_term();
+        own < last_term || (own == last_term && self.log.length() <= last_index)
+    }
+
     /// Whether a candidate is given the vote.
     fn grants(&self, sender: Member, term: u64, last_index: usize, last_term: u64) -> bool
-        ensures { result ≡ grants sender term last_index last_term (node_of self.now) }
+        ghost stored: { List in_log.Entry }
+        requires { Reaches self.now stored }
+        ensures { result ≡ grants sender term last_index last_term (node_of self.now stored) }
     {
         term == self.term
             && is_free_for(self.vote, sender)
-            && is_up_to_date(last_index, last_term, &self.log)
+            && self.is_up_to_date(last_index, last_term)
     }
 
     #[tactic(auto, unfolding(model::specs::Steps::on_request_vote))]
@@ -125,25 +133,32 @@ impl Core {
         term: u64,
         last_index: usize,
         last_term: u64,
-    ) -> Result<Vec<Message>, AllocError>
-        requires { (1 ≤ sender) × (sender ≤ self.old.members) }
-        ensures done { IfOk result
-            (λ ms. after_of self.new ms.items
-            ≡ on_request_vote self.old.me sender term last_index last_term (node_of self.old)) }
+    ) -> Sending
+        ghost stored: { List in_log.Entry }
+        requires member { (1 ≤ sender) × (sender ≤ self.old.members) }
+        requires reaches { Reaches self.old stored }
+        ensures done { sends self.old.members self.old.me result (node_of self.new stored)
+            ≡ on_request_vote self.old.me sender term last_index last_term (node_of self.old stored) }
         ensures seat { IsSameSeat self.old self.new }
+        ensures log { self.new.log ≡ self.old.log }
     {
-        if !self.grants(sender, term, last_index, last_term) {
-            return self.answer(sender, Body::Vote { given: false });
+        let given = self.grants(sender, term, last_index, last_term);
+        if given {
+            self.vote = Some(sender);
         }
-        self.vote = Some(sender);
-        self.answer(sender, Body::Vote { given: true })
+        Sending::Answer {
+            to: sender,
+            body: Body::Vote { given },
+        }
     }
 
     /// Stands for election in the next term.
     pub(crate) fn stand_up(&mut self) -> Result<(), AllocError>
+        ghost stored: { List in_log.Entry }
         requires { self.old.term < LAST_TERM }
-        ensures node { IfOk result (λ _. node_of self.new ≡ stands_up self.old.members self.old.me (node_of self.old)) }
+        ensures node { IfOk result (λ _. node_of self.new stored ≡ stands_up self.old.members self.old.me (node_of self.old stored)) }
         ensures seat { IsSameSeat self.old self.new }
+        ensures log { self.new.log ≡ self.old.log }
     {
         let mut votes = vec![in self.alloc; false; self.members]?;
         set_flag(&mut votes, self.me, true);
@@ -158,9 +173,13 @@ impl Core {
 
     /// A new leader's first entry, if a stamp and room are there.
     fn open(&mut self, reading: i64) -> Result<(), AllocError>
-        requires { 1 ≤ self.old.term }
-        ensures done { IfOk result (λ _. node_of self.new ≡ opened reading (node_of self.old)) }
+        ghost stored: { List in_log.Entry }
+        requires term { 1 ≤ self.old.term }
+        requires reaches { Reaches self.old stored }
+        ensures done { IfOk result (λ _. node_of self.new stored ≡ opened reading (node_of self.old stored)) }
         ensures seat { IsSameSeat self.old self.new }
+        ensures shelved { self.new.log.shelved ≡ self.old.log.shelved }
+        ensures short { vec_len self.new.log.tail ≤ vec_len self.old.log.tail + 1 }
     {
         let Some(stamp) = self.next_stamp(reading) else {
             return Ok(());
@@ -178,22 +197,25 @@ impl Core {
         sender: Member,
         term: u64,
         given: bool,
-    ) -> Result<Vec<Message>, AllocError>
+    ) -> Result<Sending, AllocError>
+        ghost stored: { List in_log.Entry }
+        requires { Reaches self.old stored }
         ensures done { IfOk result
-            (λ ms. after_of self.new ms.items
-            ≡ on_vote self.old.members self.old.me reading sender term given (node_of self.old)) }
+            (λ sending. sends self.old.members self.old.me sending (node_of self.new stored)
+            ≡ on_vote self.old.members self.old.me reading sender term given (node_of self.old stored)) }
         ensures seat { IsSameSeat self.old self.new }
+        ensures shelved { self.new.log.shelved ≡ self.old.log.shelved }
+        ensures short { vec_len self.new.log.tail ≤ vec_len self.old.log.tail + 1 }
     {
         if !(given && term == self.term && self.is_candidate()) {
-            return Ok(Vec::new(self.alloc));
+            return Ok(Sending::Nothing);
         }
         set_flag(&mut self.votes, sender, true);
         if !self.is_elected() {
-            return Ok(Vec::new(self.alloc));
+            return Ok(Sending::Nothing);
         }
         self.become_leader()?;
         self.open(reading)?;
-        let messages = self.append_to_all()?;
-        Ok(messages)
+        Ok(Sending::Appends)
     }
 }

@@ -1,5 +1,0 @@
-use Rattle.std.proofs.Common.{rules}
-use Rattle.raft.proofs.state.Core.change_of_hard_state.Goals as goal
-
-pub returns : goal.returns
-returns c = search rules

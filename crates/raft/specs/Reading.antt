@@ -1,0 +1,23 @@
+-- What calls that read a shelf leave of it, and why they fail.
+use Rattle.std.specs.Prelude.{◌≡◌, ◌⊎◌, ℕ, ◌≤◌, ◌<◌, Bool, true}
+use Rattle.model.specs.Transactions.{Schema}
+use Rattle.keep.specs.Durable.{Durable}
+use Rattle.keep.specs.declared.error.StoreError.{StoreError}
+use Rattle.keep.specs.declared.error.StoreError.TheVariants.{NoMemory, StoreFault}
+
+-- Of a shelf before and after: whether it is honest, what it stores, what a next open may find, whom it serves, how often
+-- it has failed; and whether it is up afterwards. Nothing of it changed but what a failure changes.
+pub record IsRead (is is' : Type 0) (d d' : Durable) (holds holds' : Durable → Type 0) (serving serving' : ℕ → Schema → Type 0) (failed failed' : ℕ) (up' : Bool) : Type 0 where
+  pub honest : is' → is
+  pub same : up' ≡ true → is' → d' ≡ d
+  pub left : (x : Durable) → holds' x → holds x
+  pub serves : (members : ℕ) (tables : Schema) → serving members tables → serving' members tables
+  pub counts : failed ≤ failed'
+
+-- the cause is want of memory, or that the store failed just now
+abbrev pub IsCause : ℕ → ℕ → StoreError → Type 0
+IsCause failed failed' error = (error ≡ NoMemory) ⊎ ((error ≡ StoreFault) × (failed < failed'))
+
+-- the cause is one of these, or that the store was not honest, which is told as its fault
+abbrev pub IsCauseOr : Type 0 → ℕ → ℕ → StoreError → Type 0
+IsCauseOr honest failed failed' error = IsCause failed failed' error ⊎ ((error ≡ StoreFault) × (honest → ⊥))

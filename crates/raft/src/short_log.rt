@@ -1,0 +1,119 @@
+//! A log of which only the end is in memory.
+ghost use Rattle.std.specs.Prelude.{◌≡◌, ◌+◌, ◌-◌, ◌<◌, ◌≤◌, ◌++◌, ◌∷◌, [], nat_le, min, take, drop, vec_len, true, OnOk, OnErr};
+ghost use Rattle.std.specs.List.{list_all};
+ghost use Rattle.model.specs.Logs.{closed};
+ghost use Rattle.model.specs.Members.{last_term};
+ghost use Rattle.model.specs.Steps.{TERM_LAST};
+
+use crate::logs::last_term;
+use model::entry::Entry;
+use model::message::CARRIED_MOST;
+use keep::state::TAIL_MOST;
+use model::stamp::Stamp;
+use std::alloc::AllocError;
+
+/// A log whose first entries are on a shelf, and there alone. The others are here, the last of all among them.
+#[derive(Drop)]
+pub struct ShortLog {
+    /// How many entries are on the shelf alone.
+    pub shelved: usize,
+    /// The entries after these.
+    pub tail: Vec<Entry>,
+    pub ghost within: { shelved + vec_len tail ≤ 100000 },
+    pub ghost ends: { 1 ≤ shelved → 1 ≤ vec_len tail },
+    pub ghost terms: { list_all (λ e. nat_le e.term TERM_LAST) tail.items ≡ true },
+}
+
+impl ShortLog {
+    /// A log of so many entries, of which these are the last: 1,024 of them, or all where there are fewer.
+    pub(crate) fn new(length: usize, tail: Vec<Entry>) -> ShortLog
+        requires within { length ≤ 100000 }
+        requires last { vec_len tail ≡ min length 1024 }
+        requires terms { list_all (λ e. nat_le e.term TERM_LAST) tail.items ≡ true }
+        ensures shelved { result.shelved ≡ length - 1024 }
+        ensures tail { result.tail ≡ tail }
+    {
+        let shelved = length - tail.len();
+        ShortLog { shelved, tail }
+    }
+
+    /// How many entries the log has.
+    pub(crate) fn length(&self) -> usize
+        ensures { result ≡ self.now.shelved + vec_len self.now.tail }
+    {
+        self.shelved + self.tail.len()
+    }
+
+    /// Adds an entry at the end. Changes nothing where memory is refused.
+    #[tactic(auto, using(crate::proofs::LogFacts::terms_pushed))]
+    pub(crate) fn push(&mut self, entry: Entry) -> Result<(), AllocError>
+        requires room { self.old.shelved + vec_len self.old.tail < 100000 }
+        requires term { entry.term ≤ TERM_LAST }
+        ensures ok { OnOk result (self.new.tail.items ≡ self.old.tail.items ++ entry ∷ []) }
+        ensures err { OnErr result (self.new.tail.items ≡ self.old.tail.items) }
+        ensures shelved { self.new.shelved ≡ self.old.shelved }
+        ensures longer { vec_len self.old.tail ≤ vec_len self.new.tail }
+        ensures short { vec_len self.new.tail ≤ vec_len self.old.tail + 1 }
+    {
+        self.tail.push(entry)?;
+        Ok(())
+    }
+
+    /// Keeps the first entries, so many, and goes on with these. Changes nothing where memory is refused.
+    #[tactic(auto, using(crate::proofs::LogFacts::terms_kept))]
+    pub(crate) fn go_on_with(&mut self, kept: usize, mut entries: Vec<Entry>) -> Result<(), AllocError>
+        requires kept { kept ≤ self.old.shelved + vec_len self.old.tail }
+        requires some { 1 ≤ vec_len entries }
+        requires room { kept + vec_len entries ≤ 100000 }
+        requires terms { list_all (λ e. nat_le e.term TERM_LAST) entries.items ≡ true }
+        ensures below { OnOk result (kept < self.old.shelved → (self.new.shelved ≡ kept) × (self.new.tail.items ≡ entries.items)) }
+        ensures above { OnOk result (self.old.shelved ≤ kept → (self.new.shelved ≡ self.old.shelved) × (self.new.tail.items ≡ take (kept - self.old.shelved) self.old.tail.items ++ entries.items)) }
+        ensures length { OnOk result (self.new.shelved + vec_len self.new.tail ≡ kept + vec_len entries) }
+        ensures lower { self.new.shelved ≤ self.old.shelved }
+        ensures short { vec_len self.new.tail ≤ vec_len self.old.tail + vec_len entries }
+        ensures err { OnErr result ((self.new.shelved ≡ self.old.shelved) × (self.new.tail.items ≡ self.old.tail.items)) }
+    {
+        if kept < self.shelved {
+            self.shelved = kept;
+            self.tail = entries;
+            return Ok(());
+        }
+        self.tail.reserve(entries.len())?;
+        self.tail.truncate(kept - self.shelved);
+        self.tail.append(&mut entries)?;
+        Ok(())
+    }
+
+    /// Leaves the older half to the shelf, where a message may bring more entries than there is room for. All are on the
+    /// shelf.
+    #[tactic(auto, using(crate::proofs::LogFacts::terms_turned))]
+    pub(crate) fn make_room(&mut self)
+        ensures shelved { self.old.shelved ≤ self.new.shelved }
+        ensures tail { self.new.tail.items ≡ drop (self.new.shelved - self.old.shelved) self.old.tail.items }
+        ensures length { self.new.shelved + vec_len self.new.tail ≡ self.old.shelved + vec_len self.old.tail }
+        ensures room { vec_len self.new.tail ≤ 960 }
+    {
+        let len = self.tail.len();
+        if len <= TAIL_MOST - CARRIED_MOST {
+            return;
+        }
+        let older = len - TAIL_MOST / 2;
+        self.tail.rotate_left(older);
+        self.tail.truncate(len - older);
+        self.shelved += older;
+    }
+
+    /// The term of the last entry, 0 where there is none.
+    pub(crate) fn last_term(&self) -> u64
+        ensures { result ≡ last_term self.now.tail.items }
+    {
+        last_term(&self.tail)
+    }
+
+    /// The stamp of the last entry, none where there is none.
+    pub(crate) fn closed(&self) -> Option<Stamp>
+        ensures { result ≡ closed self.now.tail.items }
+    {
+        closedtime::closed(&self.tail)
+    }
+}
