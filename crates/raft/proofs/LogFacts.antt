@@ -111,12 +111,12 @@ accepted_rises term prev log es within rises more =
       | inr other ↦ rw other.0 cut
     ]
 
-all_first : (p : Entry → Bool) (j : ℕ) (es : List Entry) → list_all p es ≡ true → list_all p (take j es) ≡ true
+pub all_first : (p : Entry → Bool) (j : ℕ) (es : List Entry) → list_all p es ≡ true → list_all p (take j es) ≡ true
 all_first p zero es h = refl
 all_first p (suc j) [] h = refl
 all_first p (suc j) (e ∷ es) h = let both = parts (p e) (list_all p es) h in joint (p e) (list_all p (take j es)) both.0 (all_first p j es both.1)
 
-all_rest : (p : Entry → Bool) (j : ℕ) (es : List Entry) → list_all p es ≡ true → list_all p (drop j es) ≡ true
+pub all_rest : (p : Entry → Bool) (j : ℕ) (es : List Entry) → list_all p es ≡ true → list_all p (drop j es) ≡ true
 all_rest p zero es h = h
 all_rest p (suc j) [] h = refl
 all_rest p (suc j) (e ∷ es) h = all_rest p j es (parts (p e) (list_all p es) h).1

@@ -1,7 +1,8 @@
 -- A log of which the end is here and the rest on a shelf.
-use Rattle.std.proofs.Common.{◌≡◌, ◌∙◌, ℕ, zero, suc, ◌+◌, ◌-◌, ◌≤◌, ◌<◌, min, Bool, true, false, cond, ◌==◌, nat_lt, nat_le, ◌&&◌, Option, Some, None, option_map, List, [], ◌∷◌, ◌++◌, take, drop, length, slice_get, refl, sym, ap, subst, arith, inl, inr, rules}
+use Rattle.std.proofs.Common.{◌≡◌, ◌⊎◌, ◌∙◌, ℕ, zero, suc, ◌+◌, ◌-◌, ◌≤◌, ◌<◌, min, Bool, true, false, cond, ◌==◌, nat_lt, nat_le, ◌&&◌, Option, Some, None, option_map, List, [], ◌∷◌, ◌++◌, take, drop, length, slice_get, refl, sym, ap, subst, arith, inl, inr, rules}
 use Rattle.std.proofs.Common.{length-append, append_assoc}
-use Rattle.std.proofs.lemmas.List.{length-take}
+use Rattle.std.proofs.lemmas.List.{length-take, length-drop, take-append-le, take-take, take_all, drop_all}
+use Rattle.std.proofs.lemmas.Bool.Decides.{leb_tells}
 use Rattle.std.specs.Prelude.{vec_len}
 use Rattle.std.specs.declared.vec.Vec.{Vec}
 use Rattle.std.specs.declared.alloc.Global.{Global}
@@ -11,7 +12,7 @@ use Rattle.model.specs.Logs.{closed, last_entry, least_stamp}
 use Rattle.model.specs.Members.{agreed, has_term, last_term, stands, term_of}
 use Rattle.model.specs.Stamps.{above}
 use Rattle.model.specs.Steps.{continues}
-use Rattle.raft.proofs.Lists.{Reach, agreed_reach}
+use Rattle.raft.proofs.Lists.{Reach, agreed_reach, drop_min}
 use Rattle.raft.specs.declared.state.Core.{Core}
 use Rattle.raft.specs.View.{log_of, Reaches}
 
@@ -128,3 +129,55 @@ continues_seen log window es prev t seen few =
     let after : nth window i ≡ nth log ((prev - f) + i) = entry_seen log window prev i seen far.low (omega (arith, far.high, few)) in
     let gone : ((prev - f) + i) - prev ≡ i - f = omega (arith, far.low) in
     rw (is, before, after, gone) refl
+
+-- ---- a log that is cut
+
+taken_past : {A : Type 0} (xs ys : List A) (k n : ℕ) → length xs ≡ n → n ≤ k → take k (xs ++ ys) ≡ xs ++ take (k - n) ys
+taken_past [] ys k zero e le = let none : k - 0 ≡ k = omega arith in rw none refl
+taken_past [] ys k (suc n) e le = absurd (omega (arith, e))
+taken_past (x ∷ xs) ys zero n e le = absurd (omega (arith, e, le))
+taken_past (x ∷ xs) ys (suc k) zero e le = absurd (omega (arith, e))
+taken_past (x ∷ xs) ys (suc k) (suc n) e le =
+    let same : suc k - suc n ≡ k - n = omega arith in
+    rw same (ap (λ zs. x ∷ zs) (taken_past xs ys k n (omega (arith, e)) (omega (arith, le))))
+
+pub cut_low : (s k : ℕ) (stored tail : List Entry) → k < s → s ≤ length stored → take k (take s stored ++ tail) ≡ take k stored
+cut_low s k stored tail low there = take-append-le k (take s stored) tail (omega (arith, length-take s stored, low, there)) ∙ take-take k s stored (omega (arith, low))
+
+pub cut_high : (s k : ℕ) (stored tail : List Entry) → s ≤ k → s ≤ length stored → take k (take s stored ++ tail) ≡ take s stored ++ take (k - s) tail
+cut_high s k stored tail high there = taken_past (take s stored) tail k s (omega (arith, length-take s stored, there)) high
+
+-- ---- a part of a log, entry by entry
+
+taken_next : {A : Type 0} (xs : List A) (n : ℕ) (x : A) → slice_get xs n ≡ Some x → take (suc n) xs ≡ take n xs ++ x ∷ []
+taken_next [] n x h = absurd (cc h)
+taken_next (y ∷ xs) zero x h = let e : y ≡ x = cc in ap (λ z. z ∷ []) e
+taken_next (y ∷ xs) (suc n) x h = ap (λ zs. y ∷ zs) (taken_next xs n x h)
+
+there : {A : Type 0} (xs : List A) (i : ℕ) → i < length xs → slice_get xs i ≡ None → ⊥
+there [] i lt gone = omega (arith, lt)
+there (x ∷ xs) zero lt gone = cc gone
+there (x ∷ xs) (suc i) lt gone = there xs i (omega (arith, lt)) gone
+
+pub seen_more : (log : List Entry) (before place : ℕ) (e : Entry) → before ≤ place → nth log (place + 1) ≡ Some e → take ((place + 1) - before) (drop before log) ≡ take (place - before) (drop before log) ++ e ∷ []
+seen_more log before place e low got =
+    let more : (place + 1) - before ≡ suc (place - before) = omega (arith, low) in
+    let next : place + 1 ≡ suc place = omega arith in
+    let there : slice_get log place ≡ Some e = subst (λ n. nth log n ≡ Some e) next got in
+    let at : before + (place - before) ≡ place = omega (arith, low) in
+    rw more (taken_next (drop before log) (place - before) e (got_dropped log before (place - before) ∙ ap (slice_get log) at ∙ there))
+
+pub seen_all : (log : List Entry) (before most first end : ℕ) → first ≡ min before (length log) → end ≡ min (length log) (first + most) → take (end - first) (drop first log) ≡ take most (drop before log)
+seen_all log before most first end from to =
+    let same : drop first log ≡ drop before log = ap (λ n. drop n log) from ∙ drop_min log before in
+    rw (← same) (elim (leb_tells (first + most) (length log)) [
+      | inl all ↦ let whole : end - first ≡ most = omega (arith, to, all.1) in rw whole refl
+      | inr some ↦
+          let few : length (drop first log) ≤ end - first = omega (arith, length-drop first log, to, from, some.1) in
+          take_all (end - first) (drop first log) few ∙ sym (take_all most (drop first log) (omega (arith, length-drop first log, some.1)))
+    ])
+
+pub missing : (log : List Entry) (place : ℕ) → place < length log → nth log (place + 1) ≡ None → ⊥
+missing log place lt gone =
+    let next : place + 1 ≡ suc place = omega arith in
+    there log place lt (subst (λ n. nth log n ≡ None) next gone)

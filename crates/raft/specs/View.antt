@@ -1,5 +1,5 @@
 -- A core in the words of the definitions of a member and its step.
-use Rattle.std.specs.Prelude.{◌≡◌, ℕ, ◌+◌, ◌-◌, ◌≤◌, Bool, true, ◌&&◌, nat_lt, nat_le, if◌then◌else◌, List, [], ◌∷◌, ◌++◌, take, drop, length, Option, Some, None, MatchOption}
+use Rattle.std.specs.Prelude.{◌≡◌, ◌⊎◌, vec_len, ℕ, ◌+◌, ◌-◌, ◌≤◌, Bool, true, ◌&&◌, nat_lt, nat_le, if◌then◌else◌, List, [], ◌∷◌, ◌++◌, take, drop, length, Option, Some, None, MatchOption}
 use Rattle.std.specs.List.{list_all}
 use Rattle.raft.specs.declared.state.Core.{Core}
 use Rattle.raft.specs.declared.state.Before.{Before}
@@ -10,6 +10,7 @@ use Rattle.raft.specs.declared.state.Work.TheVariants.{Local, Delivered}
 use Rattle.raft.specs.declared.state.Effect.{Effect as Given}
 use Rattle.raft.specs.declared.state.Effect.TheVariants.{Refused, Ignored, Done}
 use Rattle.raft.specs.declared.state.Taken.{Taken}
+use Rattle.raft.specs.declared.state.Mark.{Mark}
 use Rattle.keep.specs.declared.change.Change.{Change}
 use Rattle.keep.specs.declared.hard_state.HardState.{HardState}
 use Rattle.keep.specs.declared.state.State.{State}
@@ -25,7 +26,7 @@ use Rattle.model.specs.Stamps.{TIME_LAST}
 use Rattle.model.specs.declared.entry.Entry.{Entry}
 use Rattle.model.specs.declared.entry.Request.{Request}
 use Rattle.model.specs.Lists.{nth_or}
-use Rattle.model.specs.Members.{Node}
+use Rattle.model.specs.Members.{Node, term_at}
 use Rattle.model.specs.Steps.{After, Effect, Moves, Refuses, answer, append_to, append_to_all, commits, entries_of, on_message, vote_requests}
 use Rattle.model.specs.Steps as steps
 use Rattle.model.specs.Worlds.{hand}
@@ -238,3 +239,28 @@ pub record Grows (x y : Node) : Type 0 where
 abbrev pub IsSmallChange : Option Change → Type 0
 IsSmallChange None = Unit {0}
 IsSmallChange (Some c) = IsSmall c
+
+abbrev pub IsSmallEffect : Given Taken → Type 0
+IsSmallEffect (Refused refusal) = Unit {0}
+IsSmallEffect Ignored = Unit {0}
+IsSmallEffect (Done t) = IsSmallChange t.change
+
+-- how many messages it sends
+abbrev pub sent_by : Given Taken → ℕ
+sent_by (Refused refusal) = 0
+sent_by Ignored = 0
+sent_by (Done t) = length t.messages.items
+
+-- a step left the log as it was, as far as its length and the term of one entry tell
+abbrev pub IsAsBefore : Core → Mark → Type 0
+IsAsBefore c m = (c.log.shelved + vec_len c.log.tail ≡ m.length) × (c.log.shelved ≤ m.kept → term_at c.log.tail.items ((m.kept - c.log.shelved) + 1) ≡ m.next_term)
+
+-- or it did not
+abbrev pub IsOther : Core → Mark → Type 0
+IsOther c m = c.log.shelved + vec_len c.log.tail ≡ m.length → (c.log.shelved ≤ m.kept) × (term_at c.log.tail.items ((m.kept - c.log.shelved) + 1) ≡ m.next_term → ⊥)
+
+-- the change tells what is new since then
+abbrev pub IsSince : Core → Mark → Option Change → Type 0
+IsSince c m change =
+    (IsAsBefore c m × MatchOption change (hard_in c ≡ m.hard) (λ x. (x.hard ≡ hard_in c) × (x.kept ≡ c.log.shelved + vec_len c.log.tail) × (x.entries.items ≡ []) × (hard_in c ≡ m.hard → ⊥)))
+    ⊎ (IsOther c m × MatchOption change ⊥ (λ x. (x.hard ≡ hard_in c) × (x.kept ≡ m.kept) × (x.entries.items ≡ drop (m.kept - c.log.shelved) c.log.tail.items)))

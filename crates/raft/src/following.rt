@@ -1,9 +1,9 @@
 //! What a follower takes from its leader.
-ghost use Rattle.std.specs.Prelude.{◌≡◌, ◌⊎◌, ◌+◌, ◌-◌, ◌<◌, ◌≤◌, List, nat_le, length, take, drop, vec_len, IfOk, true, false};
+ghost use Rattle.std.specs.Prelude.{◌≡◌, ◌+◌, ◌-◌, ◌<◌, ◌≤◌, ◌||◌, nat_lt, List, nat_le, length, take, drop, vec_len, IfOk, true, false};
 ghost use Rattle.std.specs.List.{list_all};
 ghost use Rattle.model.specs.declared.entry.Entry as in_log;
 ghost use Rattle.model.specs.Members.{agreed, stands};
-ghost use Rattle.model.specs.Steps.{on_append, follows, takes_entries, TERM_LAST};
+ghost use Rattle.model.specs.Steps.{accepted, cuts_below, on_append, follows, takes_entries, LOG_LIMIT, TERM_LAST};
 ghost use Rattle.raft.specs.View.{log_of, node_of, IsSameSeat, Reaches, outcome_of, SameUnlessDone};
 
 use crate::logs::{agreed, continues, has_term};
@@ -28,7 +28,7 @@ impl Core {
 
     /// Up to which index the log and the entries that come after `prev` have the same terms.
     #[tactic(auto, using(crate::proofs::Windows::agreed_seen, crate::proofs::Windows::length_of))]
-    fn agreed(&self, window: &[Entry], prev: usize, entries: &[Entry]) -> usize
+    pub(crate) fn agreed(&self, window: &[Entry], prev: usize, entries: &[Entry]) -> usize
         ghost stored: { List in_log.Entry }
         requires reaches { Reaches self.now stored }
         requires few { length entries.now ≤ 64 }
@@ -43,12 +43,18 @@ impl Core {
         index.min(self.log.length())
     }
 
-    /// A cut at this index is below commit, or makes the log longer than it may be.
-    fn cuts_too_far(&self, index: usize, end: usize) -> bool
-        ensures keeps { result ≡ false → index < end → self.now.commit ≤ index }
-        ensures room { result ≡ false → index < end → end ≤ 100000 }
-        ensures cuts { result ≡ true → (index < end) × ((index < self.now.commit) ⊎ (100000 < end)) }
+    /// A cut at the index up to which the log agrees with the entries after `prev` is below commit, or makes the log longer
+    /// than it may be.
+    fn cuts_too_far(&self, index: usize, prev: usize, entries: &[Entry]) -> bool
+        ghost stored: { List in_log.Entry }
+        requires reaches { Reaches self.now stored }
+        requires few { length entries.now ≤ 64 }
+        requires within { prev ≤ self.now.log.shelved + vec_len self.now.log.tail }
+        ensures value { index ≡ agreed (log_of self.now stored) prev entries.now → result ≡ (cuts_below self.now.commit (log_of self.now stored) prev entries.now || nat_lt LOG_LIMIT (length (accepted (log_of self.now stored) prev entries.now))) }
+        ensures keeps { result ≡ false → index < prev + length entries.now → self.now.commit ≤ index }
+        ensures room { result ≡ false → index < prev + length entries.now → prev + length entries.now ≤ 100000 }
     {
+        let end = prev + entries.len();
         index < end && (index < self.commit || LOG_ROOM < end)
     }
 
@@ -73,7 +79,7 @@ impl Core {
         &mut self,
         index: usize,
         prev: usize,
-        mut entries: Vec<Entry>,
+        entries: Vec<Entry>,
         commit: usize,
     ) -> Result<(), AllocError>
         ghost stored: { List in_log.Entry }
@@ -92,17 +98,14 @@ impl Core {
         ensures short { vec_len self.new.log.tail ≤ vec_len self.old.log.tail + 64 }
     {
         let end = prev + entries.len();
-        if index < end {
-            let new = entries.split_off(index - prev)?;
-            self.log.go_on_with(index, new)?;
-        }
+        self.log.accept(index, prev, entries)?;
         self.commit = self.commit.max(commit.min(end));
         Ok(())
     }
 
     /// Takes entries of a leader, or answers no where it has not the entry before them. The window shows its log from that
     /// entry on.
-    #[tactic(auto, unfolding(model::specs::Steps::on_append))]
+    #[tactic(auto, unfolding(model::specs::Steps::on_append), using(crate::proofs::Windows::continues_seen))]
     pub(crate) fn on_append(
         &mut self,
         window: &[Entry],
@@ -143,11 +146,14 @@ impl Core {
             self.follow(sender);
             return Ok(Effect::Done(no));
         }
-        let end = prev + entries.len();
-        let index = self.agreed(window, prev, &entries);
-        if !continues(window, prev.min(1), term, &entries) || self.cuts_too_far(index, end) {
+        if !continues(window, prev.min(1), term, &entries) {
             return Ok(Effect::Ignored);
         }
+        let index = self.agreed(window, prev, &entries);
+        if self.cuts_too_far(index, prev, &entries) {
+            return Ok(Effect::Ignored);
+        }
+        let end = prev + entries.len();
         self.follow(sender);
         self.take_entries(index, prev, entries, commit)?;
         Ok(Effect::Done(Sending::Answer {

@@ -14,6 +14,7 @@ mod sending;
 pub mod short_log;
 pub mod state;
 mod step;
+mod taking;
 mod voting;
 
 pub use forms::is_start;

@@ -61,15 +61,18 @@ impl Core {
     ) -> Result<Vec<Entry>, StoreError>
         requires up { S.is_up shelf.old ≡ true }
         requires reaches { S.is_honest shelf.old → Reaches self.now (S.stored shelf.old).log }
+        requires few { most ≤ 65 }
         ensures ok { IfOk result (λ window. S.is_honest shelf.new → window.items ≡ take most (drop before (log_of self.now (S.stored shelf.old).log))) }
         ensures shelf { IsRead (S.is_honest shelf.old) (S.is_honest shelf.new) (S.stored shelf.old) (S.stored shelf.new) (S.may_hold shelf.old) (S.may_hold shelf.new) (S.serves shelf.old) (S.serves shelf.new) (S.failed shelf.old) (S.failed shelf.new) (S.is_up shelf.new) }
         ensures up { OnOk result (S.is_up shelf.new ≡ true) }
         ensures cause { IfErr result (IsCauseOr (S.is_honest shelf.new) (S.failed shelf.old) (S.failed shelf.new)) }
         ensures asks { S.asks shelf.new ≤ S.asks shelf.old + most }
     {
-        let end = self.log.length().min(before.saturating_add(most));
+        let length = self.log.length();
+        let first = before.min(length);
+        let end = length.min(first + most);
         let mut window = Vec::new(self.alloc);
-        for place in before..end {
+        for place in first..end {
             let Some(entry) = self.entry(shelf, place + 1)? else {
                 return Err(StoreError::StoreFault);
             };

@@ -86,10 +86,11 @@ impl Core {
         let mut messages = Vec::new(self.alloc);
         for index in 0..self.members {
             let to = index + 1;
-            if to != self.me {
-                let message = self.append_to(shelf, to)?;
-                messages.push(message)?;
+            if to == self.me {
+                continue;
             }
+            let message = self.append_to(shelf, to)?;
+            messages.push(message)?;
         }
         Ok(messages)
     }
@@ -139,7 +140,8 @@ impl Core {
         if index <= self.commit {
             return Ok(self.commit);
         }
-        if self.term_at(shelf, index)? == self.term {
+        let term = self.term_at(shelf, index)?;
+        if term == self.term {
             Ok(index)
         } else {
             Ok(self.commit)

@@ -1,9 +1,10 @@
 //! A log of which only the end is in memory.
-ghost use Rattle.std.specs.Prelude.{◌≡◌, ◌+◌, ◌-◌, ◌<◌, ◌≤◌, ◌++◌, ◌∷◌, [], nat_le, min, take, drop, vec_len, true, OnOk, OnErr};
+ghost use Rattle.std.specs.Prelude.{◌≡◌, ◌⊎◌, List, length, ◌+◌, ◌-◌, ◌<◌, ◌≤◌, ◌++◌, ◌∷◌, [], nat_le, min, take, drop, vec_len, true, OnOk, OnErr};
 ghost use Rattle.std.specs.List.{list_all};
 ghost use Rattle.model.specs.Logs.{closed};
-ghost use Rattle.model.specs.Members.{last_term};
-ghost use Rattle.model.specs.Steps.{TERM_LAST};
+ghost use Rattle.model.specs.declared.entry.Entry as in_log;
+ghost use Rattle.model.specs.Members.{agreed, last_term};
+ghost use Rattle.model.specs.Steps.{TERM_LAST, accepted};
 
 use crate::logs::last_term;
 use model::entry::Entry;
@@ -60,14 +61,15 @@ impl ShortLog {
     }
 
     /// Keeps the first entries, so many, and goes on with these. Changes nothing where memory is refused.
-    #[tactic(auto, using(crate::proofs::LogFacts::terms_kept))]
-    pub(crate) fn go_on_with(&mut self, kept: usize, mut entries: Vec<Entry>) -> Result<(), AllocError>
+    #[tactic(auto, using(crate::proofs::LogFacts::terms_kept, crate::proofs::Windows::cut_low, crate::proofs::Windows::cut_high))]
+    fn go_on_with(&mut self, kept: usize, mut entries: Vec<Entry>) -> Result<(), AllocError>
+        ghost stored: { List in_log.Entry }
+        requires reaches { self.old.shelved ≤ length stored }
         requires kept { kept ≤ self.old.shelved + vec_len self.old.tail }
         requires some { 1 ≤ vec_len entries }
         requires room { kept + vec_len entries ≤ 100000 }
         requires terms { list_all (λ e. nat_le e.term TERM_LAST) entries.items ≡ true }
-        ensures below { OnOk result (kept < self.old.shelved → (self.new.shelved ≡ kept) × (self.new.tail.items ≡ entries.items)) }
-        ensures above { OnOk result (self.old.shelved ≤ kept → (self.new.shelved ≡ self.old.shelved) × (self.new.tail.items ≡ take (kept - self.old.shelved) self.old.tail.items ++ entries.items)) }
+        ensures ok { OnOk result (take self.new.shelved stored ++ self.new.tail.items ≡ take kept (take self.old.shelved stored ++ self.old.tail.items) ++ entries.items) }
         ensures length { OnOk result (self.new.shelved + vec_len self.new.tail ≡ kept + vec_len entries) }
         ensures lower { self.new.shelved ≤ self.old.shelved }
         ensures short { vec_len self.new.tail ≤ vec_len self.old.tail + vec_len entries }
@@ -82,6 +84,31 @@ impl ShortLog {
         self.tail.truncate(kept - self.shelved);
         self.tail.append(&mut entries)?;
         Ok(())
+    }
+
+    /// Takes the entries after `prev`, with which the log agrees up to an index: cuts the log there, if it is before the
+    /// last of them, and goes on with those that come after. Changes nothing where memory is refused.
+    pub(crate) fn accept(&mut self, index: usize, prev: usize, mut entries: Vec<Entry>) -> Result<(), AllocError>
+        ghost stored: { List in_log.Entry }
+        requires reaches { self.old.shelved ≤ length stored }
+        requires low { prev ≤ index }
+        requires high { index ≤ prev + vec_len entries }
+        requires within { index ≤ self.old.shelved + vec_len self.old.tail }
+        requires room { index < prev + vec_len entries → prev + vec_len entries ≤ 100000 }
+        requires few { vec_len entries ≤ 64 }
+        requires terms { list_all (λ e. nat_le e.term TERM_LAST) entries.items ≡ true }
+        ensures ok { OnOk result (index ≡ agreed (take self.old.shelved stored ++ self.old.tail.items) prev entries.items → take self.new.shelved stored ++ self.new.tail.items ≡ accepted (take self.old.shelved stored ++ self.old.tail.items) prev entries.items) }
+        ensures holds { OnOk result (prev + vec_len entries ≤ self.new.shelved + vec_len self.new.tail) }
+        ensures keeps { OnOk result ((self.new.shelved + vec_len self.new.tail ≡ self.old.shelved + vec_len self.old.tail) ⊎ (index < prev + vec_len entries)) }
+        ensures lower { self.new.shelved ≤ self.old.shelved }
+        ensures short { vec_len self.new.tail ≤ vec_len self.old.tail + 64 }
+        ensures err { OnErr result ((self.new.shelved ≡ self.old.shelved) × (self.new.tail.items ≡ self.old.tail.items)) }
+    {
+        if index == prev + entries.len() {
+            return Ok(());
+        }
+        let new = entries.split_off(index - prev)?;
+        self.go_on_with(index, new)
     }
 
     /// Leaves the older half to the shelf, where a message may bring more entries than there is room for. All are on the

@@ -16,12 +16,8 @@ ghost use Rattle.raft.specs.View.{brought, effect_of, hard_in, hard_of, kept_of,
 
 use crate::forms::reads;
 use crate::logs::{go_on, has_ranges, term_at};
-use crate::state::{Core, Effect, Mark, Sending, Taken, Work};
+use crate::state::{Core, Effect, Sending, Work};
 use fault::Text;
-use keep::change::Change;
-use keep::error::StoreError;
-use keep::hard_state::HardState;
-use keep::keeper::Shelf;
 use model::entry::{Entry, Request};
 use model::member::Member;
 use model::message::{Body, CARRIED_MOST, Input, LAST_TERM, Message};
@@ -38,7 +34,7 @@ fn have_ranges(entries: &[Entry])
 }
 
 /// So are those of what is brought.
-fn has_ranges_in(work: &Work)
+pub(crate) fn has_ranges_in(work: &Work)
     ensures { IsRanged work.now }
 {
     match work {
@@ -53,6 +49,17 @@ fn has_ranges_in(work: &Work)
             }
         }
     }
+}
+
+/// So many entries, that go on after one another, may be in a message of this term.
+#[tactic(auto, using(crate::proofs::Lists::go_on_is, crate::proofs::LogFacts::terms_fit))]
+fn may_carry(term: u64, entries: &[Entry]) -> bool
+    requires { term ≤ LAST_TERM }
+    ensures value { result ≡ (nat_le (length entries.now) 64 && go_on None term entries.now) }
+    ensures few { result ≡ true → length entries.now ≤ 64 }
+    ensures terms { result ≡ true → list_all (λ e. nat_le e.term TERM_LAST) entries.now ≡ true }
+{
+    entries.len() <= CARRIED_MOST && go_on(0, 0, term, entries)
 }
 
 impl Core {
@@ -95,7 +102,6 @@ impl Core {
     }
 
     /// Entries that a message may carry.
-    #[tactic(auto, using(crate::proofs::Lists::go_on_is, crate::proofs::LogFacts::terms_fit))]
     fn may_carry(&self, window: &[Entry], term: u64, body: &Body) -> Result<bool, AllocError>
         requires { term ≤ LAST_TERM }
         ensures value { list_all (is_entry (schema_of self.now.schema)) window.now ≡ true → IfOk result
@@ -112,7 +118,7 @@ impl Core {
                 ..
             } => {
                 let entries = entries.as_slice();
-                if !(entries.len() <= CARRIED_MOST && go_on(0, 0, term, entries)) {
+                if !may_carry(term, entries) {
                     return Ok(false);
                 }
                 self.all_spell(window, (*prev_index).min(1), entries)
@@ -260,7 +266,7 @@ impl Core {
 
     /// Takes what is brought to it, and leaves aside what is to be stored. The window shows what a message wants to see of
     /// the log.
-    fn on_work(&mut self, window: &[Entry], work: Work) -> Result<Effect<Sending>, AllocError>
+    pub(crate) fn on_work(&mut self, window: &[Entry], work: Work) -> Result<Effect<Sending>, AllocError>
         ghost stored: { List in_log.Entry }
         requires { Reaches self.old stored }
         ensures done { LooksAt work (log_of self.old stored) window.now → list_all (is_entry (schema_of self.old.schema)) window.now ≡ true → IfOk result

@@ -11,3 +11,6 @@ ghost-agreed g a = g.stored
 
 abbrev pub ghost-take_entries : goal.ghost-take_entries
 ghost-take_entries g a = g.stored
+
+abbrev pub ghost-cuts_too_far : goal.ghost-cuts_too_far
+ghost-cuts_too_far g a = g.stored

@@ -1,0 +1,233 @@
+-- What is committed stays as it is.
+use Rattle.std.proofs.Common.{◌≡◌, ◌∙◌, ℕ, ℤ, zero, suc, ◌+◌, ◌-◌, ◌≤◌, ◌<◌, Bool, true, false, not, cond, ◌==◌, nat_lt, nat_le, ◌&&◌, ◌||◌, Option, Some, None, Result, Ok, Err, List, [], ◌∷◌, take, drop, length, slice_get, refl, sym, subst, arith, inl, inr}
+use Rattle.std.proofs.Common.{length-append}
+use Rattle.std.proofs.lemmas.List.{take-append-le, take-append-drop, take-take, length-take, length-drop}
+use Rattle.std.proofs.lemmas.Bool.Decides.{eqb_tells}
+use Rattle.std.proofs.lemmas.Option.{slice_get_past}
+use Rattle.fault.specs.declared.refusal.Refusal.{Refusal}
+use Rattle.model.specs.declared.entry.Entry.{Entry}
+use Rattle.model.specs.declared.entry.Request.{Request}
+use Rattle.model.specs.declared.message.Body.{Body}
+use Rattle.model.specs.declared.message.Body.TheVariants.{RequestVote, Vote, Append, Reply}
+use Rattle.model.specs.declared.message.Message.{Message}
+use Rattle.model.specs.declared.message.Input.{Input}
+use Rattle.model.specs.declared.message.Input.TheVariants.{Timeout, Beat, Close, Submit}
+use Rattle.model.specs.Stamps.{stamp}
+use Rattle.model.specs.Logs.{least_stamp}
+use Rattle.model.specs.Lists.{IsBeginning}
+use Rattle.model.specs.Transactions.{Schema, Statement}
+use Rattle.model.specs.Members.{Node, applied, agreed, has_term, is_leader, is_candidate, is_majority, is_in, stands}
+use Rattle.model.specs.Steps.{After, Effect, Moves, Refuses, Nothing, TERM_LAST, LOG_LIMIT, accepted, time_out, append_own, on_input, is_time_full, is_log_full, extended, opened, crowned, counted, hears, in_term, grants, on_request_vote, on_vote, continues, cuts_below, on_append, on_reply, on_reply_yes, on_reply_no, on_body, is_honest, on_message}
+use Rattle.model.specs.Worlds.{hand, unless_misread}
+use Rattle.model.specs.Kept.{node_after}
+use Rattle.sqlchecks.specs.Columns.{Tables}
+use Rattle.sqlread.specs.Meaning.{schema_of}
+use Rattle.raft.specs.declared.state.Core.{Core}
+use Rattle.raft.specs.declared.state.Work.{Work}
+use Rattle.raft.specs.declared.state.Work.TheVariants.{Local, Delivered}
+use Rattle.raft.specs.declared.state.Effect.{Effect as Given}
+use Rattle.raft.specs.declared.state.Effect.TheVariants.{Refused, Ignored, Done}
+use Rattle.raft.specs.declared.state.Taken.{Taken}
+use Rattle.raft.specs.View.{node_of, works, effect_of, EffectFits, Grows}
+use Rattle.raft.proofs.Lists.{Between, agreed_between, ltb_tells, is_so, stands_within}
+
+-- ---- tests
+
+told : {A : Type 0} (P : A → Type 0) (b : Bool) (u v : A) → (b ≡ true → P u) → (b ≡ false → P v) → P (cond b u v)
+told P true u v p q = p refl
+told P false u v p q = q refl
+
+both : {A : Type 0} (P : A → Type 0) (b : Bool) (u v : A) → P u → P v → P (cond b u v)
+both P true u v p q = p
+both P false u v p q = q
+
+neither : (a b : Bool) → (a || b) ≡ false → (a ≡ false) × (b ≡ false)
+neither false b e = (refl, e)
+neither true b e = absurd (cc e)
+
+not_both : (a b : Bool) → (a && b) ≡ false → a ≡ true → b ≡ false
+not_both true b e h = e
+not_both false b e h = absurd (cc h)
+
+-- ---- a log that takes entries
+
+-- up to where log and entries agree, if a cut there leaves what is committed
+cut_after : (c : ℕ) (log : List Entry) (prev : ℕ) (es : List Entry) → cuts_below c log prev es ≡ false → agreed log prev es < prev + length es → c ≤ agreed log prev es
+cut_after c log prev es e lt =
+    let j = agreed log prev es in
+    elim (ltb_tells j (prev + length es)) [
+      | inl lower ↦ elim (ltb_tells j c) [
+        | inl below ↦ let no : nat_lt j c ≡ false = not_both (nat_lt j (prev + length es)) (nat_lt j c) e lower.0 in absurd (cc (no, below.0))
+        | inr above ↦ above.1
+      ]
+      | inr not_lower ↦ absurd (omega (arith, not_lower.1, lt))
+    ]
+
+pub accepted_keeps : (c : ℕ) (log : List Entry) (prev : ℕ) (es : List Entry) → prev ≤ length log → cuts_below c log prev es ≡ false → take c (accepted log prev es) ≡ take c log
+accepted_keeps c log prev es within e =
+    let j = agreed log prev es in
+    let far : Between prev (prev + length es) (length log) j = agreed_between log es prev within in
+    elim (eqb_tells j (prev + length es)) [
+      | inl same ↦ rw same.0 refl
+      | inr other ↦
+          let lt : j < prev + length es = omega (arith, other.1, far.high) in
+          let after : c ≤ j = cut_after c log prev es e lt in
+          rw other.0 (take-append-le c (take j log) (drop (j - prev) es) (omega (arith, length-take j log, far.most, after)) ∙ take-take c j log after)
+    ]
+
+pub accepted_reaches : (log : List Entry) (prev : ℕ) (es : List Entry) → prev ≤ length log → prev + length es ≤ length (accepted log prev es)
+accepted_reaches log prev es within =
+    let j = agreed log prev es in
+    let far : Between prev (prev + length es) (length log) j = agreed_between log es prev within in
+    elim (eqb_tells j (prev + length es)) [
+      | inl same ↦ rw same.0 (omega (arith, same.1, far.most))
+      | inr other ↦
+          let len = length-append (take j log) (drop (j - prev) es) in
+          rw other.0 (omega (arith, len, length-take j log, length-drop (j - prev) es, far.low, far.high, far.most))
+    ]
+
+pub accepted_holds : (c : ℕ) (log : List Entry) (prev : ℕ) (es : List Entry) → prev ≤ length log → c ≤ length log → cuts_below c log prev es ≡ false → c ≤ length (accepted log prev es)
+accepted_holds c log prev es within small e =
+    let j = agreed log prev es in
+    let far : Between prev (prev + length es) (length log) j = agreed_between log es prev within in
+    elim (eqb_tells j (prev + length es)) [
+      | inl same ↦ rw same.0 small
+      | inr other ↦
+          let lt : j < prev + length es = omega (arith, other.1, far.high) in
+          let after : c ≤ j = cut_after c log prev es e lt in
+          let len = length-append (take j log) (drop (j - prev) es) in
+          rw other.0 (omega (arith, len, length-take j log, far.most, after))
+    ]
+
+-- ---- a step
+
+record Stays (x : Node) (effect : Effect) : Type 0 where
+  pub commit : x.commit ≤ (node_after x effect).commit
+  pub log : take x.commit (node_after x effect).log ≡ take x.commit x.log
+
+record Leaves (x : Node) (a : After) : Type 0 where
+  pub commit : x.commit ≤ a.node.commit
+  pub log : take x.commit a.node.log ≡ take x.commit x.log
+
+refused : (x : Node) (refusal : Refusal) → Stays x (Refuses refusal)
+refused x refusal = record { commit = omega arith; log = refl }
+
+nothing : (x : Node) → Stays x Nothing
+nothing x = record { commit = omega arith; log = refl }
+
+extended_grows : (reading : ℤ) (request : Option Request) (x : Node) → x.commit ≤ length x.log → Grows x (extended reading request x)
+extended_grows reading request x h = record { commit = omega arith; log = take-append-le x.commit x.log (record { term = x.term; stamp = stamp reading (least_stamp x.log); request = request } ∷ []) h }
+
+time_out_stays : (n me : ℕ) (x : Node) → Stays x (time_out n me x)
+unfolding time_out
+time_out_stays n me x = both (Stays x) (is_leader x.role) _ _ (nothing x) (both (Stays x) (nat_le TERM_LAST x.term) _ _ (refused x _) (record { commit = omega arith; log = refl }))
+
+append_own_stays : (n me : ℕ) (reading : ℤ) (request : Option Request) (x : Node) → x.commit ≤ length x.log → Stays x (append_own n me reading request x)
+unfolding append_own
+append_own_stays n me reading request x h =
+    let more = extended_grows reading request x h in
+    both (Stays x) (not (is_leader x.role)) _ _ (refused x _) (both (Stays x) (is_time_full x.log) _ _ (refused x _) (both (Stays x) (is_log_full x.log) _ _ (refused x _) (record { commit = more.commit; log = more.log })))
+
+input_stays : (n me : ℕ) (input : Input) (x : Node) → x.commit ≤ length x.log → Stays x (on_input n me input x)
+input_stays n me Timeout x h = time_out_stays n me x
+input_stays n me Beat x h = both (Stays x) (is_leader x.role) _ _ (record { commit = omega arith; log = refl }) (nothing x)
+input_stays n me (Close reading) x h = append_own_stays n me reading None x h
+input_stays n me (Submit reading request) x h = append_own_stays n me reading (Some request) x h
+
+unless_stays : (r : Result (List Statement) Refusal) (effect : Effect) (x : Node) → Stays x effect → Stays x (unless_misread r effect)
+unless_stays (Ok statements) effect x h = h
+unless_stays (Err refusal) effect x h = refused x refusal
+
+hand_stays : (schema : Schema) (n me : ℕ) (input : Input) (x : Node) → x.commit ≤ length x.log → Stays x (hand schema n me input x)
+hand_stays schema n me Timeout x h = input_stays n me Timeout x h
+hand_stays schema n me Beat x h = input_stays n me Beat x h
+hand_stays schema n me (Close reading) x h = input_stays n me (Close reading) x h
+hand_stays schema n me (Submit reading request) x h = unless_stays (schema.reads request.text) _ x (input_stays n me (Submit reading request) x h)
+
+opened_grows : (reading : ℤ) (x : Node) → x.commit ≤ length x.log → Grows x (opened reading x)
+opened_grows reading x h = both (Grows x) (is_time_full x.log || is_log_full x.log) _ _ (record { commit = omega arith; log = refl }) (extended_grows reading None x h)
+
+request_vote_leaves : (me sender term i t : ℕ) (x : Node) → Leaves x (on_request_vote me sender term i t x)
+unfolding on_request_vote
+request_vote_leaves me sender term i t x = both (Leaves x) (grants sender term i t x) _ _ (record { commit = omega arith; log = refl }) (record { commit = omega arith; log = refl })
+
+vote_leaves : (n me : ℕ) (reading : ℤ) (sender term : ℕ) (given : Bool) (x : Node) → x.commit ≤ length x.log → Leaves x (on_vote n me reading sender term given x)
+unfolding on_vote
+vote_leaves n me reading sender term given x h =
+    let first = opened_grows reading (crowned n x) h in
+    both (Leaves x) (given && (term == x.term) && is_candidate x.role) _ _ (both (Leaves x) (is_majority n (is_in (counted sender x).votes)) _ _ (record { commit = first.commit; log = first.log }) (record { commit = omega arith; log = refl })) (record { commit = omega arith; log = refl })
+
+append_stays : (me sender term prev prev_term : ℕ) (es : List Entry) (commit : ℕ) (x : Node) → Stays x (on_append me sender term prev prev_term es commit x)
+unfolding on_append
+append_stays me sender term prev prev_term es commit x =
+    both (Stays x) (nat_lt term x.term) _ _ (record { commit = omega arith; log = refl }) (both (Stays x) (is_leader x.role) _ _ (nothing x) (told (Stays x) (not (stands x.log prev prev_term)) _ _ (λ h. record { commit = omega arith; log = refl }) (λ standing.
+    told (Stays x) (not (continues x.log prev term es) || cuts_below x.commit x.log prev es || nat_lt LOG_LIMIT (length (accepted x.log prev es))) _ _ (λ h. nothing x) (λ fits.
+    let goes = neither (not (continues x.log prev term es) || cuts_below x.commit x.log prev es) (nat_lt LOG_LIMIT (length (accepted x.log prev es))) fits in
+    let keeps = neither (not (continues x.log prev term es)) (cuts_below x.commit x.log prev es) goes.0 in
+    let within = stands_within x.log prev prev_term (is_so (stands x.log prev prev_term) standing) in
+    record { commit = omega arith; log = accepted_keeps x.commit x.log prev es within keeps.1 }))))
+
+reply_yes_stays : (n me sender matched : ℕ) (x : Node) → Stays x (on_reply_yes n me sender matched x)
+unfolding on_reply_yes
+reply_yes_stays n me sender matched x = both (Stays x) (nat_lt (length x.log) matched) _ _ (nothing x) (record { commit = omega arith; log = refl })
+
+reply_no_stays : (me sender : ℕ) (x : Node) → Stays x (on_reply_no me sender x)
+unfolding on_reply_no
+reply_no_stays me sender x = record { commit = omega arith; log = refl }
+
+reply_stays : (n me sender term : ℕ) (ok : Bool) (matched : ℕ) (x : Node) → Stays x (on_reply n me sender term ok matched x)
+reply_stays n me sender term ok matched x =
+    both (Stays x) (is_leader x.role && (term == x.term)) _ _ (both (Stays x) ok _ _ (reply_yes_stays n me sender matched x) (reply_no_stays me sender x)) (record { commit = omega arith; log = refl })
+
+body_stays : (n me : ℕ) (reading : ℤ) (sender term : ℕ) (b : Body) (x : Node) → x.commit ≤ length x.log → Stays x (on_body n me reading sender term b x)
+body_stays n me reading sender term (RequestVote i t) x h = let v = request_vote_leaves me sender term i t x in record { commit = v.commit; log = v.log }
+body_stays n me reading sender term (Vote given) x h = let v = vote_leaves n me reading sender term given x h in record { commit = v.commit; log = v.log }
+body_stays n me reading sender term (Append prev prev_term es commit) x h = append_stays me sender term prev prev_term es commit x
+body_stays n me reading sender term (Reply ok matched) x h = reply_stays n me sender term ok matched x
+
+-- the term that was heard of changes neither
+hears_log : (term : ℕ) (x : Node) → (hears term x).log ≡ x.log
+unfolding hears
+hears_log term x = elim (nat_lt x.term term) as (λ b. (cond b (in_term term x) x).log ≡ x.log) [ true ↦ refl | false ↦ refl ]
+
+hears_commit : (term : ℕ) (x : Node) → (hears term x).commit ≡ x.commit
+unfolding hears
+hears_commit term x = elim (nat_lt x.term term) as (λ b. (cond b (in_term term x) x).commit ≡ x.commit) [ true ↦ refl | false ↦ refl ]
+
+heard : (x y : Node) (effect : Effect) → y.log ≡ x.log → y.commit ≡ x.commit → Stays y effect → Stays x effect
+heard x y (Moves a) e f h = record { commit = rw f at h.commit; log = rw (e, f) at h.log }
+heard x y (Refuses refusal) e f h = refused x refusal
+heard x y Nothing e f h = nothing x
+
+message_stays : (schema : Schema) (n me : ℕ) (reading : ℤ) (m : Message) (x : Node) → x.commit ≤ length x.log → Stays x (on_message schema n me reading m x)
+message_stays schema n me reading m x h =
+    let y = hears m.term x in
+    let log = hears_log m.term x in
+    let commit = hears_commit m.term x in
+    let small : y.commit ≤ length y.log = rw (log, commit) h in
+    both (Stays x) (is_honest schema n me m) _ _ (heard x y _ log commit (body_stays n me reading m.sender m.term m.body y small)) (nothing x)
+
+work_stays : (schema : Tables) (n me : ℕ) (work : Work) (x : Node) → x.commit ≤ length x.log → Stays x (works schema n me work x)
+work_stays schema n me (Local input) x h = hand_stays (schema_of schema) n me input x h
+work_stays schema n me (Delivered reading message) x h = message_stays (schema_of schema) n me reading message x h
+
+-- ---- what a core gives
+
+same_grows : (x y : Node) → y ≡ x → Grows x y
+same_grows x y e = let P : Node → Type 0 = Grows x in subst P (sym e) (record { commit = omega arith; log = refl })
+
+moved : (x : Node) (a : After) → Stays x (Moves a) → Grows x a.node
+moved x a h = record { commit = h.commit; log = h.log }
+
+pub step_grows : (old new : Core) (e : Given Taken) (work : Work) → old.commit ≤ length old.log.items → effect_of new e ≡ works old.schema old.members old.me work (node_of old) → EffectFits old new e → Grows (node_of old) (node_of new)
+step_grows old new (Refused refusal) work h done fits = same_grows (node_of old) (node_of new) fits
+step_grows old new Ignored work h done fits = same_grows (node_of old) (node_of new) fits
+step_grows old new (Done t) work h done fits =
+    let P : Effect → Type 0 = Stays (node_of old) in
+    moved (node_of old) _ (subst P (sym done) (work_stays old.schema old.members old.me work (node_of old) h))
+
+-- what is applied is a beginning of what is applied then
+pub begins : (x y : Node) → Grows x y → IsBeginning (applied x) (applied y)
+begins x y h =
+    let cut : take x.commit (applied y) ≡ applied x = take-take x.commit y.commit y.log h.commit ∙ h.log in
+    (drop x.commit (applied y), rw cut at (take-append-drop x.commit (applied y)))
