@@ -14,9 +14,8 @@ use Rattle.model.specs.declared.message.Input.{Input}
 use Rattle.model.specs.declared.message.Input.TheVariants.{Timeout, Beat, Close, Submit}
 use Rattle.model.specs.Stamps.{stamp}
 use Rattle.model.specs.Logs.{least_stamp}
-use Rattle.model.specs.Lists.{IsBeginning}
 use Rattle.model.specs.Transactions.{Schema, Statement}
-use Rattle.model.specs.Members.{Node, applied, agreed, has_term, is_leader, is_candidate, is_majority, is_in, stands}
+use Rattle.model.specs.Members.{Node, agreed, has_term, is_leader, is_candidate, is_majority, is_in, stands}
 use Rattle.model.specs.Steps.{After, Effect, Moves, Refuses, Nothing, TERM_LAST, LOG_LIMIT, accepted, time_out, append_own, on_input, is_time_full, is_log_full, extended, opened, crowned, counted, hears, in_term, grants, on_request_vote, on_vote, continues, cuts_below, on_append, on_reply, on_reply_yes, on_reply_no, on_body, is_honest, on_message}
 use Rattle.model.specs.Worlds.{hand, unless_misread}
 use Rattle.model.specs.Kept.{node_after}
@@ -28,7 +27,7 @@ use Rattle.raft.specs.declared.state.Work.TheVariants.{Local, Delivered}
 use Rattle.raft.specs.declared.state.Effect.{Effect as Given}
 use Rattle.raft.specs.declared.state.Effect.TheVariants.{Refused, Ignored, Done}
 use Rattle.raft.specs.declared.state.Taken.{Taken}
-use Rattle.raft.specs.View.{node_of, works, effect_of, EffectFits, Grows}
+use Rattle.raft.specs.View.{log_of, node_of, works, effect_of, EffectFits, Grows}
 use Rattle.raft.proofs.Lists.{Between, agreed_between, ltb_tells, is_so, stands_within}
 
 -- ---- tests
@@ -219,15 +218,9 @@ same_grows x y e = let P : Node → Type 0 = Grows x in subst P (sym e) (record 
 moved : (x : Node) (a : After) → Stays x (Moves a) → Grows x a.node
 moved x a h = record { commit = h.commit; log = h.log }
 
-pub step_grows : (old new : Core) (e : Given Taken) (work : Work) → old.commit ≤ length old.log.items → effect_of new e ≡ works old.schema old.members old.me work (node_of old) → EffectFits old new e → Grows (node_of old) (node_of new)
-step_grows old new (Refused refusal) work h done fits = same_grows (node_of old) (node_of new) fits
-step_grows old new Ignored work h done fits = same_grows (node_of old) (node_of new) fits
-step_grows old new (Done t) work h done fits =
-    let P : Effect → Type 0 = Stays (node_of old) in
-    moved (node_of old) _ (subst P (sym done) (work_stays old.schema old.members old.me work (node_of old) h))
-
--- what is applied is a beginning of what is applied then
-pub begins : (x y : Node) → Grows x y → IsBeginning (applied x) (applied y)
-begins x y h =
-    let cut : take x.commit (applied y) ≡ applied x = take-take x.commit y.commit y.log h.commit ∙ h.log in
-    (drop x.commit (applied y), rw cut at (take-append-drop x.commit (applied y)))
+pub step_grows : (old new : Core) (stored : List Entry) (e : Given Taken) (work : Work) → old.commit ≤ length (log_of old stored) → effect_of new stored e ≡ works old.schema old.members old.me work (node_of old stored) → EffectFits old new stored e → Grows (node_of old stored) (node_of new stored)
+step_grows old new stored (Refused refusal) work h done fits = same_grows (node_of old stored) (node_of new stored) fits
+step_grows old new stored Ignored work h done fits = same_grows (node_of old stored) (node_of new stored) fits
+step_grows old new stored (Done t) work h done fits =
+    let P : Effect → Type 0 = Stays (node_of old stored) in
+    moved (node_of old stored) _ (subst P (sym done) (work_stays old.schema old.members old.me work (node_of old stored) h))

@@ -2,16 +2,17 @@
 use Rattle.std.proofs.Common.{◌≡◌, ◌⊎◌, ◌∙◌, ℕ, zero, suc, ◌+◌, ◌-◌, ◌≤◌, ◌<◌, min, Bool, true, false, cond, ◌==◌, nat_lt, nat_le, ◌&&◌, Option, Some, None, option_map, List, [], ◌∷◌, ◌++◌, take, drop, length, slice_get, refl, sym, ap, subst, arith, inl, inr, rules}
 use Rattle.std.proofs.Common.{length-append, append_assoc}
 use Rattle.std.proofs.lemmas.List.{length-take, length-drop, take-append-le, take-take, take_all, drop_all}
-use Rattle.std.proofs.lemmas.Bool.Decides.{leb_tells}
+use Rattle.std.proofs.lemmas.Bool.Decides.{eqb_tells, leb_tells}
 use Rattle.std.specs.Prelude.{vec_len}
 use Rattle.std.specs.declared.vec.Vec.{Vec}
 use Rattle.std.specs.declared.alloc.Global.{Global}
 use Rattle.model.specs.declared.entry.Entry.{Entry}
 use Rattle.model.specs.Lists.{nth}
 use Rattle.model.specs.Logs.{closed, last_entry, least_stamp}
-use Rattle.model.specs.Members.{agreed, has_term, last_term, stands, term_of}
+use Rattle.model.specs.Members.{agreed, has_term, last_term, stands, term_at, term_of}
 use Rattle.model.specs.Stamps.{above}
 use Rattle.model.specs.Steps.{continues}
+use Rattle.model.specs.Kept.{kept_under}
 use Rattle.raft.proofs.Lists.{Reach, agreed_reach, drop_min}
 use Rattle.raft.specs.declared.state.Core.{Core}
 use Rattle.raft.specs.View.{log_of, Reaches}
@@ -181,3 +182,22 @@ pub missing : (log : List Entry) (place : ℕ) → place < length log → nth lo
 missing log place lt gone =
     let next : place + 1 ≡ suc place = omega arith in
     there log place lt (subst (λ n. nth log n ≡ None) next gone)
+
+-- the entry that a message would take the place of
+pub next_seen : (log window es : List Entry) (prev kept : ℕ) → window ≡ take 65 (drop (prev - 1) log) → length es ≤ 64 → kept ≡ kept_under prev es log → (kept ≡ length log → ⊥) → term_at window ((kept - (prev - 1)) + 1) ≡ term_at log (kept + 1)
+unfolding kept_under
+next_seen log window es prev kept seen few is other =
+    let j = agreed log prev es in
+    let reach = agreed_reach log es prev in
+    elim (eqb_tells j (prev + length es)) [
+      | inl same ↦ let all : kept ≡ length log = rw same.0 at is in absurd (other all)
+      | inr differ ↦
+          let least : kept ≡ min j (length log) = rw differ.0 at is in
+          let i = kept - (prev - 1) in
+          let near : i < 65 = omega (arith, least, reach.low, reach.high, differ.1, few) in
+          let low : prev ≤ kept = omega (arith, least, other, reach.low) in
+          let at : (prev - 1) + i ≡ kept = omega (arith, low) in
+          let next : i + 1 ≡ suc i = omega arith in
+          let after : kept + 1 ≡ suc kept = omega arith in
+          rw (next, after, seen) (ap term_of (got_taken (drop (prev - 1) log) i 65 near ∙ got_dropped log (prev - 1) i ∙ ap (slice_get log) at))
+    ]

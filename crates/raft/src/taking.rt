@@ -32,6 +32,7 @@ impl Core {
         ensures cause { IfErr result (IsCauseOr (S.is_honest shelf.new) (S.failed shelf.old) (S.failed shelf.new)) }
         ensures asks { S.asks shelf.new ≤ S.asks shelf.old + 65 * brought work.now }
         ensures local { brought work.now ≡ 0 → IsOk result }
+        ensures none { IfOk result (λ window. brought work.now ≡ 0 → window.items ≡ []) }
     {
         let Work::Delivered { message, .. } = work else {
             return Ok(Vec::new(self.alloc));
@@ -39,7 +40,8 @@ impl Core {
         let Body::Append { prev_index, .. } = &message.body else {
             return Ok(Vec::new(self.alloc));
         };
-        self.window(shelf, (*prev_index).saturating_sub(1), CARRIED_MOST + 1)
+        let window = self.window(shelf, (*prev_index).saturating_sub(1), CARRIED_MOST + 1)?;
+        Ok(window)
     }
 
     /// How much of the log this work leaves. The window shows what is to be seen of it.
@@ -62,7 +64,10 @@ impl Core {
             return length;
         };
         let entries = entries.as_slice();
-        if length < *prev_index || CARRIED_MOST < entries.len() {
+        if CARRIED_MOST < entries.len() {
+            return length;
+        }
+        if length < *prev_index {
             return length;
         }
         let index = self.agreed(window, *prev_index, entries);
@@ -142,7 +147,7 @@ impl Core {
     /// What is to be stored, after a step that left the log as it was: none where the hard state is as
     /// it was, too.
     fn change_of_hard_state(&self, before: HardState) -> Option<Change>
-        ensures { MatchOption result
+        ensures value { MatchOption result
             (hard_in self.now ≡ before)
             (λ c. (c.hard ≡ hard_in self.now) × (c.kept ≡ self.now.log.shelved + vec_len self.now.log.tail) × (c.entries.items ≡ [])
             × (hard_in self.now ≡ before → ⊥)) }

@@ -1,4 +1,4 @@
-use Rattle.std.proofs.Common.{◌≡◌, ◌-◌, ◌+◌, ◌≤◌, ◌<◌, true, List, nat_le, drop, arith, rules, sym, subst}
+use Rattle.std.proofs.Common.{◌≡◌, ◌-◌, ◌+◌, ◌<◌, true, List, nat_le, drop, arith, sym, subst}
 use Rattle.std.specs.Prelude.{vec_len}
 use Rattle.std.specs.List.{list_all}
 use Rattle.model.specs.declared.entry.Entry.{Entry}
@@ -12,7 +12,7 @@ go_on_with-requires g c =
     let new = c.in_ok-new.new in
     let part : new.items ≡ drop (c.args.index - c.args.prev) c.args.entries.items = c.in_ok-new.ensures.tail in
     let len : vec_len new + (c.args.index - c.args.prev) ≡ vec_len c.args.entries = c.in_ok-new.ensures.tail_len in
-    let terms : list_all (λ e. nat_le e.term TERM_LAST) new.items ≡ true = subst (λ (es : List Entry). list_all (λ e. nat_le e.term TERM_LAST) es ≡ true) (sym part) (all_rest (λ e. nat_le e.term TERM_LAST) (c.args.index - c.args.prev) c.args.entries.items r.terms) in
-    let lt : c.args.index < c.args.prev + vec_len c.args.entries = omega (arith, r.high, c.if-index-prev.false, c.len.ensures) in
-    let room = r.room lt in
-    (r.reaches, (r.within, (omega (arith, len, lt, r.low), (omega (arith, len, room, r.low), terms))))
+    let terms : list_all (λ e. nat_le e.term TERM_LAST) new.items ≡ true = subst (λ (es : List Entry). list_all (λ e. nat_le e.term TERM_LAST) es ≡ true) (sym part) (all_rest (λ e. nat_le e.term TERM_LAST) (c.args.index - c.args.prev) c.args.entries.items r.1.1.1.1.1.1) in
+    let lt : c.args.index < c.args.prev + vec_len c.args.entries = omega (arith, r.1.1.0, c.if-index-prev.false, c.len.ensures) in
+    let room = r.1.1.1.1.0 lt in
+    (r.0, (r.1.1.1.0, (omega (arith, len, lt, r.1.0), (omega (arith, len, room, r.1.0), terms))))

@@ -7,4 +7,4 @@ returns-clause-ok g c =
     let s = c.args.self.now.shelved in
     let tail = c.args.self.now.tail.items in
     let items : c.append.new.self.items ≡ take (c.args.kept - s) tail ++ c.args.entries.items = search rules in
-    rw (items, cut_high s c.args.kept g.stored tail c.if-kept-self.false c.requires.reaches) (sym (append_assoc (take s g.stored) (take (c.args.kept - s) tail) c.args.entries.items))
+    rw (items, cut_high s c.args.kept g.stored tail c.if-kept-self.false c.requires.0) (sym (append_assoc (take s g.stored) (take (c.args.kept - s) tail) c.args.entries.items))

@@ -1,6 +1,6 @@
-use Rattle.std.proofs.Common.{◌≡◌, ◌∙◌, ◌≤◌, max, length, sym, ap, arith}
+use Rattle.std.proofs.Common.{◌∙◌, ◌≤◌, max, length, sym, ap, arith}
 use Rattle.raft.specs.View.{log_of, node_of}
-use Rattle.raft.proofs.Greatest.{commits_held, commits_low, commits_none}
+use Rattle.raft.proofs.Greatest.{commits_low, commits_none}
 use Rattle.raft.proofs.Windows.{length_of}
 use Rattle.raft.proofs.state.Core.commits.Goals as goal
 
