@@ -1,6 +1,6 @@
 use Rattle.std.proofs.Common.{◌≡◌, ◌∙◌, length, sym, arith}
 use Rattle.raft.specs.View.{log_of}
-use Rattle.raft.proofs.Taking.{carried, shown, leaves, kept_past, kept_whole, kept_cut}
+use Rattle.raft.proofs.Worked.{carried, shown, leaves, kept_past, kept_whole, kept_cut}
 use Rattle.raft.proofs.Windows.{length_of}
 use Rattle.raft.proofs.state.Core.kept_of.Goals as goal
 

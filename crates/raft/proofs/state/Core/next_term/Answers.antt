@@ -1,6 +1,6 @@
 use Rattle.std.proofs.Common.{◌≡◌, ◌∙◌, length, sym, arith}
 use Rattle.raft.specs.View.{log_of}
-use Rattle.raft.proofs.Taking.{carried, shown, leaves}
+use Rattle.raft.proofs.Worked.{carried, shown, leaves}
 use Rattle.raft.proofs.Windows.{length_of, next_seen}
 use Rattle.raft.proofs.state.Core.next_term.Goals as goal
 
@@ -12,5 +12,5 @@ returns g c = λ few looks is.
     let seen = shown c.args.work.now c.in-Delivered.reading c.in-Delivered.message a.prev_index a.prev_term a.entries a.commit log c.args.window.now c.in-Delivered.is a.is looks in
     let under = is ∙ leaves c.args.work.now c.in-Delivered.reading c.in-Delivered.message a.prev_index a.prev_term a.entries a.commit log c.in-Delivered.is a.is in
     let less = carried c.args.work.now c.in-Delivered.reading c.in-Delivered.message a.prev_index a.prev_term a.entries a.commit c.in-Delivered.is a.is few in
-    let at = next_seen log c.args.window.now a.entries a.prev_index c.args.kept seen less under (λ same. c.if-kept-self.false (same ∙ len ∙ sym c.length.ensures)) in
+    let at = next_seen log c.args.window.now a.entries a.prev_index c.args.kept seen less under (λ same. c.if-kept-length.false (same ∙ len ∙ sym c.length.ensures)) in
     ?

@@ -5,15 +5,15 @@ use Rattle.keep.specs.Durable.{Durable}
 use Rattle.raft.specs.View.{after_of, log_of, node_of, sends, Reaches}
 use Rattle.raft.proofs.Windows.{length_of}
 use Rattle.raft.proofs.Changes.{turns, since_fits}
-use Rattle.raft.proofs.Taking.{looking, moved, mid_forms, new_log, moves_carried, spared}
+use Rattle.raft.proofs.Worked.{looking, moved, mid_forms, new_log, moves_carried, spared}
 use Rattle.raft.proofs.state.Core.take_work.Goals as goal
 
 pub send-requires-clause-rises : goal.send-requires-clause-rises
 send-requires-clause-rises g c = λ honest.
     let first = c.in_ok-window.ensures in
     let start = first.shelf.honest honest in
-    let same = c.requires.1.1.0 start in
-    let log = c.requires.1.1.1.0 start in
+    let same = c.requires.1.1.1.0 start in
+    let log = c.requires.1.1.1.1.0 start in
     let old = c.args.self.now in
     let mid = c.on_work.new.self in
     let e = moved old mid g.stored (g.S.Shelf.stored c.args.shelf.now).log c.args.work c.in_ok-window.window.items c.deref-2.result.now c.in_ok-refusal.field-0 c.in-Done.sending same c.deref-2.ensures.value (first.ok honest) (first.part honest) log c.in_ok-refusal.ensures.done c.in-Done.is in
@@ -35,8 +35,8 @@ returns-clause-fits g c = λ honest.
     let first = c.in_ok-window.ensures in
     let near = sent.shelf.honest honest in
     let start = first.shelf.honest near in
-    let same = c.requires.1.1.0 start in
-    let log = c.requires.1.1.1.0 start in
+    let same = c.requires.1.1.1.0 start in
+    let log = c.requires.1.1.1.1.0 start in
     let old = c.args.self.now in
     let mid = c.on_work.new.self in
     let new = c.send.new.self in
@@ -48,9 +48,9 @@ returns-clause-fits g c = λ honest.
     let after : after_of new g.stored c.in_ok-messages.messages.items ≡ sends mid.members mid.me c.in-Done.sending (node_of mid g.stored) =
     subst (λ (l : List Entry). after_of new l c.in_ok-messages.messages.items ≡ sends mid.members mid.me c.in-Done.sending (node_of mid l)) there (sent.ok honest) in
     let turned = turns old.schema old.members old.me mark.kept c.args.work (node_of old g.stored) (after_of new g.stored c.in_ok-messages.messages.items) (ap Moves after ∙ e) (c.mark-mark.ensures.kept few looks) in
-    let len : mark.length ≡ length (log_of old g.stored) = c.mark-mark.ensures.length ∙ sym (length_of old g.stored c.requires.1.0) in
+    let len : mark.length ≡ length (log_of old g.stored) = c.mark-mark.ensures.length ∙ sym (length_of old g.stored c.requires.1.1.0) in
     let lower : new.log.shelved ≤ old.log.shelved = omega (arith, ap (λ l. l.shelved) sent.log, c.in_ok-refusal.ensures.lower) in
-    (since_fits old new g.stored mark c.in_ok-change.change c.requires.1.0 lower c.mark-mark.ensures.hard len c.mark-mark.ensures.within (c.mark-mark.ensures.next few looks) turned c.in_ok-change.ensures.fits, refl)
+    (since_fits old new g.stored mark c.in_ok-change.change c.requires.1.1.0 lower c.mark-mark.ensures.hard len c.mark-mark.ensures.within (c.mark-mark.ensures.next few looks) turned c.in_ok-change.ensures.fits, refl)
 
 pub returns-clause-forms : goal.returns-clause-forms
 returns-clause-forms g c = λ honest.
@@ -58,13 +58,13 @@ returns-clause-forms g c = λ honest.
     let first = c.in_ok-window.ensures in
     let near = sent.shelf.honest honest in
     let start = first.shelf.honest near in
-    let same = c.requires.1.1.0 start in
-    let log = c.requires.1.1.1.0 start in
+    let same = c.requires.1.1.1.0 start in
+    let log = c.requires.1.1.1.1.0 start in
     let old = c.args.self.now in
     let mid = c.on_work.new.self in
     let new = c.send.new.self in
     let e = moved old mid g.stored (g.S.Shelf.stored c.args.shelf.now).log c.args.work c.in_ok-window.window.items c.deref-2.result.now c.in_ok-refusal.field-0 c.in-Done.sending same c.deref-2.ensures.value (first.ok near) (first.part near) log c.in_ok-refusal.ensures.done c.in-Done.is in
     let f = mid_forms old mid g.stored c.args.work c.in-Done.sending e c.has_ranges_in.ensures log in
     let lower : new.log.shelved ≤ old.log.shelved = omega (arith, ap (λ l. l.shelved) sent.log, c.in_ok-refusal.ensures.lower) in
-    let reach : Reaches new g.stored = omega (arith, lower, c.requires.1.0) in
+    let reach : Reaches new g.stored = omega (arith, lower, c.requires.1.1.0) in
     new_log old mid new g.stored (sent.seat.schema ∙ c.in_ok-refusal.ensures.seat.schema) sent.log sent.hard.0 reach f

@@ -1,5 +1,5 @@
 -- What a whole step makes of a member.
-use Rattle.std.proofs.Common.{◌≡◌, ◌⊎◌, ◌∙◌, ℕ, ℤ, ◌+◌, ◌-◌, ◌≤◌, ◌<◌, min, Bool, true, false, cond, ◌==◌, nat_lt, nat_le, ◌&&◌, not, None, List, [], ◌∷◌, ◌++◌, take, drop, length, tt, refl, sym, ap, subst, arith, inl, inr}
+use Rattle.std.proofs.Common.{◌≡◌, ◌⊎◌, ◌∙◌, ℕ, ℤ, ◌+◌, ◌-◌, ◌≤◌, ◌<◌, min, Bool, true, false, cond, ◌==◌, nat_lt, nat_le, ◌&&◌, not, None, List, [], ◌∷◌, ◌++◌, take, drop, length, refl, sym, ap, subst, arith, inl, inr}
 use Rattle.std.specs.List.{list_all}
 use Rattle.std.proofs.lemmas.Bool.Decides.{eqb_tells}
 use Rattle.std.proofs.lemmas.Bool.{leb-true}
@@ -13,7 +13,7 @@ use Rattle.model.specs.declared.message.Message.{Message}
 use Rattle.model.specs.declared.message.Input.TheVariants.{Timeout, Beat, Close, Submit}
 use Rattle.model.specs.Members.{Node, agreed}
 use Rattle.model.specs.Steps.{After, Effect, Moves, Nothing, entries_of, go_on, is_honest, on_body, spells, hears}
-use Rattle.model.specs.Kept.{kept_under}
+use Rattle.model.specs.Kept.{kept_at, kept_under}
 use Rattle.raft.specs.declared.short_log.ShortLog.{ShortLog}
 use Rattle.raft.specs.declared.state.Core.{Core}
 use Rattle.raft.specs.declared.state.Sending.{Sending}
@@ -38,7 +38,7 @@ pub shown : (work : Work) (r : ℤ) (m : Message) (prev t : ℕ) (es : List Entr
 shown work r m prev t es c log window is in_body h = subst (λ b. LooksAt (Delivered r (record m { body = b })) log window) in_body (subst (λ w. LooksAt w log window) is h)
 
 pub leaves : (work : Work) (r : ℤ) (m : Message) (prev t : ℕ) (es : List Entry) (c : ℕ) (log : List Entry) → work ≡ Delivered r m → m.body ≡ body.Append prev t es c → kept_of work log ≡ kept_under prev es log
-leaves work r m prev t es c log is in_body = subst (λ b. kept_of (Delivered r (record m { body = b })) log ≡ kept_of (Delivered r (record m { body = b })) log) in_body refl
+leaves work r m prev t es c log is in_body = ap (λ w. kept_of w log) is ∙ ap (λ b. kept_at b log) in_body
 
 -- ---- how much an Append leaves
 
