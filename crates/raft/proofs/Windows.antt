@@ -133,7 +133,7 @@ continues_seen log window es prev t seen few =
 
 -- ---- a log that is cut
 
-taken_past : {A : Type 0} (xs ys : List A) (k n : ℕ) → length xs ≡ n → n ≤ k → take k (xs ++ ys) ≡ xs ++ take (k - n) ys
+pub taken_past : {A : Type 0} (xs ys : List A) (k n : ℕ) → length xs ≡ n → n ≤ k → take k (xs ++ ys) ≡ xs ++ take (k - n) ys
 taken_past [] ys k zero e le = let none : k - 0 ≡ k = omega arith in rw none refl
 taken_past [] ys k (suc n) e le = absurd (omega (arith, e))
 taken_past (x ∷ xs) ys zero n e le = absurd (omega (arith, e, le))

@@ -1,6 +1,6 @@
 use Rattle.std.proofs.Common.{◌≡◌, ◌∙◌, ◌≤◌, None, List, true, length, refl, sym, ap, subst, arith}
 use Rattle.model.specs.declared.entry.Entry.{Entry}
-use Rattle.model.specs.Steps.{After, Moves, go_on}
+use Rattle.model.specs.Steps.{Moves, go_on}
 use Rattle.keep.specs.Durable.{Durable}
 use Rattle.raft.specs.View.{after_of, log_of, node_of, sends, Reaches}
 use Rattle.raft.proofs.Windows.{length_of}
