@@ -6,7 +6,6 @@ use Rattle.std.proofs.lemmas.List.{take-append-drop, length-take}
 use Rattle.sqlchecks.specs.Columns.{Tables}
 use Rattle.sqlread.specs.Meaning.{schema_of}
 use Rattle.model.specs.declared.entry.Entry.{Entry}
-use Rattle.model.specs.Lists.{nth}
 use Rattle.model.specs.Members.{Node, term_at, term_of}
 use Rattle.model.specs.Steps.{After, Effect, Moves}
 use Rattle.raft.proofs.Lists.{ltb_tells}
@@ -18,7 +17,7 @@ use Rattle.raft.specs.declared.state.Core.{Core}
 use Rattle.raft.specs.declared.state.Mark.{Mark}
 use Rattle.raft.specs.declared.state.Work.{Work}
 use Rattle.raft.specs.declared.state.Work.TheVariants.{Local, Delivered}
-use Rattle.raft.specs.View.{hard_in, hard_of, log_of, node_of, IsChange, IsStoredAlready, ChangeFits, IsAsBefore, IsOther, IsSince, Reaches, works, kept_of}
+use Rattle.raft.specs.View.{hard_in, hard_of, log_of, node_of, IsChange, ChangeFits, IsSince, Reaches, works, kept_of}
 
 work_keeps : (schema : Tables) (n me : ℕ) (work : Work) (x : Node) → Leaves (kept_of work x.log) x (works schema n me work x)
 work_keeps schema n me (Local input) x = hand_keeps (schema_of schema) n me input x

@@ -1,5 +1,5 @@
 -- A list that is made long enough.
-use Rattle.std.proofs.Common.{◌≡◌, ◌∙◌, ℕ, ◌-◌, ◌≤◌, None, List, [], ◌++◌, length, replicate, ap, arith, append-nil}
+use Rattle.std.proofs.Common.{◌≡◌, ℕ, ◌-◌, ◌≤◌, None, List, ◌++◌, length, replicate, arith, append-nil}
 use Rattle.std.proofs.Common.{length-append}
 use Rattle.std.proofs.lemmas.List.{length-replicate}
 use Rattle.model.specs.declared.entry.Entry.{Entry}

@@ -1,8 +1,8 @@
 -- What forms the log of a member still does after a step.
-use Rattle.std.proofs.Common.{◌≡◌, ◌∙◌, ℕ, ℤ, pos, negsuc, suc, ◌+◌, ◌-◌, ◌≤◌, ◌<◌, max, min, Bool, true, false, not, cond, ◌==◌, nat_lt, nat_le, ◌&&◌, ◌||◌, Option, Some, None, Result, Ok, Err, List, [], ◌∷◌, ◌++◌, drop, length, is_ok, refl, sym, ap, subst, arith, inl, inr}
+use Rattle.std.proofs.Common.{◌≡◌, ℕ, ℤ, pos, negsuc, ◌+◌, ◌≤◌, Bool, true, false, not, cond, ◌==◌, nat_lt, nat_le, ◌&&◌, ◌||◌, Option, Some, None, Result, Ok, Err, List, [], ◌∷◌, length, is_ok, refl, sym, arith, inl, inr}
 use Rattle.std.specs.List.{list_all}
-use Rattle.std.proofs.lemmas.Bool.Decides.{eqb_tells, leb_tells}
-use Rattle.std.proofs.lemmas.Bool.{leb-true, le-leb}
+use Rattle.std.proofs.lemmas.Bool.Decides.{leb_tells}
+use Rattle.std.proofs.lemmas.Bool.{le-leb}
 use Rattle.fault.specs.declared.refusal.Refusal.{Refusal}
 use Rattle.model.specs.declared.entry.Entry.{Entry}
 use Rattle.model.specs.declared.entry.Request.{Request}
@@ -13,9 +13,8 @@ use Rattle.model.specs.declared.message.Input.{Input}
 use Rattle.model.specs.declared.message.Input.TheVariants.{Timeout, Beat, Close, Submit}
 use Rattle.model.specs.Stamps.{TIME_LAST, stamp}
 use Rattle.model.specs.Logs.{least_stamp}
-use Rattle.model.specs.Lists.{nth}
 use Rattle.model.specs.Transactions.{Schema, Statement}
-use Rattle.model.specs.Members.{Node, agreed, is_leader, is_candidate, is_majority, is_in, stands}
+use Rattle.model.specs.Members.{Node, is_leader, is_candidate, is_majority, is_in, stands}
 use Rattle.model.specs.Steps.{After, Effect, Moves, Refuses, Nothing, TERM_LAST, LOG_LIMIT, accepted, time_out, append_own, on_input, is_time_full, is_log_full, extended, opened, crowned, counted, hears, in_term, grants, on_request_vote, on_vote, continues, cuts_below, go_on, spells, entries_of, on_append, on_reply, on_reply_yes, on_reply_no, on_body, is_honest, on_message}
 use Rattle.model.specs.Worlds.{hand, unless_misread}
 use Rattle.model.specs.Kept.{node_after}

@@ -1,9 +1,8 @@
 -- What is committed stays as it is.
-use Rattle.std.proofs.Common.{◌≡◌, ◌∙◌, ℕ, ℤ, zero, suc, ◌+◌, ◌-◌, ◌≤◌, ◌<◌, Bool, true, false, not, cond, ◌==◌, nat_lt, nat_le, ◌&&◌, ◌||◌, Option, Some, None, Result, Ok, Err, List, [], ◌∷◌, take, drop, length, slice_get, refl, sym, subst, arith, inl, inr}
+use Rattle.std.proofs.Common.{◌≡◌, ◌∙◌, ℕ, ℤ, ◌+◌, ◌-◌, ◌≤◌, ◌<◌, Bool, true, false, not, cond, ◌==◌, nat_lt, nat_le, ◌&&◌, ◌||◌, Option, Some, None, Result, Ok, Err, List, [], ◌∷◌, take, drop, length, refl, sym, subst, arith, inl, inr}
 use Rattle.std.proofs.Common.{length-append}
-use Rattle.std.proofs.lemmas.List.{take-append-le, take-append-drop, take-take, length-take, length-drop}
+use Rattle.std.proofs.lemmas.List.{take-append-le, take-take, length-take, length-drop}
 use Rattle.std.proofs.lemmas.Bool.Decides.{eqb_tells}
-use Rattle.std.proofs.lemmas.Option.{slice_get_past}
 use Rattle.fault.specs.declared.refusal.Refusal.{Refusal}
 use Rattle.model.specs.declared.entry.Entry.{Entry}
 use Rattle.model.specs.declared.entry.Request.{Request}
@@ -15,7 +14,7 @@ use Rattle.model.specs.declared.message.Input.TheVariants.{Timeout, Beat, Close,
 use Rattle.model.specs.Stamps.{stamp}
 use Rattle.model.specs.Logs.{least_stamp}
 use Rattle.model.specs.Transactions.{Schema, Statement}
-use Rattle.model.specs.Members.{Node, agreed, has_term, is_leader, is_candidate, is_majority, is_in, stands}
+use Rattle.model.specs.Members.{Node, agreed, is_leader, is_candidate, is_majority, is_in, stands}
 use Rattle.model.specs.Steps.{After, Effect, Moves, Refuses, Nothing, TERM_LAST, LOG_LIMIT, accepted, time_out, append_own, on_input, is_time_full, is_log_full, extended, opened, crowned, counted, hears, in_term, grants, on_request_vote, on_vote, continues, cuts_below, on_append, on_reply, on_reply_yes, on_reply_no, on_body, is_honest, on_message}
 use Rattle.model.specs.Worlds.{hand, unless_misread}
 use Rattle.model.specs.Kept.{node_after}
@@ -27,7 +26,7 @@ use Rattle.raft.specs.declared.state.Work.TheVariants.{Local, Delivered}
 use Rattle.raft.specs.declared.state.Effect.{Effect as Given}
 use Rattle.raft.specs.declared.state.Effect.TheVariants.{Refused, Ignored, Done}
 use Rattle.raft.specs.declared.state.Taken.{Taken}
-use Rattle.raft.specs.View.{log_of, node_of, works, effect_of, EffectFits, Grows}
+use Rattle.raft.specs.View.{node_of, works, effect_of, EffectFits, Grows}
 use Rattle.raft.proofs.Lists.{Between, agreed_between, ltb_tells, is_so, stands_within}
 
 -- ---- tests
@@ -218,9 +217,9 @@ same_grows x y e = let P : Node → Type 0 = Grows x in subst P (sym e) (record 
 moved : (x : Node) (a : After) → Stays x (Moves a) → Grows x a.node
 moved x a h = record { commit = h.commit; log = h.log }
 
-pub step_grows : (old new : Core) (stored : List Entry) (e : Given Taken) (work : Work) → old.commit ≤ length (log_of old stored) → effect_of new stored e ≡ works old.schema old.members old.me work (node_of old stored) → EffectFits old new stored e → Grows (node_of old stored) (node_of new stored)
-step_grows old new stored (Refused refusal) work h done fits = same_grows (node_of old stored) (node_of new stored) fits
-step_grows old new stored Ignored work h done fits = same_grows (node_of old stored) (node_of new stored) fits
-step_grows old new stored (Done t) work h done fits =
-    let P : Effect → Type 0 = Stays (node_of old stored) in
-    moved (node_of old stored) _ (subst P (sym done) (work_stays old.schema old.members old.me work (node_of old stored) h))
+pub step_grows : (schema : Tables) (n me : ℕ) (x : Node) (new : Core) (stored : List Entry) (e : Given Taken) (work : Work) → x.commit ≤ length x.log → effect_of new stored e ≡ works schema n me work x → EffectFits x (node_of new stored) e → Grows x (node_of new stored)
+step_grows schema n me x new stored (Refused refusal) work h done fits = same_grows x (node_of new stored) fits
+step_grows schema n me x new stored Ignored work h done fits = same_grows x (node_of new stored) fits
+step_grows schema n me x new stored (Done t) work h done fits =
+    let P : Effect → Type 0 = Stays x in
+    moved x _ (subst P (sym done) (work_stays schema n me work x h))

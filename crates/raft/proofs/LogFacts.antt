@@ -1,5 +1,5 @@
 -- What forms a log, as entries come to it.
-use Rattle.std.proofs.Common.{◌≡◌, ◌⊎◌, ◌∙◌, ℕ, ℤ, pos, negsuc, zero, suc, ◌+◌, ◌-◌, ◌≤◌, ◌<◌, max, Bool, true, false, cond, ◌==◌, nat_lt, nat_le, ◌&&◌, Option, Some, None, option_map, List, [], ◌∷◌, ◌++◌, take, drop, length, slice_get, get_or, bytes_eq, refl, sym, ap, subst, arith, inl, inr}
+use Rattle.std.proofs.Common.{◌≡◌, ◌∙◌, ℕ, ℤ, pos, negsuc, zero, suc, ◌+◌, ◌-◌, ◌≤◌, ◌<◌, max, Bool, true, false, cond, nat_lt, nat_le, ◌&&◌, Option, Some, None, option_map, List, [], ◌∷◌, ◌++◌, take, drop, length, slice_get, get_or, bytes_eq, refl, sym, ap, subst, arith, inl, inr}
 use Rattle.std.proofs.Math.Seq.{take-length}
 use Rattle.std.proofs.lemmas.List.{take-append-drop}
 use Rattle.std.proofs.lemmas.List.Folds.{list_all-append}
@@ -8,7 +8,6 @@ use Rattle.std.proofs.lemmas.Bool.{leb-true, le-leb}
 use Rattle.std.proofs.lemmas.Slice.Eq.{bytes_eq-Decides}
 use Rattle.std.specs.List.{list_all}
 use Rattle.model.specs.declared.entry.Entry.{Entry}
-use Rattle.model.specs.declared.entry.Request.{Request}
 use Rattle.model.specs.Lists.{nth}
 use Rattle.model.specs.Logs.{least_stamp}
 use Rattle.model.specs.Stamps.{TIME_LAST, above, stamp}

@@ -1,19 +1,17 @@
 -- A log of which the end is here and the rest on a shelf.
-use Rattle.std.proofs.Common.{◌≡◌, ◌⊎◌, ◌∙◌, ℕ, zero, suc, ◌+◌, ◌-◌, ◌≤◌, ◌<◌, min, Bool, true, false, cond, ◌==◌, nat_lt, nat_le, ◌&&◌, Option, Some, None, option_map, List, [], ◌∷◌, ◌++◌, take, drop, length, slice_get, refl, sym, ap, subst, arith, inl, inr, rules}
+use Rattle.std.proofs.Common.{◌≡◌, ◌∙◌, ℕ, zero, suc, ◌+◌, ◌-◌, ◌≤◌, ◌<◌, min, true, false, cond, Option, Some, None, option_map, List, [], ◌∷◌, ◌++◌, take, drop, length, slice_get, refl, sym, ap, subst, arith, inl, inr, rules}
 use Rattle.std.proofs.Common.{length-append, append_assoc}
-use Rattle.std.proofs.lemmas.List.{length-take, length-drop, take-append-le, take-take, take_all, drop_all}
+use Rattle.std.proofs.lemmas.List.{length-take, length-drop, take-append-le, take-take, take_all}
 use Rattle.std.proofs.lemmas.Bool.Decides.{eqb_tells, leb_tells}
 use Rattle.std.specs.Prelude.{vec_len}
-use Rattle.std.specs.declared.vec.Vec.{Vec}
-use Rattle.std.specs.declared.alloc.Global.{Global}
 use Rattle.model.specs.declared.entry.Entry.{Entry}
 use Rattle.model.specs.Lists.{nth}
-use Rattle.model.specs.Logs.{closed, last_entry, least_stamp}
+use Rattle.model.specs.Logs.{last_entry, least_stamp}
 use Rattle.model.specs.Members.{agreed, has_term, last_term, stands, term_at, term_of}
 use Rattle.model.specs.Stamps.{above}
 use Rattle.model.specs.Steps.{continues}
 use Rattle.model.specs.Kept.{kept_under}
-use Rattle.raft.proofs.Lists.{Reach, agreed_reach, drop_min}
+use Rattle.raft.proofs.Lists.{agreed_reach, drop_min}
 use Rattle.raft.specs.declared.state.Core.{Core}
 use Rattle.raft.specs.View.{log_of, Reaches}
 

@@ -1,5 +1,5 @@
 -- What a whole step makes of a member.
-use Rattle.std.proofs.Common.{◌≡◌, ◌⊎◌, ◌∙◌, ℕ, ℤ, ◌+◌, ◌-◌, ◌≤◌, ◌<◌, min, Bool, true, false, cond, ◌==◌, nat_lt, nat_le, ◌&&◌, not, None, List, [], ◌∷◌, ◌++◌, take, drop, length, refl, sym, ap, subst, arith, inl, inr}
+use Rattle.std.proofs.Common.{◌≡◌, ◌∙◌, ℕ, ℤ, ◌+◌, ◌-◌, ◌≤◌, ◌<◌, min, Bool, true, false, cond, nat_le, None, List, [], ◌++◌, take, drop, length, refl, sym, ap, subst, arith, inl, inr}
 use Rattle.std.specs.List.{list_all}
 use Rattle.std.proofs.lemmas.Bool.Decides.{eqb_tells}
 use Rattle.std.proofs.lemmas.Bool.{leb-true}
@@ -7,7 +7,6 @@ use Rattle.sqlchecks.specs.Columns.{Tables}
 use Rattle.sqlread.specs.Meaning.{schema_of}
 use Rattle.keep.specs.Log.{IsLog, is_entry}
 use Rattle.model.specs.declared.entry.Entry.{Entry}
-use Rattle.model.specs.declared.message.Body.{Body}
 use Rattle.model.specs.declared.message.Body.TheVariants as body
 use Rattle.model.specs.declared.message.Message.{Message}
 use Rattle.model.specs.declared.message.Input.TheVariants.{Timeout, Beat, Close, Submit}
@@ -19,7 +18,7 @@ use Rattle.raft.specs.declared.state.Core.{Core}
 use Rattle.raft.specs.declared.state.Sending.{Sending}
 use Rattle.raft.specs.declared.state.Sending.TheVariants as sending
 use Rattle.raft.specs.declared.state.Effect.{Effect as Given}
-use Rattle.raft.specs.declared.state.Effect.TheVariants.{Refused, Ignored, Done}
+use Rattle.raft.specs.declared.state.Effect.TheVariants.{Done}
 use Rattle.raft.specs.declared.state.Work.{Work}
 use Rattle.raft.specs.declared.state.Work.TheVariants.{Local, Delivered}
 use Rattle.raft.specs.Memory.{is_idle, spares_memory}

@@ -187,11 +187,11 @@ pub record IsChange (x y : Node) (c : Change) : Type 0 where
 abbrev pub ChangeFits : Node → Node → Option Change → Type 0
 ChangeFits x y change = MatchOption change (IsStoredAlready x y) (λ c. IsChange x y c)
 
--- what an effect tells of the step from old to new
-abbrev pub EffectFits : Core → Core → List Entry → Given Taken → Type 0
-EffectFits old new stored (Refused refusal) = node_of new stored ≡ node_of old stored
-EffectFits old new stored Ignored = node_of new stored ≡ node_of old stored
-EffectFits old new stored (Done t) = ChangeFits (node_of old stored) (node_of new stored) t.change × (t.committed_before ≡ old.commit)
+-- what an effect tells of the step from x to y
+abbrev pub EffectFits : Node → Node → Given Taken → Type 0
+EffectFits x y (Refused refusal) = y ≡ x
+EffectFits x y Ignored = y ≡ x
+EffectFits x y (Done t) = ChangeFits x y t.change × (t.committed_before ≡ x.commit)
 
 -- once the change is stored, that is the log of such a member, and what the core has
 pub record IsStorable (new : Core) (change : Option Change) (d : Durable) : Type 0 where

@@ -194,7 +194,7 @@ impl Core {
         requires forms { S.is_honest shelf.old → IsLog self.old.members (schema_of self.old.schema) (record { hard = hard_in self.old; log = log_of self.old stored }) }
         requires room { vec_len self.old.log.tail ≤ 960 }
         ensures done { IfOk result (λ e. S.is_honest shelf.new → effect_of self.new stored e ≡ works self.old.schema self.old.members self.old.me work (node_of self.old stored)) }
-        ensures fits { IfOk result (λ e. S.is_honest shelf.new → EffectFits self.old self.new stored e) }
+        ensures fits { IfOk result (λ e. S.is_honest shelf.new → EffectFits (node_of self.old stored) (node_of self.new stored) e) }
         ensures forms { IfOk result (λ e. S.is_honest shelf.new → IsLog self.new.members (schema_of self.new.schema) (record { hard = hard_in self.new; log = log_of self.new stored })) }
         ensures spares { spares_memory self.old.members self.old.me work (node_of self.old stored) ≡ true → IsOk result }
         ensures small { IfOk result IsSmallEffect }
@@ -241,7 +241,7 @@ impl Core {
         requires stored { S.is_honest shelf.old → IsInStep self.old (S.stored shelf.old) }
         requires serves { S.serves shelf.old self.old.members (schema_of self.old.schema) }
         ensures done { IfOk result (λ e. S.is_honest shelf.new → effect_of self.new (S.stored shelf.old).log e ≡ works self.old.schema self.old.members self.old.me work (node_of self.old (S.stored shelf.old).log)) }
-        ensures fits { IfOk result (λ e. S.is_honest shelf.new → EffectFits self.old self.new (S.stored shelf.old).log e) }
+        ensures fits { IfOk result (λ e. S.is_honest shelf.new → EffectFits (node_of self.old (S.stored shelf.old).log) (node_of self.new (S.stored shelf.old).log) e) }
         ensures forms { IfOk result (λ e. S.is_honest shelf.new → EffectForms self.new (S.stored shelf.old) e) }
         ensures grows { OnOk result (S.is_honest shelf.new → Grows (node_of self.old (S.stored shelf.old).log) (node_of self.new (S.stored shelf.old).log)) }
         ensures spares { self.old.is_spent ≡ false → S.is_honest shelf.old → spares_memory self.old.members self.old.me work (node_of self.old (S.stored shelf.old).log) ≡ true → IsOk result }
