@@ -19,17 +19,11 @@ more : (f : ℕ → Option Told) (a k j : ℕ) → a + k ≡ j → filter_map f 
 more f a zero j e = let same : a ≡ j = omega (arith, e) in ap (λ n. cons_option (f n) []) same
 more f a (suc k) j e = ap (cons_option (f a)) (more f (a + 1) k j (omega (arith, e))) ∙ onto (f a) (filter_map f (range_with_len (a + 1) k)) (cons_option (f j) [])
 
-between : (schema : Schema) (log : List Entry) (before i : ℕ) → before ≤ i → told_between schema log before (i + 1) ≡ told_between schema log before i ++ cons_option (told_at schema log (i + 1)) []
+pub between : (schema : Schema) (log : List Entry) (before i : ℕ) → before ≤ i → told_between schema log before (i + 1) ≡ told_between schema log before i ++ cons_option (told_at schema log (i + 1)) []
 unfolding told_between
 between schema log before i h =
     let e : (i + 1) - before ≡ suc (i - before) = omega (arith, h) in
     rw e (more (told_at schema log) (before + 1) (i - before) (i + 1) (omega (arith, h)))
-
-pub told_more : (schema : Schema) (log : List Entry) (before i : ℕ) (t : Told) → before ≤ i → told_at schema log (i + 1) ≡ Some t → told_between schema log before (i + 1) ≡ told_between schema log before i ++ t ∷ []
-told_more schema log before i t h e = between schema log before i h ∙ ap (λ o. told_between schema log before i ++ cons_option o []) e
-
-pub told_same : (schema : Schema) (log : List Entry) (before i : ℕ) → before ≤ i → told_at schema log (i + 1) ≡ None → told_between schema log before (i + 1) ≡ told_between schema log before i
-told_same schema log before i h e = between schema log before i h ∙ ap (λ o. told_between schema log before i ++ cons_option o []) e ∙ append-nil (told_between schema log before i)
 
 -- no entry is between
 pub range_none : (log : List Entry) (before commit : ℕ) → commit ≤ before → slice_range log before commit ≡ []

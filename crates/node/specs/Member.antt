@@ -8,9 +8,9 @@ use Rattle.raft.specs.View.{node_of, works}
 use Rattle.node.specs.declared.node.Node.{Node}
 
 module _ {K I : Type 0} {g : _} {s : _} where
-  -- the member of the definitions that a node is
+  -- the member of the definitions that a node is: its core, with the log that core and keeper have together
   abbrev pub member_of : Node K I g s → model.Node
-  member_of x = node_of x.core
+  member_of x = node_of x.core (s.stored x.keeper).log
 
   -- its tables, as they were declared
   abbrev pub tables_of : Node K I g s → Tables

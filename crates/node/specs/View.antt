@@ -12,7 +12,8 @@ use Rattle.keep.specs.Durable.{Durable, after, IsBeforeOrAfter}
 use Rattle.keep.specs.declared.change.Change.{Change}
 use Rattle.keep.specs.declared.error.StoreError.{StoreError}
 use Rattle.keep.specs.declared.error.StoreError.TheVariants.{NoMemory, StoreFault}
-pub use Rattle.raft.specs.View.{hard_of, works, Grows}
+pub use Rattle.raft.specs.View.{after_change, hard_of, works, Grows}
+pub use Rattle.raft.specs.Reading.{IsCause, IsCauseOr}
 pub use Rattle.raft.specs.Memory.{spares_memory}
 pub use Rattle.apply.specs.View.{IsAskedOf}
 use Rattle.node.specs.declared.node.Out.{Out}
@@ -22,10 +23,6 @@ use Rattle.node.specs.declared.node.Fault.TheVariants.{Kept, Down}
 -- what of a member is stored
 abbrev pub durable_of : Node → Durable
 durable_of x = record { hard = hard_of x; log = x.log }
-
-abbrev pub after_change : Option Change → Durable → Durable
-after_change None d = d
-after_change (Some c) d = after c d
 
 -- it keeps no more than there is
 abbrev pub Fits : Option Change → Durable → Type 0
@@ -63,14 +60,15 @@ abbrev pub LeavesUp : Bool → Bool → Fault → Type 0
 LeavesUp up up' (Kept refusal) = up' ≡ up
 LeavesUp up up' (Down error) = up' ≡ false
 
--- the cause is want of memory, or that the store failed just now
-abbrev pub IsCause : ℕ → ℕ → StoreError → Type 0
-IsCause failed failed' error = (error ≡ NoMemory) ⊎ ((error ≡ StoreFault) × (failed < failed'))
-
 -- each fault that takes the node down has such a cause
 abbrev pub HasCause : ℕ → ℕ → Fault → Type 0
 HasCause failed failed' (Kept refusal) = Unit {0}
 HasCause failed failed' (Down error) = IsCause failed failed' error
+
+-- each fault that takes the node down has such a cause
+abbrev pub HasCauseOr : Type 0 → ℕ → ℕ → Fault → Type 0
+HasCauseOr honest failed failed' (Kept refusal) = Unit {0}
+HasCauseOr honest failed failed' (Down error) = IsCauseOr honest failed failed' error
 
 -- a refusal changes nothing
 abbrev pub IsSame : Node → Node → Fault → Type 0

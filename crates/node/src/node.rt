@@ -1,21 +1,23 @@
 //! A member over a keeper.
-ghost use Rattle.std.specs.Prelude.{◌≡◌, ◌≤◌, ◌⊎◌, true, false, take, slice_range, if◌then◌else◌, Some, None, IfOk, IfErr, OnOk, OnErr, MatchOption};
+ghost use Rattle.std.specs.Prelude.{◌≡◌, ◌≤◌, ◌+◌, ◌*◌, ◌⊎◌, true, false, length, take, slice_range, if◌then◌else◌, Some, None, Err, IfOk, IfErr, OnOk, OnErr, MatchOption};
 ghost use Rattle.std.specs.Coded.{→_prop};
 ghost use Rattle.keep.specs.Log.{IsSmall};
 ghost use Rattle.sqlread.specs.Meaning.{schema_of};
 ghost use Rattle.sqlread.specs.Shapes.{query_of};
 ghost use Rattle.answer.specs.Answers.{columns_in};
 ghost use Rattle.apply.specs.View.{AreTables, IsAskedOf};
-ghost use Rattle.node.specs.Once.{tables_prop};
+ghost use Rattle.node.specs.Once.{step_prop, tables_prop};
 ghost use Rattle.model.specs.Kept.{node_after};
 ghost use Rattle.model.specs.Members.{applied};
 ghost use Rattle.keep.specs.Durable.{Durable, IsBeforeOrAfter};
 ghost use Rattle.raft.specs.Memory.{spares_memory};
-ghost use Rattle.raft.specs.View.{hard_of, node_of, Grows};
-ghost use Rattle.node.specs.View.{durable_of, after_change, Fits, Gave, IsKept, IsSame, IsTorn, IsCause, HasCause, LeavesUp, started_from, told_between};
+ghost use Rattle.raft.specs.View.{brought, hard_of, node_of, Grows, IsInStep, after_change};
+ghost use Rattle.node.specs.View.{durable_of, Gave, IsKept, IsSame, IsTorn, IsCause, IsCauseOr, HasCauseOr, LeavesUp, started_from, told_between};
+ghost use Rattle.node.specs.Applying.{AreApplied, AreMade};
+ghost use Rattle.node.specs.Saving.{IsDue};
 
-use crate::reading::{Found, read_stored};
-use crate::telling::{entries_between, tell};
+use crate::reading::{all_entries, read_state};
+use crate::telling::{Applied, apply_after};
 use answer::Answer;
 use apply::Tables;
 use fault::Refusal;
@@ -29,7 +31,7 @@ use model::message::Message;
 use raft::state::{Core, Effect, Taken, Work};
 use schema::Schema;
 use sqlread::query::Query;
-use std::alloc::{AllocError, Global};
+use std::alloc::Global;
 use thiserror::Error;
 
 /// What a step gives, once what it changed is stored.
@@ -69,9 +71,10 @@ pub struct Node<K: Keeper> {
     pub is_up: bool,
     ghost fresh: { is_up ≡ true → core.is_spent ≡ false },
     ghost kept_up: { is_up ≡ true → K.is_up keeper ≡ true },
-    ghost synced: { is_up ≡ true → K.is_honest keeper → K.stored keeper ≡ durable_of (node_of core) },
+    ghost synced: { is_up ≡ true → K.is_honest keeper → IsInStep core (K.stored keeper) } by { →_prop (→_prop (step_prop _ _)) },
     ghost serves: { ∥ K.serves keeper core.members (schema_of core.schema) ∥₁ },
-    ghost current: { is_up ≡ true → AreTables core.schema (applied (node_of core)) tables } by { →_prop (tables_prop _ _ _) },
+    ghost made: { is_up ≡ true → AreMade core.schema tables },
+    ghost current: { is_up ≡ true → K.is_honest keeper → AreTables core.schema (applied (node_of core (K.stored keeper).log)) tables } by { →_prop (→_prop (tables_prop _ _ _)) },
 }
 
 /// Stores a change of a member, if there is one.
@@ -81,9 +84,8 @@ fn store<K: Keeper>(
     keeper: &mut K,
     change: &Option<Change>,
 ) -> Result<(), StoreError>
-    requires kept { K.is_honest keeper.old → K.is_up keeper.old ≡ true → Fits change.now (K.stored keeper.old) }
+    requires due { K.is_honest keeper.old → IsDue core.now change.now (K.stored keeper.old) }
     requires small { MatchOption change.now (Unit {0}) IsSmall }
-    requires new { K.is_honest keeper.old → K.is_up keeper.old ≡ true → after_change change.now (K.stored keeper.old) ≡ durable_of (node_of core.now) }
     requires serves { K.serves keeper.old core.now.members (schema_of core.now.schema) }
     requires up { K.is_up keeper.old ≡ true }
     ensures serves { K.serves keeper.new core.now.members (schema_of core.now.schema) }
@@ -92,6 +94,8 @@ fn store<K: Keeper>(
     ensures honest { K.is_honest keeper.new → K.is_honest keeper.old }
     ensures torn { OnErr result ((d : Durable) → K.may_hold keeper.new d → IsBeforeOrAfter (K.stored keeper.old) (after_change change.now (K.stored keeper.old)) d) }
     ensures cause { IfErr result (IsCause (K.failed keeper.old) (K.failed keeper.new)) }
+    ensures counts { K.failed keeper.old ≤ K.failed keeper.new }
+    ensures asks { K.asks keeper.new ≡ K.asks keeper.old }
 {
     match change {
         None => Ok(()),
@@ -108,23 +112,22 @@ fn finish<K: Keeper>(
     tables: &mut Tables,
     taken: Taken,
 ) -> Result<Out, StoreError>
-    requires current { AreTables core.now.schema (take taken.committed_before core.now.log.items) tables.old }
+    requires due { K.is_honest keeper.old → IsDue core.now taken.change (K.stored keeper.old) }
+    requires current { K.is_honest keeper.old → AreTables core.now.schema (take taken.committed_before (after_change taken.change (K.stored keeper.old)).log) tables.old }
     requires rises { taken.committed_before ≤ core.now.commit }
-    requires kept { K.is_honest keeper.old → K.is_up keeper.old ≡ true → Fits taken.change (K.stored keeper.old) }
     requires small { MatchOption taken.change (Unit {0}) IsSmall }
-    requires new { K.is_honest keeper.old → K.is_up keeper.old ≡ true → after_change taken.change (K.stored keeper.old) ≡ durable_of (node_of core.now) }
     requires serves { K.serves keeper.old core.now.members (schema_of core.now.schema) }
     requires up { K.is_up keeper.old ≡ true }
     ensures serves { K.serves keeper.new core.now.members (schema_of core.now.schema) }
     ensures messages { IfOk result (λ out. out.messages.items ≡ taken.messages.items) }
-    ensures applied { IfOk result (λ out. out.applied.items ≡ slice_range core.now.log.items taken.committed_before core.now.commit) }
-    ensures told { IfOk result (λ out. out.told.items ≡ told_between (schema_of core.now.schema) core.now.log.items taken.committed_before core.now.commit) }
-    ensures current { OnOk result (AreTables core.now.schema (applied (node_of core.now)) tables.new) }
+    ensures applied { IfOk result (λ out. K.is_honest keeper.new → AreApplied core.now.schema (after_change taken.change (K.stored keeper.old)).log taken.committed_before core.now.commit out.applied.items out.told.items tables.new) }
+    ensures made { OnOk result (AreMade core.now.schema tables.old → AreMade core.now.schema tables.new) }
     ensures ok { OnOk result (K.is_honest keeper.new → K.stored keeper.new ≡ after_change taken.change (K.stored keeper.old)) }
     ensures up { OnOk result (K.is_up keeper.new ≡ true) }
     ensures honest { K.is_honest keeper.new → K.is_honest keeper.old }
     ensures torn { OnErr result ((d : Durable) → K.may_hold keeper.new d → IsBeforeOrAfter (K.stored keeper.old) (after_change taken.change (K.stored keeper.old)) d) }
-    ensures cause { IfErr result (IsCause (K.failed keeper.old) (K.failed keeper.new)) }
+    ensures cause { IfErr result (IsCauseOr (K.is_honest keeper.new) (K.failed keeper.old) (K.failed keeper.new)) }
+    ensures asks { IfOk result (λ out. K.asks keeper.new ≤ K.asks keeper.old + length out.applied.items) }
 {
     let Taken {
         change,
@@ -132,18 +135,11 @@ fn finish<K: Keeper>(
         committed_before,
     } = taken;
     store(alloc, core, keeper, &change)?;
-    let told = tell(
-        alloc,
-        &core.schema,
-        tables,
-        &core.log,
-        committed_before,
-        core.commit,
-    )?;
-    let applied = entries_between(alloc, &core.log, committed_before, core.commit)?;
+    let applied = apply_after(alloc, core, keeper, tables, committed_before)?;
+    let Applied { entries, told } = applied;
     Ok(Out {
         messages,
-        applied,
+        applied: entries,
         told,
     })
 }
@@ -168,7 +164,7 @@ impl<K: Keeper> Node<K> {
         requires few { members ≤ 7 }
         requires member { (1 ≤ me) × (me ≤ members) }
         requires suits { K.suits image members (schema_of schema) }
-        ensures opened { IfOk result (λ n. member_of n ≡ started_from (durable_of (member_of n))) }
+        ensures opened { IfOk result (λ n. K.is_honest n.keeper → member_of n ≡ started_from (durable_of (member_of n))) }
         ensures found { IfOk result (λ n. K.is_honest n.keeper → K.holds image (durable_of (member_of n))) }
         ensures group { IfOk result (λ n. (n.is_up ≡ true) × (tables_of n ≡ schema) × (members_of n ≡ members) × (me_of n ≡ me)) }
         ensures back { IfErr result (λ e. (d : Durable) → K.holds e.1 d → K.holds image d) }
@@ -180,11 +176,11 @@ impl<K: Keeper> Node<K> {
             return Err((StoreError::NoMemory, image));
         };
         let mut keeper = K::open(alloc, image, members, &schema)?;
-        let Found { hard, log } = match read_stored(alloc, &mut keeper, members, &schema) {
-            Ok(found) => found,
+        let state = match read_state(alloc, &mut keeper, members) {
+            Ok(state) => state,
             Err(error) => return Err((error, keeper.close())),
         };
-        let core = Core::start(alloc, schema, members, me, hard, log);
+        let core = Core::start(alloc, schema, members, me, state);
         Ok(Node {
             alloc,
             core,
@@ -196,33 +192,35 @@ impl<K: Keeper> Node<K> {
 
     /// Takes one step: the core's, then one save if what is stored changes, then what became committed
     /// is applied to the tables and told. What it gives is empty where the message is one that no honest member can send, or
-    /// the input is one that its role has no use for: nothing changed then.
+    /// the input is one that its role has no use for: nothing changed then. An entry of the log that the core no longer has
+    /// comes from the keeper.
     ///
     /// `Fault::Kept` is a refusal that leaves the node as it was: `NodeDown` where it is down, and
     /// those of `Core::step`. `Fault::Down` takes the node down: `StoreFault` where the store fails,
     /// `NoMemory` where memory is refused. What is stored is then what was so before the step, or
     /// after it. A timeout, a beat or a close that is refused or ignored takes no memory, and never takes the node down.
-    #[tactic(auto, using(crate::proofs::Stored::fits, crate::proofs::Stored::small, crate::proofs::Stored::synced))]
     pub fn step(&mut self, work: Work) -> Result<Out, Fault>
-        ensures done { self.old.is_up ≡ true → Gave (member_of self.old) (member_of self.new) (effect_at self.old work) result }
-        ensures grows { OnOk result (Grows (member_of self.old) (member_of self.new)) }
-        ensures applied { IfOk result (λ out. out.applied.items ≡ slice_range (member_of self.new).log (member_of self.old).commit (member_of self.new).commit) }
-        ensures told { IfOk result (λ out. out.told.items ≡ told_between (schema_of (tables_of self.old)) (member_of self.new).log (member_of self.old).commit (member_of self.new).commit) }
-        ensures spares { spares_memory (members_of self.old) (me_of self.old) work (member_of self.old) ≡ true → IfErr result IsKept }
-        ensures same { IfErr result (IsSame (member_of self.old) (member_of self.new)) }
+        ensures done { self.old.is_up ≡ true → K.is_honest self.new.keeper → Gave (member_of self.old) (member_of self.new) (effect_at self.old work) result }
+        ensures grows { OnOk result (K.is_honest self.new.keeper → Grows (member_of self.old) (member_of self.new)) }
+        ensures applied { IfOk result (λ out. K.is_honest self.new.keeper → out.applied.items ≡ slice_range (member_of self.new).log (member_of self.old).commit (member_of self.new).commit) }
+        ensures told { IfOk result (λ out. K.is_honest self.new.keeper → out.told.items ≡ told_between (schema_of (tables_of self.old)) (member_of self.new).log (member_of self.old).commit (member_of self.new).commit) }
+        ensures spares { K.is_honest self.new.keeper → spares_memory (members_of self.old) (me_of self.old) work (member_of self.old) ≡ true → IfErr result IsKept }
+        ensures same { IfErr result (λ fault. K.is_honest self.new.keeper → IsSame (member_of self.old) (member_of self.new) fault) }
         ensures torn { IsTorn (durable_of (member_of self.old)) (durable_of (node_after (member_of self.old) (effect_at self.old work))) (K.may_hold self.new.keeper) result }
         ensures up { OnOk result ((self.old.is_up ≡ true) × (self.new.is_up ≡ true)) }
         ensures down { self.old.is_up ≡ false → result ≡ Err (Fault.Kept Refusal.NodeDown) }
         ensures stays { self.old.is_up ≡ false → self.new ≡ self.old }
         ensures ends { IfErr result (λ f. f ≡ Fault.Kept Refusal.NodeDown → self.new.is_up ≡ self.old.is_up) }
         ensures leaves { IfErr result (LeavesUp self.old.is_up self.new.is_up) }
-        ensures cause { IfErr result (HasCause (K.failed self.old.keeper) (K.failed self.new.keeper)) }
+        ensures cause { IfErr result (HasCauseOr (K.is_honest self.new.keeper) (K.failed self.old.keeper) (K.failed self.new.keeper)) }
         ensures group { IsSameSeat self.old self.new }
+        ensures honest { K.is_honest self.new.keeper → K.is_honest self.old.keeper }
+        ensures asks { IfOk result (λ out. K.asks self.new.keeper ≤ K.asks self.old.keeper + (65 * (brought work + length out.messages.items) + 1 + length out.applied.items)) }
     {
         if !self.is_up {
             return Err(Fault::Kept(Refusal::NodeDown));
         }
-        let finished = match self.core.step(work) {
+        let finished = match self.core.step(&mut self.keeper, work) {
             Ok(Effect::Done(taken)) => finish(
                 self.alloc,
                 &self.core,
@@ -238,7 +236,7 @@ impl<K: Keeper> Node<K> {
                 });
             }
             Ok(Effect::Refused(refusal)) => return Err(Fault::Kept(refusal)),
-            Err(error) => Err(StoreError::from(error)),
+            Err(error) => Err(error),
         };
         match finished {
             Ok(out) => Ok(out),
@@ -253,7 +251,7 @@ impl<K: Keeper> Node<K> {
     /// time, the stamp of the last of them. `NodeDown` where the node is down, `NotClosed` with the closed time where the
     /// question's last instant is later than it, or where nothing is applied, `NoMemory` where memory is refused.
     pub fn ask(&self, query: &Query) -> Result<Answer, Refusal>
-        ensures asked { self.now.is_up ≡ true → IsAskedOf (schema_of (tables_of self.now)) (query_of query.now) (applied (member_of self.now)) result }
+        ensures asked { self.now.is_up ≡ true → K.is_honest self.now.keeper → IsAskedOf (schema_of (tables_of self.now)) (query_of query.now) (applied (member_of self.now)) result }
         ensures columns { IfOk result (λ a. a.columns.items ≡ columns_in (tables_of self.now) query.now.table) }
         ensures down { self.now.is_up ≡ false → result ≡ Err Refusal.NodeDown }
     {
@@ -312,11 +310,32 @@ impl<K: Keeper> Node<K> {
         self.core.hard_state()
     }
 
-    /// A copy of its log.
-    pub fn entries(&self) -> Result<Vec<Entry>, AllocError>
-        ensures { IfOk result (λ entries. entries.items ≡ (member_of self.now).log) }
+    /// A copy of its log, read from the keeper an entry at a time. `NodeDown` where the node is down, with nothing changed;
+    /// after another error it is down: `StoreFault`, `NoMemory`, or `BadStore` where the store was not honest.
+    pub fn entries(&mut self) -> Result<Vec<Entry>, StoreError>
+        ensures ok { IfOk result (λ entries. K.is_honest self.new.keeper → entries.items ≡ (member_of self.old).log) }
+        ensures up { OnOk result ((self.old.is_up ≡ true) × (self.new.is_up ≡ true)) }
+        ensures ends { OnErr result (self.new.is_up ≡ false) }
+        ensures stays { self.old.is_up ≡ false → self.new ≡ self.old }
+        ensures down { IfErr result (λ e. e ≡ StoreError.NodeDown → self.old.is_up ≡ false) }
+        ensures bad { IfErr result (λ e. e ≡ StoreError.BadStore → K.is_honest self.new.keeper → ⊥) }
+        ensures core { self.new.core ≡ self.old.core }
+        ensures group { IsSameSeat self.old self.new }
+        ensures member { OnOk result (K.is_honest self.new.keeper → member_of self.new ≡ member_of self.old) }
+        ensures honest { K.is_honest self.new.keeper → K.is_honest self.old.keeper }
+        ensures left { (d : Durable) → K.may_hold self.new.keeper d → K.may_hold self.old.keeper d }
+        ensures held { self.old.is_up ≡ true → (d : Durable) → K.may_hold self.new.keeper d → d ≡ durable_of (member_of self.old) }
     {
-        self.core.log().to_vec(self.alloc)
+        if !self.is_up {
+            return Err(StoreError::NodeDown);
+        }
+        match all_entries(self.alloc, &self.core, &mut self.keeper) {
+            Ok(entries) => Ok(entries),
+            Err(error) => {
+                self.is_up = false;
+                Err(error)
+            }
+        }
     }
 
     /// Stops it, and gives the image up. Of a node that is up the image holds the hard state and

@@ -1,99 +1,65 @@
-//! What a keeper has stored, read as a node starts.
-ghost use Rattle.std.specs.Prelude.{◌≡◌, ◌<◌, ℕ, true, Some, None, length, slice_get, take, IfOk, IfErr, OnOk};
-ghost use Rattle.sqlread.specs.Meaning.{schema_of};
+//! What a keeper has stored, read as a node starts, and its log.
+ghost use Rattle.std.specs.Prelude.{◌≡◌, ◌<◌, ℕ, true, length, IfOk, IfErr, OnOk};
 ghost use Rattle.model.specs.Transactions.{Schema as Tables};
 ghost use Rattle.keep.specs.Durable.{Durable};
-ghost use Rattle.keep.specs.Log.{IsLog};
+ghost use Rattle.raft.specs.Start.{IsStart};
+ghost use Rattle.raft.specs.Reading.{IsRead};
+ghost use Rattle.raft.specs.View.{IsInStep, IsStateOf};
 
 use keep::error::StoreError;
-use keep::hard_state::HardState;
 use keep::keeper::{Keeper, Shelf};
 use keep::state::State;
 use model::entry::Entry;
-use raft::forms_log;
-use schema::Schema;
+use raft::is_start;
+use raft::state::Core;
 use std::alloc::Global;
 
-/// What is stored of a member, read whole.
-#[derive(Drop)]
-pub(crate) struct Found {
-    pub hard: HardState,
-    pub log: Vec<Entry>,
-}
-
-/// The entry that has so many others before it. `BadStore` where there is none, as may be with a store
-/// that is not honest.
-fn entry_at<K: Keeper>(alloc: Global, keeper: &mut K, before: usize) -> Result<Entry, StoreError>
-    requires up { K.is_up keeper.old ≡ true }
-    ensures ok { IfOk result (λ e. K.is_honest keeper.new → slice_get (K.stored keeper.old).log before ≡ Some e) }
-    ensures same { OnOk result (K.is_honest keeper.new → K.stored keeper.new ≡ K.stored keeper.old) }
-    ensures up { OnOk result (K.is_up keeper.new ≡ true) }
-    ensures honest { K.is_honest keeper.new → K.is_honest keeper.old }
-    ensures left { (d : Durable) → K.may_hold keeper.new d → K.may_hold keeper.old d }
-    ensures serves { (members : ℕ) (tables : Tables) → K.serves keeper.old members tables → K.serves keeper.new members tables }
-    ensures not_down { IfErr result (λ e. e ≡ StoreError.NodeDown → ⊥) }
-    ensures bad { IfErr result (λ e. e ≡ StoreError.BadStore → K.is_honest keeper.new → slice_get (K.stored keeper.old).log before ≡ None) }
-{
-    match keeper.entry(alloc, before)? {
-        Some(entry) => Ok(entry),
-        None => Err(StoreError::BadStore),
-    }
-}
-
-/// The first entries of the log, so many of them. `BadStore` where there are fewer, as may be with a store that is not
-/// honest.
-fn first_entries<K: Keeper>(
-    alloc: Global,
-    keeper: &mut K,
-    count: usize,
-) -> Result<Vec<Entry>, StoreError>
-    requires up { K.is_up keeper.old ≡ true }
-    ensures ok { IfOk result (λ log. K.is_honest keeper.new → log.items ≡ take count (K.stored keeper.old).log) }
-    ensures same { OnOk result (K.is_honest keeper.new → K.stored keeper.new ≡ K.stored keeper.old) }
-    ensures up { OnOk result (K.is_up keeper.new ≡ true) }
-    ensures honest { K.is_honest keeper.new → K.is_honest keeper.old }
-    ensures left { (d : Durable) → K.may_hold keeper.new d → K.may_hold keeper.old d }
-    ensures serves { (members : ℕ) (tables : Tables) → K.serves keeper.old members tables → K.serves keeper.new members tables }
-    ensures not_down { IfErr result (λ e. e ≡ StoreError.NodeDown → ⊥) }
-    ensures bad { IfErr result (λ e. e ≡ StoreError.BadStore → K.is_honest keeper.new → length (K.stored keeper.old).log < count) }
-{
-    let mut log = Vec::new(alloc);
-    for before in 0..count {
-        let entry = entry_at(alloc, keeper, before)?;
-        log.push(entry)?;
-    }
-    Ok(log)
-}
-
-/// The hard state and the whole log. `StoreFault` where the store fails, `NoMemory` where memory is
-/// refused, `BadStore` where they form no log of a member of a group of so many with these tables: then
+/// The hard state and the end of the log. `StoreFault` where the store fails, `NoMemory` where memory is
+/// refused, `BadStore` where they can't be those of a member of a group of so many: then
 /// the store is not honest, as what a keeper opened does.
-pub(crate) fn read_stored<K: Keeper>(
+pub(crate) fn read_state<K: Keeper>(
     alloc: Global,
     keeper: &mut K,
     members: usize,
-    schema: &Schema,
-) -> Result<Found, StoreError>
+) -> Result<State, StoreError>
     requires up { K.is_up keeper.old ≡ true }
-    ensures ok { IfOk result (λ f. K.is_honest keeper.new → record { hard = f.hard; log = f.log.items } ≡ K.stored keeper.new) }
+    ensures ok { IfOk result (λ s. K.is_honest keeper.new → IsStateOf s (K.stored keeper.new)) }
     ensures same { OnOk result (K.is_honest keeper.new → K.stored keeper.new ≡ K.stored keeper.old) }
-    ensures forms { IfOk result (λ f. IsLog members (schema_of schema.now) (record { hard = f.hard; log = f.log.items })) }
+    ensures fits { IfOk result (λ s. IsStart members s) }
     ensures up { OnOk result (K.is_up keeper.new ≡ true) }
     ensures honest { K.is_honest keeper.new → K.is_honest keeper.old }
     ensures left { (d : Durable) → K.may_hold keeper.new d → K.may_hold keeper.old d }
     ensures serves { (members : ℕ) (tables : Tables) → K.serves keeper.old members tables → K.serves keeper.new members tables }
     ensures not_down { IfErr result (λ e. e ≡ StoreError.NodeDown → ⊥) }
-    ensures bad { IfErr result (λ e. e ≡ StoreError.BadStore → K.serves keeper.old members (schema_of schema.now) → K.is_honest keeper.new → ⊥) }
+    ensures bad { IfErr result (λ e. e ≡ StoreError.BadStore → (tables : Tables) → K.serves keeper.old members tables → K.is_honest keeper.new → ⊥) }
 {
-    let State {
-        hard,
-        length,
-        mut tail,
-    } = keeper.state(alloc)?;
-    let mut log = first_entries(alloc, keeper, length.saturating_sub(tail.len()))?;
-    log.append(&mut tail)?;
-    if !forms_log(alloc, schema, members, hard, &log)? {
+    let state = keeper.state(alloc)?;
+    if !is_start(members, &state) {
         return Err(StoreError::BadStore);
     }
-    Ok(Found { hard, log })
+    Ok(state)
+}
+
+/// The whole log. `BadStore` where it has fewer entries than the member knows of, as may be with a store that is not honest.
+pub(crate) fn all_entries<S: Shelf>(
+    alloc: Global,
+    core: &Core,
+    shelf: &mut S,
+) -> Result<Vec<Entry>, StoreError>
+    requires up { S.is_up shelf.old ≡ true }
+    requires stored { S.is_honest shelf.old → IsInStep core.now (S.stored shelf.old) }
+    ensures ok { IfOk result (λ log. S.is_honest shelf.new → log.items ≡ (S.stored shelf.old).log) }
+    ensures shelf { IsRead (S.is_honest shelf.old) (S.is_honest shelf.new) (S.stored shelf.old) (S.stored shelf.new) (S.may_hold shelf.old) (S.may_hold shelf.new) (S.serves shelf.old) (S.serves shelf.new) (S.failed shelf.old) (S.failed shelf.new) (S.is_up shelf.new) }
+    ensures up { OnOk result (S.is_up shelf.new ≡ true) }
+    ensures not_down { IfErr result (λ e. e ≡ StoreError.NodeDown → ⊥) }
+    ensures bad { IfErr result (λ e. e ≡ StoreError.BadStore → S.is_honest shelf.new → ⊥) }
+{
+    let mut log = Vec::new(alloc);
+    for before in 0..core.length() {
+        let Some(entry) = core.entry(shelf, before + 1)? else {
+            return Err(StoreError::BadStore);
+        };
+        log.push(entry)?;
+    }
+    Ok(log)
 }

@@ -1,28 +1,62 @@
-//! What a member tells of the requests that it applies.
-ghost use Rattle.std.specs.Prelude.{◌≡◌, ◌+◌, ◌≤◌, ◌<◌, length, take, slice_range, IfOk, OnOk};
+//! What a member applies, and what it tells of the requests among that.
+ghost use Rattle.std.specs.Prelude.{◌≡◌, ◌+◌, ◌≤◌, ◌<◌, ◌++◌, ◌∷◌, [], ℕ, List, true, Some, length, take, slice_get, IfOk, IfErr, OnOk};
+ghost use Rattle.std.specs.List.{cons_option};
+ghost use Rattle.sqlchecks.specs.Columns as columns;
 ghost use Rattle.sqlread.specs.Meaning.{schema_of};
+ghost use Rattle.model.specs.declared.entry.Entry as entries;
 ghost use Rattle.model.specs.Logs.{told_at};
 ghost use Rattle.apply.specs.View.{AreTables};
-ghost use Rattle.node.specs.View.{told_between};
+ghost use Rattle.raft.specs.Reading.{IsRead};
+ghost use Rattle.raft.specs.View.{IsInStep};
+ghost use Rattle.node.specs.View.{IsCauseOr};
+ghost use Rattle.node.specs.Applying.{AreApplied, AreMade, IsNext};
 
 use apply::Tables;
+use keep::error::StoreError;
+use keep::keeper::Shelf;
 use model::entry::{Entry, Told};
-use schema::Schema;
+use raft::state::Core;
 use std::alloc::{AllocError, Global};
 
-/// Applies the entry that has so many others before it, and gives what is told of it: none for a Close.
+/// What became applied: the entries in the order of the log, and what is told of their requests.
+#[derive(Drop)]
+pub(crate) struct Applied {
+    pub entries: Vec<Entry>,
+    pub told: Vec<Told>,
+}
+
+/// One entry that became applied, and what is told of it: none of a Close.
+#[derive(Drop)]
+struct One {
+    entry: Entry,
+    told: Option<Told>,
+}
+
+impl Applied {
+    /// Adds one entry at the end.
+    fn add(&mut self, one: One) -> Result<(), AllocError>
+        ensures entries { OnOk result (self.new.entries.items ≡ self.old.entries.items ++ one.entry ∷ []) }
+        ensures told { OnOk result (self.new.told.items ≡ self.old.told.items ++ cons_option one.told []) }
+    {
+        let One { entry, told } = one;
+        self.entries.push(entry)?;
+        if let Some(told) = told {
+            self.told.push(told)?;
+        }
+        Ok(())
+    }
+}
+
+/// Applies the entry that has so many others before it, and gives what is told of it: none of a Close.
 fn apply_one(
-    schema: &Schema,
     tables: &mut Tables,
-    log: &[Entry],
+    entry: &Entry,
     before: usize,
 ) -> Result<Option<Told>, AllocError>
-    requires there { before < length log.now }
-    requires current { AreTables schema.now (take before log.now) tables.old }
-    ensures told { IfOk result (λ told. told ≡ told_at (schema_of schema.now) log.now (before + 1)) }
-    ensures current { OnOk result (AreTables schema.now (take (before + 1) log.now) tables.new) }
+    requires room { before < 18446744073709551615 }
+    ensures told { IfOk result (λ told. (schema : columns.Tables) (log : List entries.Entry) → slice_get log before ≡ Some entry.now → AreTables schema (take before log) tables.old → told ≡ told_at (schema_of schema) log (before + 1)) }
+    ensures kept { OnOk result ((schema : columns.Tables) (list : List entries.Entry) → AreTables schema list tables.old → AreTables schema (list ++ entry.now ∷ []) tables.new) }
 {
-    let entry = &log[before];
     let outcome = tables.apply(entry)?;
     let Some(request) = &entry.request else {
         return Ok(None);
@@ -38,41 +72,58 @@ fn apply_one(
     }))
 }
 
-/// Applies the entries after one index, up to another, and gives what is told of them.
-#[tactic(auto, using(crate::proofs::Told::told_more, crate::proofs::Told::told_same, crate::proofs::Told::told_none))]
-pub(crate) fn tell(
-    alloc: Global,
-    schema: &Schema,
+/// Fetches the entry that has so many others before it, and applies it. Where there is none the store has lied, and that
+/// is its fault.
+fn apply_next<S: Shelf>(
+    core: &Core,
+    shelf: &mut S,
     tables: &mut Tables,
-    log: &[Entry],
     before: usize,
-    commit: usize,
-) -> Result<Vec<Told>, AllocError>
-    requires rises { before ≤ commit }
-    requires within { commit ≤ length log.now }
-    requires current { AreTables schema.now (take before log.now) tables.old }
-    ensures told { IfOk result (λ told. told.items ≡ told_between (schema_of schema.now) log.now before commit) }
-    ensures current { OnOk result (AreTables schema.now (take commit log.now) tables.new) }
+) -> Result<One, StoreError>
+    requires there { before < core.now.commit }
+    requires up { S.is_up shelf.old ≡ true }
+    requires stored { S.is_honest shelf.old → IsInStep core.now (S.stored shelf.old) }
+    requires current { S.is_honest shelf.old → AreTables core.now.schema (take before (S.stored shelf.old).log) tables.old }
+    ensures next { IfOk result (λ one. S.is_honest shelf.new → IsNext core.now.schema (S.stored shelf.old).log before one.entry one.told tables.new) }
+    ensures made { OnOk result ((schema : columns.Tables) → AreMade schema tables.old → AreMade schema tables.new) }
+    ensures shelf { IsRead (S.is_honest shelf.old) (S.is_honest shelf.new) (S.stored shelf.old) (S.stored shelf.new) (S.may_hold shelf.old) (S.may_hold shelf.new) (S.serves shelf.old) (S.serves shelf.new) (S.failed shelf.old) (S.failed shelf.new) (S.is_up shelf.new) }
+    ensures up { OnOk result (S.is_up shelf.new ≡ true) }
+    ensures cause { IfErr result (IsCauseOr (S.is_honest shelf.new) (S.failed shelf.old) (S.failed shelf.new)) }
+    ensures asks { S.asks shelf.new ≤ S.asks shelf.old + 1 }
 {
-    let mut told = Vec::new(alloc);
-    for index in before..commit {
-        if let Some(one) = apply_one(schema, tables, log, index)? {
-            told.push(one)?;
-        }
-    }
-    Ok(told)
+    let Some(entry) = core.entry(shelf, before + 1)? else {
+        return Err(StoreError::StoreFault);
+    };
+    let told = apply_one(tables, &entry, before)?;
+    Ok(One { entry, told })
 }
 
-/// Copies of the entries after one index, up to another.
-pub(crate) fn entries_between(
+/// Applies the entries after one index, up to the commit index.
+pub(crate) fn apply_after<S: Shelf>(
     alloc: Global,
-    log: &[Entry],
+    core: &Core,
+    shelf: &mut S,
+    tables: &mut Tables,
     before: usize,
-    commit: usize,
-) -> Result<Vec<Entry>, AllocError>
-    requires rises { before ≤ commit }
-    requires within { commit ≤ length log.now }
-    ensures { IfOk result (λ entries. entries.items ≡ slice_range log.now before commit) }
+) -> Result<Applied, StoreError>
+    requires rises { before ≤ core.now.commit }
+    requires up { S.is_up shelf.old ≡ true }
+    requires stored { S.is_honest shelf.old → IsInStep core.now (S.stored shelf.old) }
+    requires current { S.is_honest shelf.old → AreTables core.now.schema (take before (S.stored shelf.old).log) tables.old }
+    ensures applied { IfOk result (λ a. S.is_honest shelf.new → AreApplied core.now.schema (S.stored shelf.old).log before core.now.commit a.entries.items a.told.items tables.new) }
+    ensures made { OnOk result ((schema : columns.Tables) → AreMade schema tables.old → AreMade schema tables.new) }
+    ensures shelf { IsRead (S.is_honest shelf.old) (S.is_honest shelf.new) (S.stored shelf.old) (S.stored shelf.new) (S.may_hold shelf.old) (S.may_hold shelf.new) (S.serves shelf.old) (S.serves shelf.new) (S.failed shelf.old) (S.failed shelf.new) (S.is_up shelf.new) }
+    ensures up { OnOk result (S.is_up shelf.new ≡ true) }
+    ensures cause { IfErr result (IsCauseOr (S.is_honest shelf.new) (S.failed shelf.old) (S.failed shelf.new)) }
+    ensures asks { IfOk result (λ a. S.asks shelf.new ≤ S.asks shelf.old + length a.entries.items) }
 {
-    log[before..commit].to_vec(alloc)
+    let mut applied = Applied {
+        entries: Vec::new(alloc),
+        told: Vec::new(alloc),
+    };
+    for place in before..core.commit {
+        let one = apply_next(core, shelf, tables, place)?;
+        applied.add(one)?;
+    }
+    Ok(applied)
 }

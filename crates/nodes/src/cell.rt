@@ -2,7 +2,7 @@
 ghost use Rattle.std.specs.Prelude.{◌≡◌, ◌≢◌, ◌≤◌, ◌<◌, ◌+◌, ◌⊎◌, [], ◌++◌, ◌∷◌, true, false, Some, None, Err, IfOk, IfErr, OnOk, OnErr, MatchOption, MatchResult, slice_range, unwrap_or};
 ghost use Rattle.sqlread.specs.Meaning.{schema_of};
 ghost use Rattle.keep.specs.Durable.{Durable};
-ghost use Rattle.node.specs.View.{durable_of, spares_memory, Gave, IsKept, LeavesUp, HasCause, told_between};
+ghost use Rattle.node.specs.View.{durable_of, spares_memory, Gave, IsKept, LeavesUp, HasCauseOr, told_between};
 ghost use Rattle.node.specs.Member.{effect_at, me_of, member_of, members_of, tables_of, IsSameSeat};
 ghost use Rattle.model.specs.Marks.{mark_after};
 ghost use Rattle.model.specs.Members.{applied};
@@ -39,8 +39,8 @@ pub struct Out {
 
 /// A node, its life, and what it publishes of it. While the node is up it is what its life replays to, and what is
 /// published and what is pending are together the entries that it has applied, each with the mark of its step. Once it is
-/// down what is published are the first of those that it had applied before the torn step. Its store never holds anything
-/// but what was stored before the last step or after it.
+/// down what is published are the first of those that it had applied before the torn step. So it is while its store is
+/// honest, which never holds anything but what was stored before the last step or after it.
 ///
 /// End it by `stop`; one that is dropped keeps the memory of what it published.
 #[derive(Drop)]
@@ -49,13 +49,13 @@ pub struct Cell<K: Keeper> {
     pub node: Node<K>,
     pub life: Life,
     pub publisher: Publisher,
-    pub ghost replayed: { node.is_up ≡ true → (member_of node ≡ replay (tables_of node) (members_of node) (me_of node) life) × (life.ending ≡ Up) },
+    pub ghost replayed: { node.is_up ≡ true → (K.is_honest node.keeper → member_of node ≡ replay (tables_of node) (members_of node) (me_of node) life) × (life.ending ≡ Up) },
     pub ghost torn: { node.is_up ≡ false → torn_step life.ending ≢ [] },
     pub ghost rising: { marks_rise life.opening.mark (all_steps life) ≡ true },
     pub ghost held: { node.is_up ≡ false → (d : Durable) → K.may_hold node.keeper d → ∥ IsLeft (tables_of node) (members_of node) (me_of node) life d ∥₁ },
-    pub ghost listed: { entries_of (items_of node life) ≡ applied (replay (tables_of node) (members_of node) (me_of node) life) },
-    pub ghost whole: { node.is_up ≡ true → published publisher ++ pending publisher ≡ items_of node life },
-    pub ghost shown: { node.is_up ≡ false → AreFirst (published publisher) (items_of node life) },
+    pub ghost listed: { K.is_honest node.keeper → entries_of (items_of node life) ≡ applied (replay (tables_of node) (members_of node) (me_of node) life) },
+    pub ghost whole: { node.is_up ≡ true → K.is_honest node.keeper → published publisher ++ pending publisher ≡ items_of node life },
+    pub ghost shown: { node.is_up ≡ false → K.is_honest node.keeper → AreFirst (published publisher) (items_of node life) },
     pub ghost named: { IsPublisherOf (tables_of node) (me_of node) life.opening.mark publisher },
 }
 
@@ -104,12 +104,13 @@ impl<K: Keeper> Cell<K> {
         let Some(mark) = Mark::after(last.map_or(0, Mark::number)) else {
             return Err((Refusal::LifeFull, image));
         };
-        let node = match Node::start(alloc, image, schema, members, me) {
+        let mut node = match Node::start(alloc, image, schema, members, me) {
             Ok(node) => node,
             Err((error, image)) => return Err((Refusal::from(error), image)),
         };
-        let Ok(entries) = node.entries() else {
-            return Err((Refusal::NoMemory, node.stop()));
+        let entries = match node.entries() {
+            Ok(entries) => entries,
+            Err(error) => return Err((Refusal::from(error), node.stop())),
         };
         let Ok(publisher) = open_publisher(rt, alloc, me, mark, node.schema()) else {
             return Err((Refusal::NoMemory, node.stop()));
@@ -148,16 +149,16 @@ impl<K: Keeper> Cell<K> {
             × (self.new.node ≡ self.old.node) × (self.new.publisher ≡ self.old.publisher))
             ⊎ ((self.old.node.is_up ≡ true)
             × MatchOption (mark_for self.old.life packet) ⊥ (λ m. IsRecorded self.old.life self.new.life (step_of m packet) result)
-            × Gave (member_of self.old.node) (member_of self.new.node) (effect_at self.old.node (work_of packet)) (given_of result)) }
-        ensures applied { IfOk result (λ out. out.given.applied.items ≡ slice_range (member_of self.new.node).log (member_of self.old.node).commit (member_of self.new.node).commit) }
-        ensures told { IfOk result (λ out. out.given.told.items ≡ told_between (schema_of (tables_of self.old.node)) (member_of self.new.node).log (member_of self.old.node).commit (member_of self.new.node).commit) }
-        ensures published { (published self.new.publisher ≡ published self.old.publisher) ⊎ (published self.new.publisher ≡ items_of self.new.node self.new.life) }
+            × (K.is_honest self.new.node.keeper → Gave (member_of self.old.node) (member_of self.new.node) (effect_at self.old.node (work_of packet)) (given_of result))) }
+        ensures applied { IfOk result (λ out. K.is_honest self.new.node.keeper → out.given.applied.items ≡ slice_range (member_of self.new.node).log (member_of self.old.node).commit (member_of self.new.node).commit) }
+        ensures told { IfOk result (λ out. K.is_honest self.new.node.keeper → out.given.told.items ≡ told_between (schema_of (tables_of self.old.node)) (member_of self.new.node).log (member_of self.old.node).commit (member_of self.new.node).commit) }
+        ensures published { (published self.new.publisher ≡ published self.old.publisher) ⊎ (K.is_honest self.new.node.keeper → published self.new.publisher ≡ items_of self.new.node self.new.life) }
         ensures silent { OnErr result (published self.new.publisher ≡ published self.old.publisher) }
         ensures life { IsSameLife self.old.publisher self.new.publisher × (views_of self.new.publisher ≡ views_of self.old.publisher) }
-        ensures spares { spares_memory (members_of self.old.node) (me_of self.old.node) (work_of packet) (member_of self.old.node) ≡ true → IfErr result IsKept }
+        ensures spares { K.is_honest self.new.node.keeper → spares_memory (members_of self.old.node) (me_of self.old.node) (work_of packet) (member_of self.old.node) ≡ true → IfErr result IsKept }
         ensures up { OnOk result ((self.old.node.is_up ≡ true) × (self.new.node.is_up ≡ true)) }
         ensures leaves { IfErr result (LeavesUp self.old.node.is_up self.new.node.is_up) }
-        ensures cause { IfErr result (HasCause (K.failed self.old.node.keeper) (K.failed self.new.node.keeper)) }
+        ensures cause { IfErr result (HasCauseOr (K.is_honest self.new.node.keeper) (K.failed self.old.node.keeper) (K.failed self.new.node.keeper)) }
         ensures group { IsSameSeat self.old.node self.new.node }
     {
         if !self.node.is_up {

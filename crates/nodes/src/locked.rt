@@ -76,10 +76,10 @@ impl<K: Keeper, L: Naming> LockedNode<K, L> {
             × (self.new.cell.node ≡ self.old.cell.node) × (self.new.cell.publisher ≡ self.old.cell.publisher))
             ⊎ ((self.old.cell.node.is_up ≡ true)
             × MatchOption (mark_for self.old.cell.life packet) ⊥ (λ m. IsRecorded self.old.cell.life self.new.cell.life (step_of m packet) result)
-            × Gave (member_of self.old.cell.node) (member_of self.new.cell.node) (effect_at self.old.cell.node (work_of packet)) (node_gave result)) }
-        ensures applied { IfOk result (λ out. out.given.applied.items ≡ slice_range (member_of self.new.cell.node).log (member_of self.old.cell.node).commit (member_of self.new.cell.node).commit) }
-        ensures told { IfOk result (λ out. out.given.told.items ≡ told_between (schema_of (tables_of self.old.cell.node)) (member_of self.new.cell.node).log (member_of self.old.cell.node).commit (member_of self.new.cell.node).commit) }
-        ensures published { (published self.new.cell.publisher ≡ published self.old.cell.publisher) ⊎ (published self.new.cell.publisher ≡ items_of self.new.cell.node self.new.cell.life) }
+            × (K.is_honest self.new.cell.node.keeper → Gave (member_of self.old.cell.node) (member_of self.new.cell.node) (effect_at self.old.cell.node (work_of packet)) (node_gave result))) }
+        ensures applied { IfOk result (λ out. K.is_honest self.new.cell.node.keeper → out.given.applied.items ≡ slice_range (member_of self.new.cell.node).log (member_of self.old.cell.node).commit (member_of self.new.cell.node).commit) }
+        ensures told { IfOk result (λ out. K.is_honest self.new.cell.node.keeper → out.given.told.items ≡ told_between (schema_of (tables_of self.old.cell.node)) (member_of self.new.cell.node).log (member_of self.old.cell.node).commit (member_of self.new.cell.node).commit) }
+        ensures published { (published self.new.cell.publisher ≡ published self.old.cell.publisher) ⊎ (K.is_honest self.new.cell.node.keeper → published self.new.cell.publisher ≡ items_of self.new.cell.node self.new.cell.life) }
         ensures leaves { IfErr result (LeavesUp self.old.cell.node.is_up self.new.cell.node.is_up) }
         ensures counted { share.new.amount + length (all_steps self.old.cell.life) ≡ share.old.amount + length (all_steps self.new.cell.life) }
         ensures parts { share.new.parts ≡ share.old.parts }

@@ -1,0 +1,27 @@
+-- What reading calls leave of a shelf, one after another.
+use Rattle.std.proofs.Common.{◌≡◌, ◌∙◌, refl, inl, inr, ℕ, ◌≤◌, Bool, true, arith}
+use Rattle.model.specs.Transactions.{Schema}
+use Rattle.keep.specs.Durable.{Durable}
+use Rattle.keep.specs.declared.error.StoreError.{StoreError}
+use Rattle.raft.specs.Reading.{IsRead, IsCause, IsCauseOr}
+
+pub read_none : (is : Type 0) (d : Durable) (holds : Durable → Type 0) (serving : ℕ → Schema → Type 0) (failed : ℕ) (up : Bool) → IsRead is is d d holds holds serving serving failed failed up
+read_none is d holds serving failed up = record { honest = λ h. h; same = λ u h. refl; left = λ x h. h; serves = λ n t h. h; counts = omega arith }
+
+pub read_both : (a b c : Type 0) (x y z : Durable) (p q r : Durable → Type 0) (s t u : ℕ → Schema → Type 0) (i j k : ℕ) (v w : Bool) → v ≡ true → IsRead a b x y p q s t i j v → IsRead b c y z q r t u j k w → IsRead a c x z p r s u i k w
+read_both a b c x y z p q r s t u i j k v w up one two = record {
+  honest = λ h. one.honest (two.honest h);
+  same = λ e h. two.same e h ∙ one.same up (two.honest h);
+  left = λ d h. one.left d (two.left d h);
+  serves = λ n m h. two.serves n m (one.serves n m h);
+  counts = omega (arith, one.counts, two.counts);
+}
+
+-- a failure after calls that went well
+pub later : (i j k : ℕ) (e : StoreError) → i ≤ j → IsCause j k e → IsCause i k e
+later i j k e le (inl none) = inl none
+later i j k e le (inr fault) = inr (fault.0, omega (arith, le, fault.1))
+
+pub later_or : (honest : Type 0) (i j k : ℕ) (e : StoreError) → i ≤ j → IsCauseOr honest j k e → IsCauseOr honest i k e
+later_or honest i j k e le (inl cause) = inl (later i j k e le cause)
+later_or honest i j k e le (inr lie) = inr lie
