@@ -107,8 +107,8 @@ since_fits old new stored m (Some c) there lower hard len within next turned (in
     let near : Reaches new stored = omega (arith, there, lower) in
     let long : length (log_of new stored) ≡ new.log.shelved + vec_len new.log.tail = length_of new stored near in
     let other : log_of new stored ≡ log_of old stored → ⊥ = λ same.
-        let told = others (sym long ∙ ap length same ∙ sym len) in
-        told.1 (ap (term_at new.log.tail.items) (add-one (m.kept - new.log.shelved)) ∙ sym (in_tail new stored m.kept near told.0) ∙ ap (λ (log : List Entry). term_at log (suc m.kept)) same ∙ sym (ap (term_at (log_of old stored)) (add-one m.kept)) ∙ sym next) in
+    let told = others (sym long ∙ ap length same ∙ sym len) in
+    told.1 (ap (term_at new.log.tail.items) (add-one (m.kept - new.log.shelved)) ∙ sym (in_tail new stored m.kept near told.0) ∙ ap (λ (log : List Entry). term_at log (suc m.kept)) same ∙ sym (ap (term_at (log_of old stored)) (add-one m.kept)) ∙ sym next) in
     elim turned [
       | inl same ↦ absurd (other same)
       | inr cut ↦ cut_fits old new stored m.kept c there lower (omega (arith, within, len)) cut other change_is

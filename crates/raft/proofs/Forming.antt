@@ -135,10 +135,12 @@ append_forms schema me sender term prev prev_term es commit x low new f =
     let more = is_so (continues x.log prev term es) (neither (not (continues x.log prev term es)) (cuts_below x.commit x.log prev es) goes.0).0 in
     let within = stands_within x.log prev prev_term (is_so (stands x.log prev prev_term) standing) in
     let here : term ≡ x.term = elim (ltb_tells term x.term) [ inl lt ↦ absurd (cc (now, lt.0)) | inr ge ↦ omega (arith, low, ge.1) ] in
-    record { forms = record {
-      rises = accepted_rises x.term prev x.log es within f.rises (rw (sym here) more);
-      entries = accepted_entries (is_entry schema) prev x.log es f.entries new;
-    } }))))
+    record {
+      forms = record {
+        rises = accepted_rises x.term prev x.log es within f.rises (rw (sym here) more);
+        entries = accepted_entries (is_entry schema) prev x.log es f.entries new;
+      };
+    }))))
 
 reply_yes_forms : (schema : Schema) (n me sender matched : ℕ) (x : Node) → Forms schema x → Formed schema x (on_reply_yes n me sender matched x)
 unfolding on_reply_yes
@@ -169,10 +171,10 @@ hears_forms : (schema : Schema) (term : ℕ) (x : Node) → Stands x → Forms s
 unfolding hears
 hears_forms schema term x s f = elim (ltb_tells x.term term) [
   | inl lt ↦ rw lt.0 (record {
-      forms = raised schema x (in_term term x) refl (omega (arith, lt.1)) f;
-      stands = record { stands = λ e. absurd (cc e); leads = λ e. absurd (cc e) };
-      low = omega arith;
-    })
+    forms = raised schema x (in_term term x) refl (omega (arith, lt.1)) f;
+    stands = record { stands = λ e. absurd (cc e); leads = λ e. absurd (cc e) };
+    low = omega arith;
+  })
   | inr ge ↦ rw ge.0 (record { forms = f; stands = s; low = ge.1 })
 ]
 

@@ -112,12 +112,7 @@ pub(crate) fn go_on(term: u64, least: u64, bound: u64, entries: &[Entry]) -> boo
 fn goes_on(log: &[Entry], index: usize, term: u64, entries: &[Entry]) -> bool
     ensures { result ≡ go_on (nth log.now index) term entries.now }
 {
-    go_on(
-        term_at(log, index),
-        least_at(log, index),
-        term,
-        entries,
-    )
+    go_on(term_at(log, index), least_at(log, index), term, entries)
 }
 
 /// The entries go on after the one at `prev`, and those that are new after the last one that stays.

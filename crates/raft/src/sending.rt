@@ -150,7 +150,11 @@ impl Core {
 
     /// Commits what can be committed now that the log of a member is known to agree further, and sends what comes of it:
     /// to all where something is committed, else to that member what it has not yet.
-    fn on_agreed<S: Shelf>(&mut self, shelf: &mut S, sender: Member) -> Result<Vec<Message>, StoreError>
+    fn on_agreed<S: Shelf>(
+        &mut self,
+        shelf: &mut S,
+        sender: Member,
+    ) -> Result<Vec<Message>, StoreError>
         requires up { S.is_up shelf.old ≡ true }
         requires reaches { S.is_honest shelf.old → Reaches self.old (S.stored shelf.old).log }
         requires rises { S.is_honest shelf.old → go_on None self.old.term (log_of self.old (S.stored shelf.old).log) ≡ true }
@@ -176,7 +180,11 @@ impl Core {
     }
 
     /// The messages that are to be sent, with the entries that they take.
-    pub(crate) fn send<S: Shelf>(&mut self, shelf: &mut S, sending: Sending) -> Result<Vec<Message>, StoreError>
+    pub(crate) fn send<S: Shelf>(
+        &mut self,
+        shelf: &mut S,
+        sending: Sending,
+    ) -> Result<Vec<Message>, StoreError>
         requires up { S.is_up shelf.old ≡ true }
         requires reaches { S.is_honest shelf.old → Reaches self.old (S.stored shelf.old).log }
         requires rises { S.is_honest shelf.old → go_on None self.old.term (log_of self.old (S.stored shelf.old).log) ≡ true }

@@ -7,9 +7,9 @@ ghost use Rattle.model.specs.Members.{agreed, last_term};
 ghost use Rattle.model.specs.Steps.{TERM_LAST, accepted};
 
 use crate::logs::last_term;
+use keep::state::TAIL_MOST;
 use model::entry::Entry;
 use model::message::CARRIED_MOST;
-use keep::state::TAIL_MOST;
 use model::stamp::Stamp;
 use std::alloc::AllocError;
 
@@ -88,7 +88,12 @@ impl ShortLog {
 
     /// Takes the entries after `prev`, with which the log agrees up to an index: cuts the log there, if it is before the
     /// last of them, and goes on with those that come after. Changes nothing where memory is refused.
-    pub(crate) fn accept(&mut self, index: usize, prev: usize, mut entries: Vec<Entry>) -> Result<(), AllocError>
+    pub(crate) fn accept(
+        &mut self,
+        index: usize,
+        prev: usize,
+        mut entries: Vec<Entry>,
+    ) -> Result<(), AllocError>
         ghost stored: { List in_log.Entry }
         requires reaches { self.old.shelved ≤ length stored }
         requires low { prev ≤ index }

@@ -139,13 +139,7 @@ impl Core {
     /// A member that starts with what was stored, as a follower that knows of no leader and of no
     /// committed entry. `me` is one of the group: from 1 to `members`, of which there are up to 7. The
     /// caller sees to this, and by `is_start` to it that what was stored may be that of such a member.
-    pub fn start(
-        alloc: Global,
-        schema: Schema,
-        members: usize,
-        me: Member,
-        state: State,
-    ) -> Core
+    pub fn start(alloc: Global, schema: Schema, members: usize, me: Member, state: State) -> Core
         requires few { members ≤ 7 }
         requires member { (1 ≤ me) × (me ≤ members) }
         requires start { IsStart members state }

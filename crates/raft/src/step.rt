@@ -78,7 +78,12 @@ impl Core {
     }
 
     /// The request's text spells a transaction, where its entry is to stand at this place of the window.
-    fn spells(&self, window: &[Entry], place: usize, request: &Option<Request>) -> Result<bool, AllocError>
+    fn spells(
+        &self,
+        window: &[Entry],
+        place: usize,
+        request: &Option<Request>,
+    ) -> Result<bool, AllocError>
         ensures { list_all (is_entry (schema_of self.now.schema)) window.now ≡ true → IfOk result (λ yes. yes ≡ spells (schema_of self.now.schema) request.now) }
     {
         if let Some(request) = request {
@@ -90,7 +95,12 @@ impl Core {
     }
 
     /// Each entry's text spells a transaction, where the first is to stand at this place of the window.
-    fn all_spell(&self, window: &[Entry], first: usize, entries: &[Entry]) -> Result<bool, AllocError>
+    fn all_spell(
+        &self,
+        window: &[Entry],
+        first: usize,
+        entries: &[Entry],
+    ) -> Result<bool, AllocError>
         ensures { list_all (is_entry (schema_of self.now.schema)) window.now ≡ true → IfOk result (λ yes. yes ≡ list_all (λ e. spells (schema_of self.now.schema) e.request) entries.now) }
     {
         for (i, entry) in entries.iter().enumerate() {
@@ -266,7 +276,11 @@ impl Core {
 
     /// Takes what is brought to it, and leaves aside what is to be stored. The window shows what a message wants to see of
     /// the log.
-    pub(crate) fn on_work(&mut self, window: &[Entry], work: Work) -> Result<Effect<Sending>, AllocError>
+    pub(crate) fn on_work(
+        &mut self,
+        window: &[Entry],
+        work: Work,
+    ) -> Result<Effect<Sending>, AllocError>
         ghost stored: { List in_log.Entry }
         requires { Reaches self.old stored }
         ensures done { LooksAt work (log_of self.old stored) window.now → list_all (is_entry (schema_of self.old.schema)) window.now ≡ true → IfOk result

@@ -166,7 +166,9 @@ impl Core {
             (λ c. (c.hard ≡ hard_in self.now) × (c.kept ≡ kept) × (c.entries.items ≡ drop (kept - self.now.log.shelved) self.now.log.tail.items)) }
         ensures small { IfOk result (λ c. IsSmallChange (Some c)) }
     {
-        let shown = kept.saturating_sub(self.log.shelved).min(self.log.tail.len());
+        let shown = kept
+            .saturating_sub(self.log.shelved)
+            .min(self.log.tail.len());
         let (_, new) = self.log.tail.split_at(shown);
         let entries = new.to_vec(self.alloc)?;
         Ok(self.change_to(kept, entries))
@@ -186,7 +188,11 @@ impl Core {
     }
 
     /// Does the work, and says what changes in what is stored.
-    fn take_work<S: Shelf>(&mut self, shelf: &mut S, work: Work) -> Result<Effect<Taken>, StoreError>
+    fn take_work<S: Shelf>(
+        &mut self,
+        shelf: &mut S,
+        work: Work,
+    ) -> Result<Effect<Taken>, StoreError>
         ghost stored: { List in_log.Entry }
         requires up { S.is_up shelf.old ≡ true }
         requires reaches { Reaches self.old stored }

@@ -13,18 +13,32 @@ pub take_work-requires : goal.take_work-requires
 take_work-requires g c = λ κs lives.
     let old = c.args.self.now in
     let d = g.S.Shelf.stored c.args.shelf.now in
-    let room = c.make_room.new.self in
-    (λ a m. lives a m, (c.requires.up, (filled_long room.shelved d.log, (λ start.
-    let len = stored_length old d (c.requires.stored start) in
-    sym (filled_same room.shelved d.log (omega (arith, len, c.make_room.ensures.length))), (λ start.
-    let step = c.requires.stored start in
-    let len = stored_length old d step in
-    let there : old.log.shelved ≤ length d.log = omega (arith, len) in
-    let same : filled room.shelved d.log ≡ d.log = filled_same room.shelved d.log (omega (arith, len, c.make_room.ensures.length)) in
-    let logs : take room.shelved d.log ++ room.tail.items ≡ log_of old d.log = room_same old.log.shelved room.shelved d.log old.log.tail.items room.tail.items c.make_room.ensures.shelved there c.make_room.ensures.tail step.log in
-    let log = g.met.S.Shelf.only_logs c.args.shelf.now old.members (schema_of old.schema) c.requires.serves start c.requires.up in
-    let whole : d.log ≡ take room.shelved (filled room.shelved d.log) ++ room.tail.items = step.log ∙ sym logs ∙ ap (λ (l : List Entry). take room.shelved l ++ room.tail.items) (sym same) in
-    forms_before old.members (schema_of old.schema) old d _ step whole log, c.make_room.ensures.room)))))
+    let room = c.make_room.new.self in (
+      λ a m. lives a m,
+      (
+        c.requires.up,
+        (
+          filled_long room.shelved d.log,
+          (
+            λ start.
+                let len = stored_length old d (c.requires.stored start) in
+                sym (filled_same room.shelved d.log (omega (arith, len, c.make_room.ensures.length))),
+            (
+              λ start.
+                  let step = c.requires.stored start in
+                  let len = stored_length old d step in
+                  let there : old.log.shelved ≤ length d.log = omega (arith, len) in
+                  let same : filled room.shelved d.log ≡ d.log = filled_same room.shelved d.log (omega (arith, len, c.make_room.ensures.length)) in
+                  let logs : take room.shelved d.log ++ room.tail.items ≡ log_of old d.log = room_same old.log.shelved room.shelved d.log old.log.tail.items room.tail.items c.make_room.ensures.shelved there c.make_room.ensures.tail step.log in
+                  let log = g.met.S.Shelf.only_logs c.args.shelf.now old.members (schema_of old.schema) c.requires.serves start c.requires.up in
+                  let whole : d.log ≡ take room.shelved (filled room.shelved d.log) ++ room.tail.items = step.log ∙ sym logs ∙ ap (λ (l : List Entry). take room.shelved l ++ room.tail.items) (sym same) in
+                  forms_before old.members (schema_of old.schema) old d _ step whole log,
+              c.make_room.ensures.room,
+            ),
+          ),
+        ),
+      ),
+    )
 
 pub returns-in-Ok-clause-done : goal.returns-in-Ok-clause-done
 returns-in-Ok-clause-done g c = λ honest.
