@@ -1,4 +1,4 @@
-use Rattle.std.proofs.Common.{◌≡◌, ◌∙◌, ℕ, ◌+◌, ◌≤◌, length, length-append, take, arith, subst, ap, sym}
+use Rattle.std.proofs.Common.{◌≡◌, ◌∙◌, ℕ, ◌+◌, length, length-append, take, arith, subst, ap, sym}
 use Rattle.keep.specs.Durable.{Durable}
 use Rattle.apply.specs.View.{AreTables}
 use Rattle.raft.specs.View.{IsInStep}
