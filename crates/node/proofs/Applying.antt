@@ -24,6 +24,9 @@ take_next [] n x h = absurd cc
 take_next (y ∷ xs) zero x h = let e : y ≡ x = cc in ap (λ z. z ∷ []) e
 take_next (y ∷ xs) (suc n) x h = ap (λ zs. y ∷ zs) (take_next xs n x h)
 
+pub take_more : (xs : List Entry) (n : ℕ) (x : Entry) → slice_get xs n ≡ Some x → take (n + 1) xs ≡ take n xs ++ x ∷ []
+take_more xs n x h = let next : n + 1 ≡ suc n = omega arith in rw next (take_next xs n x h)
+
 take_drop : (log : List Entry) (before n i : ℕ) (e : Entry) → before + n ≡ i → slice_get log i ≡ Some e → take (suc n) (drop before log) ≡ take n (drop before log) ++ e ∷ []
 take_drop log zero n i e is got = let same : n ≡ i = omega (arith, is) in take_next log n e (subst (λ k. slice_get log k ≡ Some e) (sym same) got)
 take_drop [] (suc before) n i e is got = absurd (cc got)

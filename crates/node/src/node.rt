@@ -1,5 +1,5 @@
 //! A member over a keeper.
-ghost use Rattle.std.specs.Prelude.{◌≡◌, ◌≤◌, ◌+◌, ◌*◌, ◌⊎◌, true, false, length, take, slice_range, if◌then◌else◌, Some, None, Err, IfOk, IfErr, OnOk, OnErr, MatchOption};
+ghost use Rattle.std.specs.Prelude.{◌≡◌, ◌≤◌, ◌+◌, ◌*◌, ◌⊎◌, true, false, length, take, slice_range, if◌then◌else◌, Some, None, Err, IfOk, IfErr, IsOk, OnOk, OnErr, MatchOption};
 ghost use Rattle.std.specs.Coded.{→_prop};
 ghost use Rattle.keep.specs.Log.{IsSmall};
 ghost use Rattle.sqlread.specs.Meaning.{schema_of};
@@ -11,10 +11,11 @@ ghost use Rattle.model.specs.Kept.{node_after};
 ghost use Rattle.model.specs.Members.{applied};
 ghost use Rattle.keep.specs.Durable.{Durable, IsBeforeOrAfter};
 ghost use Rattle.raft.specs.Memory.{spares_memory};
-ghost use Rattle.raft.specs.View.{brought, hard_of, node_of, Grows, IsInStep, after_change};
+ghost use Rattle.raft.specs.View.{brought, hard_of, node_of, works, Grows, IsInStep, after_change};
 ghost use Rattle.node.specs.View.{durable_of, Gave, IsKept, IsSame, IsTorn, IsCause, IsCauseOr, HasCauseOr, LeavesUp, started_from, told_between};
 ghost use Rattle.node.specs.Applying.{AreApplied, AreMade};
 ghost use Rattle.node.specs.Saving.{IsDue};
+ghost use Rattle.node.specs.Stepping.{applied_in, sent_in, IsStep};
 
 use crate::reading::{all_entries, read_state};
 use crate::telling::{Applied, apply_after};
@@ -114,7 +115,7 @@ fn finish<K: Keeper>(
 ) -> Result<Out, StoreError>
     requires due { K.is_honest keeper.old → IsDue core.now taken.change (K.stored keeper.old) }
     requires current { K.is_honest keeper.old → AreTables core.now.schema (take taken.committed_before (after_change taken.change (K.stored keeper.old)).log) tables.old }
-    requires rises { taken.committed_before ≤ core.now.commit }
+    requires rises { K.is_honest keeper.old → taken.committed_before ≤ core.now.commit }
     requires small { MatchOption taken.change (Unit {0}) IsSmall }
     requires serves { K.serves keeper.old core.now.members (schema_of core.now.schema) }
     requires up { K.is_up keeper.old ≡ true }
@@ -142,6 +143,44 @@ fn finish<K: Keeper>(
         applied: entries,
         told,
     })
+}
+
+/// Takes a step of the parts of a node: the core's, then what `finish` does of it.
+fn take_step<K: Keeper>(
+    alloc: Global,
+    core: &mut Core,
+    keeper: &mut K,
+    tables: &mut Tables,
+    work: Work,
+) -> Result<Effect<Out>, StoreError>
+    requires up { K.is_up keeper.old ≡ true }
+    requires fresh { core.old.is_spent ≡ false }
+    requires stored { K.is_honest keeper.old → IsInStep core.old (K.stored keeper.old) }
+    requires serves { K.serves keeper.old core.old.members (schema_of core.old.schema) }
+    requires current { K.is_honest keeper.old → AreTables core.old.schema (applied (node_of core.old (K.stored keeper.old).log)) tables.old }
+    ensures step { IfOk result (λ e. K.is_honest keeper.new → IsStep core.old.schema (node_of core.old (K.stored keeper.old).log) (node_of core.new (K.stored keeper.new).log) (works core.old.schema core.old.members core.old.me work (node_of core.old (K.stored keeper.old).log)) e) }
+    ensures grows { OnOk result (K.is_honest keeper.new → Grows (node_of core.old (K.stored keeper.old).log) (node_of core.new (K.stored keeper.new).log)) }
+    ensures stored { OnOk result (K.is_honest keeper.new → IsInStep core.new (K.stored keeper.new)) }
+    ensures current { OnOk result (K.is_honest keeper.new → AreTables core.new.schema (applied (node_of core.new (K.stored keeper.new).log)) tables.new) }
+    ensures made { OnOk result (AreMade core.old.schema tables.old → AreMade core.new.schema tables.new) }
+    ensures fresh { OnOk result (core.new.is_spent ≡ false) }
+    ensures up { OnOk result (K.is_up keeper.new ≡ true) }
+    ensures serves { K.serves keeper.new core.new.members (schema_of core.new.schema) }
+    ensures group { (core.new.members ≡ core.old.members) × (core.new.me ≡ core.old.me) × (core.new.schema ≡ core.old.schema) }
+    ensures spares { K.is_honest keeper.new → spares_memory core.old.members core.old.me work (node_of core.old (K.stored keeper.old).log) ≡ true → IsOk result }
+    ensures torn { OnErr result ((d : Durable) → K.may_hold keeper.new d → IsBeforeOrAfter (durable_of (node_of core.old (K.stored keeper.old).log)) (durable_of (node_after (node_of core.old (K.stored keeper.old).log) (works core.old.schema core.old.members core.old.me work (node_of core.old (K.stored keeper.old).log)))) d) }
+    ensures honest { K.is_honest keeper.new → K.is_honest keeper.old }
+    ensures cause { IfErr result (IsCauseOr (K.is_honest keeper.new) (K.failed keeper.old) (K.failed keeper.new)) }
+    ensures asks { IfOk result (λ e. K.asks keeper.new ≤ K.asks keeper.old + (65 * (brought work + sent_in e) + 1 + applied_in e)) }
+{
+    match core.step(keeper, work)? {
+        Effect::Done(taken) => {
+            let out = finish(alloc, core, keeper, tables, taken)?;
+            Ok(Effect::Done(out))
+        }
+        Effect::Ignored => Ok(Effect::Ignored),
+        Effect::Refused(refusal) => Ok(Effect::Refused(refusal)),
+    }
 }
 
 impl<K: Keeper> Node<K> {
@@ -220,26 +259,20 @@ impl<K: Keeper> Node<K> {
         if !self.is_up {
             return Err(Fault::Kept(Refusal::NodeDown));
         }
-        let finished = match self.core.step(&mut self.keeper, work) {
-            Ok(Effect::Done(taken)) => finish(
-                self.alloc,
-                &self.core,
-                &mut self.keeper,
-                &mut self.tables,
-                taken,
-            ),
-            Ok(Effect::Ignored) => {
-                return Ok(Out {
-                    messages: Vec::new(self.alloc),
-                    applied: Vec::new(self.alloc),
-                    told: Vec::new(self.alloc),
-                });
-            }
-            Ok(Effect::Refused(refusal)) => return Err(Fault::Kept(refusal)),
-            Err(error) => Err(error),
-        };
-        match finished {
-            Ok(out) => Ok(out),
+        match take_step(
+            self.alloc,
+            &mut self.core,
+            &mut self.keeper,
+            &mut self.tables,
+            work,
+        ) {
+            Ok(Effect::Done(out)) => Ok(out),
+            Ok(Effect::Ignored) => Ok(Out {
+                messages: Vec::new(self.alloc),
+                applied: Vec::new(self.alloc),
+                told: Vec::new(self.alloc),
+            }),
+            Ok(Effect::Refused(refusal)) => Err(Fault::Kept(refusal)),
             Err(error) => {
                 self.is_up = false;
                 Err(Fault::Down(error))

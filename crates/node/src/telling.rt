@@ -106,7 +106,7 @@ pub(crate) fn apply_after<S: Shelf>(
     tables: &mut Tables,
     before: usize,
 ) -> Result<Applied, StoreError>
-    requires rises { before ≤ core.now.commit }
+    requires rises { S.is_honest shelf.old → before ≤ core.now.commit }
     requires up { S.is_up shelf.old ≡ true }
     requires stored { S.is_honest shelf.old → IsInStep core.now (S.stored shelf.old) }
     requires current { S.is_honest shelf.old → AreTables core.now.schema (take before (S.stored shelf.old).log) tables.old }

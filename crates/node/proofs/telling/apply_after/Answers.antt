@@ -45,5 +45,6 @@ loop-place-preserved g c =
 
 pub returns-clause-applied : goal.returns-clause-applied
 returns-clause-applied g c = λ honest.
-    let all : c.loop-place.place ≡ c.args.core.now.commit = omega arith in
+    let low = c.requires.rises (c.loop-place.invariant.shelf.honest honest) in
+    let all : c.loop-place.place ≡ c.args.core.now.commit = omega (arith, low) in
     subst (λ (n : ℕ). AreApplied c.args.core.now.schema (g.S.Shelf.stored c.args.shelf.now).log c.args.before n c.loop-place.applied.entries.items c.loop-place.applied.told.items c.loop-place.tables) all (c.loop-place.invariant.applied honest)

@@ -1,0 +1,22 @@
+use Rattle.sqlread.specs.Meaning.{schema_of}
+use Rattle.model.specs.Members.{applied}
+use Rattle.raft.specs.View.{node_of}
+use Rattle.node.proofs.Tests.{known}
+use Rattle.node.proofs.Stamped.{applied_stamped}
+use Rattle.node.proofs.Columns.{columns_made}
+use Rattle.node.proofs.node.Node.ask.Goals as goal
+
+pub returns-clause-asked : goal.returns-clause-asked
+returns-clause-asked g c = λ up honest.
+    let node = c.args.self.now in
+    let core = node.core in
+    let d = g.K.Shelf.stored node.keeper in
+    let step = node.synced up honest in
+    let serves = known (g.met.K.Shelf.served_once node.keeper core.members (schema_of core.schema)) node.serves in
+    let log = g.met.K.Shelf.only_logs node.keeper core.members (schema_of core.schema) serves honest (node.kept_up up) in
+    c.ask.ensures.asked core.schema (applied (node_of core d.log)) (node.current up honest) (applied_stamped core core.members (schema_of core.schema) d step log)
+
+pub returns-clause-columns : goal.returns-clause-columns
+returns-clause-columns g c =
+    let node = c.args.self.now in
+    columns_made node.core.schema node.tables c.ask.result c.args.query.now (node.made c.if-not-self.false) c.ask.ensures.columns

@@ -1,0 +1,18 @@
+use Rattle.std.proofs.Common.{◌≡◌, ◌∙◌, inr, subst, sym}
+use Rattle.std.proofs.lemmas.Grind.{merely}
+use Rattle.keep.specs.Durable.{Durable}
+use Rattle.sqlread.specs.Meaning.{schema_of}
+use Rattle.node.proofs.Starting.{opened_is, stored_is}
+use Rattle.node.proofs.node.Node.start.Goals as goal
+
+pub invariant_of-result-clause-serves : goal.invariant_of-result-clause-serves
+invariant_of-result-clause-serves g c =
+    let group = c.start-core.ensures.group in
+    rw (group.0, group.2) (merely (c.read_state.ensures.serves c.args.members (schema_of c.args.schema) c.in_ok-keeper.ensures.serves))
+
+pub returns-in_err-state-clause-back : goal.returns-in_err-state-clause-back
+returns-in_err-state-clause-back g c = λ d held.
+    let may = c.read_state.ensures.left d (c.close.ensures.holds d held) in
+    let is : d ≡ g.K.Shelf.stored c.in_ok-keeper.keeper = g.met.K.Shelf.only_stored _ d c.in_ok-keeper.ensures.up may in
+    let P : Durable → Type 0 = g.K.Keeper.holds c.args.image in
+    subst P (sym is) (c.in_ok-keeper.ensures.found (g.met.K.Shelf.only_honest _ d may))
