@@ -10,7 +10,7 @@ use Rattle.nodes.proofs.cell.Cell.start.Goals as goal
 pub invariant_of-result-clause-replayed : goal.invariant_of-result-clause-replayed
 invariant_of-result-clause-replayed g c = λ up.
     let o : Opening = record { mark = c.in-Some.mark; hard = c.hard_state.result; entries = c.in-Ok-entries.entries } in
-    (λ honest. replayed_first (seated c.entries.new.node) o c.new.result.items (member_of c.in-Ok.node) c.new.ensures.items (c.in-Ok-entries.ensures.member honest) (c.in-Ok.ensures.opened (c.entries.ensures.honest honest)) c.hard_state.ensures (c.in-Ok-entries.ensures.ok honest), refl)
+    (λ honest. replayed_first (seated c.entries.new.self) o c.new.result.items (member_of c.in-Ok.node) c.new.ensures.items (c.in-Ok-entries.ensures.member honest) (c.in-Ok.ensures.opened (c.entries.ensures.honest honest)) c.hard_state.ensures (c.in-Ok-entries.ensures.ok honest), refl)
 
 pub invariant_of-result-clause-rising : goal.invariant_of-result-clause-rising
 unfolding marks_rise
@@ -19,11 +19,11 @@ invariant_of-result-clause-rising g c = rw c.new.ensures.items refl
 pub invariant_of-result-clause-listed : goal.invariant_of-result-clause-listed
 invariant_of-result-clause-listed g c = λ honest.
     let o : Opening = record { mark = c.in-Some.mark; hard = c.hard_state.result; entries = c.in-Ok-entries.entries } in
-    listed_none (seated c.entries.new.node) o c.new.result.items c.new.ensures.items
+    listed_none (seated c.entries.new.self) o c.new.result.items c.new.ensures.items
 
 pub invariant_of-result-clause-whole : goal.invariant_of-result-clause-whole
 invariant_of-result-clause-whole g c = λ up honest.
     let o : Opening = record { mark = c.in-Some.mark; hard = c.hard_state.result; entries = c.in-Ok-entries.entries } in
     let p = c.in-Ok-open_publisher.publisher in
     let none = c.in-Ok-open_publisher.ensures.none in
-    whole_none (seated c.entries.new.node) o c.new.result.items (published p) (pending p) c.new.ensures.items none.0 none.1
+    whole_none (seated c.entries.new.self) o c.new.result.items (published p) (pending p) c.new.ensures.items none.0 none.1
