@@ -1,5 +1,5 @@
 -- A life with one step more.
-use Rattle.std.proofs.Common.{◌≡◌, ◌∙◌, ℕ, List, [], ◌∷◌, ◌++◌, fold, Err, refl, sym, ap, ⊎_elim}
+use Rattle.std.proofs.Common.{◌≡◌, ◌∙◌, ℕ, List, [], ◌∷◌, ◌++◌, fold, Err, refl, sym, ap, subst, ⊎_elim}
 use Rattle.std.proofs.lemmas.List.Sums.{fold-append}
 use Rattle.std.proofs.lemmas.Grind.{merely}
 use Rattle.fault.specs.declared.refusal.Refusal.{Refusal}
@@ -10,7 +10,7 @@ use Rattle.keep.specs.Durable.{IsBeforeOrAfter, Durable}
 use Rattle.node.specs.declared.node.Node.{Node as NodeUp}
 use Rattle.node.specs.declared.node.Out.{Out}
 use Rattle.node.specs.declared.node.Fault.TheVariants.{Kept}
-use Rattle.node.specs.View.{Gave, IsGiven, durable_of, started_from, works}
+use Rattle.node.specs.View.{Gave, IsGiven, durable_of, hard_of, started_from, works}
 use Rattle.node.specs.Member.{me_of, member_of, members_of, tables_of}
 use Rattle.node.specs.Work.{Work}
 use Rattle.flight.specs.declared.life.Step.{Step}
@@ -34,6 +34,16 @@ taken_through c o steps = fold (stepped c.schema c.members c.me) (started_from (
 -- the seat is the same
 pub same_seat : (old new : Seated) (o : Opening) (steps : List Step) → new.schema ≡ old.schema → new.members ≡ old.members → new.me ≡ old.me → taken_through new o steps ≡ taken_through old o steps
 same_seat old new o steps a b c = rw (a, b, c) refl
+
+-- a life that opens
+opens_with : (o : Opening) (x : Node) → o.hard ≡ hard_of x → o.entries.items ≡ x.log → durable_of x ≡ opened_with o
+opens_with o x hard log = rw (hard, log) refl
+
+pub stored_first : (P : Durable → Type 0) (o : Opening) (x y : Node) → y ≡ x → o.hard ≡ hard_of y → o.entries.items ≡ x.log → P (durable_of x) → P (opened_with o)
+stored_first P o x y same hard log held = subst P (opens_with o x (hard ∙ ap hard_of same) log) held
+
+pub replayed_first : (c : Seated) (o : Opening) (steps : List Step) (x : Node) → steps ≡ [] → c.member ≡ x → x ≡ started_from (durable_of x) → o.hard ≡ hard_of c.member → o.entries.items ≡ x.log → c.member ≡ taken_through c o steps
+replayed_first c o steps x none same opened hard log = rw none (same ∙ opened ∙ ap started_from (opens_with o x (hard ∙ ap hard_of same) log))
 
 -- one step more
 replay_more : (c : Seated) (o : Opening) (steps : List Step) (s : Step) → taken_through c o (steps ++ s ∷ []) ≡ stepped c.schema c.members c.me (taken_through c o steps) s

@@ -39,8 +39,8 @@ pub struct Out {
 
 /// A node, its life, and what it publishes of it. While the node is up it is what its life replays to, and what is
 /// published and what is pending are together the entries that it has applied, each with the mark of its step. Once it is
-/// down what is published are the first of those that it had applied before the torn step. So it is while its store is
-/// honest, which never holds anything but what was stored before the last step or after it.
+/// down what is published are the first of those that it had applied before the torn step. All this holds while its store is
+/// honest. The store never holds anything but what was stored before the last step or after it.
 ///
 /// End it by `stop`; one that is dropped keeps the memory of what it published.
 #[derive(Drop)]
@@ -158,6 +158,7 @@ impl<K: Keeper> Cell<K> {
         ensures spares { K.is_honest self.new.node.keeper → spares_memory (members_of self.old.node) (me_of self.old.node) (work_of packet) (member_of self.old.node) ≡ true → IfErr result IsKept }
         ensures up { OnOk result ((self.old.node.is_up ≡ true) × (self.new.node.is_up ≡ true)) }
         ensures leaves { IfErr result (LeavesUp self.old.node.is_up self.new.node.is_up) }
+        ensures honest { K.is_honest self.new.node.keeper → K.is_honest self.old.node.keeper }
         ensures cause { IfErr result (HasCauseOr (K.is_honest self.new.node.keeper) (K.failed self.old.node.keeper) (K.failed self.new.node.keeper)) }
         ensures group { IsSameSeat self.old.node self.new.node }
     {

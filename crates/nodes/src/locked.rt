@@ -81,6 +81,7 @@ impl<K: Keeper, L: Naming> LockedNode<K, L> {
         ensures told { IfOk result (λ out. K.is_honest self.new.cell.node.keeper → out.given.told.items ≡ told_between (schema_of (tables_of self.old.cell.node)) (member_of self.new.cell.node).log (member_of self.old.cell.node).commit (member_of self.new.cell.node).commit) }
         ensures published { (published self.new.cell.publisher ≡ published self.old.cell.publisher) ⊎ (K.is_honest self.new.cell.node.keeper → published self.new.cell.publisher ≡ items_of self.new.cell.node self.new.cell.life) }
         ensures leaves { IfErr result (LeavesUp self.old.cell.node.is_up self.new.cell.node.is_up) }
+        ensures honest { K.is_honest self.new.cell.node.keeper → K.is_honest self.old.cell.node.keeper }
         ensures counted { share.new.amount + length (all_steps self.old.cell.life) ≡ share.old.amount + length (all_steps self.new.cell.life) }
         ensures parts { share.new.parts ≡ share.old.parts }
     {

@@ -1,4 +1,4 @@
-use Rattle.std.proofs.Common.{◌≡◌, ◌∙◌, List, [], ◌++◌, ◌∷◌, refl, sym, ap}
+use Rattle.std.proofs.Common.{◌≡◌, ◌∙◌, List, [], ◌++◌, ◌∷◌, refl, sym, ap, subst}
 use Rattle.node.specs.Member.{me_of, member_of, members_of, tables_of}
 use Rattle.history.specs.declared.item.Item.{Item}
 use Rattle.view.specs.Publishing.{published, pending}
@@ -20,7 +20,7 @@ invariant_of-self-in-Ok-step-clause-replayed g c = λ up.
     let made : s ≡ with_outcomes c.in-Ok-note.outcomes (step_of c.in-Some.mark c.args.packet) = c.with_outcomes.ensures ∙ ap (λ (x : Step). with_outcomes c.in-Ok-note.outcomes x) c.new-step.ensures in
     let items = c.push_reserved.ensures.items ∙ ap (λ xs. xs ++ s ∷ []) c.reserve.ensures.items in
     let seat = c.step.ensures.group in
-    (replayed_given (seated old.node) (seated c.step.new.self) old.life.opening old.life.steps.items _ s _ c.in-Ok-step.given seat.0 seat.1 seat.2 items (made_of s c.in-Some.mark c.args.packet c.in-Ok.work c.in-Ok-note.outcomes made c.in-Ok.ensures) was.0 (c.in-Ok-step.ensures.done c.in-Ok-step.ensures.up.0), was.1)
+    (λ honest. replayed_given (seated old.node) (seated c.step.new.self) old.life.opening old.life.steps.items _ s _ c.in-Ok-step.given seat.0 seat.1 seat.2 items (made_of s c.in-Some.mark c.args.packet c.in-Ok.work c.in-Ok-note.outcomes made c.in-Ok.ensures) (was.0 (c.step.ensures.honest honest)) (c.in-Ok-step.ensures.done c.in-Ok-step.ensures.up.0 honest), was.1)
 
 pub invariant_of-self-in-Ok-step-clause-rising : goal.invariant_of-self-in-Ok-step-clause-rising
 invariant_of-self-in-Ok-step-clause-rising g c =
@@ -31,32 +31,34 @@ invariant_of-self-in-Ok-step-clause-rising g c =
     rises_whole old.life _ s (old.replayed c.if-not-self.false).1 old.rising (made_for old.life s c.in-Some.mark c.args.packet c.in-Ok-note.outcomes made (sym c.in-Some.is ∙ c.mark_for.ensures)) items
 
 pub invariant_of-self-in-Ok-step-clause-listed : goal.invariant_of-self-in-Ok-step-clause-listed
-invariant_of-self-in-Ok-step-clause-listed g c =
+invariant_of-self-in-Ok-step-clause-listed g c = λ honest.
     let old = c.args.self.now in
     let up = c.in-Ok-step.ensures.up.0 in
+    let before = c.step.ensures.honest honest in
     let s : Step = c.with_outcomes.result in
     let made : s ≡ with_outcomes c.in-Ok-note.outcomes (step_of c.in-Some.mark c.args.packet) = c.with_outcomes.ensures ∙ ap (λ (x : Step). with_outcomes c.in-Ok-note.outcomes x) c.new-step.ensures in
     let items = c.push_reserved.ensures.items ∙ ap (λ xs. xs ++ s ∷ []) c.reserve.ensures.items in
     let seat = c.step.ensures.group in
-    let is = stepped_given (tables_of old.node) (members_of old.node) (me_of old.node) (member_of old.node) s c.in-Ok.work (member_of c.step.new.self) c.in-Ok-step.given (made_of s c.in-Some.mark c.args.packet c.in-Ok.work c.in-Ok-note.outcomes made c.in-Ok.ensures) (c.in-Ok-step.ensures.done up) in
-    (one_more (seated old.node) (seated c.step.new.self) old.life.opening old.life.steps.items c.push_reserved.new.self.items s seat.0 seat.1 seat.2 items (old.replayed up).0 is c.in-Ok-step.ensures.grows old.listed).entries
+    let is = stepped_given (tables_of old.node) (members_of old.node) (me_of old.node) (member_of old.node) s c.in-Ok.work (member_of c.step.new.self) c.in-Ok-step.given (made_of s c.in-Some.mark c.args.packet c.in-Ok.work c.in-Ok-note.outcomes made c.in-Ok.ensures) (c.in-Ok-step.ensures.done up honest) in
+    (one_more (seated old.node) (seated c.step.new.self) old.life.opening old.life.steps.items c.push_reserved.new.self.items s seat.0 seat.1 seat.2 items ((old.replayed up).0 before) is (c.in-Ok-step.ensures.grows honest) (old.listed before)).entries
 
 pub invariant_of-self-in-Ok-step-clause-whole : goal.invariant_of-self-in-Ok-step-clause-whole
-invariant_of-self-in-Ok-step-clause-whole g c = λ now.
+invariant_of-self-in-Ok-step-clause-whole g c = λ now honest.
     let old = c.args.self.now in
     let new = c.step.new.self in
     let up = c.in-Ok-step.ensures.up.0 in
+    let before = c.step.ensures.honest honest in
     let s : Step = c.with_outcomes.result in
     let made : s ≡ with_outcomes c.in-Ok-note.outcomes (step_of c.in-Some.mark c.args.packet) = c.with_outcomes.ensures ∙ ap (λ (x : Step). with_outcomes c.in-Ok-note.outcomes x) c.new-step.ensures in
     let items = c.push_reserved.ensures.items ∙ ap (λ xs. xs ++ s ∷ []) c.reserve.ensures.items in
     let seat = c.step.ensures.group in
-    let is = stepped_given (tables_of old.node) (members_of old.node) (me_of old.node) (member_of old.node) s c.in-Ok.work (member_of new) c.in-Ok-step.given (made_of s c.in-Some.mark c.args.packet c.in-Ok.work c.in-Ok-note.outcomes made c.in-Ok.ensures) (c.in-Ok-step.ensures.done up) in
-    let more : OneMore (seated old.node) (seated new) old.life.opening old.life.steps.items c.push_reserved.new.self.items s = one_more (seated old.node) (seated new) old.life.opening old.life.steps.items c.push_reserved.new.self.items s seat.0 seat.1 seat.2 items (old.replayed up).0 is c.in-Ok-step.ensures.grows old.listed in
-    let entries = c.in-Ok-step.ensures.applied in
+    let is = stepped_given (tables_of old.node) (members_of old.node) (me_of old.node) (member_of old.node) s c.in-Ok.work (member_of new) c.in-Ok-step.given (made_of s c.in-Some.mark c.args.packet c.in-Ok.work c.in-Ok-note.outcomes made c.in-Ok.ensures) (c.in-Ok-step.ensures.done up honest) in
+    let more : OneMore (seated old.node) (seated new) old.life.opening old.life.steps.items c.push_reserved.new.self.items s = one_more (seated old.node) (seated new) old.life.opening old.life.steps.items c.push_reserved.new.self.items s seat.0 seat.1 seat.2 items ((old.replayed up).0 before) is (c.in-Ok-step.ensures.grows honest) (old.listed before) in
+    let entries = c.in-Ok-step.ensures.applied honest in
     let by : List Item = items_by s.mark (member_of old.node) (member_of new) in
     let waits : pending c.note.new.publisher ≡ pending old.publisher ++ by = c.in-Ok-note.ensures.pending ∙ ap (λ es. pending old.publisher ++ marked c.in-Some.mark es) entries ∙ ap (λ (x : Step). pending old.publisher ++ items_by x.mark (member_of old.node) (member_of new)) (sym made) in
     let all : published c.publish_all.new.publisher ++ pending c.publish_all.new.publisher ≡ published old.publisher ++ pending c.note.new.publisher = c.publish_all.ensures.all ∙ ap (λ (xs : List Item). xs ++ pending c.note.new.publisher) c.note.ensures.same.2 in
-    all_listed (items_in (seated old.node) old.life.opening old.life.steps.items) (published old.publisher) (pending old.publisher) (items_in (seated new) old.life.opening c.push_reserved.new.self.items) by (pending c.note.new.publisher) _ (old.whole up) waits more.items all
+    all_listed (items_in (seated old.node) old.life.opening old.life.steps.items) (published old.publisher) (pending old.publisher) (items_in (seated new) old.life.opening c.push_reserved.new.self.items) by (pending c.note.new.publisher) _ (old.whole up before) waits more.items all
 
 pub invariant_of-self-in-Ok-step-clause-named : goal.invariant_of-self-in-Ok-step-clause-named
 invariant_of-self-in-Ok-step-clause-named g c =
@@ -76,7 +78,7 @@ invariant_of-self-in-Err-Kept-clause-replayed g c = λ up.
     let s : Step = c.new-step.result in
     let items = c.push_reserved-in-Err-Kept.ensures.items ∙ ap (λ xs. xs ++ s ∷ []) c.reserve.ensures.items in
     let seat = c.step.ensures.group in
-    (replayed_refused (seated old.node) (seated c.step.new.self) old.life.opening old.life.steps.items _ s _ _ seat.0 seat.1 seat.2 items (made_of s c.in-Some.mark c.args.packet c.in-Ok.work [] c.new-step.ensures c.in-Ok.ensures) was.0 (step.done c.if-not-self.false) step.same, was.1)
+    (λ honest. replayed_refused (seated old.node) (seated c.step.new.self) old.life.opening old.life.steps.items _ s _ _ seat.0 seat.1 seat.2 items (made_of s c.in-Some.mark c.args.packet c.in-Ok.work [] c.new-step.ensures c.in-Ok.ensures) (was.0 (c.step.ensures.honest honest)) (step.done c.if-not-self.false honest) (step.same honest), was.1)
 
 pub invariant_of-self-in-Err-Kept-clause-rising : goal.invariant_of-self-in-Err-Kept-clause-rising
 invariant_of-self-in-Err-Kept-clause-rising g c =
@@ -86,29 +88,31 @@ invariant_of-self-in-Err-Kept-clause-rising g c =
     rises_whole old.life _ s (old.replayed c.if-not-self.false).1 old.rising (made_for old.life s c.in-Some.mark c.args.packet [] c.new-step.ensures (sym c.in-Some.is ∙ c.mark_for.ensures)) items
 
 pub invariant_of-self-in-Err-Kept-clause-listed : goal.invariant_of-self-in-Err-Kept-clause-listed
-invariant_of-self-in-Err-Kept-clause-listed g c =
+invariant_of-self-in-Err-Kept-clause-listed g c = λ honest.
     let old = c.args.self.now in
     let new = c.step.new.self in
     let step = rw c.in-Err-Kept.field-0-is at c.in-Err-Kept.ensures in
     let up = c.if-not-self.false in
+    let before = c.step.ensures.honest honest in
     let s : Step = c.new-step.result in
     let items = c.push_reserved-in-Err-Kept.ensures.items ∙ ap (λ xs. xs ++ s ∷ []) c.reserve.ensures.items in
     let seat = c.step.ensures.group in
-    let is = stepped_refused (tables_of old.node) (members_of old.node) (me_of old.node) (member_of old.node) s c.in-Ok.work (member_of new) _ (made_of s c.in-Some.mark c.args.packet c.in-Ok.work [] c.new-step.ensures c.in-Ok.ensures) (step.done up) step.same in
-    (one_more (seated old.node) (seated new) old.life.opening old.life.steps.items c.push_reserved-in-Err-Kept.new.self.items s seat.0 seat.1 seat.2 items (old.replayed up).0 is (same_grows (member_of old.node) (member_of new) step.same) old.listed).entries
+    let is = stepped_refused (tables_of old.node) (members_of old.node) (me_of old.node) (member_of old.node) s c.in-Ok.work (member_of new) _ (made_of s c.in-Some.mark c.args.packet c.in-Ok.work [] c.new-step.ensures c.in-Ok.ensures) (step.done up honest) (step.same honest) in
+    (one_more (seated old.node) (seated new) old.life.opening old.life.steps.items c.push_reserved-in-Err-Kept.new.self.items s seat.0 seat.1 seat.2 items ((old.replayed up).0 before) is (same_grows (member_of old.node) (member_of new) (step.same honest)) (old.listed before)).entries
 
 pub invariant_of-self-in-Err-Kept-clause-whole : goal.invariant_of-self-in-Err-Kept-clause-whole
-invariant_of-self-in-Err-Kept-clause-whole g c = λ now.
+invariant_of-self-in-Err-Kept-clause-whole g c = λ now honest.
     let old = c.args.self.now in
     let new = c.step.new.self in
     let step = rw c.in-Err-Kept.field-0-is at c.in-Err-Kept.ensures in
     let up = c.if-not-self.false in
+    let before = c.step.ensures.honest honest in
     let s : Step = c.new-step.result in
     let items = c.push_reserved-in-Err-Kept.ensures.items ∙ ap (λ xs. xs ++ s ∷ []) c.reserve.ensures.items in
     let seat = c.step.ensures.group in
-    let is = stepped_refused (tables_of old.node) (members_of old.node) (me_of old.node) (member_of old.node) s c.in-Ok.work (member_of new) _ (made_of s c.in-Some.mark c.args.packet c.in-Ok.work [] c.new-step.ensures c.in-Ok.ensures) (step.done up) step.same in
-    let more : OneMore (seated old.node) (seated new) old.life.opening old.life.steps.items c.push_reserved-in-Err-Kept.new.self.items s = one_more (seated old.node) (seated new) old.life.opening old.life.steps.items c.push_reserved-in-Err-Kept.new.self.items s seat.0 seat.1 seat.2 items (old.replayed up).0 is (same_grows (member_of old.node) (member_of new) step.same) old.listed in
-    still_listed s.mark (member_of old.node) (member_of new) (items_in (seated old.node) old.life.opening old.life.steps.items) (items_in (seated new) old.life.opening c.push_reserved-in-Err-Kept.new.self.items) (published old.publisher ++ pending old.publisher) step.same (old.whole up) more.items
+    let is = stepped_refused (tables_of old.node) (members_of old.node) (me_of old.node) (member_of old.node) s c.in-Ok.work (member_of new) _ (made_of s c.in-Some.mark c.args.packet c.in-Ok.work [] c.new-step.ensures c.in-Ok.ensures) (step.done up honest) (step.same honest) in
+    let more : OneMore (seated old.node) (seated new) old.life.opening old.life.steps.items c.push_reserved-in-Err-Kept.new.self.items s = one_more (seated old.node) (seated new) old.life.opening old.life.steps.items c.push_reserved-in-Err-Kept.new.self.items s seat.0 seat.1 seat.2 items ((old.replayed up).0 before) is (same_grows (member_of old.node) (member_of new) (step.same honest)) (old.listed before) in
+    still_listed s.mark (member_of old.node) (member_of new) (items_in (seated old.node) old.life.opening old.life.steps.items) (items_in (seated new) old.life.opening c.push_reserved-in-Err-Kept.new.self.items) (published old.publisher ++ pending old.publisher) (step.same honest) (old.whole up before) more.items
 
 pub invariant_of-self-in-Err-Kept-clause-named : goal.invariant_of-self-in-Err-Kept-clause-named
 invariant_of-self-in-Err-Kept-clause-named g c =
@@ -129,23 +133,24 @@ pub invariant_of-self-in-Err-Down-clause-held : goal.invariant_of-self-in-Err-Do
 invariant_of-self-in-Err-Down-clause-held g c = λ down d may.
     let old = c.args.self.now in
     let step = rw c.in-Err-Down.field-0-is at c.in-Err-Down.ensures in
+    let honest = g.met.K.Shelf.only_honest c.step.new.self.keeper d may in
     let was = old.replayed c.if-not-self.false in
     let s : Step = c.new-step.result in
     let seat = c.step.ensures.group in
-    torn_left (seated old.node) (seated c.step.new.self) old.life.opening old.life.steps.items _ s _ d seat.0 seat.1 seat.2 c.reserve.ensures.items (made_of s c.in-Some.mark c.args.packet c.in-Ok.work [] c.new-step.ensures c.in-Ok.ensures) was.0 (step.torn d may)
+    torn_left (seated old.node) (seated c.step.new.self) old.life.opening old.life.steps.items _ s _ d seat.0 seat.1 seat.2 c.reserve.ensures.items (made_of s c.in-Some.mark c.args.packet c.in-Ok.work [] c.new-step.ensures c.in-Ok.ensures) (was.0 (c.step.ensures.honest honest)) (step.torn d may)
 
 pub invariant_of-self-in-Err-Down-clause-listed : goal.invariant_of-self-in-Err-Down-clause-listed
-invariant_of-self-in-Err-Down-clause-listed g c =
+invariant_of-self-in-Err-Down-clause-listed g c = λ honest.
     let old = c.args.self.now in
     let seat = c.step.ensures.group in
-    listed_still (seated old.node) (seated c.step.new.self) old.life.opening old.life.steps.items c.reserve.new.self.items seat.0 seat.1 seat.2 c.reserve.ensures.items old.listed
+    listed_still (seated old.node) (seated c.step.new.self) old.life.opening old.life.steps.items c.reserve.new.self.items seat.0 seat.1 seat.2 c.reserve.ensures.items (old.listed (c.step.ensures.honest honest))
 
 pub invariant_of-self-in-Err-Down-clause-shown : goal.invariant_of-self-in-Err-Down-clause-shown
-invariant_of-self-in-Err-Down-clause-shown g c = λ down.
+invariant_of-self-in-Err-Down-clause-shown g c = λ down honest.
     let old = c.args.self.now in
     let seat = c.step.ensures.group in
     let items = items_still (seated old.node) (seated c.step.new.self) old.life.opening old.life.steps.items c.reserve.new.self.items seat.0 seat.1 seat.2 c.reserve.ensures.items in
-    are_first (published old.publisher) (pending old.publisher) (items_in (seated old.node) old.life.opening old.life.steps.items) (published old.publisher) _ (old.whole c.if-not-self.false) refl items
+    are_first (published old.publisher) (pending old.publisher) (items_in (seated old.node) old.life.opening old.life.steps.items) (published old.publisher) _ (old.whole c.if-not-self.false (c.step.ensures.honest honest)) refl items
 
 pub invariant_of-self-in-Err-Down-clause-named : goal.invariant_of-self-in-Err-Down-clause-named
 invariant_of-self-in-Err-Down-clause-named g c =
@@ -166,27 +171,30 @@ pub invariant_of-self-in_default-note-clause-held : goal.invariant_of-self-in_de
 invariant_of-self-in_default-note-clause-held g c = λ down d may.
     let old = c.args.self.now in
     let same = c.take_down.ensures.group in
+    let honest = subst (λ (k : g.row.K.Denot). g.K.Shelf.is_honest k) c.take_down.ensures.keeper (g.met.K.Shelf.only_honest c.take_down.new.self.keeper d may) in
     let was = old.replayed c.if-not-self.false in
     let s : Step = c.new-step.result in
     let seat = c.step.ensures.group in
     let is = c.take_down.ensures.held c.in-Ok-step.ensures.up.1 d may in
-    let left = whole_left (member_of old.node) (tables_of old.node) (members_of old.node) (me_of old.node) c.in-Ok.work (member_of c.step.new.self) c.in-Ok-step.given d (c.in-Ok-step.ensures.done c.in-Ok-step.ensures.up.0) is in
-    torn_left (seated old.node) (seated c.take_down.new.self) old.life.opening old.life.steps.items _ s c.in-Ok.work d (same.0 ∙ seat.0) (same.1 ∙ seat.1) (same.2 ∙ seat.2) c.reserve.ensures.items (made_of s c.in-Some.mark c.args.packet c.in-Ok.work [] c.new-step.ensures c.in-Ok.ensures) was.0 left
+    let left = whole_left (member_of old.node) (tables_of old.node) (members_of old.node) (me_of old.node) c.in-Ok.work (member_of c.step.new.self) c.in-Ok-step.given d (c.in-Ok-step.ensures.done c.in-Ok-step.ensures.up.0 honest) is in
+    torn_left (seated old.node) (seated c.take_down.new.self) old.life.opening old.life.steps.items _ s c.in-Ok.work d (same.0 ∙ seat.0) (same.1 ∙ seat.1) (same.2 ∙ seat.2) c.reserve.ensures.items (made_of s c.in-Some.mark c.args.packet c.in-Ok.work [] c.new-step.ensures c.in-Ok.ensures) (was.0 (c.step.ensures.honest honest)) left
 
 pub invariant_of-self-in_default-note-clause-listed : goal.invariant_of-self-in_default-note-clause-listed
-invariant_of-self-in_default-note-clause-listed g c =
+invariant_of-self-in_default-note-clause-listed g c = λ honest.
     let old = c.args.self.now in
+    let before = c.step.ensures.honest (subst (λ (k : g.row.K.Denot). g.K.Shelf.is_honest k) c.take_down.ensures.keeper honest) in
     let same = c.take_down.ensures.group in
     let seat = c.step.ensures.group in
-    listed_still (seated old.node) (seated c.take_down.new.self) old.life.opening old.life.steps.items c.reserve.new.self.items (same.0 ∙ seat.0) (same.1 ∙ seat.1) (same.2 ∙ seat.2) c.reserve.ensures.items old.listed
+    listed_still (seated old.node) (seated c.take_down.new.self) old.life.opening old.life.steps.items c.reserve.new.self.items (same.0 ∙ seat.0) (same.1 ∙ seat.1) (same.2 ∙ seat.2) c.reserve.ensures.items (old.listed before)
 
 pub invariant_of-self-in_default-note-clause-shown : goal.invariant_of-self-in_default-note-clause-shown
-invariant_of-self-in_default-note-clause-shown g c = λ down.
+invariant_of-self-in_default-note-clause-shown g c = λ down honest.
     let old = c.args.self.now in
+    let before = c.step.ensures.honest (subst (λ (k : g.row.K.Denot). g.K.Shelf.is_honest k) c.take_down.ensures.keeper honest) in
     let same = c.take_down.ensures.group in
     let seat = c.step.ensures.group in
     let items = items_still (seated old.node) (seated c.take_down.new.self) old.life.opening old.life.steps.items c.reserve.new.self.items (same.0 ∙ seat.0) (same.1 ∙ seat.1) (same.2 ∙ seat.2) c.reserve.ensures.items in
-    are_first (published old.publisher) (pending old.publisher) (items_in (seated old.node) old.life.opening old.life.steps.items) (published c.note.new.publisher) _ (old.whole c.if-not-self.false) c.note.ensures.same.2 items
+    are_first (published old.publisher) (pending old.publisher) (items_in (seated old.node) old.life.opening old.life.steps.items) (published c.note.new.publisher) _ (old.whole c.if-not-self.false before) c.note.ensures.same.2 items
 
 pub invariant_of-self-in_default-note-clause-named : goal.invariant_of-self-in_default-note-clause-named
 invariant_of-self-in_default-note-clause-named g c =

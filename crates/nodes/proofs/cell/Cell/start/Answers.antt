@@ -1,27 +1,29 @@
 use Rattle.std.proofs.Common.{refl}
+use Rattle.node.specs.Member.{member_of}
 use Rattle.flight.specs.declared.life.Opening.{Opening}
 use Rattle.nodes.specs.Lives.{marks_rise}
 use Rattle.view.specs.Publishing.{published, pending}
 use Rattle.nodes.proofs.Items.{listed_none, whole_none}
-use Rattle.nodes.proofs.Replays.{seated}
+use Rattle.nodes.proofs.Replays.{seated, replayed_first}
 use Rattle.nodes.proofs.cell.Cell.start.Goals as goal
 
 pub invariant_of-result-clause-replayed : goal.invariant_of-result-clause-replayed
 invariant_of-result-clause-replayed g c = λ up.
-    (rw (c.new.ensures.items, c.in-Ok-entries.ensures, c.hard_state.ensures) c.in-Ok.ensures.opened, refl)
+    let o : Opening = record { mark = c.in-Some.mark; hard = c.hard_state.result; entries = c.in-Ok-entries.entries } in
+    (λ honest. replayed_first (seated c.entries.new.self) o c.new.result.items (member_of c.in-Ok.node) c.new.ensures.items (c.in-Ok-entries.ensures.member honest) (c.in-Ok.ensures.opened (c.entries.ensures.honest honest)) c.hard_state.ensures (c.in-Ok-entries.ensures.ok honest), refl)
 
 pub invariant_of-result-clause-rising : goal.invariant_of-result-clause-rising
 unfolding marks_rise
 invariant_of-result-clause-rising g c = rw c.new.ensures.items refl
 
 pub invariant_of-result-clause-listed : goal.invariant_of-result-clause-listed
-invariant_of-result-clause-listed g c =
+invariant_of-result-clause-listed g c = λ honest.
     let o : Opening = record { mark = c.in-Some.mark; hard = c.hard_state.result; entries = c.in-Ok-entries.entries } in
-    listed_none (seated c.in-Ok.node) o c.new.result.items c.new.ensures.items
+    listed_none (seated c.entries.new.self) o c.new.result.items c.new.ensures.items
 
 pub invariant_of-result-clause-whole : goal.invariant_of-result-clause-whole
-invariant_of-result-clause-whole g c = λ up.
+invariant_of-result-clause-whole g c = λ up honest.
     let o : Opening = record { mark = c.in-Some.mark; hard = c.hard_state.result; entries = c.in-Ok-entries.entries } in
     let p = c.in-Ok-open_publisher.publisher in
     let none = c.in-Ok-open_publisher.ensures.none in
-    whole_none (seated c.in-Ok.node) o c.new.result.items (published p) (pending p) c.new.ensures.items none.0 none.1
+    whole_none (seated c.entries.new.self) o c.new.result.items (published p) (pending p) c.new.ensures.items none.0 none.1
