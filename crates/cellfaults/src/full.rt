@@ -20,8 +20,8 @@ use std::sync::Wait;
 use std::sync::ledger::Blank;
 use std::test::Fail;
 
-// A leader ignores that its time is out, and records it. The views are asked after each, and what is refused at last changes
-// nothing.
+// A leader ignores that its time is out, and records it, until its life is full. What is refused then changes nothing, and
+// the views still answer.
 fn fill<L: Naming>(
     rt: &(impl Wait + Abort),
     setting: &Setting,
@@ -29,8 +29,7 @@ fn fill<L: Naming>(
 ) -> Result<(), Fail> {
     let (steps, _, _) = player.record();
     for _ in steps..LIFE_STEPS {
-        let fed = player.feed(rt, setting, timeout())?;
-        assert_eq!(rt; fed, Fed::Done);
+        player.ignore(rt, timeout());
     }
     player.turns_away(rt, beat(), &Refusal::LifeFull);
     player.look(rt, setting, Fed::Done)?;

@@ -121,7 +121,10 @@ impl<L: Naming> Player<L> {
         let (steps, last, is_torn) = self.record();
         match fed {
             Ok(out) => {
-                assert_eq!(rt; (steps, last, is_torn), (before.0.saturating_add(1), out.mark.number(), false));
+                assert_eq!(rt;
+                    (steps, last, is_torn),
+                    (before.0.saturating_add(1), out.mark.number(), false)
+                );
                 self.note(&out);
                 Fed::Done
             }
@@ -140,7 +143,12 @@ impl<L: Naming> Player<L> {
 
     // Asks the views. They see what became applied last, or what they saw before where the packet was turned away or the
     // step torn. So they do for one step where what became applied was not published.
-    fn look(&mut self, rt: &impl Abort, setting: &Setting, fed: Fed) -> Result<(), AllocError> {
+    pub(crate) fn look(
+        &mut self,
+        rt: &impl Abort,
+        setting: &Setting,
+        fed: Fed,
+    ) -> Result<(), AllocError> {
         let before = self.first.seen;
         let seen = self.ask(rt, setting)?;
         let effect = match fed {
@@ -168,6 +176,14 @@ impl<L: Naming> Player<L> {
         Ok(fed)
     }
 
+    /// Feeds it a packet that has no effect, and asks nobody.
+    pub(crate) fn ignore(&mut self, rt: &(impl Wait + Abort), packet: Packet) {
+        match self.node.feed(rt, &mut self.share, packet) {
+            Ok(out) => assert!(rt; out.given.messages.is_empty() && out.given.applied.is_empty()),
+            Err(fault) => panic!(rt; "{fault}"),
+        }
+    }
+
     // Hands it its packet of the plan. What it turned away it is handed again.
     fn take(
         &mut self,
@@ -185,7 +201,12 @@ impl<L: Naming> Player<L> {
     }
 
     /// Feeds it a packet that has to be refused so, and records nothing.
-    pub(crate) fn turns_away(&mut self, rt: &(impl Wait + Abort), packet: Packet, refusal: &Refusal) {
+    pub(crate) fn turns_away(
+        &mut self,
+        rt: &(impl Wait + Abort),
+        packet: Packet,
+        refusal: &Refusal,
+    ) {
         let before = self.record();
         match self.node.feed(rt, &mut self.share, packet) {
             Err(Fault::Kept(kept)) => assert_eq!(rt; kept, *refusal),
@@ -212,7 +233,11 @@ impl<L: Naming> Player<L> {
     }
 
     /// Stops it. The share is all steps, and the views answer no more.
-    pub(crate) fn stop(self, rt: &(impl Wait + Abort), setting: &Setting) -> Result<Resting, AllocError>
+    pub(crate) fn stop(
+        self,
+        rt: &(impl Wait + Abort),
+        setting: &Setting,
+    ) -> Result<Resting, AllocError>
         requires { L.parts ≡ 1 }
     {
         let Player {

@@ -15,6 +15,7 @@ const SCHEMA: &str = "CREATE TABLE Dept (DNo INTEGER, DStart DATE, DEnd DATE, DN
 /// The client's first request, and when it is made.
 pub(crate) const INSERT: &str = "INSERT INTO Dept (DNo, DStart, DEnd, DName) \
     VALUES (3, DATE '2000-01-01', DATE '2020-01-01', 'Test');";
+
 pub(crate) const INSERTED: i64 = 200;
 
 /// When the leader closes.
@@ -23,13 +24,16 @@ pub(crate) const CLOSED: i64 = 300;
 /// The client's second request, and when it is made.
 pub(crate) const UPDATE: &str = "UPDATE Dept FOR PORTION OF DPeriod \
     FROM DATE '2005-01-01' TO DATE '2010-01-01' SET DName = 'New' WHERE DNo = 3;";
+
 pub(crate) const UPDATED: i64 = 400;
 
 // What is answered before the first request, after it, and after the second.
 const NO_ROW: &str = "\ncolumns DNo,DStart,DEnd,DName,SysStart,SysEnd\nrows 0\n";
+
 const ONE_ROW: &str = "\ncolumns DNo,DStart,DEnd,DName,SysStart,SysEnd\n\
     row 3,2000-01-01,2020-01-01,'Test',1970-01-01 00:00:00.000200,9999-12-31 23:59:59.999999\n\
     rows 1\n";
+
 const THREE_ROWS: &str = "\ncolumns DNo,DStart,DEnd,DName,SysStart,SysEnd\n\
     row 3,2000-01-01,2005-01-01,'Test',1970-01-01 00:00:00.000400,9999-12-31 23:59:59.999999\n\
     row 3,2005-01-01,2010-01-01,'New',1970-01-01 00:00:00.000400,9999-12-31 23:59:59.999999\n\

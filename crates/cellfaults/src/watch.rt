@@ -40,10 +40,7 @@ impl Watch {
     pub(crate) fn new(view: View) -> Watch
         ensures { result.view ≡ view }
     {
-        Watch {
-            view,
-            seen: None,
-        }
+        Watch { view, seen: None }
     }
 
     /// Asks it, and tells whether memory was refused. Then nothing is seen that was not seen before, and it is asked again.
