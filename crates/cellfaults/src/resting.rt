@@ -66,16 +66,17 @@ impl Resting {
             image,
             last,
         } = self;
-        match start(rt, alloc, image, &schema, last) {
+        let started = start(rt, alloc, image, &schema, last);
+        match started {
             Ok(cell) => Ok(cell),
-            Err((refusal, image)) => Err((
-                refusal,
-                Resting {
+            Err((refusal, image)) => {
+                let resting = Resting {
                     schema,
                     image,
                     last,
-                },
-            )),
+                };
+                Err((refusal, resting))
+            }
         }
     }
 

@@ -43,23 +43,51 @@ impl Watch {
         Watch { view, seen: None }
     }
 
+    // Asks it once: none where nothing is closed.
+    fn try_ask(&mut self, setting: &Setting) -> Result<Option<Marked>, Refusal>
+        ensures { book_seen self.new.view ≡ book_seen self.old.view }
+    {
+        match self.view.ask(&setting.query) {
+            Ok(marked) => Ok(Some(marked)),
+            Err(Refusal::NotClosed(None)) => Ok(None),
+            Err(refusal) => Err(refusal),
+        }
+    }
+
+    // Compares an answer.
+    fn take(
+        &mut self,
+        rt: &impl Abort,
+        alloc: Global,
+        answer: Option<Marked>,
+    ) -> Result<(), AllocError>
+        ensures { self.new.view ≡ self.old.view }
+    {
+        self.seen = match answer {
+            Some(marked) => Some(judge(rt, alloc, &marked)?),
+            None => None,
+        };
+        Ok(())
+    }
+
     /// Asks it, and tells whether memory was refused. Then nothing is seen that was not seen before, and it is asked again.
     pub(crate) fn ask(&mut self, rt: &impl Abort, setting: &Setting) -> Result<bool, AllocError>
         ensures { book_seen self.new.view ≡ book_seen self.old.view }
     {
         let before = self.view.mark();
-        let mut answer = self.view.ask(&setting.query);
-        let is_refused = matches!(&answer, Err(Refusal::NoMemory));
-        if is_refused {
-            assert_eq!(rt; self.view.mark(), before);
-            answer = self.view.ask(&setting.query);
+        match self.try_ask(setting) {
+            Ok(answer) => {
+                self.take(rt, setting.alloc, answer)?;
+                return Ok(false);
+            }
+            Err(refusal) => assert_eq!(rt; refusal, Refusal::NoMemory),
         }
-        self.seen = match answer {
-            Ok(marked) => Some(judge(rt, setting.alloc, &marked)?),
-            Err(Refusal::NotClosed(None)) => None,
+        assert_eq!(rt; self.view.mark(), before);
+        match self.try_ask(setting) {
+            Ok(answer) => self.take(rt, setting.alloc, answer)?,
             Err(refusal) => panic!(rt; "{refusal}"),
-        };
-        Ok(is_refused)
+        }
+        Ok(true)
     }
 
     /// Its life has ended: it answers 45.
