@@ -61,10 +61,11 @@ impl Resting {
     ) -> Result<Cell<MemKeeper>, (Refusal, Resting)>
         ensures { IfOk result (λ c. (members_of c.node ≡ 3) × (all_steps c.life ≡ [])) }
     {
+        let last = self.last;
         let Resting {
             schema,
             image,
-            last,
+            last: kept,
         } = self;
         let started = start(rt, alloc, image, &schema, last);
         match started {
@@ -73,7 +74,7 @@ impl Resting {
                 let resting = Resting {
                     schema,
                     image,
-                    last,
+                    last: kept,
                 };
                 Err((refusal, resting))
             }
