@@ -38,12 +38,42 @@ fn take_view<L: Naming>(
     ensures same { (node.new.cell.node ≡ node.old.cell.node) × (node.new.cell.life ≡ node.old.cell.life) }
     ensures life { IfOk result (λ w. book_seen w.view ≡ L.history) }
 {
-    let mut taken = node.take_view();
-    if matches!(&taken, Err(Refusal::NoMemory)) {
-        effect.note(rt, Effect::NoView);
-        taken = node.take_view();
+    match node.take_view() {
+        Ok(view) => Ok(Watch::new(view)),
+        Err(refusal) => {
+            assert_eq!(rt; refusal, Refusal::NoMemory);
+            effect.note(rt, Effect::NoView);
+            Ok(Watch::new(node.take_view()?))
+        }
     }
-    Ok(Watch::new(taken?))
+}
+
+// Two of them.
+fn take_views<L: Naming>(
+    rt: &impl Abort,
+    node: &mut LockedNode<MemKeeper, L>,
+    effect: &mut Effect,
+) -> Result<(Watch, Watch), Refusal>
+    ensures same { (node.new.cell.node ≡ node.old.cell.node) × (node.new.cell.life ≡ node.old.cell.life) }
+    ensures life { IfOk result (λ w. (book_seen w.0.view ≡ L.history) × (book_seen w.1.view ≡ L.history)) }
+{
+    let first = take_view(rt, node, effect)?;
+    let second = take_view(rt, node, effect)?;
+    Ok((first, second))
+}
+
+// Stops a cell of which so many steps were recorded.
+fn rest(
+    rt: &(impl Wait + Abort),
+    cell: Cell<MemKeeper>,
+    recorded: usize,
+) -> Result<Resting, AllocError>
+    requires { members_of cell.node ≡ 3 }
+{
+    let (resting, life) = Resting::after(rt, cell)?;
+    let (steps, _, is_torn) = record_of(&life);
+    assert_eq!(rt; recorded, steps.saturating_add(usize::from(is_torn)));
+    Ok(resting)
 }
 
 /// A cell under a lock, the one share of its steps, two views of it, and what became applied last.
@@ -75,8 +105,7 @@ impl<L: Naming> Player<L> {
     {
         let (book, share) = blank.open::<L>();
         let mut node = LockedNode::new(cell, book);
-        let first = take_view(rt, &mut node, &mut effect)?;
-        let second = take_view(rt, &mut node, &mut effect)?;
+        let (first, second) = take_views(rt, &mut node, &mut effect)?;
         Ok(Player {
             node,
             share,
@@ -249,10 +278,9 @@ impl<L: Naming> Player<L> {
             effect: _,
         } = self;
         let recorded = node.all_recorded(&mut share);
-        let (resting, life) = Resting::after(rt, node.into_cell())?;
-        let (steps, _, is_torn) = record_of(&life);
-        assert_eq!(rt; recorded, steps.saturating_add(usize::from(is_torn)));
-        assert!(rt; first.is_over(setting) && second.is_over(setting));
-        Ok(resting)
+        let rested = rest(rt, node.into_cell(), recorded);
+        assert!(rt; first.is_over(setting));
+        assert!(rt; second.is_over(setting));
+        rested
     }
 }

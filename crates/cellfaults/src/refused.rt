@@ -33,9 +33,10 @@ fn play_life<L: Naming>(
     requires cell { (members_of cell.node ≡ 3) × (all_steps cell.life ≡ []) }
 {
     let mut player = Player::<L>::new(rt, cell, blank, effect)?;
-    player.play(rt, setting)?;
+    let played = player.play(rt, setting);
     let effect = player.effect;
     let resting = player.stop(rt, setting)?;
+    played?;
     Ok((resting, effect))
 }
 

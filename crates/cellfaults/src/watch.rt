@@ -43,31 +43,30 @@ impl Watch {
         Watch { view, seen: None }
     }
 
-    // Asks it once: none where nothing is closed.
-    fn try_ask(&mut self, setting: &Setting) -> Result<Option<Marked>, Refusal>
-        ensures { book_seen self.new.view ≡ book_seen self.old.view }
-    {
-        match self.view.ask(&setting.query) {
-            Ok(marked) => Ok(Some(marked)),
-            Err(Refusal::NotClosed(None)) => Ok(None),
-            Err(refusal) => Err(refusal),
-        }
-    }
-
-    // Compares an answer.
+    // Compares an answer, and tells whether there was memory for it.
     fn take(
         &mut self,
         rt: &impl Abort,
         alloc: Global,
-        answer: Option<Marked>,
-    ) -> Result<(), AllocError>
+        answer: &Result<Marked, Refusal>,
+    ) -> Result<bool, AllocError>
         ensures { self.new.view ≡ self.old.view }
     {
         self.seen = match answer {
-            Some(marked) => Some(judge(rt, alloc, &marked)?),
-            None => None,
+            Ok(marked) => Some(judge(rt, alloc, marked)?),
+            Err(Refusal::NotClosed(None)) => None,
+            Err(Refusal::NoMemory) => return Ok(false),
+            Err(refusal) => panic!(rt; "{refusal}"),
         };
-        Ok(())
+        Ok(true)
+    }
+
+    // Asks it once, and tells whether there was memory.
+    fn try_ask(&mut self, rt: &impl Abort, setting: &Setting) -> Result<bool, AllocError>
+        ensures { book_seen self.new.view ≡ book_seen self.old.view }
+    {
+        let answer = self.view.ask(&setting.query);
+        self.take(rt, setting.alloc, &answer)
     }
 
     /// Asks it, and tells whether memory was refused. Then nothing is seen that was not seen before, and it is asked again.
@@ -75,18 +74,12 @@ impl Watch {
         ensures { book_seen self.new.view ≡ book_seen self.old.view }
     {
         let before = self.view.mark();
-        match self.try_ask(setting) {
-            Ok(answer) => {
-                self.take(rt, setting.alloc, answer)?;
-                return Ok(false);
-            }
-            Err(refusal) => assert_eq!(rt; refusal, Refusal::NoMemory),
+        if self.try_ask(rt, setting)? {
+            return Ok(false);
         }
         assert_eq!(rt; self.view.mark(), before);
-        match self.try_ask(setting) {
-            Ok(answer) => self.take(rt, setting.alloc, answer)?,
-            Err(refusal) => panic!(rt; "{refusal}"),
-        }
+        let is_answered = self.try_ask(rt, setting)?;
+        assert!(rt; is_answered);
         Ok(true)
     }
 

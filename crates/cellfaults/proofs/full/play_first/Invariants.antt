@@ -1,5 +1,5 @@
 use Rattle.view.specs.Publishing.{book_of}
-use Rattle.cellfaults.proofs.full.fills_a_life.Given as goal
+use Rattle.cellfaults.proofs.full.play_first.Given as goal
 
 -- the history of the cell that was just started
 abbrev pub ghosts-play_full-L-Naming : goal.ghosts-play_full-L-Naming
