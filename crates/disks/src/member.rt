@@ -1,0 +1,163 @@
+//! The second member of three, which follows a leader and then another.
+use crate::files::{Database, Pair, files_of, open};
+use crate::found::{number_of, number_of_open};
+use crate::states::{LINES, Line, STEPS};
+use durable::SqlKeeper;
+use fault::Text;
+use keep::Shelf;
+use model::entry::{Entries, Entry, Request};
+use model::member::Member;
+use model::message::{Body, Input, Message};
+use model::request::{Client, RequestNumber};
+use model::stamp::Stamp;
+use node::{Fault, Node};
+use raft::state::Work;
+use schema::Schema;
+use sqlite::FileStore;
+use sqlite_disk::{Fuse, Memory};
+use std::alloc::{AllocError, Global};
+
+/// A member over a database in memory.
+pub(crate) type Follower = Node<SqlKeeper<FileStore<Fuse<Memory>>>>;
+
+/// What a step answers.
+#[derive(Clone, Copy, PartialEq, Eq, Debug)]
+pub(crate) enum Answer {
+    Done,
+    /// A refusal that changed nothing, with its number.
+    Kept(u8),
+    /// The member is down, and says why.
+    Down(u8),
+}
+
+// The request of a line, none of a Close.
+fn request_of(alloc: Global, line: &Line) -> Result<Option<Request>, AllocError> {
+    let Some(client) = Client::new(line.client) else {
+        return Ok(None);
+    };
+    let Some(number) = RequestNumber::new(line.number) else {
+        return Ok(None);
+    };
+    let text = Text::new(alloc, line.text)?;
+    Ok(Some(Request {
+        client,
+        number,
+        text,
+    }))
+}
+
+// The entry of a line.
+fn entry_of(alloc: Global, line: &Line) -> Result<Entry, AllocError> {
+    let request = request_of(alloc, line)?;
+    Ok(Entry {
+        term: line.term,
+        stamp: Stamp::at(100, line.stamp.min(1000)),
+        request,
+    })
+}
+
+// The entries of some lines.
+fn entries_of(alloc: Global, lines: &[Line]) -> Result<Entries, AllocError> {
+    let mut entries = Vec::new(alloc);
+    for line in lines {
+        entries.push(entry_of(alloc, line)?)?;
+    }
+    Ok(Entries::new(entries))
+}
+
+// A message to the member.
+fn delivered(sender: Member, term: u64, body: Body) -> Work {
+    let message = Message {
+        sender,
+        addressee: 2,
+        term,
+        body,
+    };
+    Work::Delivered {
+        reading: 100,
+        message,
+    }
+}
+
+// The first member asks for a vote.
+fn ask_for_vote() -> Work {
+    let body = Body::RequestVote {
+        last_index: 0,
+        last_term: 0,
+    };
+    delivered(1, 1, body)
+}
+
+// A leader sends what comes after so many entries.
+fn append(
+    alloc: Global,
+    leader: Member,
+    term: u64,
+    prev_index: usize,
+    lines: &[Line],
+) -> Result<Work, AllocError> {
+    let prev_term = if prev_index == 0 { 0 } else { 1 };
+    let body = Body::Append {
+        prev_index,
+        prev_term,
+        entries: entries_of(alloc, lines)?,
+        commit: 0,
+    };
+    Ok(delivered(leader, term, body))
+}
+
+// What is brought to the member after so many steps: a vote is asked for, one entry, two, and another in place of the
+// last of these.
+fn work_after(alloc: Global, steps: usize) -> Result<Work, AllocError> {
+    match steps {
+        0 => Ok(ask_for_vote()),
+        1 => append(alloc, 1, 1, 0, &LINES[0..1]),
+        2 => append(alloc, 1, 1, 1, &LINES[1..3]),
+        _ => append(alloc, 3, 2, 2, &LINES[3..4]),
+    }
+}
+
+/// Takes a step.
+pub(crate) fn take(member: &mut Follower, work: Work) -> Answer {
+    match member.step(work) {
+        Ok(_) => Answer::Done,
+        Err(Fault::Kept(refusal)) => Answer::Kept(refusal.number()),
+        Err(Fault::Down(error)) => Answer::Down(number_of(error)),
+    }
+}
+
+/// Takes the steps, until one is not done: how many are, and what the last one answered.
+pub(crate) fn take_all(
+    alloc: Global,
+    member: &mut Follower,
+) -> Result<(usize, Answer), AllocError> {
+    for steps in 0..STEPS {
+        let answer = take(member, work_after(alloc, steps)?);
+        if answer != Answer::Done {
+            return Ok((steps, answer));
+        }
+    }
+    Ok((STEPS, Answer::Done))
+}
+
+/// Whether it takes nothing any more, and its store failed.
+pub(crate) fn is_down(member: &mut Follower) -> bool {
+    let failures = member.keeper.failures();
+    let answer = take(member, Work::Local(Input::Beat));
+    failures == 1 && answer == Answer::Kept(41)
+}
+
+/// Starts it over a database. An error gives the database back.
+pub(crate) fn start(
+    alloc: Global,
+    database: Database,
+    schema: &Schema,
+) -> Result<Follower, (u8, Database)> {
+    let Ok(schema) = schema.clone() else {
+        return Err((43, database));
+    };
+    match Node::start(alloc, database, schema, 3, 2) {
+        Ok(member) => Ok(member),
+        Err((error, database)) => Err((number_of(error), database)),
+    }
+}
