@@ -8,8 +8,6 @@ mod files;
 #[cfg(test)]
 mod found;
 #[cfg(test)]
-mod keepers;
-#[cfg(test)]
 mod member;
 #[cfg(test)]
 mod states;

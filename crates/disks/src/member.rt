@@ -1,6 +1,6 @@
 //! The second member of three, which follows a leader and then another.
-use crate::files::{Database, Pair, files_of, open};
-use crate::found::{number_of, number_of_open};
+use crate::files::Database;
+use crate::found::number_of;
 use crate::states::{LINES, Line, STEPS};
 use durable::SqlKeeper;
 use fault::Text;
@@ -51,7 +51,7 @@ fn entry_of(alloc: Global, line: &Line) -> Result<Entry, AllocError> {
     let request = request_of(alloc, line)?;
     Ok(Entry {
         term: line.term,
-        stamp: Stamp::at(100, line.stamp.min(1000)),
+        stamp: Stamp::new(line.stamp.min(1000)),
         request,
     })
 }
