@@ -3,10 +3,17 @@ use crate::files::{Database, Pair, files_with, open};
 use crate::found::{Found, find};
 use crate::member::{Answer, start, take_all};
 use crate::states::{SCHEMA, STEPS};
+use durable::SqlKeeper;
+use node::Node;
 use schema::Schema;
 use schemaread::schemas::read_schema;
+use sqlite::FileStore;
+use sqlite_disk::{Fuse, Memory};
 use std::alloc::{AllocError, Global};
 use std::test::Fail;
+
+// A member over a database in memory.
+type Follower = Node<SqlKeeper<FileStore<Fuse<Memory>>>>;
 
 // What opens of damaged files found.
 #[derive(Clone, Copy, Debug)]
@@ -47,7 +54,8 @@ impl Counts {
 
 // The database of a member that took all steps, copied into its file.
 fn saved(alloc: Global, database: Database, schema: &Schema) -> Result<Pair, Fail> {
-    let Ok(mut member) = start(alloc, database, schema) else {
+    let started: Result<Follower, (u8, Database)> = start(alloc, database, schema);
+    let Ok(mut member) = started else {
         return Err(Fail::from("the member does not start"));
     };
     let (_, answer) = take_all(alloc, &mut member)?;
@@ -136,7 +144,10 @@ fn changed_bytes(rt: HostRuntime) -> Result<(), Fail> {
         let mut bytes = saved_bytes(alloc, &schema, has_sums)?;
         for bits in [1, 128] {
             let counts = change_each(alloc, &mut bytes, bits, &schema)?;
-            println!(rt; "{} bytes, sums {has_sums}, bits {bits}: {counts:?}", bytes.len())?;
+            println!(rt;
+                "{} bytes, sums {has_sums}, bits {bits}: {counts:?}",
+                bytes.len()
+            )?;
         }
     }
     Ok(())

@@ -16,11 +16,7 @@ pub(crate) const ALL: u64 = u64::MAX;
 const FRAMES: usize = 3;
 
 /// A file that holds these bytes on its disk, and stops after so many calls.
-pub(crate) fn file_of(
-    alloc: Global,
-    bytes: &[u8],
-    calls: u64,
-) -> Result<Fuse<Memory>, AllocError> {
+pub(crate) fn file_of(alloc: Global, bytes: &[u8], calls: u64) -> Result<Fuse<Memory>, AllocError> {
     let mut file = Memory::new(alloc);
     file.write_at(0, bytes).map_err(|_| AllocError)?;
     file.sync().map_err(|_| AllocError)?;
@@ -36,11 +32,7 @@ pub(crate) fn files_with(alloc: Global, log: &[u8], db: &[u8]) -> Result<Pair, A
 
 /// What a process that ends at once leaves: all that was written.
 pub(crate) fn written(alloc: Global, files: &Pair) -> Result<Pair, AllocError> {
-    files_with(
-        alloc,
-        files.log.inner().bytes(),
-        files.db.inner().bytes(),
-    )
+    files_with(alloc, files.log.inner().bytes(), files.db.inner().bytes())
 }
 
 /// What a machine that stops at once leaves at least: what was synced.

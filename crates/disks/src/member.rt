@@ -1,10 +1,10 @@
 //! The second member of three, which follows a leader and then another.
-use crate::files::Database;
+ghost use Rattle.sqlread.specs.Meaning.{schema_of};
+
 use crate::found::number_of;
 use crate::states::{LINES, Line, STEPS};
-use durable::SqlKeeper;
 use fault::Text;
-use keep::Shelf;
+use keep::{Keeper, Shelf};
 use model::entry::{Entries, Entry, Request};
 use model::member::Member;
 use model::message::{Body, Input, Message};
@@ -13,12 +13,7 @@ use model::stamp::Stamp;
 use node::{Fault, Node};
 use raft::state::Work;
 use schema::Schema;
-use sqlite::FileStore;
-use sqlite_disk::{Fuse, Memory};
 use std::alloc::{AllocError, Global};
-
-/// A member over a database in memory.
-pub(crate) type Follower = Node<SqlKeeper<FileStore<Fuse<Memory>>>>;
 
 /// What a step answers.
 #[derive(Clone, Copy, PartialEq, Eq, Debug)]
@@ -118,7 +113,7 @@ fn work_after(alloc: Global, steps: usize) -> Result<Work, AllocError> {
 }
 
 /// Takes a step.
-pub(crate) fn take(member: &mut Follower, work: Work) -> Answer {
+fn take<K: Keeper>(member: &mut Node<K>, work: Work) -> Answer {
     match member.step(work) {
         Ok(_) => Answer::Done,
         Err(Fault::Kept(refusal)) => Answer::Kept(refusal.number()),
@@ -127,9 +122,9 @@ pub(crate) fn take(member: &mut Follower, work: Work) -> Answer {
 }
 
 /// Takes the steps, until one is not done: how many are, and what the last one answered.
-pub(crate) fn take_all(
+pub(crate) fn take_all<K: Keeper>(
     alloc: Global,
-    member: &mut Follower,
+    member: &mut Node<K>,
 ) -> Result<(usize, Answer), AllocError> {
     for steps in 0..STEPS {
         let answer = take(member, work_after(alloc, steps)?);
@@ -141,23 +136,25 @@ pub(crate) fn take_all(
 }
 
 /// Whether it takes nothing any more, and its store failed.
-pub(crate) fn is_down(member: &mut Follower) -> bool {
+pub(crate) fn is_down<K: Keeper>(member: &mut Node<K>) -> bool {
     let failures = member.keeper.failures();
     let answer = take(member, Work::Local(Input::Beat));
     failures == 1 && answer == Answer::Kept(41)
 }
 
-/// Starts it over a database. An error gives the database back.
-pub(crate) fn start(
+/// Starts it over what an image holds. An error gives the image back.
+pub(crate) fn start<K: Keeper>(
     alloc: Global,
-    database: Database,
+    image: K::Image,
     schema: &Schema,
-) -> Result<Follower, (u8, Database)> {
+) -> Result<Node<K>, (u8, K::Image)>
+    requires { K.suits image 3 (schema_of schema.now) }
+{
     let Ok(schema) = schema.clone() else {
-        return Err((43, database));
+        return Err((43, image));
     };
-    match Node::start(alloc, database, schema, 3, 2) {
+    match Node::start(alloc, image, schema, 3, 2) {
         Ok(member) => Ok(member),
-        Err((error, database)) => Err((number_of(error), database)),
+        Err((error, image)) => Err((number_of(error), image)),
     }
 }

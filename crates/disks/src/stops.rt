@@ -1,14 +1,23 @@
 //! A member of which each file call is stopped in turn.
-use crate::files::{ALL, Database, Pair, file_of, files_of, has_stopped, lose_power, open, written};
+use crate::files::{
+    ALL, Database, Pair, file_of, files_of, has_stopped, lose_power, open, written,
+};
 use crate::found::{Found, find, number_of_open};
-use crate::member::{Answer, Follower, is_down, start, take_all};
+use crate::member::{Answer, is_down, start, take_all};
 use crate::states::{SCHEMA, STEPS};
+use durable::SqlKeeper;
+use keep::Keeper;
+use node::Node;
 use schema::Schema;
 use schemaread::schemas::read_schema;
-use sqlite::Files;
+use sqlite::{FileStore, Files};
+use sqlite_disk::{Fuse, Memory};
 use std::alloc::{AllocError, Global};
 use std::process::Abort;
 use std::test::Fail;
+
+// A member over a database in memory.
+type Follower = Node<SqlKeeper<FileStore<Fuse<Memory>>>>;
 
 // How a run ended: after so many steps, with this answer of the open, the start, or the last step.
 #[derive(Clone, Copy, Debug)]
@@ -26,7 +35,11 @@ fn stopping(alloc: Global, is_log: bool, calls: u64) -> Result<Pair, AllocError>
 }
 
 // Takes the steps. A member that goes down takes nothing any more.
-fn run_member(rt: &impl Abort, alloc: Global, member: &mut Follower) -> Result<Ended, AllocError> {
+fn run_member<K: Keeper>(
+    rt: &impl Abort,
+    alloc: Global,
+    member: &mut Node<K>,
+) -> Result<Ended, AllocError> {
     let (steps, answer) = take_all(alloc, member)?;
     if answer != Answer::Done {
         assert!(rt; is_down(member), "after {steps} steps");
@@ -41,7 +54,8 @@ fn run_database(
     database: Database,
     schema: &Schema,
 ) -> Result<(Ended, Pair), AllocError> {
-    match start(alloc, database, schema) {
+    let started: Result<Follower, (u8, Database)> = start(alloc, database, schema);
+    match started {
         Ok(mut member) => {
             let ended = run_member(rt, alloc, &mut member)?;
             Ok((ended, files_of(member.stop())))
@@ -93,7 +107,10 @@ fn judge(
     assert!(rt; may_leave(ended, found), "{ended:?} leaves {found:?}");
     lose_power(&mut files);
     let found = find(alloc, files, schema);
-    assert!(rt; may_leave(ended, found), "{ended:?} leaves {found:?} without power");
+    assert!(rt;
+        may_leave(ended, found),
+        "{ended:?} leaves {found:?} without power"
+    );
     Ok(())
 }
 
