@@ -1,19 +1,12 @@
 //! A database file that is cut, and one of which a byte is changed.
-use crate::files::{Database, Pair, files_with, open};
+use crate::files::{Database, Kept, Pair, files_with, open};
 use crate::found::{Found, find};
-use crate::member::{Answer, start, take_all};
+use crate::member::{Answer, run};
 use crate::states::{SCHEMA, STEPS};
-use durable::SqlKeeper;
-use node::Node;
 use schema::Schema;
 use schemaread::schemas::read_schema;
-use sqlite::FileStore;
-use sqlite_disk::{Fuse, Memory};
 use std::alloc::{AllocError, Global};
 use std::test::Fail;
-
-// A member over a database in memory.
-type Follower = Node<SqlKeeper<FileStore<Fuse<Memory>>>>;
 
 // What opens of damaged files found.
 #[derive(Clone, Copy, Debug)]
@@ -52,23 +45,19 @@ impl Counts {
     }
 }
 
-// The database of a member that took all steps, copied into its file.
+// The files of a member that took all steps, its log copied.
 fn saved(alloc: Global, database: Database, schema: &Schema) -> Result<Pair, Fail> {
-    let started: Result<Follower, (u8, Database)> = start(alloc, database, schema);
-    let Ok(mut member) = started else {
-        return Err(Fail::from("the member does not start"));
-    };
-    let (_, answer) = take_all(alloc, &mut member)?;
-    if answer != Answer::Done {
+    let (ended, database) = run::<Kept>(alloc, database, schema)?;
+    if ended.answer != Answer::Done {
         return Err(Fail::from("the member goes down"));
     }
-    match member.stop().close_files() {
+    match database.close_files() {
         Ok(files) => Ok(files),
         Err(_) => Err(Fail::from("the log is not copied")),
     }
 }
 
-// The same of new files, with or without sums: the bytes of the database file.
+// The bytes of its database file, with or without sums.
 fn saved_bytes(alloc: Global, schema: &Schema, has_sums: bool) -> Result<Vec<u8>, Fail> {
     let Ok(database) = open(alloc, files_with(alloc, &[], &[])?, has_sums) else {
         return Err(Fail::from("new files do not open"));
@@ -84,7 +73,7 @@ fn find_in(alloc: Global, bytes: &[u8], schema: &Schema) -> Result<Found, AllocE
     Ok(find(alloc, files, schema))
 }
 
-// The file is cut after each of so many bytes, from this one on, by steps of so many.
+// The file is cut after each of its bytes but the last.
 fn cut_each(alloc: Global, bytes: &[u8], schema: &Schema) -> Result<Counts, AllocError> {
     let mut counts = NONE;
     for length in 0..bytes.len() {

@@ -25,6 +25,15 @@ pub(crate) enum Answer {
     Down(u8),
 }
 
+/// How a run ended: after so many steps that were done, with this answer of the start or of the step after these.
+#[derive(Clone, Copy, Debug)]
+pub(crate) struct Ended {
+    pub steps: usize,
+    pub answer: Answer,
+    /// It took nothing any more then, and told of one failure of its store.
+    pub is_down: bool,
+}
+
 // The request of a line, none of a Close.
 fn request_of(alloc: Global, line: &Line) -> Result<Option<Request>, AllocError> {
     let Some(client) = Client::new(line.client) else {
@@ -112,7 +121,7 @@ fn work_after(alloc: Global, steps: usize) -> Result<Work, AllocError> {
     }
 }
 
-/// Takes a step.
+// Takes a step.
 fn take<K: Keeper>(member: &mut Node<K>, work: Work) -> Answer {
     match member.step(work) {
         Ok(_) => Answer::Done,
@@ -121,29 +130,34 @@ fn take<K: Keeper>(member: &mut Node<K>, work: Work) -> Answer {
     }
 }
 
-/// Takes the steps, until one is not done: how many are, and what the last one answered.
-pub(crate) fn take_all<K: Keeper>(
-    alloc: Global,
-    member: &mut Node<K>,
-) -> Result<(usize, Answer), AllocError> {
-    for steps in 0..STEPS {
-        let answer = take(member, work_after(alloc, steps)?);
-        if answer != Answer::Done {
-            return Ok((steps, answer));
-        }
-    }
-    Ok((STEPS, Answer::Done))
-}
-
-/// Whether it takes nothing any more, and its store failed.
-pub(crate) fn is_down<K: Keeper>(member: &mut Node<K>) -> bool {
+// Whether it takes nothing any more, and its store failed.
+fn is_down<K: Keeper>(member: &mut Node<K>) -> bool {
     let failures = member.keeper.failures();
     let answer = take(member, Work::Local(Input::Beat));
     failures == 1 && answer == Answer::Kept(41)
 }
 
-/// Starts it over what an image holds. An error gives the image back.
-pub(crate) fn start<K: Keeper>(
+// Takes the steps, until one is not done.
+fn take_all<K: Keeper>(alloc: Global, member: &mut Node<K>) -> Result<Ended, AllocError> {
+    for steps in 0..STEPS {
+        let answer = take(member, work_after(alloc, steps)?);
+        if answer != Answer::Done {
+            return Ok(Ended {
+                steps,
+                answer,
+                is_down: is_down(member),
+            });
+        }
+    }
+    Ok(Ended {
+        steps: STEPS,
+        answer: Answer::Done,
+        is_down: false,
+    })
+}
+
+// Starts the member over what an image holds. An error gives the image back.
+fn start<K: Keeper>(
     alloc: Global,
     image: K::Image,
     schema: &Schema,
@@ -156,5 +170,32 @@ pub(crate) fn start<K: Keeper>(
     match Node::start(alloc, image, schema, 3, 2) {
         Ok(member) => Ok(member),
         Err((error, image)) => Err((number_of(error), image)),
+    }
+}
+
+/// Starts the member over what an image holds and takes the steps, as far as that goes. The image that it leaves.
+pub(crate) fn run<K: Keeper>(
+    alloc: Global,
+    image: K::Image,
+    schema: &Schema,
+) -> Result<(Ended, K::Image), AllocError>
+    requires { K.suits image 3 (schema_of schema.now) }
+{
+    let started: Result<Node<K>, (u8, K::Image)> = start(alloc, image, schema);
+    match started {
+        Ok(mut member) => {
+            let ended = take_all(alloc, &mut member)?;
+            Ok((ended, member.stop()))
+        }
+        Err((number, image)) => Ok((unstarted(number), image)),
+    }
+}
+
+/// A run that ended before the first step.
+pub(crate) fn unstarted(number: u8) -> Ended {
+    Ended {
+        steps: 0,
+        answer: Answer::Down(number),
+        is_down: true,
     }
 }

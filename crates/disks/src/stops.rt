@@ -1,30 +1,16 @@
 //! A member of which each file call is stopped in turn.
 use crate::files::{
-    ALL, Database, Pair, file_of, files_of, has_stopped, lose_power, open, written,
+    ALL, Database, Kept, Pair, file_of, files_of, has_stopped, lose_power, open, written,
 };
 use crate::found::{Found, find, number_of_open};
-use crate::member::{Answer, is_down, start, take_all};
+use crate::member::{Answer, Ended, run, unstarted};
 use crate::states::{SCHEMA, STEPS};
-use durable::SqlKeeper;
-use keep::Keeper;
-use node::Node;
 use schema::Schema;
 use schemaread::schemas::read_schema;
-use sqlite::{FileStore, Files};
-use sqlite_disk::{Fuse, Memory};
+use sqlite::Files;
 use std::alloc::{AllocError, Global};
 use std::process::Abort;
 use std::test::Fail;
-
-// A member over a database in memory.
-type Follower = Node<SqlKeeper<FileStore<Fuse<Memory>>>>;
-
-// How a run ended: after so many steps, with this answer of the open, the start, or the last step.
-#[derive(Clone, Copy, Debug)]
-struct Ended {
-    steps: usize,
-    answer: Answer,
-}
 
 // New files, of which one stops after so many calls.
 fn stopping(alloc: Global, is_log: bool, calls: u64) -> Result<Pair, AllocError> {
@@ -34,53 +20,22 @@ fn stopping(alloc: Global, is_log: bool, calls: u64) -> Result<Pair, AllocError>
     Ok(Files { log, db })
 }
 
-// Takes the steps. A member that goes down takes nothing any more.
-fn run_member<K: Keeper>(
-    rt: &impl Abort,
-    alloc: Global,
-    member: &mut Node<K>,
-) -> Result<Ended, AllocError> {
-    let (steps, answer) = take_all(alloc, member)?;
-    if answer != Answer::Done {
-        assert!(rt; is_down(member), "after {steps} steps");
+// Opens the files, starts the member and takes the steps, as far as that goes. What is left of the files.
+fn run_files(alloc: Global, files: Pair, schema: &Schema) -> Result<(Ended, Pair), AllocError> {
+    match open(alloc, files, false) {
+        Ok(database) => run_database(alloc, database, schema),
+        Err((error, files)) => Ok((unstarted(number_of_open(&error)), files)),
     }
-    Ok(Ended { steps, answer })
 }
 
-// Starts a member and takes the steps, as far as that goes. What is left of the files.
+// The same of a database that is open.
 fn run_database(
-    rt: &impl Abort,
     alloc: Global,
     database: Database,
     schema: &Schema,
 ) -> Result<(Ended, Pair), AllocError> {
-    let started: Result<Follower, (u8, Database)> = start(alloc, database, schema);
-    match started {
-        Ok(mut member) => {
-            let ended = run_member(rt, alloc, &mut member)?;
-            Ok((ended, files_of(member.stop())))
-        }
-        Err((number, database)) => {
-            let answer = Answer::Down(number);
-            Ok((Ended { steps: 0, answer }, files_of(database)))
-        }
-    }
-}
-
-// Opens the files and goes on as far as that goes. What is left of the files.
-fn run(
-    rt: &impl Abort,
-    alloc: Global,
-    files: Pair,
-    schema: &Schema,
-) -> Result<(Ended, Pair), AllocError> {
-    match open(alloc, files, false) {
-        Ok(database) => run_database(rt, alloc, database, schema),
-        Err((error, files)) => {
-            let answer = Answer::Down(number_of_open(&error));
-            Ok((Ended { steps: 0, answer }, files))
-        }
-    }
+    let (ended, database) = run::<Kept>(alloc, database, schema)?;
+    Ok((ended, files_of(database)))
 }
 
 // Whether a run that ended so may leave this: what was stored before its last step, or after it.
@@ -88,6 +43,7 @@ fn may_leave(ended: Ended, found: Found) -> bool {
     match ended.answer {
         Answer::Done => found == Found::Steps(STEPS),
         Answer::Kept(_) => false,
+        Answer::Down(_) if !ended.is_down => false,
         Answer::Down(_) => {
             let after = ended.steps.saturating_add(1);
             found == Found::Steps(ended.steps) || found == Found::Steps(after)
@@ -122,7 +78,7 @@ fn stop_after(
     is_log: bool,
     calls: u64,
 ) -> Result<(Answer, bool), AllocError> {
-    let (ended, mut files) = run(rt, alloc, stopping(alloc, is_log, calls)?, schema)?;
+    let (ended, mut files) = run_files(alloc, stopping(alloc, is_log, calls)?, schema)?;
     let stopped = has_stopped(&mut files.log) || has_stopped(&mut files.db);
     judge(rt, alloc, ended, files, schema)?;
     Ok((ended.answer, stopped))
