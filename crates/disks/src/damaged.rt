@@ -1,7 +1,7 @@
 //! A database file that is cut, and one of which a byte is changed.
-use crate::files::{Database, Kept, Pair, files_with, open};
+use crate::files::{Database, Pair, files_with, open};
 use crate::found::{Found, find};
-use crate::member::{Answer, run};
+use crate::member::{Answer, run_over};
 use crate::states::{SCHEMA, STEPS};
 use schema::Schema;
 use schemaread::schemas::read_schema;
@@ -47,7 +47,7 @@ impl Counts {
 
 // The files of a member that took all steps, its log copied.
 fn saved(alloc: Global, database: Database, schema: &Schema) -> Result<Pair, Fail> {
-    let (ended, database) = run::<Kept>(alloc, database, schema)?;
+    let (ended, database) = run_over(alloc, database, schema)?;
     if ended.answer != Answer::Done {
         return Err(Fail::from("the member goes down"));
     }
@@ -125,19 +125,31 @@ fn change_each(
     Ok(counts)
 }
 
+// Two bits of each byte are changed, one after the other, of a file with sums or without.
+fn try_changes(
+    rt: &HostRuntime,
+    alloc: Global,
+    schema: &Schema,
+    has_sums: bool,
+) -> Result<(), Fail> {
+    let mut bytes = saved_bytes(alloc, schema, has_sums)?;
+    for bits in [1, 128] {
+        let counts = change_each(alloc, &mut bytes, bits, schema)?;
+        println!(rt; "{} bytes, bits {bits}: {counts:?}", bytes.len())?;
+    }
+    Ok(())
+}
+
 #[test]
 fn changed_bytes(rt: HostRuntime) -> Result<(), Fail> {
     let alloc = rt.alloc();
     let schema = read_schema(alloc, SCHEMA)?;
-    for has_sums in [false, true] {
-        let mut bytes = saved_bytes(alloc, &schema, has_sums)?;
-        for bits in [1, 128] {
-            let counts = change_each(alloc, &mut bytes, bits, &schema)?;
-            println!(rt;
-                "{} bytes, sums {has_sums}, bits {bits}: {counts:?}",
-                bytes.len()
-            )?;
-        }
-    }
-    Ok(())
+    try_changes(&rt, alloc, &schema, false)
+}
+
+#[test]
+fn changed_bytes_with_sums(rt: HostRuntime) -> Result<(), Fail> {
+    let alloc = rt.alloc();
+    let schema = read_schema(alloc, SCHEMA)?;
+    try_changes(&rt, alloc, &schema, true)
 }

@@ -1,5 +1,4 @@
 //! The two files of a database, in memory, each of which stops after so many calls.
-use durable::SqlKeeper;
 use sqlite::{Connection, Error, ErrorCode, FileStore, Files, Options};
 use sqlite_disk::{Crash, Disk, Fuse, Memory};
 use std::alloc::{AllocError, Global};
@@ -9,9 +8,6 @@ pub(crate) type Pair = Files<Fuse<Memory>>;
 
 /// A database over these.
 pub(crate) type Database = Connection<FileStore<Fuse<Memory>>>;
-
-/// What keeps a member's state in it.
-pub(crate) type Kept = SqlKeeper<FileStore<Fuse<Memory>>>;
 
 /// How many calls a file takes that does not stop.
 pub(crate) const ALL: u64 = u64::MAX;

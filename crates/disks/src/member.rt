@@ -3,6 +3,7 @@ ghost use Rattle.sqlread.specs.Meaning.{schema_of};
 
 use crate::found::number_of;
 use crate::states::{LINES, Line, STEPS};
+use durable::SqlKeeper;
 use fault::Text;
 use keep::{Keeper, Shelf};
 use model::entry::{Entries, Entry, Request};
@@ -13,6 +14,7 @@ use model::stamp::Stamp;
 use node::{Fault, Node};
 use raft::state::Work;
 use schema::Schema;
+use sqlite::{Alter, Connection};
 use std::alloc::{AllocError, Global};
 
 /// What a step answers.
@@ -173,8 +175,8 @@ fn start<K: Keeper>(
     }
 }
 
-/// Starts the member over what an image holds and takes the steps, as far as that goes. The image that it leaves.
-pub(crate) fn run<K: Keeper>(
+// Starts the member over what an image holds and takes the steps, as far as that goes. The image that it leaves.
+fn run<K: Keeper>(
     alloc: Global,
     image: K::Image,
     schema: &Schema,
@@ -189,6 +191,15 @@ pub(crate) fn run<K: Keeper>(
         }
         Err((number, image)) => Ok((unstarted(number), image)),
     }
+}
+
+/// Starts the member over a database and takes the steps, as far as that goes. The database that it leaves.
+pub(crate) fn run_over<S: Alter + Drop>(
+    alloc: Global,
+    database: Connection<S>,
+    schema: &Schema,
+) -> Result<(Ended, Connection<S>), AllocError> {
+    run::<SqlKeeper<S>>(alloc, database, schema)
 }
 
 /// A run that ended before the first step.

@@ -1,9 +1,9 @@
 //! A member of which each file call is stopped in turn.
 use crate::files::{
-    ALL, Database, Kept, Pair, file_of, files_of, has_stopped, lose_power, open, written,
+    ALL, Database, Pair, file_of, files_of, has_stopped, lose_power, open, written,
 };
 use crate::found::{Found, find, number_of_open};
-use crate::member::{Answer, Ended, run, unstarted};
+use crate::member::{Answer, Ended, run_over, unstarted};
 use crate::states::{SCHEMA, STEPS};
 use schema::Schema;
 use schemaread::schemas::read_schema;
@@ -34,7 +34,7 @@ fn run_database(
     database: Database,
     schema: &Schema,
 ) -> Result<(Ended, Pair), AllocError> {
-    let (ended, database) = run::<Kept>(alloc, database, schema)?;
+    let (ended, database) = run_over(alloc, database, schema)?;
     Ok((ended, files_of(database)))
 }
 
