@@ -1,15 +1,17 @@
 //! A database file that is cut, and one of which a byte is changed.
-use crate::files::{Pair, files_with, open};
-use crate::found::{Found, find};
-use crate::member::{Ended, run_files};
+use crate::files::{Database, Pair, files_with, open};
+use crate::found::Found;
+use crate::life::live_on;
+use crate::member::Ended;
 use crate::states::{SCHEMA, STEPS};
 use schema::Schema;
 use schemaread::schemas::read_schema;
 use std::alloc::{AllocError, Global};
+use std::process::Abort;
 use std::test::Fail;
 
 // What the opens of damaged files found.
-#[derive(Clone, Copy, Debug, PartialEq, Eq)]
+#[derive(Clone, Copy, Debug)]
 struct Counts {
     /// What was stored last.
     last: u64,
@@ -51,34 +53,32 @@ impl Counts {
     }
 }
 
-// The files of a member that took all steps, its log copied into the database file.
-fn saved(alloc: Global, schema: &Schema) -> Result<Pair, Fail> {
-    let files = files_with(alloc, &[], &[])?;
-    let (ended, files) = run_files(alloc, files, schema, 0)?;
-    if ended != Ended::Whole {
-        return Err(Fail::from("the member goes down"));
-    }
-    let Ok(database) = open(alloc, files) else {
-        return Err(Fail::from("the files do not open"));
-    };
+// The files of a database, its log copied into the database file, and whether that could be done.
+fn closed(database: Database) -> (bool, Pair) {
     match database.close_files() {
-        Ok(files) => Ok(files),
-        Err(_) => Err(Fail::from("the log is not copied")),
+        Ok(files) => (true, files),
+        Err((_, store)) => (false, store.close()),
     }
 }
 
-// The bytes of its database file.
-fn saved_bytes(alloc: Global, schema: &Schema) -> Result<Vec<u8>, Fail> {
-    let files = saved(alloc, schema)?;
-    let bytes = files.db.inner().bytes().to_vec(alloc)?;
-    Ok(bytes)
+// The files of a member that took all steps, with an empty log.
+fn saved(rt: &impl Abort, alloc: Global, schema: &Schema) -> Result<Pair, AllocError> {
+    let files = files_with(alloc, &[], &[])?;
+    let (life, files) = live_on(alloc, files, schema, true);
+    assert!(rt; matches!(life.ended, Some(Ended::Whole)), "{life:?}");
+    let Ok(database) = open(alloc, files) else {
+        panic!(rt; "the files do not open");
+    };
+    let (is_copied, files) = closed(database);
+    assert!(rt; is_copied);
+    Ok(files)
 }
 
 // What an open of a database file finds that has these bytes and no log.
 fn find_in(alloc: Global, bytes: &[u8], schema: &Schema) -> Result<Found, AllocError> {
     let files = files_with(alloc, &[], bytes)?;
-    let (found, _) = find(alloc, files, schema);
-    Ok(found)
+    let (life, _) = live_on(alloc, files, schema, false);
+    Ok(life.found)
 }
 
 // The file is cut after each of its bytes but the last.
@@ -89,17 +89,6 @@ fn cut_each(alloc: Global, bytes: &[u8], schema: &Schema) -> Result<Counts, Allo
         counts.count(find_in(alloc, head, schema)?);
     }
     Ok(counts)
-}
-
-#[test]
-fn cut_files(rt: HostRuntime) -> Result<(), Fail> {
-    let alloc = rt.alloc();
-    let schema = read_schema(alloc, SCHEMA)?;
-    let bytes = saved_bytes(alloc, &schema)?;
-    let counts = cut_each(alloc, &bytes, &schema)?;
-    println!(rt; "{} bytes, cut: {counts:?}", bytes.len())?;
-    assert!(rt; counts.wrong == 0 && counts.other == 0);
-    Ok(())
 }
 
 // The byte at a place is changed in these bits: what an open finds. The byte is as before then.
@@ -134,15 +123,46 @@ fn change_each(
     Ok(counts)
 }
 
-#[test]
-fn changed_bytes(rt: HostRuntime) -> Result<(), Fail> {
-    let alloc = rt.alloc();
-    let schema = read_schema(alloc, SCHEMA)?;
-    let mut bytes = saved_bytes(alloc, &schema)?;
+// A file that is cut never shows a state that was never stored.
+fn try_cuts(
+    rt: &(impl Print + Abort),
+    alloc: Global,
+    bytes: &[u8],
+    schema: &Schema,
+) -> Result<(), Fail> {
+    let counts = cut_each(alloc, bytes, schema)?;
+    println!(rt; "{} bytes, cut: {counts:?}", bytes.len())?;
+    assert!(rt; counts.wrong == 0 && counts.other == 0);
+    Ok(())
+}
+
+// A file with a changed byte shows no state but one that a member may have.
+fn try_changes(
+    rt: &(impl Print + Abort),
+    alloc: Global,
+    bytes: &mut [u8],
+    schema: &Schema,
+    bits: u8,
+) -> Result<(), Fail> {
+    let counts = change_each(alloc, bytes, bits, schema)?;
+    println!(rt; "{} bytes, bits {bits}: {counts:?}", bytes.len())?;
+    assert!(rt; counts.wrong == 0);
+    Ok(())
+}
+
+// The file is damaged in each of these ways.
+fn try_all(rt: &(impl Print + Abort), alloc: Global, schema: &Schema) -> Result<(), Fail> {
+    let files = saved(rt, alloc, schema)?;
+    let mut bytes = files.db.inner().bytes().to_vec(alloc)?;
+    try_cuts(rt, alloc, &bytes, schema)?;
     for bits in [1, 128] {
-        let counts = change_each(alloc, &mut bytes, bits, &schema)?;
-        println!(rt; "{} bytes, bits {bits}: {counts:?}", bytes.len())?;
-        assert!(rt; counts.wrong == 0);
+        try_changes(rt, alloc, &mut bytes, schema, bits)?;
     }
     Ok(())
+}
+
+#[test]
+fn damaged_files(rt: HostRuntime) -> Result<(), Fail> {
+    let schema = read_schema(rt.alloc(), SCHEMA)?;
+    try_all(&rt, rt.alloc(), &schema)
 }

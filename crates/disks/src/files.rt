@@ -6,11 +6,8 @@ use std::alloc::{AllocError, Global};
 /// The files of a database: its log, and what the log is copied into.
 pub(crate) type Pair = Files<Fuse<Memory>>;
 
-/// The store of a database over these.
-pub(crate) type Stores = FileStore<Fuse<Memory>>;
-
 /// A database over these.
-pub(crate) type Database = Connection<Stores>;
+pub(crate) type Database = Connection<FileStore<Fuse<Memory>>>;
 
 /// How many calls a file takes that does not stop.
 pub(crate) const ALL: u64 = u64::MAX;

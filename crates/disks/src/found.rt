@@ -11,7 +11,7 @@ use sqlite::{Error, ErrorCode};
 use std::alloc::Global;
 
 /// What an open finds.
-#[derive(Clone, Copy, PartialEq, Eq, Debug)]
+#[derive(Clone, Copy, Debug)]
 pub(crate) enum Found {
     /// What is stored after so many steps.
     Steps(usize),

@@ -1,4 +1,4 @@
-//! Tests.
+//! Tests of a member's database: each call of its files is stopped, its file is cut, its bytes are changed.
 #![tactic(auto)]
 
 #[cfg(test)]
@@ -15,3 +15,5 @@ mod member;
 mod remains;
 #[cfg(test)]
 mod states;
+#[cfg(test)]
+mod stops;

@@ -8,10 +8,10 @@ use durable::SqlKeeper;
 use keep::Keeper;
 use schema::Schema;
 use sqlite::{Alter, Connection};
-use std::alloc::{AllocError, Global};
+use std::alloc::Global;
 
 /// What came of a life.
-#[derive(Clone, Copy, PartialEq, Eq, Debug)]
+#[derive(Clone, Copy, Debug)]
 pub(crate) struct Life {
     /// What the files held as it began.
     pub found: Found,
@@ -26,19 +26,18 @@ fn live<K: Keeper>(
     image: K::Image,
     schema: &Schema,
     goes_on: bool,
-) -> Result<(Life, K::Image), AllocError>
+) -> (Life, K::Image)
     requires { K.suits image 3 (schema_of schema.now) }
 {
     let (found, image) = look::<K>(alloc, image, schema);
-    let Found::Steps(before) = found else {
-        return Ok((Life { found, ended: None }, image));
-    };
-    if !goes_on {
-        return Ok((Life { found, ended: None }, image));
+    match found {
+        Found::Steps(before) if goes_on => {
+            let (ended, image) = run::<K>(alloc, image, schema, before);
+            let ended = Some(ended);
+            (Life { found, ended }, image)
+        }
+        _ => (Life { found, ended: None }, image),
     }
-    let (ended, image) = run::<K>(alloc, image, schema, before)?;
-    let ended = Some(ended);
-    Ok((Life { found, ended }, image))
 }
 
 // The same over a database. The store that it leaves.
@@ -47,27 +46,22 @@ fn live_in<S: Alter + Drop>(
     database: Connection<S>,
     schema: &Schema,
     goes_on: bool,
-) -> Result<(Life, S), AllocError> {
-    let (life, database) = live::<SqlKeeper<S>>(alloc, database, schema, goes_on)?;
-    Ok((life, database.into_store()))
+) -> (Life, S) {
+    let (life, database) = live::<SqlKeeper<S>>(alloc, database, schema, goes_on);
+    (life, database.into_store())
 }
 
 /// Opens the files of a database, and looks at what they hold. Where that is what is stored after some steps, and the
 /// member is to go on, it starts and takes the others. The files that it leaves, with no call of them at the end.
-pub(crate) fn live_on(
-    alloc: Global,
-    files: Pair,
-    schema: &Schema,
-    goes_on: bool,
-) -> Result<(Life, Pair), AllocError> {
+pub(crate) fn live_on(alloc: Global, files: Pair, schema: &Schema, goes_on: bool) -> (Life, Pair) {
     match open(alloc, files) {
         Ok(database) => {
-            let (life, store) = live_in(alloc, database, schema, goes_on)?;
-            Ok((life, store.close()))
+            let (life, store) = live_in(alloc, database, schema, goes_on);
+            (life, store.close())
         }
         Err((error, files)) => {
             let found = Found::Unopened(number_of_open(&error));
-            Ok((Life { found, ended: None }, files))
+            (Life { found, ended: None }, files)
         }
     }
 }

@@ -1,10 +1,8 @@
 //! The second member of three, which follows a leader and then another.
 ghost use Rattle.sqlread.specs.Meaning.{schema_of};
 
-use crate::files::{Database, Pair, Stores, files_of, open};
-use crate::found::{number_of, number_of_open};
+use crate::found::number_of;
 use crate::states::{LINES, Line, STEPS};
-use durable::SqlKeeper;
 use fault::Text;
 use keep::{Keeper, Shelf};
 use model::entry::{Entries, Entry, Request};
@@ -12,13 +10,12 @@ use model::member::Member;
 use model::message::{Body, Input, Message};
 use model::request::{Client, RequestNumber};
 use model::stamp::Stamp;
-use node::{Fault, Node};
-use raft::state::Work;
+use node::{Fault, Node, Work};
 use schema::Schema;
 use std::alloc::{AllocError, Global};
 
 // What a step answers.
-#[derive(Clone, Copy, PartialEq, Eq, Debug)]
+#[derive(Clone, Copy)]
 enum Answer {
     Done,
     /// A refusal that changed nothing, with its number.
@@ -28,7 +25,7 @@ enum Answer {
 }
 
 /// How a run ended.
-#[derive(Clone, Copy, PartialEq, Eq, Debug)]
+#[derive(Clone, Copy, Debug)]
 pub(crate) enum Ended {
     /// All steps were done.
     Whole,
@@ -36,7 +33,7 @@ pub(crate) enum Ended {
     Unstarted(u8),
     /// At the step after so many, the member went down with this number. It takes nothing any more.
     Down { steps: usize, number: u8 },
-    /// The step after so many was refused, or the member took a step after it went down.
+    /// The step after so many could not be made or was refused, or the member went on after it went down.
     Odd { steps: usize },
 }
 
@@ -139,35 +136,29 @@ fn take<K: Keeper>(member: &mut Node<K>, work: Work) -> Answer {
 // Whether it takes nothing any more, and its store failed once.
 fn is_down<K: Keeper>(member: &mut Node<K>) -> bool {
     let failures = member.keeper.failures();
-    let answer = take(member, Work::Local(Input::Beat));
-    failures == 1 && answer == Answer::Kept(41)
+    failures == 1 && matches!(take(member, Work::Local(Input::Beat)), Answer::Kept(41))
 }
 
 // Takes the step after so many, and tells how the run ended where it was not done.
-fn take_after<K: Keeper>(
-    alloc: Global,
-    member: &mut Node<K>,
-    steps: usize,
-) -> Result<Option<Ended>, AllocError> {
-    match take(member, work_after(alloc, steps)?) {
-        Answer::Done => Ok(None),
-        Answer::Down(number) if is_down(member) => Ok(Some(Ended::Down { steps, number })),
-        _ => Ok(Some(Ended::Odd { steps })),
+fn take_after<K: Keeper>(alloc: Global, member: &mut Node<K>, steps: usize) -> Option<Ended> {
+    let Ok(work) = work_after(alloc, steps) else {
+        return Some(Ended::Odd { steps });
+    };
+    match take(member, work) {
+        Answer::Done => None,
+        Answer::Down(number) if is_down(member) => Some(Ended::Down { steps, number }),
+        _ => Some(Ended::Odd { steps }),
     }
 }
 
 // Takes the steps after the first so many, until one is not done.
-fn take_all<K: Keeper>(
-    alloc: Global,
-    member: &mut Node<K>,
-    before: usize,
-) -> Result<Ended, AllocError> {
+fn take_all<K: Keeper>(alloc: Global, member: &mut Node<K>, before: usize) -> Ended {
     for steps in before..STEPS {
-        if let Some(ended) = take_after(alloc, member, steps)? {
-            return Ok(ended);
+        if let Some(ended) = take_after(alloc, member, steps) {
+            return ended;
         }
     }
-    Ok(Ended::Whole)
+    Ended::Whole
 }
 
 // Starts the member over what an image holds. An error gives the image back.
@@ -187,49 +178,22 @@ fn start<K: Keeper>(
     }
 }
 
-// Starts the member over what an image holds and takes the steps after the first so many, as far as that goes. The
-// image that it leaves.
-fn run<K: Keeper>(
+/// Starts the member over what an image holds and takes the steps after the first so many, as far as that goes. The
+/// image that it leaves.
+pub(crate) fn run<K: Keeper>(
     alloc: Global,
     image: K::Image,
     schema: &Schema,
     before: usize,
-) -> Result<(Ended, K::Image), AllocError>
+) -> (Ended, K::Image)
     requires { K.suits image 3 (schema_of schema.now) }
 {
     let started: Result<Node<K>, (u8, K::Image)> = start(alloc, image, schema);
     match started {
         Ok(mut member) => {
-            let ended = take_all(alloc, &mut member, before)?;
-            Ok((ended, member.stop()))
+            let ended = take_all(alloc, &mut member, before);
+            (ended, member.stop())
         }
-        Err((number, image)) => Ok((Ended::Unstarted(number), image)),
-    }
-}
-
-// The same over a database.
-fn run_over(
-    alloc: Global,
-    database: Database,
-    schema: &Schema,
-    before: usize,
-) -> Result<(Ended, Database), AllocError> {
-    run::<SqlKeeper<Stores>>(alloc, database, schema, before)
-}
-
-/// Opens these files, starts the member and takes the steps after the first so many, as far as that goes. The files
-/// that it leaves.
-pub(crate) fn run_files(
-    alloc: Global,
-    files: Pair,
-    schema: &Schema,
-    before: usize,
-) -> Result<(Ended, Pair), AllocError> {
-    match open(alloc, files) {
-        Ok(database) => {
-            let (ended, database) = run_over(alloc, database, schema, before)?;
-            Ok((ended, files_of(database)))
-        }
-        Err((error, files)) => Ok((Ended::Unstarted(number_of_open(&error)), files)),
+        Err((number, image)) => (Ended::Unstarted(number), image),
     }
 }

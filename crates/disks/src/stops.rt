@@ -1,7 +1,8 @@
 //! A member of which each file call is stopped in turn.
 use crate::files::{ALL, Pair, file_of, has_stopped};
-use crate::found::{Found, find};
-use crate::member::{Ended, run_files};
+use crate::found::Found;
+use crate::life::{Life, live_on};
+use crate::member::Ended;
 use crate::remains::{Left, QUARTERS};
 use crate::states::{SCHEMA, STEPS};
 use schema::Schema;
@@ -11,10 +12,10 @@ use std::alloc::{AllocError, Global};
 use std::process::Abort;
 use std::test::Fail;
 
-// What came of the runs of which a file stopped.
+// What came of the lives of which a file stopped.
 #[derive(Clone, Copy, Debug)]
 struct Counts {
-    /// How many calls were stopped, one in each run.
+    /// How many calls were stopped, one in each life.
     calls: u64,
     /// How many of these took the member down with 40, or kept it from starting.
     downs: u64,
@@ -32,46 +33,37 @@ fn stopping(alloc: Global, is_log: bool, calls: u64) -> Result<Pair, AllocError>
     Ok(Files { log, db })
 }
 
-// After how many steps a run that ended so may leave what is stored: at least so many, and at most.
-fn bounds(ended: Ended) -> Option<(usize, usize)> {
-    match ended {
-        Ended::Whole => Some((STEPS, STEPS)),
-        Ended::Unstarted(40) => Some((0, 0)),
-        Ended::Down { steps, number: 40 } => Some((steps, steps.saturating_add(1))),
+// After how many steps what is stored may be after a life: at least so many, and at most.
+fn bounds(life: Life) -> Option<(usize, usize)> {
+    match life.ended {
+        Some(Ended::Whole) => Some((STEPS, STEPS)),
+        Some(Ended::Unstarted(40)) => Some((0, 0)),
+        Some(Ended::Down { steps, number: 40 }) => Some((steps, steps.saturating_add(1))),
+        None if matches!(life.found, Found::Unopened(40) | Found::Refused(40)) => Some((0, 0)),
         _ => None,
     }
 }
 
-// After how many steps a run that ended so left this, none if it may not leave it.
-fn steps_left(ended: Ended, found: Found) -> Option<usize> {
-    let (least, most) = bounds(ended)?;
+// Whether a life over new files may leave this, and it is of after the last step.
+fn is_after(life: Life, found: Found) -> Option<bool> {
+    let (least, most) = bounds(life)?;
     match found {
-        Found::Steps(steps) if least <= steps && steps <= most => Some(steps),
+        Found::Steps(steps) if least <= steps && steps <= most => Some(least < steps),
         _ => None,
     }
 }
 
-// Opens files that a run left which ended so: it finds what was stored before the last step or after it, and the member
-// goes on from there to the last one. Whether it was after.
-fn open_again(
-    rt: &impl Abort,
-    alloc: Global,
-    schema: &Schema,
-    ended: Ended,
-    files: Pair,
-) -> Result<bool, AllocError> {
-    let (found, files) = find(alloc, files, schema);
-    let Some(steps) = steps_left(ended, found) else {
-        panic!(rt; "{ended:?} leaves {found:?}");
-    };
-    let (again, files) = run_files(alloc, files, schema, steps)?;
-    assert!(rt; again == Ended::Whole, "{ended:?} goes on to {again:?}");
-    let (last, _) = find(alloc, files, schema);
-    assert!(rt;
-        last == Found::Steps(STEPS),
-        "{ended:?} goes on to {last:?}"
-    );
-    Ok(matches!(ended, Ended::Down { steps: before, .. } if steps > before))
+// Opens files that a life left: they hold what was stored before its last step or after it, and the member goes on from
+// there to the last one. Whether it was after.
+fn open_again(rt: &impl Abort, alloc: Global, schema: &Schema, life: Life, files: Pair) -> bool {
+    let (next, files) = live_on(alloc, files, schema, true);
+    let (last, _) = live_on(alloc, files, schema, false);
+    let is_whole = matches!(next.ended, Some(Ended::Whole))
+        && matches!(last.found, Found::Steps(STEPS));
+    match is_after(life, next.found) {
+        Some(is_after) if is_whole => is_after,
+        _ => panic!(rt; "{life:?} leaves {next:?} and then {last:?}"),
+    }
 }
 
 impl Counts {
@@ -81,15 +73,13 @@ impl Counts {
         rt: &impl Abort,
         alloc: Global,
         schema: &Schema,
-        ended: Ended,
+        life: Life,
         files: Pair,
-    ) -> Result<(), AllocError> {
-        let is_after = open_again(rt, alloc, schema, ended, files)?;
+    ) {
         self.opens = self.opens.saturating_add(1);
-        if is_after {
+        if open_again(rt, alloc, schema, life, files) {
             self.after = self.after.saturating_add(1);
         }
-        Ok(())
     }
 
     // Opens what is left of the files, with each part of the log that may be on the disk.
@@ -98,14 +88,14 @@ impl Counts {
         rt: &impl Abort,
         alloc: Global,
         schema: &Schema,
-        ended: Ended,
+        life: Life,
         left: &Left,
         db: usize,
     ) -> Result<(), AllocError> {
         for log in 0..QUARTERS + 1 {
             if left.differs(log, db) {
                 let files = left.files(alloc, log, db)?;
-                self.open_part(rt, alloc, schema, ended, files)?;
+                self.open_part(rt, alloc, schema, life, files);
             }
         }
         Ok(())
@@ -117,16 +107,16 @@ impl Counts {
         rt: &impl Abort,
         alloc: Global,
         schema: &Schema,
-        ended: Ended,
+        life: Life,
         left: &Left,
     ) -> Result<(), AllocError> {
         for db in 0..QUARTERS + 1 {
-            self.open_logs(rt, alloc, schema, ended, left, db)?;
+            self.open_logs(rt, alloc, schema, life, left, db)?;
         }
         Ok(())
     }
 
-    // A run of which a file stops after so many calls. Whether it was stopped, or would be at the next call.
+    // A life of which a file stops after so many calls. Whether it was stopped, or would be at the next call.
     fn stop_after(
         &mut self,
         rt: &impl Abort,
@@ -136,11 +126,11 @@ impl Counts {
         calls: u64,
     ) -> Result<bool, AllocError> {
         let files = stopping(alloc, is_log, calls)?;
-        let (ended, mut files) = run_files(alloc, files, schema, 0)?;
+        let (life, mut files) = live_on(alloc, files, schema, true);
         let stopped = has_stopped(&mut files.log) || has_stopped(&mut files.db);
         let left = Left::of(alloc, &mut files)?;
-        self.open_all(rt, alloc, schema, ended, &left)?;
-        if ended != Ended::Whole {
+        self.open_all(rt, alloc, schema, life, &left)?;
+        if !matches!(life.ended, Some(Ended::Whole)) {
             self.downs = self.downs.saturating_add(1);
         }
         Ok(stopped)
@@ -153,7 +143,7 @@ fn stop_each(
     alloc: Global,
     schema: &Schema,
     is_log: bool,
-) -> Result<Counts, Fail> {
+) -> Result<Counts, AllocError> {
     let mut counts = Counts {
         calls: 0,
         downs: 0,
@@ -166,18 +156,28 @@ fn stop_each(
             return Ok(counts);
         }
     }
-    Err(Fail::from("a file has too many calls"))
+    panic!(rt; "a file has too many calls")
+}
+
+// Stops this file at each of its calls, and tells how often: each time the member goes down with 40 or does not start.
+fn try_file(
+    rt: &(impl Print + Abort),
+    alloc: Global,
+    schema: &Schema,
+    is_log: bool,
+) -> Result<(), Fail> {
+    let name = if is_log { "log" } else { "database" };
+    let counts = stop_each(rt, alloc, schema, is_log)?;
+    println!(rt; "{name}: {counts:?}")?;
+    assert!(rt; counts.calls > 0 && counts.downs == counts.calls);
+    Ok(())
 }
 
 #[test]
 fn file_calls_stop(rt: HostRuntime) -> Result<(), Fail> {
-    let alloc = rt.alloc();
-    let schema = read_schema(alloc, SCHEMA)?;
+    let schema = read_schema(rt.alloc(), SCHEMA)?;
     for is_log in [true, false] {
-        let name = if is_log { "log" } else { "database" };
-        let counts = stop_each(&rt, alloc, &schema, is_log)?;
-        println!(rt; "{name}: {counts:?}")?;
-        assert_eq!(rt; counts.downs, counts.calls);
+        try_file(&rt, rt.alloc(), &schema, is_log)?;
     }
     Ok(())
 }
