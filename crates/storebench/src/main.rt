@@ -4,6 +4,8 @@
 //!   `deletes`.
 //! - `start FILE`: how long the start of a node over that database takes.
 //!
+//! Both print the most memory that the process had, too.
+//!
 //! Without words it takes a log over a database in memory, one entry and 64 a message, and prints no times.
 #![tactic(auto)]
 
@@ -12,6 +14,7 @@ ghost use Rattle.sqlread.specs.Meaning.{schema_of};
 mod checks;
 mod follower;
 mod leader;
+mod memory;
 
 use anyhow::{Result, bail, ensure};
 use durable::SqlKeeper;
@@ -23,7 +26,7 @@ use schemaread::schemas::read_schema;
 use sqlite::{Connection, File, FileStore};
 use std::alloc::Global;
 use std::env;
-use std::rt::{Clock, Env};
+use std::rt::{Clock, Env, Files};
 
 const SCHEMA: &str = "CREATE TABLE Stay (Room INTEGER, Came DATE, Went DATE, Guest VARCHAR(30),
  SysStart TIMESTAMP(6) GENERATED ALWAYS AS ROW START,
@@ -103,7 +106,7 @@ fn number_in(word: Option<String>) -> Result<u32> {
 }
 
 // Takes a log over a new database, and prints how fast.
-fn tell_taken<R: Print + Clock, K: Keeper>(
+fn tell_taken<R: Print + Clock + Files + AllocGlobal, K: Keeper>(
     rt: &R,
     alloc: Global,
     schema: &Schema,
@@ -117,7 +120,8 @@ where
     let (mut node, _nanos) = start::<R, K>(rt, alloc, image, schema)?;
     ensure!(length(&node)? == 0, "the database has entries");
     let nanos = take_log(rt, alloc, &mut node, log)?;
-    tell_rates(rt, log, nanos)
+    tell_rates(rt, log, nanos)?;
+    tell_memory(rt)
 }
 
 fn tell_rates<R: Print>(rt: &R, log: &Log, nanos: u128) -> Result<()> {
@@ -135,7 +139,7 @@ fn rate(count: u32, nanos: u128) -> u128 {
 }
 
 // Starts a node, and prints how long this takes.
-fn tell_start<R: Print + Clock, K: Keeper>(
+fn tell_start<R: Print + Clock + Files + AllocGlobal, K: Keeper>(
     rt: &R,
     alloc: Global,
     schema: &Schema,
@@ -148,5 +152,11 @@ where
     let (node, nanos) = start::<R, K>(rt, alloc, image, schema)?;
     let (entries, millis) = (length(&node)?, nanos / 1_000_000);
     println!(rt; "{entries} entries: started in {millis} milliseconds")?;
+    tell_memory(rt)
+}
+
+fn tell_memory<R: Print + Files + AllocGlobal>(rt: &R) -> Result<()> {
+    let most = memory::most(rt)?;
+    println!(rt; "memory: {most} KB at most")?;
     Ok(())
 }
