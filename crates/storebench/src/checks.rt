@@ -8,7 +8,7 @@ use durable::SqlKeeper;
 use keep::keeper::{Keeper, Shelf};
 use node::Node;
 use schema::Schema;
-use sqlite::{Connection, MemStore};
+use sqlite::{Alter, Connection, MemStore};
 use std::alloc::Global;
 use std::rt::Clock;
 
@@ -32,28 +32,38 @@ pub(crate) fn tell<R: Print + Clock>(rt: &R, alloc: Global, schema: &Schema) -> 
 }
 
 fn tell_lives<R: Print + Clock>(rt: &R, alloc: Global, schema: &Schema, log: &Log) -> Result<()> {
-    let carried = log.carried;
     let image = Connection::open_in_memory(alloc)?;
-    let image = first_life::<R, SqlKeeper<MemStore>>(rt, alloc, image, schema, log)?;
+    let asked = lead_lives::<R, MemStore>(rt, alloc, schema, image, log)?;
+    let carried = log.carried;
     println!(rt; "{ENTRIES} entries, {carried} a save: taken and applied")?;
-    let asked = second_life::<R, SqlKeeper<MemStore>>(rt, alloc, image, schema, log)?;
     println!(rt; "the first {AGAIN} again: {asked} entries asked of the store")?;
     Ok(())
+}
+
+fn lead_lives<R: Clock, S: Alter + Drop>(
+    rt: &R,
+    alloc: Global,
+    schema: &Schema,
+    image: Connection<S>,
+    log: &Log,
+) -> Result<u64> {
+    let image = first_life::<R, SqlKeeper<S>>(rt, alloc, schema, image, log)?;
+    second_life::<R, SqlKeeper<S>>(rt, alloc, schema, image, log)
 }
 
 // Takes the log, and stops.
 fn first_life<R: Clock, K: Keeper>(
     rt: &R,
     alloc: Global,
-    image: K::Image,
     schema: &Schema,
+    image: K::Image,
     log: &Log,
 ) -> Result<K::Image>
 where
     K::Image: Drop,
     requires { K.suits image 3 (schema_of schema.now) }
 {
-    let (mut node, _nanos) = start::<R, K>(rt, alloc, image, schema)?;
+    let mut node = start::<K>(alloc, image, schema.clone()?)?;
     take_log(rt, alloc, &mut node, log)?;
     Ok(node.stop())
 }
@@ -62,15 +72,15 @@ where
 fn second_life<R: Clock, K: Keeper>(
     rt: &R,
     alloc: Global,
-    image: K::Image,
     schema: &Schema,
+    image: K::Image,
     log: &Log,
 ) -> Result<u64>
 where
     K::Image: Drop,
     requires { K.suits image 3 (schema_of schema.now) }
 {
-    let (mut node, _nanos) = start::<R, K>(rt, alloc, image, schema)?;
+    let mut node = start::<K>(alloc, image, schema.clone()?)?;
     take_again(rt, alloc, &mut node, log)
 }
 

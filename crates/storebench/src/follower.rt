@@ -11,21 +11,14 @@ use std::alloc::Global;
 use std::rt::Clock;
 use std::time::Instant;
 
-/// Starts it over what the image holds. The nanoseconds that this took.
-pub(crate) fn start<R: Clock, K: Keeper>(
-    rt: &R,
-    alloc: Global,
-    image: K::Image,
-    schema: &Schema,
-) -> Result<(Node<K>, u128)>
+/// Starts it over what the image holds.
+pub(crate) fn start<K: Keeper>(alloc: Global, image: K::Image, schema: Schema) -> Result<Node<K>>
 where
     K::Image: Drop,
-    requires { K.suits image 3 (schema_of schema.now) }
+    requires { K.suits image 3 (schema_of schema) }
 {
-    let schema = schema.clone()?;
-    let start = Instant::now(rt)?;
     match Node::start(alloc, image, schema, 3, 2) {
-        Ok(node) => Ok((node, start.elapsed(rt)?.as_nanos())),
+        Ok(node) => Ok(node),
         Err((error, _image)) => bail!("the node does not start: {error}"),
     }
 }

@@ -9,24 +9,19 @@
 //! Without words it takes a log over a database in memory, one entry and 64 a message, and prints no times.
 #![tactic(auto)]
 
-ghost use Rattle.sqlread.specs.Meaning.{schema_of};
-
 mod checks;
 mod follower;
 mod leader;
 mod memory;
+mod telling;
 
-use anyhow::{Result, bail, ensure};
-use durable::SqlKeeper;
-use follower::{length, start, take_log};
-use keep::keeper::Keeper;
+use anyhow::{Result, bail};
 use leader::{Kind, Log};
 use schema::Schema;
 use schemaread::schemas::read_schema;
 use sqlite::{Connection, File, FileStore};
-use std::alloc::Global;
 use std::env;
-use std::rt::{Clock, Env, Files};
+use std::rt::Env;
 
 const SCHEMA: &str = "CREATE TABLE Stay (Room INTEGER, Came DATE, Went DATE, Guest VARCHAR(30),
  SysStart TIMESTAMP(6) GENERATED ALWAYS AS ROW START,
@@ -37,19 +32,27 @@ const SCHEMA: &str = "CREATE TABLE Stay (Room INTEGER, Came DATE, Went DATE, Gue
 ";
 
 fn main(rt: HostRuntime) -> Result<()> {
-    let alloc = rt.alloc();
-    let schema = read_schema(alloc, SCHEMA)?;
-    match words_given(&rt)? {
-        Asked::Checks => checks::tell(&rt, alloc, &schema),
-        Asked::Take { path, log } => {
-            let image = Connection::open(&rt, path.as_str())?;
-            tell_taken::<_, SqlKeeper<FileStore<File>>>(&rt, alloc, &schema, image, &log)
-        }
-        Asked::Start { path } => {
-            let image = Connection::open(&rt, path.as_str())?;
-            tell_start::<_, SqlKeeper<FileStore<File>>>(&rt, alloc, &schema, image)
-        }
+    let schema = read_schema(rt.alloc(), SCHEMA)?;
+    let asked = words_given(&rt)?;
+    tell(&rt, schema, asked)
+}
+
+fn tell(rt: &HostRuntime, schema: Schema, asked: Asked) -> Result<()> {
+    match asked {
+        Asked::Checks => checks::tell(rt, rt.alloc(), &schema),
+        Asked::Take { path, log } => tell_taken(rt, schema, path.as_str(), &log),
+        Asked::Start { path } => tell_start(rt, schema, path.as_str()),
     }
+}
+
+fn tell_taken(rt: &HostRuntime, schema: Schema, path: &str, log: &Log) -> Result<()> {
+    let image = Connection::open(rt, path)?;
+    telling::tell_taken::<HostRuntime, FileStore<File>>(rt, rt.alloc(), schema, image, log)
+}
+
+fn tell_start(rt: &HostRuntime, schema: Schema, path: &str) -> Result<()> {
+    let image = Connection::open(rt, path)?;
+    telling::tell_start::<HostRuntime, FileStore<File>>(rt, rt.alloc(), schema, image)
 }
 
 // What is to be done.
@@ -103,60 +106,4 @@ fn number_in(word: Option<String>) -> Result<u32> {
         Some(word) => Ok(word.as_str().parse::<u32>()?),
         None => bail!("a number is missing"),
     }
-}
-
-// Takes a log over a new database, and prints how fast.
-fn tell_taken<R: Print + Clock + Files + AllocGlobal, K: Keeper>(
-    rt: &R,
-    alloc: Global,
-    schema: &Schema,
-    image: K::Image,
-    log: &Log,
-) -> Result<()>
-where
-    K::Image: Drop,
-    requires { K.suits image 3 (schema_of schema.now) }
-{
-    let (mut node, _nanos) = start::<R, K>(rt, alloc, image, schema)?;
-    ensure!(length(&node)? == 0, "the database has entries");
-    let nanos = take_log(rt, alloc, &mut node, log)?;
-    tell_rates(rt, log, nanos)?;
-    tell_memory(rt)
-}
-
-fn tell_rates<R: Print>(rt: &R, log: &Log, nanos: u128) -> Result<()> {
-    let (kind, entries, carried) = (log.kind.word(), log.entries, log.carried);
-    let (saved, taken) = (rate(log.messages(), nanos), rate(entries, nanos));
-    println!(rt;
-        "{kind}: {entries} entries, {carried} a save: {saved} saves and {taken} entries in a second"
-    )?;
-    Ok(())
-}
-
-// How many of so many are done in a second, where all took so many nanoseconds.
-fn rate(count: u32, nanos: u128) -> u128 {
-    u128::from(count).saturating_mul(1_000_000_000) / nanos.max(1)
-}
-
-// Starts a node, and prints how long this takes.
-fn tell_start<R: Print + Clock + Files + AllocGlobal, K: Keeper>(
-    rt: &R,
-    alloc: Global,
-    schema: &Schema,
-    image: K::Image,
-) -> Result<()>
-where
-    K::Image: Drop,
-    requires { K.suits image 3 (schema_of schema.now) }
-{
-    let (node, nanos) = start::<R, K>(rt, alloc, image, schema)?;
-    let (entries, millis) = (length(&node)?, nanos / 1_000_000);
-    println!(rt; "{entries} entries: started in {millis} milliseconds")?;
-    tell_memory(rt)
-}
-
-fn tell_memory<R: Print + Files + AllocGlobal>(rt: &R) -> Result<()> {
-    let most = memory::most(rt)?;
-    println!(rt; "memory: {most} KB at most")?;
-    Ok(())
 }
