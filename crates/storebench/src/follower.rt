@@ -49,7 +49,8 @@ pub(crate) fn take_log<R: Clock, K: Keeper>(
     Ok(nanos.saturating_add(end))
 }
 
-/// Takes a message of the leader, to which it is to answer yes. The nanoseconds of the step.
+/// Takes a message of the leader, to which it is to answer yes, and applies what is to be accepted. The nanoseconds of the
+/// step.
 pub(crate) fn take<R: Clock, K: Keeper>(
     rt: &R,
     node: &mut Node<K>,
@@ -62,14 +63,18 @@ pub(crate) fn take<R: Clock, K: Keeper>(
     let start = Instant::now(rt)?;
     let out = node.step(work)?;
     let nanos = start.elapsed(rt)?.as_nanos();
-    ensure!(has_taken(&out), "a message is not taken");
+    ensure!(
+        has_taken(&out),
+        "a message is not taken, or a request refused"
+    );
     Ok(nanos)
 }
 
-// Whether the answer is yes.
+// Whether the answer is yes, and each request that became applied was accepted.
 fn has_taken(out: &Out) -> bool {
     let Some(message) = out.messages.first() else {
         return false;
     };
     matches!(message.body, Body::Reply { ok: true, .. })
+        && out.told.iter().all(|told| told.outcome.is_ok())
 }

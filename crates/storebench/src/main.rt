@@ -20,7 +20,7 @@ use leader::{Kind, Log};
 use schema::Schema;
 use schemaread::schemas::read_schema;
 use sqlite::{Connection, File, FileStore};
-use std::env;
+use std::env::{self, Args};
 use std::rt::Env;
 
 const SCHEMA: &str = "CREATE TABLE Stay (Room INTEGER, Came DATE, Went DATE, Guest VARCHAR(30),
@@ -76,17 +76,21 @@ fn words_given<R: AllocGlobal + Env>(rt: &R) -> Result<Asked> {
         bail!("a file is to be named");
     };
     match word.as_str() {
-        "take" => Ok(Asked::Take {
-            path,
-            log: Log {
-                kind: kind_named(words.next())?,
-                entries: number_in(words.next())?,
-                carried: number_in(words.next())?,
-            },
-        }),
+        "take" => {
+            let log = log_given(&mut words)?;
+            Ok(Asked::Take { path, log })
+        }
         "start" => Ok(Asked::Start { path }),
         _ => bail!("take or start, not {word}"),
     }
+}
+
+fn log_given(words: &mut Args) -> Result<Log> {
+    Ok(Log {
+        kind: kind_named(words.next())?,
+        entries: number_in(words.next())?,
+        carried: number_in(words.next())?,
+    })
 }
 
 fn kind_named(word: Option<String>) -> Result<Kind> {
