@@ -48,11 +48,7 @@ impl Applied {
 }
 
 /// Applies the entry that has so many others before it, and gives what is told of it: none of a Close.
-fn apply_one(
-    tables: &mut Tables,
-    entry: &Entry,
-    before: usize,
-) -> Result<Option<Told>, AllocError>
+fn apply_one(tables: &mut Tables, entry: &Entry, before: usize) -> Result<Option<Told>, AllocError>
     requires room { before < 18446744073709551615 }
     ensures told { IfOk result (λ told. (schema : columns.Tables) (log : List entries.Entry) → slice_get log before ≡ Some entry.now → AreTables schema (take before log) tables.old → told ≡ told_at (schema_of schema) log (before + 1)) }
     ensures kept { OnOk result ((schema : columns.Tables) (list : List entries.Entry) → AreTables schema list tables.old → AreTables schema (list ++ entry.now ∷ []) tables.new) }
