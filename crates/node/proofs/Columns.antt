@@ -3,7 +3,7 @@ use Rattle.std.proofs.Common.{◌≡◌, Result, Ok, Err, List, IfOk}
 use Rattle.std.proofs.Math.Logic.{∥∥₁_elim}
 use Rattle.std.proofs.Props.{props}
 use Rattle.fault.specs.declared.refusal.Refusal.{Refusal}
-use Rattle.answer.specs.declared.answer.Answer.{Answer}
+use Rattle.answer.specs.declared.Answer.{Answer}
 use Rattle.answer.specs.Answers.{columns_in}
 use Rattle.sqlchecks.specs.Columns as columns
 use Rattle.sqlread.specs.declared.query.Query.{Query}

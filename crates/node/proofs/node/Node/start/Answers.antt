@@ -10,9 +10,13 @@ invariant_of-result-clause-serves g c =
     let group = c.start-core.ensures.group in
     rw (group.0, group.2) (merely (c.read_state.ensures.serves c.args.members (schema_of c.args.schema) c.in_ok-keeper.ensures.serves))
 
-pub returns-in_err-state-clause-back : goal.returns-in_err-state-clause-back
-returns-in_err-state-clause-back g c = λ d held.
+pub returns-in-Err-clause-back : goal.returns-in-Err-clause-back
+returns-in-Err-clause-back g c = λ d held.
     let may = c.read_state.ensures.left d (c.close.ensures.holds d held) in
     let is : d ≡ g.K.Shelf.stored c.in_ok-keeper.keeper = g.met.K.Shelf.only_stored _ d c.in_ok-keeper.ensures.up may in
     let P : Durable → Type 0 = g.K.Keeper.holds c.args.image in
     subst P (sym is) (c.in_ok-keeper.ensures.found (g.met.K.Shelf.only_honest _ d may))
+
+pub returns-in-Err-clause-bad : goal.returns-in-Err-clause-bad
+returns-in-Err-clause-bad g c = λ is. inr (λ d held.
+    c.in-Err.ensures.bad is (schema_of c.args.schema) c.in_ok-keeper.ensures.serves (g.met.K.Shelf.only_honest _ d (c.close.ensures.holds d held)))

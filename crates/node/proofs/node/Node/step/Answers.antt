@@ -1,0 +1,17 @@
+use Rattle.std.proofs.Common.{◌≡◌, ◌∙◌, sym, ap, arith}
+use Rattle.model.specs.Members.{Node}
+use Rattle.sqlread.specs.Meaning.{schema_of}
+use Rattle.node.proofs.Tests.{known}
+use Rattle.node.proofs.Told.{told_none}
+use Rattle.node.proofs.node.Node.step.Goals as goal
+
+pub take_step-requires-clause-serves : goal.take_step-requires-clause-serves
+take_step-requires-clause-serves g c =
+    let node = c.args.self.now in
+    known (g.met.K.Shelf.served_once node.keeper node.core.members (schema_of node.core.schema)) node.serves
+
+pub returns-in-Ok-Ignored-clause-told : goal.returns-in-Ok-Ignored-clause-told
+returns-in-Ok-Ignored-clause-told g c = λ honest.
+    let step = (rw c.in-Ok-Ignored.field-0-is at c.in-Ok-Ignored.ensures.step) honest in
+    let same : c.take_step.new.core.commit ≡ c.args.self.now.core.commit = ap (λ (x : Node). x.commit) step.1 in
+    c.new-in-Ok-Ignored-2.ensures.items ∙ sym (told_none _ _ _ _ (omega (arith, same)))
