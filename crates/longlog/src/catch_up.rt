@@ -129,7 +129,7 @@ where
 {
     tell_stored(rt, "stopped", place.node.durable()?)?;
     let (image, schema) = place.stop();
-    let again = Place::begin(alloc, image, schema, 1)?;
+    let again: Place<K> = Place::begin(alloc, image, schema, 1)?;
     tell_stored(rt, "started", again.node.durable()?)?;
     let (image, _) = again.stop();
     Ok(image)

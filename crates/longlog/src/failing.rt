@@ -171,7 +171,7 @@ where
         bail!("a member goes on after a step that failed");
     }
     let (image, schema) = place.stop();
-    let again = Place::begin(trial.alloc, image, schema, trial.play.me())?;
+    let again: Place<K> = Place::begin(trial.alloc, image, schema, trial.play.me())?;
     judge(trial, again, steps, tally)?;
     Ok(true)
 }
