@@ -4,7 +4,7 @@ ghost use Rattle.sqlread.specs.Meaning.{schema_of};
 
 use crate::group::{Carried, Group, READING};
 use crate::logs::are_same;
-use crate::place::{MEMBERS, Place};
+use crate::place::MEMBERS;
 use anyhow::{Result, bail};
 use keep::Keeper;
 use model::entry::Entry;
@@ -16,21 +16,17 @@ use std::alloc::Global;
 // How often member 1 closes while member 3 is stopped.
 const CLOSES: usize = 1500;
 
-/// Member 1 comes to lead, and closes again and again while member 3 is stopped. Then that one starts again, and member 1
-/// beats once. Last, member 1 is stopped and started again. What is left of its keeper.
-pub(crate) fn play<K: Keeper>(
-    rt: &impl Print,
-    alloc: Global,
-    mut group: Group<K>,
-) -> Result<K::Image>
+// Member 1 comes to lead, and closes again and again while member 3 is stopped. Then that one starts again, and member 1
+// beats once. Last, member 1 is stopped and started again.
+fn play<K: Keeper>(rt: &impl Print, alloc: Global, group: &mut Group<K>) -> Result<()>
 where
     K::Image: Drop,
 {
     group.hand(Input::Timeout)?;
-    close_without(alloc, &mut group)?;
-    tell_catch_up(rt, &mut group)?;
-    tell_logs(rt, &mut group)?;
-    tell_restart(rt, alloc, first_of(group)?)
+    close_without(alloc, group)?;
+    tell_catch_up(rt, group)?;
+    tell_logs(rt, group)?;
+    tell_restart(rt, alloc, group)
 }
 
 // Member 3 is stopped, started again once all is closed.
@@ -59,7 +55,9 @@ fn tell_catch_up<K: Keeper>(rt: &impl Print, group: &mut Group<K>) -> Result<()>
     tell_carried(rt, &group.carried)?;
     tell_commits(rt, group)?;
     let more = after.saturating_sub(before);
-    println!(rt; "the leader asked its keeper for entries {before} times before, and {more} times now")?;
+    println!(rt;
+        "the leader asked its keeper for entries {before} times before, and {more} times now"
+    )?;
     Ok(())
 }
 
@@ -80,14 +78,19 @@ fn tell_carried(rt: &impl Print, carried: &[Carried]) -> Result<()> {
         }
     }
     let (count, few) = (carried.len(), carried.len().saturating_sub(full));
-    println!(rt; "entries 2 to {last} came to member 3 in {count} messages: {full} with 64 each, {few} with {others} in all")?;
+    println!(rt;
+        "entries 2 to {last} came to member 3 in {count} messages: {full} with 64 each, {few} with {others} in all"
+    )?;
     Ok(())
 }
 
 fn tell_commits<K: Keeper>(rt: &impl Print, group: &Group<K>) -> Result<()> {
     for place in 0..MEMBERS {
         let member = place + 1;
-        println!(rt; "member {member} has applied {} entries", group.commit(member)?)?;
+        println!(rt;
+            "member {member} has applied {} entries",
+            group.commit(member)?
+        )?;
     }
     Ok(())
 }
@@ -97,7 +100,11 @@ fn tell_logs<K: Keeper>(rt: &impl Print, group: &mut Group<K>) -> Result<()> {
     let first = group.log(1)?;
     let third = group.log(3)?;
     let same = are_same(&first, &third);
-    println!(rt; "logs of members 1 and 3: {} and {} entries, the same: {same}", first.len(), third.len())?;
+    println!(rt;
+        "logs of members 1 and 3: {} and {} entries, the same: {same}",
+        first.len(),
+        third.len()
+    )?;
     for index in [0, 1, 2, 1501, 1502] {
         tell_entry(rt, index, &group.entry(1, index)?)?;
     }
@@ -115,24 +122,14 @@ fn tell_entry(rt: &impl Print, index: usize, entry: &Option<Entry>) -> Result<()
     Ok(())
 }
 
-// The first member of a group, which ends.
-fn first_of<K: Keeper>(mut group: Group<K>) -> Result<Place<K>> {
-    let _ = group.leave()?;
-    let _ = group.leave()?;
-    group.leave()
-}
-
-// The member is stopped and started again. What is left of its keeper.
-fn tell_restart<K: Keeper>(rt: &impl Print, alloc: Global, place: Place<K>) -> Result<K::Image>
+// Member 1 is stopped and started again.
+fn tell_restart<K: Keeper>(rt: &impl Print, alloc: Global, group: &mut Group<K>) -> Result<()>
 where
     K::Image: Drop,
 {
-    tell_stored(rt, "stopped", place.node.durable()?)?;
-    let (image, schema) = place.stop();
-    let again: Place<K> = Place::begin(alloc, image, schema, 1)?;
-    tell_stored(rt, "started", again.node.durable()?)?;
-    let (image, _) = again.stop();
-    Ok(image)
+    tell_stored(rt, "stopped", group.stored()?)?;
+    group.restart_first(alloc)?;
+    tell_stored(rt, "started", group.stored()?)
 }
 
 fn tell_stored(rt: &impl Print, when: &str, stored: Stored) -> Result<()> {
@@ -145,8 +142,8 @@ fn tell_stored(rt: &impl Print, when: &str, stored: Stored) -> Result<()> {
     Ok(())
 }
 
-/// Three members start with these images.
-pub(crate) fn gather<K: Keeper>(
+// Three members start with these images.
+fn gather<K: Keeper>(
     alloc: Global,
     schema: &Schema,
     first: K::Image,
@@ -164,4 +161,30 @@ where
     group.add(alloc, second, schema.clone()?)?;
     group.add(alloc, third, schema.clone()?)?;
     Ok(group)
+}
+
+// What is left of the keeper of member 1, which is the last that runs.
+fn part<K: Keeper>(mut group: Group<K>) -> Result<K::Image> {
+    let (image, _) = group.leave()?.stop();
+    Ok(image)
+}
+
+/// Three members start with these images, and play it. What is left of the keeper of member 1.
+pub(crate) fn play_three<K: Keeper, R: Print>(
+    rt: &R,
+    alloc: Global,
+    schema: &Schema,
+    first: K::Image,
+    second: K::Image,
+    third: K::Image,
+) -> Result<K::Image>
+where
+    K::Image: Drop,
+    requires first { K.suits first 3 (schema_of schema.now) }
+    requires second { K.suits second 3 (schema_of schema.now) }
+    requires third { K.suits third 3 (schema_of schema.now) }
+{
+    let mut group: Group<K> = gather(alloc, schema, first, second, third)?;
+    play(rt, alloc, &mut group)?;
+    part(group)
 }

@@ -1,9 +1,4 @@
 //! A member with the long log, whose keeper fails at each of its calls once.
-ghost use Rattle.std.specs.Prelude.{◌≡◌, ◌≤◌, IfOk};
-ghost use Rattle.sqlread.specs.Meaning.{schema_of};
-ghost use Rattle.keep.specs.Durable.{stored_in};
-ghost use Rattle.keep.specs.Log.{IsLog};
-
 use crate::logs::long_log;
 use crate::place::Place;
 use crate::play::{Play, delivered};
@@ -53,32 +48,33 @@ fn tell_play(
     play: Play,
     log: &[Entry],
 ) -> Result<()> {
-    let (image, own) = long_image(alloc, schema, play, log)?;
-    let place: Place<MemKeeper> = Place::begin(alloc, image, own, play.me())?;
     let trial = Trial {
         alloc,
         play,
         log,
-        states: states_of(alloc, place, play)?,
+        states: states_of(alloc, schema, play, log)?,
     };
     let mut tally = Tally::new(alloc, trial.states.len().saturating_sub(1))?;
     try_calls(&trial, schema, &mut tally)?;
     tally.print(rt)
 }
 
-// What an image holds of a member that took the long log, and knows of nothing that is committed.
-fn long_image(
+// A member that took the long log, and knows of nothing that is committed.
+fn long_place(
     alloc: Global,
     schema: &Schema,
     play: Play,
     log: &[Entry],
-) -> Result<(MemImage, Schema)>
-    ensures { IfOk result (λ r. IsLog 3 (schema_of r.1) (stored_in r.0)) }
-{
-    let mut place: Place<MemKeeper> =
-        Place::begin(alloc, MemImage::new(alloc), schema.clone()?, play.me())?;
+) -> Result<Place<MemKeeper>> {
+    let mut place = empty_place(alloc, schema, play)?;
     take_log(alloc, &mut place, play, log)?;
-    Ok(place.stop())
+    Ok(place)
+}
+
+// A member that has nothing stored.
+fn empty_place(alloc: Global, schema: &Schema, play: Play) -> Result<Place<MemKeeper>> {
+    let schema = schema.clone()?;
+    Place::begin(alloc, MemImage::new(alloc), schema, play.me())
 }
 
 // Sends a member the long log.
@@ -108,15 +104,31 @@ fn carry(alloc: Global, play: Play, before: usize, entries: &[Entry]) -> Result<
 }
 
 // What is stored before the first step and after each, where no call fails.
-fn states_of<K: Keeper>(alloc: Global, mut place: Place<K>, play: Play) -> Result<Vec<Held>> {
+fn states_of(alloc: Global, schema: &Schema, play: Play, log: &[Entry]) -> Result<Vec<Held>> {
+    let place = long_place(alloc, schema, play, log)?;
+    let mut place = place.restart(alloc, play.me())?;
+    all_states(alloc, &mut place, play)
+}
+
+fn all_states<K: Keeper>(alloc: Global, place: &mut Place<K>, play: Play) -> Result<Vec<Held>> {
     let mut states = Vec::new(alloc);
-    states.push(Held::of(&mut place)?)?;
+    add_states(alloc, place, play, &mut states)?;
+    Ok(states)
+}
+
+fn add_states<K: Keeper>(
+    alloc: Global,
+    place: &mut Place<K>,
+    play: Play,
+    states: &mut Vec<Held>,
+) -> Result<()> {
+    states.push(Held::of(place)?)?;
     for steps in 0..STEPS_MOST {
         let Some(work) = play.work(alloc, steps)? else {
-            return Ok(states);
+            return Ok(());
         };
         let _ = place.node.step(work)?;
-        states.push(Held::of(&mut place)?)?;
+        states.push(Held::of(place)?)?;
     }
     bail!("the steps do not end")
 }
@@ -131,27 +143,47 @@ fn try_calls(trial: &Trial<'_>, schema: &Schema, tally: &mut Tally) -> Result<()
     bail!("the calls do not end")
 }
 
-// Lets this call fail. Whether there was such a call.
+// Lets this call fail, of a member that starts with the long log. Whether there was such a call.
 fn try_call(trial: &Trial<'_>, schema: &Schema, tally: &mut Tally, call: u64) -> Result<bool> {
-    let (mut image, own) = long_image(trial.alloc, schema, trial.play, trial.log)?;
-    image.fail_at(call);
-    let copy = own.clone()?;
-    match Place::<MemKeeper>::start(trial.alloc, image, copy, trial.play.me()) {
-        Ok(place) => try_steps(trial, place, tally),
-        Err((error, image)) => {
-            if error != StoreError::StoreFault {
-                bail!("a start fails otherwise: {error}");
-            }
-            let again: Place<MemKeeper> = Place::begin(trial.alloc, image, own, trial.play.me())?;
-            judge_start(trial, again, tally)?;
+    let place = long_place(trial.alloc, schema, trial.play, trial.log)?;
+    match start_failing(trial, place, call)? {
+        Started::Runs(place) => try_steps(trial, place, tally),
+        Started::Failed(mut place) => {
+            judge_start(trial, &mut place, tally)?;
             Ok(true)
         }
     }
 }
 
+// A member after a start of which a call was to fail.
+#[derive(Drop)]
+enum Started {
+    Runs(Place<MemKeeper>),
+    /// The start failed, and was made again.
+    Failed(Place<MemKeeper>),
+}
+
+// Stops a member and starts it again, so that this call of its keeper fails.
+fn start_failing(trial: &Trial<'_>, place: Place<MemKeeper>, call: u64) -> Result<Started> {
+    let me = trial.play.me();
+    let (mut image, schema) = place.stop();
+    image.fail_at(call);
+    match Place::start(trial.alloc, image, schema, me) {
+        Ok(place) => Ok(Started::Runs(place)),
+        Err((StoreError::StoreFault, image, schema)) => {
+            Ok(Started::Failed(Place::begin(trial.alloc, image, schema, me)?))
+        }
+        Err((error, _, _)) => Err(error.into()),
+    }
+}
+
 // What is stored after a start that failed is what was so before.
-fn judge_start<K: Keeper>(trial: &Trial<'_>, mut place: Place<K>, tally: &mut Tally) -> Result<()> {
-    let held = Held::of(&mut place)?;
+fn judge_start<K: Keeper>(
+    trial: &Trial<'_>,
+    place: &mut Place<K>,
+    tally: &mut Tally,
+) -> Result<()> {
+    let held = Held::of(place)?;
     match trial.states.first() {
         Some(before) if held.is(before) => tally.note_start(),
         _ => bail!("a start that failed changed what is stored"),
@@ -164,27 +196,21 @@ fn try_steps<K: Keeper>(trial: &Trial<'_>, mut place: Place<K>, tally: &mut Tall
 where
     K::Image: Drop,
 {
-    let Some(steps) = take_steps(trial, &mut place)? else {
-        return Ok(false);
-    };
-    if !is_down(&mut place) {
-        bail!("a member goes on after a step that failed");
+    match fall(trial, &mut place)? {
+        None => Ok(false),
+        Some(steps) => judge_fallen(trial, place, steps, tally),
     }
-    let (image, schema) = place.stop();
-    let again: Place<K> = Place::begin(trial.alloc, image, schema, trial.play.me())?;
-    judge(trial, again, steps, tally)?;
-    Ok(true)
 }
 
 // How many steps were taken before one that failed, none where none did. It failed by 40, and sent nothing.
-fn take_steps<K: Keeper>(trial: &Trial<'_>, place: &mut Place<K>) -> Result<Option<usize>> {
+fn fall<K: Keeper>(trial: &Trial<'_>, place: &mut Place<K>) -> Result<Option<usize>> {
     for steps in 0..STEPS_MOST {
         let Some(work) = trial.play.work(trial.alloc, steps)? else {
             return Ok(None);
         };
         match place.node.step(work) {
             Ok(_) => {}
-            Err(Fault::Down(StoreError::StoreFault)) => return Ok(Some(steps)),
+            Err(Fault::Down(StoreError::StoreFault)) if is_down(place) => return Ok(Some(steps)),
             Err(fault) => return Err(fault.into()),
         }
     }
@@ -197,17 +223,27 @@ fn is_down<K: Keeper>(place: &mut Place<K>) -> bool {
     !place.node.is_up() && matches!(beat, Err(Fault::Kept(Refusal::NodeDown)))
 }
 
-// Counts what is stored after a step that failed, which has so many others before it.
-fn judge<K: Keeper>(
+// Starts a member again after a step that failed, which has so many others before it, and counts what is stored.
+fn judge_fallen<K: Keeper>(
     trial: &Trial<'_>,
-    mut again: Place<K>,
+    place: Place<K>,
     steps: usize,
     tally: &mut Tally,
-) -> Result<()> {
+) -> Result<bool>
+where
+    K::Image: Drop,
+{
+    let mut again = place.restart(trial.alloc, trial.play.me())?;
     let held = Held::of(&mut again)?;
+    tally.note(steps, left_of(trial, &held, steps))?;
+    Ok(true)
+}
+
+// What is stored after a step that failed, which has so many others before it.
+fn left_of(trial: &Trial<'_>, held: &Held, steps: usize) -> Left {
     let after = steps.saturating_add(1);
-    let (Some(old), Some(new)) = (trial.states.get(steps), trial.states.get(after)) else {
-        bail!("there is no such step");
-    };
-    tally.note(steps, Left::of(&held, old, new))
+    match (trial.states.get(steps), trial.states.get(after)) {
+        (Some(old), Some(new)) => Left::of(held, old, new),
+        _ => Left::Other,
+    }
 }

@@ -8,6 +8,7 @@ use keep::{Keeper, Shelf};
 use model::entry::Entry;
 use model::member::Member;
 use model::message::{Body, Input, Message};
+use node::durable::Stored;
 use node::{Out, Work};
 use schema::Schema;
 use std::alloc::Global;
@@ -67,6 +68,16 @@ impl<K: Keeper> Group<K> {
             Some(place) => Ok(place),
             None => bail!("no member runs"),
         }
+    }
+
+    /// Members 2 and 3 leave the group, and member 1 is stopped and started again.
+    pub(crate) fn restart_first(&mut self, alloc: Global) -> Result<()>
+    where
+        K::Image: Drop,
+    {
+        self.places.truncate(1);
+        let (image, schema) = self.leave()?.stop();
+        self.add(alloc, image, schema)
     }
 
     // A step of a member, whose messages are sent. Nothing comes of it where the member does not run.
@@ -134,6 +145,14 @@ impl<K: Keeper> Group<K> {
         match self.places.first() {
             Some(place) => place.node.keeper.asked(),
             None => 0,
+        }
+    }
+
+    /// What member 1 has stored.
+    pub(crate) fn stored(&self) -> Result<Stored> {
+        match self.places.first() {
+            Some(place) => Ok(place.node.durable()?),
+            None => bail!("member 1 does not run"),
         }
     }
 

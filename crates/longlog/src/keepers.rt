@@ -1,5 +1,5 @@
 //! The same over each keeper.
-use crate::catch_up::{gather, play};
+use crate::catch_up::play_three;
 use anyhow::Result;
 use durable::SqlKeeper;
 use keep::{MemImage, MemKeeper};
@@ -8,34 +8,23 @@ use sqlite::{Connection, MemStore};
 use std::alloc::Global;
 
 /// Over keepers in memory.
-pub(crate) fn tell_memory(rt: &impl Print, alloc: Global, schema: &Schema) -> Result<()> {
+pub(crate) fn tell_memory<R: Print>(rt: &R, alloc: Global, schema: &Schema) -> Result<()> {
     println!(rt; "over keepers in memory")?;
     let first = MemImage::new(alloc);
     let second = MemImage::new(alloc);
     let third = MemImage::new(alloc);
-    let group = gather::<MemKeeper>(alloc, schema, first, second, third)?;
-    let _ = play(rt, alloc, group)?;
+    let _ = play_three::<MemKeeper, R>(rt, alloc, schema, first, second, third)?;
     Ok(())
 }
 
 /// Over databases in memory.
-pub(crate) fn tell_databases(rt: &impl Print, alloc: Global, schema: &Schema) -> Result<()> {
+pub(crate) fn tell_databases<R: Print>(rt: &R, alloc: Global, schema: &Schema) -> Result<()> {
     println!(rt; "over databases")?;
-    let database = play_databases(rt, alloc, schema)?;
-    tell_rows(rt, database)
-}
-
-// What is left of the database of member 1.
-fn play_databases(
-    rt: &impl Print,
-    alloc: Global,
-    schema: &Schema,
-) -> Result<Connection<MemStore>> {
     let first = Connection::open_in_memory(alloc)?;
     let second = Connection::open_in_memory(alloc)?;
     let third = Connection::open_in_memory(alloc)?;
-    let group = gather::<SqlKeeper<MemStore>>(alloc, schema, first, second, third)?;
-    play(rt, alloc, group)
+    let database = play_three::<SqlKeeper<MemStore>, R>(rt, alloc, schema, first, second, third)?;
+    tell_rows(rt, database)
 }
 
 // How many rows the log has.

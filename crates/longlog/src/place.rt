@@ -22,23 +22,23 @@ pub(crate) struct Place<K: Keeper> {
 }
 
 impl<K: Keeper> Place<K> {
-    /// Starts it with what the image holds. An error gives the image back.
+    /// Starts it with what the image holds. An error gives the image and the tables back.
     pub(crate) fn start(
         alloc: Global,
         image: K::Image,
         schema: Schema,
         me: Member,
-    ) -> Result<Place<K>, (StoreError, K::Image)>
+    ) -> Result<Place<K>, (StoreError, K::Image, Schema)>
         requires member { (1 ≤ me) × (me ≤ 3) }
         requires suits { K.suits image 3 (schema_of schema) }
-        ensures suits { IfErr result (λ e. K.suits e.1 3 (schema_of schema)) }
+        ensures suits { IfErr result (λ e. K.suits e.1 3 (schema_of e.2)) }
     {
         let Ok(own) = schema.clone() else {
-            return Err((StoreError::NoMemory, image));
+            return Err((StoreError::NoMemory, image, schema));
         };
         match Node::start(alloc, image, own, MEMBERS, me) {
             Ok(node) => Ok(Place { schema, node }),
-            Err(back) => Err(back),
+            Err((error, image)) => Err((error, image, schema)),
         }
     }
 
@@ -56,7 +56,7 @@ impl<K: Keeper> Place<K> {
     {
         match Place::start(alloc, image, schema, me) {
             Ok(place) => Ok(place),
-            Err((error, _)) => Err(error.into()),
+            Err((error, _, _)) => Err(error.into()),
         }
     }
 
@@ -66,5 +66,15 @@ impl<K: Keeper> Place<K> {
     {
         let Place { schema, node } = self;
         (node.stop(), schema)
+    }
+
+    /// Stops it, and starts it with what is left of its keeper.
+    pub(crate) fn restart(self, alloc: Global, me: Member) -> Result<Place<K>>
+    where
+        K::Image: Drop,
+        requires { (1 ≤ me) × (me ≤ 3) }
+    {
+        let (image, schema) = self.stop();
+        Place::begin(alloc, image, schema, me)
     }
 }

@@ -41,7 +41,9 @@ impl Tally {
             Left::Before => add_one(&mut step.before),
             Left::After => add_one(&mut step.after),
             Left::Same => add_one(&mut step.same),
-            Left::Other => bail!("what is stored is neither from before the step nor from after it"),
+            Left::Other => bail!(
+                "what is stored is neither from before the step nor from after it"
+            ),
         }
         Ok(())
     }
@@ -56,7 +58,9 @@ impl Tally {
                 after,
                 same,
             } = *step;
-            println!(rt; "step {number}: {before} left what was so before, {after} what was so after, {same} where both are one")?;
+            println!(rt;
+                "step {number}: {before} left what was so before, {after} what was so after, {same} where both are one"
+            )?;
         }
         Ok(())
     }
