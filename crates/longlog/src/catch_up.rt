@@ -1,7 +1,4 @@
 //! A member that was stopped, and is sent what it lacks.
-ghost use Rattle.std.specs.Prelude.{◌≡◌};
-ghost use Rattle.sqlread.specs.Meaning.{schema_of};
-
 use crate::group::{Carried, Group, READING};
 use crate::logs::are_same;
 use crate::place::MEMBERS;
@@ -10,7 +7,6 @@ use keep::Keeper;
 use model::entry::Entry;
 use model::message::{CARRIED_MOST, Input};
 use node::durable::Stored;
-use schema::Schema;
 use std::alloc::Global;
 
 // How often member 1 closes while member 3 is stopped.
@@ -142,49 +138,21 @@ fn tell_stored(rt: &impl Print, when: &str, stored: Stored) -> Result<()> {
     Ok(())
 }
 
-// Three members start with these images.
-fn gather<K: Keeper>(
-    alloc: Global,
-    schema: &Schema,
-    first: K::Image,
-    second: K::Image,
-    third: K::Image,
-) -> Result<Group<K>>
-where
-    K::Image: Drop,
-    requires first { K.suits first 3 (schema_of schema.now) }
-    requires second { K.suits second 3 (schema_of schema.now) }
-    requires third { K.suits third 3 (schema_of schema.now) }
-{
-    let mut group = Group::new(alloc);
-    group.add(alloc, first, schema.clone()?)?;
-    group.add(alloc, second, schema.clone()?)?;
-    group.add(alloc, third, schema.clone()?)?;
-    Ok(group)
-}
-
 // What is left of the keeper of member 1, which is the last that runs.
 fn part<K: Keeper>(mut group: Group<K>) -> Result<K::Image> {
     let (image, _) = group.leave()?.stop();
     Ok(image)
 }
 
-/// Three members start with these images, and play it. What is left of the keeper of member 1.
-pub(crate) fn play_three<K: Keeper, R: Print>(
+/// Three members that start with nothing stored play it. What is left of the keeper of member 1.
+pub(crate) fn play_whole<K: Keeper, R: Print>(
     rt: &R,
     alloc: Global,
-    schema: &Schema,
-    first: K::Image,
-    second: K::Image,
-    third: K::Image,
+    mut group: Group<K>,
 ) -> Result<K::Image>
 where
     K::Image: Drop,
-    requires first { K.suits first 3 (schema_of schema.now) }
-    requires second { K.suits second 3 (schema_of schema.now) }
-    requires third { K.suits third 3 (schema_of schema.now) }
 {
-    let mut group: Group<K> = gather(alloc, schema, first, second, third)?;
     play(rt, alloc, &mut group)?;
     part(group)
 }

@@ -66,7 +66,17 @@ fn long_place(
     play: Play,
     log: &[Entry],
 ) -> Result<Place<MemKeeper>> {
-    let mut place = empty_place(alloc, schema, play)?;
+    let place = empty_place(alloc, schema, play)?;
+    fill(alloc, place, play, log)
+}
+
+// A member once it has the long log.
+fn fill<K: Keeper>(
+    alloc: Global,
+    mut place: Place<K>,
+    play: Play,
+    log: &[Entry],
+) -> Result<Place<K>> {
     take_log(alloc, &mut place, play, log)?;
     Ok(place)
 }
@@ -105,8 +115,7 @@ fn carry(alloc: Global, play: Play, before: usize, entries: &[Entry]) -> Result<
 
 // What is stored before the first step and after each, where no call fails.
 fn states_of(alloc: Global, schema: &Schema, play: Play, log: &[Entry]) -> Result<Vec<Held>> {
-    let place = long_place(alloc, schema, play, log)?;
-    let mut place = place.restart(alloc, play.me())?;
+    let mut place = long_place(alloc, schema, play, log)?;
     all_states(alloc, &mut place, play)
 }
 
@@ -146,12 +155,14 @@ fn try_calls(trial: &Trial<'_>, schema: &Schema, tally: &mut Tally) -> Result<()
 // Lets this call fail, of a member that starts with the long log. Whether there was such a call.
 fn try_call(trial: &Trial<'_>, schema: &Schema, tally: &mut Tally, call: u64) -> Result<bool> {
     let place = long_place(trial.alloc, schema, trial.play, trial.log)?;
-    match start_failing(trial, place, call)? {
+    let started = start_failing(trial, place, call)?;
+    try_started(trial, started, tally)
+}
+
+fn try_started(trial: &Trial<'_>, started: Started, tally: &mut Tally) -> Result<bool> {
+    match started {
         Started::Runs(place) => try_steps(trial, place, tally),
-        Started::Failed(mut place) => {
-            judge_start(trial, &mut place, tally)?;
-            Ok(true)
-        }
+        Started::Failed(mut place) => judge_start(trial, &mut place, tally),
     }
 }
 
@@ -182,13 +193,13 @@ fn judge_start<K: Keeper>(
     trial: &Trial<'_>,
     place: &mut Place<K>,
     tally: &mut Tally,
-) -> Result<()> {
+) -> Result<bool> {
     let held = Held::of(place)?;
     match trial.states.first() {
         Some(before) if held.is(before) => tally.note_start(),
         _ => bail!("a start that failed changed what is stored"),
     }
-    Ok(())
+    Ok(true)
 }
 
 // Takes the steps until one fails. Whether one did.
@@ -234,7 +245,17 @@ where
     K::Image: Drop,
 {
     let mut again = place.restart(trial.alloc, trial.play.me())?;
-    let held = Held::of(&mut again)?;
+    judge(trial, &mut again, steps, tally)
+}
+
+// Counts what is stored after a step that failed, which has so many others before it.
+fn judge<K: Keeper>(
+    trial: &Trial<'_>,
+    again: &mut Place<K>,
+    steps: usize,
+    tally: &mut Tally,
+) -> Result<bool> {
+    let held = Held::of(again)?;
     tally.note(steps, left_of(trial, &held, steps))?;
     Ok(true)
 }

@@ -21,7 +21,7 @@ pub(crate) const READING: i64 = 100;
 const LETTERS_MOST: usize = 1000;
 
 /// A message that brought entries to member 3.
-#[derive(Clone, Copy, Debug, PartialEq, Eq)]
+#[derive(Clone, Copy)]
 pub(crate) struct Carried {
     /// How many entries come before the first.
     pub before: usize,

@@ -1,5 +1,7 @@
 //! The same over each keeper.
-use crate::catch_up::play_three;
+use crate::catch_up::play_whole;
+use crate::group::Group;
+use crate::place::MEMBERS;
 use anyhow::Result;
 use durable::SqlKeeper;
 use keep::{MemImage, MemKeeper};
@@ -10,21 +12,43 @@ use std::alloc::Global;
 /// Over keepers in memory.
 pub(crate) fn tell_memory<R: Print>(rt: &R, alloc: Global, schema: &Schema) -> Result<()> {
     println!(rt; "over keepers in memory")?;
-    let first = MemImage::new(alloc);
-    let second = MemImage::new(alloc);
-    let third = MemImage::new(alloc);
-    let _ = play_three::<MemKeeper, R>(rt, alloc, schema, first, second, third)?;
+    let group = gather_images(alloc, schema)?;
+    let _ = play_whole(rt, alloc, group)?;
     Ok(())
+}
+
+fn gather_images(alloc: Global, schema: &Schema) -> Result<Group<MemKeeper>> {
+    let mut group = Group::new(alloc);
+    for _ in 0..MEMBERS {
+        group.add(alloc, MemImage::new(alloc), schema.clone()?)?;
+    }
+    Ok(group)
 }
 
 /// Over databases in memory.
 pub(crate) fn tell_databases<R: Print>(rt: &R, alloc: Global, schema: &Schema) -> Result<()> {
     println!(rt; "over databases")?;
-    let first = Connection::open_in_memory(alloc)?;
-    let second = Connection::open_in_memory(alloc)?;
-    let third = Connection::open_in_memory(alloc)?;
-    let database = play_three::<SqlKeeper<MemStore>, R>(rt, alloc, schema, first, second, third)?;
+    let group = gather_databases(alloc, schema)?;
+    let database = play_whole(rt, alloc, group)?;
     tell_rows(rt, database)
+}
+
+fn gather_databases(alloc: Global, schema: &Schema) -> Result<Group<SqlKeeper<MemStore>>> {
+    let mut group = Group::new(alloc);
+    for _ in 0..MEMBERS {
+        add_database(alloc, schema, &mut group)?;
+    }
+    Ok(group)
+}
+
+fn add_database(
+    alloc: Global,
+    schema: &Schema,
+    group: &mut Group<SqlKeeper<MemStore>>,
+) -> Result<()> {
+    let own = schema.clone()?;
+    let database = Connection::open_in_memory(alloc)?;
+    group.add(alloc, database, own)
 }
 
 // How many rows the log has.

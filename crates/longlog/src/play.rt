@@ -10,7 +10,7 @@ use node::Work;
 use std::alloc::{AllocError, Global};
 
 /// What a member takes that starts with the long log.
-#[derive(Clone, Copy, Debug)]
+#[derive(Clone, Copy)]
 pub(crate) enum Play {
     /// Member 1 is elected in term 2, hears that member 3 has one entry alone, closes, and hears that member 2 has all.
     Leader,

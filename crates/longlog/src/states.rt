@@ -32,7 +32,7 @@ impl Held {
 }
 
 /// Whether this is what was so before a step, or after it.
-#[derive(Clone, Copy, Debug, PartialEq, Eq)]
+#[derive(Clone, Copy)]
 pub(crate) enum Left {
     Before,
     After,

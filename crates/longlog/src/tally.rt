@@ -4,7 +4,7 @@ use anyhow::{Result, bail};
 use std::alloc::{AllocError, Global};
 
 /// What was stored after calls that failed within one step.
-#[derive(Clone, Copy, Debug, Default)]
+#[derive(Clone, Copy, Default)]
 struct Step {
     before: u64,
     after: u64,
