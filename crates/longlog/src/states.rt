@@ -1,4 +1,6 @@
 //! What members have stored.
+ghost use Rattle.node.specs.Member.{IsSameSeat};
+
 use crate::logs::are_same;
 use crate::place::Place;
 use anyhow::Result;
@@ -19,7 +21,9 @@ impl Held {
         Held::of_node(&mut place.node)
     }
 
-    fn of_node<K: Keeper>(node: &mut Node<K>) -> Result<Held> {
+    fn of_node<K: Keeper>(node: &mut Node<K>) -> Result<Held>
+        ensures { IsSameSeat node.old node.new }
+    {
         let hard = node.hard_state();
         let log = node.entries()?;
         Ok(Held { hard, log })
