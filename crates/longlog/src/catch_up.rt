@@ -138,10 +138,17 @@ fn tell_stored(rt: &impl Print, when: &str, stored: Stored) -> Result<()> {
     Ok(())
 }
 
-// What is left of the keeper of member 1, which is the last that runs.
+// What is left of the keeper of the last member that runs.
 fn part<K: Keeper>(mut group: Group<K>) -> Result<K::Image> {
     let (image, _) = group.leave()?.stop();
     Ok(image)
+}
+
+/// Member 1 of three that start with nothing stored comes to lead. What is left of the keeper of member 2.
+pub(crate) fn elect<K: Keeper>(mut group: Group<K>) -> Result<K::Image> {
+    group.hand(Input::Timeout)?;
+    group.leave_third();
+    part(group)
 }
 
 /// Three members that start with nothing stored play it. What is left of the keeper of member 1.

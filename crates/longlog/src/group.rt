@@ -70,6 +70,11 @@ impl<K: Keeper> Group<K> {
         }
     }
 
+    /// Member 3 leaves the group.
+    pub(crate) fn leave_third(&mut self) {
+        self.places.truncate(2);
+    }
+
     /// Members 2 and 3 leave the group, and member 1 is stopped and started again.
     pub(crate) fn restart_first(&mut self, alloc: Global) -> Result<()>
     where

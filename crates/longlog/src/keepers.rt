@@ -1,5 +1,5 @@
 //! The same over each keeper.
-use crate::catch_up::play_whole;
+use crate::catch_up::{elect, play_whole};
 use crate::group::Group;
 use crate::place::MEMBERS;
 use anyhow::Result;
@@ -23,6 +23,30 @@ fn gather_images(alloc: Global, schema: &Schema) -> Result<Group<MemKeeper>> {
         group.add(alloc, MemImage::new(alloc), schema.clone()?)?;
     }
     Ok(group)
+}
+
+/// What the database of member 2 has in its two tables once member 1 leads.
+pub(crate) fn tell_election<R: Print>(rt: &R, alloc: Global, schema: &Schema) -> Result<()> {
+    println!(rt; "an election over databases")?;
+    let group = gather_databases(alloc, schema)?;
+    let mut database = elect(group)?;
+    tell_meta(rt, &mut database)?;
+    tell_log(rt, &mut database)
+}
+
+fn tell_meta(rt: &impl Print, database: &mut Connection<MemStore>) -> Result<()> {
+    let row = database.query_row("SELECT id, term, vote FROM meta", &[])?;
+    let (id, term, vote): (i64, i64, i64) = (row.get(0)?, row.get(1)?, row.get(2)?);
+    println!(rt; "meta of member 2: {id}, {term}, {vote}")?;
+    Ok(())
+}
+
+fn tell_log(rt: &impl Print, database: &mut Connection<MemStore>) -> Result<()> {
+    let row = database.query_row("SELECT idx, term, stamp, client, number FROM log", &[])?;
+    let (index, term, stamp): (i64, i64, i64) = (row.get(0)?, row.get(1)?, row.get(2)?);
+    let (client, number): (i64, i64) = (row.get(3)?, row.get(4)?);
+    println!(rt; "log of member 2: {index}, {term}, {stamp}, {client}, {number}")?;
+    Ok(())
 }
 
 /// Over databases in memory.

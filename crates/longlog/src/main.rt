@@ -1,8 +1,8 @@
 //! Tries members whose log is longer than what they have of it in memory, and prints what came of it.
 //!
-//! First a group of three over keepers in memory, and then one over databases: member 3 is stopped while member 1 closes
-//! 1,500 times, and then it is sent what it lacks, which its leader has to fetch from its keeper. Last a member of a group
-//! whose keeper fails, at each of its calls once.
+//! First what a database has after an election. Then a group of three over keepers in memory, and one over databases: member
+//! 3 is stopped while member 1 closes 1,500 times, and then it is sent what it lacks, which its leader has to fetch from its
+//! keeper. Last a member of a group whose keeper fails, at each of its calls once.
 #![tactic(auto)]
 
 mod catch_up;
@@ -27,6 +27,7 @@ const SCHEMA: &str = "CREATE TABLE Dept (DNo INTEGER, DStart DATE, DEnd DATE, DN
 fn main(rt: HostRuntime) -> Result<()> {
     let alloc = rt.alloc();
     let schema = read_schema(alloc, SCHEMA)?;
+    keepers::tell_election(&rt, alloc, &schema)?;
     keepers::tell_memory(&rt, alloc, &schema)?;
     keepers::tell_databases(&rt, alloc, &schema)?;
     failing::tell(&rt, alloc, &schema)
