@@ -11,7 +11,7 @@ use Rattle.model.specs.Worlds.{fresh, started}
 use Rattle.keep.specs.Durable.{Durable, after, IsBeforeOrAfter}
 use Rattle.keep.specs.declared.change.Change.{Change}
 use Rattle.keep.specs.declared.error.StoreError.{StoreError}
-use Rattle.keep.specs.declared.error.StoreError.TheVariants.{NoMemory, StoreFault}
+use Rattle.keep.specs.declared.error.StoreError.TheVariants.{NoMemory, StoreFault, BadStore}
 pub use Rattle.raft.specs.View.{after_change, hard_of, works, Grows}
 pub use Rattle.raft.specs.Reading.{IsCause, IsCauseOr}
 pub use Rattle.raft.specs.Memory.{spares_memory}
@@ -69,6 +69,10 @@ HasCause failed failed' (Down error) = IsCause failed failed' error
 abbrev pub HasCauseOr : Type 0 → ℕ → ℕ → Fault → Type 0
 HasCauseOr honest failed failed' (Kept refusal) = Unit {0}
 HasCauseOr honest failed failed' (Down error) = IsCauseOr honest failed failed' error
+
+-- the cause is one of these, or that the store was not honest, which is told as 44
+abbrev pub IsCauseOrBad : Type 0 → ℕ → ℕ → StoreError → Type 0
+IsCauseOrBad honest failed failed' error = IsCause failed failed' error ⊎ ((error ≡ BadStore) × (honest → ⊥))
 
 -- a refusal changes nothing
 abbrev pub IsSame : Node → Node → Fault → Type 0

@@ -12,7 +12,7 @@ ghost use Rattle.model.specs.Members.{applied};
 ghost use Rattle.keep.specs.Durable.{Durable, IsBeforeOrAfter};
 ghost use Rattle.raft.specs.Memory.{spares_memory};
 ghost use Rattle.raft.specs.View.{brought, hard_of, node_of, works, Grows, IsInStep, after_change};
-ghost use Rattle.node.specs.View.{durable_of, Gave, IsKept, IsSame, IsTorn, IsCause, IsCauseOr, HasCauseOr, LeavesUp, started_from, told_between};
+ghost use Rattle.node.specs.View.{durable_of, Gave, IsKept, IsSame, IsTorn, IsCause, IsCauseOr, IsCauseOrBad, HasCauseOr, LeavesUp, started_from, told_between};
 ghost use Rattle.node.specs.Applying.{AreApplied, AreMade};
 ghost use Rattle.node.specs.Saving.{IsDue};
 ghost use Rattle.node.specs.Stepping.{applied_in, sent_in, IsStep};
@@ -343,8 +343,9 @@ impl<K: Keeper> Node<K> {
         self.core.hard_state()
     }
 
-    /// A copy of its log, read from the keeper an entry at a time. `NodeDown` where the node is down, with nothing changed;
-    /// after another error it is down: `StoreFault`, `NoMemory`, or `BadStore` where the store was not honest.
+    /// A copy of its log, read from the keeper an entry at a time, each once. `NodeDown` where the node is down, with nothing
+    /// changed; after another error it is down: `StoreFault` where the store fails, `NoMemory` where memory is refused, or
+    /// `BadStore` where the store was not honest.
     pub fn entries(&mut self) -> Result<Vec<Entry>, StoreError>
         ensures ok { IfOk result (λ entries. K.is_honest self.new.keeper → entries.items ≡ (member_of self.old).log) }
         ensures up { OnOk result ((self.old.is_up ≡ true) × (self.new.is_up ≡ true)) }
@@ -352,6 +353,9 @@ impl<K: Keeper> Node<K> {
         ensures stays { self.old.is_up ≡ false → self.new ≡ self.old }
         ensures down { IfErr result (λ e. e ≡ StoreError.NodeDown → self.old.is_up ≡ false) }
         ensures bad { IfErr result (λ e. e ≡ StoreError.BadStore → K.is_honest self.new.keeper → ⊥) }
+        ensures was_down { self.old.is_up ≡ false → result ≡ Err StoreError.NodeDown }
+        ensures cause { self.old.is_up ≡ true → IfErr result (IsCauseOrBad (K.is_honest self.new.keeper) (K.failed self.old.keeper) (K.failed self.new.keeper)) }
+        ensures asks { K.is_honest self.new.keeper → K.asks self.new.keeper ≤ K.asks self.old.keeper + length (member_of self.old).log }
         ensures core { self.new.core ≡ self.old.core }
         ensures group { IsSameSeat self.old self.new }
         ensures member { OnOk result (K.is_honest self.new.keeper → member_of self.new ≡ member_of self.old) }
