@@ -13,12 +13,12 @@ use Rattle.model.specs.Texts.{instant_text}
 use Rattle.model.specs.Answers.{Select, SystemTime, as_of, IsAnswer}
 use Rattle.model.specs.declared.message.Message.{Message}
 use Rattle.model.specs.declared.message.Body.{Body}
-use Rattle.model.specs.Members.{Node, applied, closed_time}
+use Rattle.model.specs.Members.{Node, applied}
 use Rattle.model.specs.Kept.{node_after}
 use Rattle.model.specs.declared.message.Role.TheVariants.{Candidate, Leader}
-use Rattle.model.specs.declared.message.Body.TheVariants.{Vote, Append, Reply, Seek, Stored, Seal}
-use Rattle.model.specs.declared.message.Input.TheVariants.{Timeout, Beat, Close, Submit, Floor}
-use Rattle.model.specs.Steps.{Effect, Moves, Refuses, Nothing, time_out, ask_floor, on_message}
+use Rattle.model.specs.declared.message.Body.TheVariants.{Vote, Append, Reply}
+use Rattle.model.specs.declared.message.Input.TheVariants.{Timeout, Beat, Close, Submit}
+use Rattle.model.specs.Steps.{Effect, Moves, Refuses, Nothing, time_out, on_message}
 use Rattle.model.specs.Worlds.{World, Event, Hand, Deliver, Stop, Start, Torn, Ask, Delivery, Left, Old, New, Sent, Applied, Refused, Answered, fresh, new_world, led_world, run, Gives, GivesAll}
 use Rattle.model.specs.Agreement.{decided}
 
@@ -301,90 +301,3 @@ abbrev pub KnownLeader : Type 0
 KnownLeader =
     Gives dept 3 (after (base ++ (Hand 3 Timeout ∷ []))) (Hand 3 (Submit (pos 100) (request 7 1))) (Refused 3 (NotLeader (Some 1)) ∷ [])
     × Gives dept 3 (after (base ++ (Hand 3 Timeout ∷ Deliver 14 (pos 100) ∷ []))) (Hand 2 (Submit (pos 100) (request 7 1))) (Refused 2 (NotLeader None) ∷ [])
-
--- ---- quiet closing: the base run, and then a floor
-
--- a message that has this body, of term 1
-abbrev pub said_by : ℕ → ℕ → Body → Message
-said_by from to body = record { sender = from; addressee = to; term = 1; body = body }
-
--- member 1 asks for the floor 500 and all hear of all: Seek, Stored and Seal
-abbrev pub floor_events : List Event
-floor_events = Hand 1 (Floor (pos 500)) ∷ deliveries 13 6
-
--- the floor is sealed when the first of two members has stored it
-abbrev pub SealedQuietly : Type 0
-SealedQuietly =
-    GivesAll dept 3 (after base) floor_events
-    ((Sent 13 (said_by 1 2 (Seek 1 500)) ∷ Sent 14 (said_by 1 3 (Seek 1 500)) ∷ [])
-    ∷ (Sent 15 (said_by 2 1 (Stored 1 500)) ∷ []) ∷ (Sent 16 (said_by 3 1 (Stored 1 500)) ∷ [])
-    ∷ (Sent 17 (said_by 1 2 (Seal 1 500)) ∷ Sent 18 (said_by 1 3 (Seal 1 500)) ∷ []) ∷ [] ∷ [] ∷ [] ∷ [])
-    × Gives dept 3 (after (base ++ floor_events)) (Ask 3 (from_dept None)) (Answered 3 (record { last = 500; rows = [] }) ∷ [])
-    × (map (λ x. length x.log) (after (base ++ floor_events)).nodes ≡ 1 ∷ 1 ∷ 1 ∷ [])
-
--- a clock that is behind the floor: a request is stamped above it all the same
-abbrev pub floored : List Event
-floored = base ++ floor_events ++ (Hand 1 (Submit (pos 100) (request 7 1)) ∷ deliveries 19 2)
-
-abbrev pub StampedAbove : Type 0
-StampedAbove =
-    let told : Told = record { index = 2; client = 7; number = 1; outcome = outcome dept 501 (request 7 1) (close_entry 1 100 ∷ []) } in
-    Gives dept 3 (after floored) (Deliver 21 (pos 100))
-    (Sent 23 (append 2 2 1 2 []) ∷ Sent 24 (append 3 1 1 2 (request_entry 1 501 7 1 ∷ [])) ∷ Applied 1 told ∷ [])
-
--- the leader stops, and member 2 is elected: the vote tells the floor, and the new leader's Close is stamped above it
-abbrev pub floor_failover : List Event
-floor_failover = base ++ floor_events ++ (Stop 1 ∷ Hand 2 Timeout ∷ deliveries 19 1)
-
-abbrev pub VoteTellsFloor : Type 0
-VoteTellsFloor =
-    Gives dept 3 (after floor_failover) (Deliver 20 (pos 200)) (Sent 21 (record { sender = 3; addressee = 2; term = 2; body = Vote true (Some 500) }) ∷ [])
-    × (map (λ x. x.log) (run dept 3 (after floor_failover) (Deliver 20 (pos 200) ∷ Deliver 21 (pos 200) ∷ [])).nodes
-    ≡ (close_entry 1 100 ∷ []) ∷ (close_entry 1 100 ∷ close_entry 2 501 ∷ []) ∷ (close_entry 1 100 ∷ []) ∷ [])
-
--- the vote is of a member that stored the floor, the new leader is one that did not
-abbrev pub floor_told : List Event
-floor_told = base ++ (Hand 1 (Floor (pos 500)) ∷ Deliver 14 (pos 500) ∷ Stop 1 ∷ Hand 2 Timeout ∷ Deliver 17 (pos 200) ∷ Deliver 18 (pos 200) ∷ [])
-
-abbrev pub FloorFromVotes : Type 0
-FloorFromVotes =
-    (map (λ x. x.floor) (after floor_told).nodes ≡ Some 500 ∷ Some 500 ∷ Some 500 ∷ [])
-    × (map (λ x. x.log) (after floor_told).nodes ≡ (close_entry 1 100 ∷ []) ∷ (close_entry 1 100 ∷ close_entry 2 501 ∷ []) ∷ (close_entry 1 100 ∷ []) ∷ [])
-
--- a member that has applied nothing does not count the seal; it waits until the entry is applied
-abbrev pub waiting_seal : List Event
-waiting_seal = base ++ (Stop 3 ∷ Start 3 ∷ []) ++ floor_events
-
-abbrev pub SealWaits : Type 0
-SealWaits =
-    Gives dept 3 (after waiting_seal) (Ask 3 (from_dept None)) (Refused 3 (NotClosed None) ∷ [])
-    × Gives dept 3 (after (waiting_seal ++ (Hand 1 Beat ∷ deliveries 19 2))) (Ask 3 (from_dept None)) (Answered 3 (record { last = 500; rows = [] }) ∷ [])
-
--- the floor outlives a restart, what was sealed does not
-abbrev pub FloorIsKept : Type 0
-FloorIsKept =
-    let again : List Event = base ++ floor_events ++ (Stop 2 ∷ Start 2 ∷ []) in
-    (map (λ x. x.floor) (after again).nodes ≡ Some 500 ∷ Some 500 ∷ Some 500 ∷ []) × (map (λ x. x.sealed) (after again).nodes ≡ Some 500 ∷ None ∷ Some 500 ∷ [])
-
--- a Floor at a follower, and at a leader whose last entry is of an older term, does nothing; a Seek of a smaller term has no effect
-abbrev pub NoFloor : Type 0
-NoFloor =
-    Gives dept 3 (after base) (Hand 2 (Floor (pos 500))) [] × (map (λ x. x.floor) (run dept 3 (after base) (Hand 2 (Floor (pos 500)) ∷ [])).nodes ≡ None ∷ None ∷ None ∷ [])
-    × (ask_floor 3 2 (pos 500) (leading 2) ≡ Nothing) × (is_taken (ask_floor 3 2 (pos 500) (leading 1)) ≡ true)
-    × (on_body_from 1 2 1 (Seek 1 500) (fresh 2 None) ≡ Moves (record { node = fresh 2 None; sent = [] }))
-
--- an index of 0 or past the limit, a floor past the last instant, a Seek of its own term at a leader
-abbrev pub StrangeFloors : Type 0
-StrangeFloors =
-    let taken : Body → Node → Bool = λ body x. is_taken (on_body_from 1 2 1 body x) in
-    (taken (Seek 1 500) holder ≡ true) × (taken (Seek 0 500) holder ≡ false) × (taken (Seek 100001 500) holder ≡ false) × (taken (Seek 1 253402214400000000) holder ≡ false)
-    × (taken (Seal 1 500) holder ≡ true) × (taken (Seal 0 500) holder ≡ false) × (taken (Seal 100001 500) holder ≡ false) × (taken (Seal 1 253402214400000000) holder ≡ false)
-    × (taken (Vote true (Some 253402214399999999)) holder ≡ true) × (taken (Vote true (Some 253402214400000000)) holder ≡ false)
-    × (taken (Seek 1 500) (leading 1) ≡ false) × (taken (Seek 1 500) (leading 2) ≡ true)
-
--- without a Floor all is as it was: nobody has a floor, and nobody tells one
-abbrev pub NoFloorAsked : Type 0
-NoFloorAsked =
-    (map (λ x. x.floor) (after retried).nodes ≡ None ∷ None ∷ None ∷ []) × (map (λ x. x.sealed) (after retried).nodes ≡ None ∷ None ∷ None ∷ [])
-    × (map closed_time (after retried).nodes ≡ map (λ x. closed (applied x)) (after retried).nodes)
-    × Gives dept 3 (after (base ++ (Stop 1 ∷ Hand 2 Timeout ∷ []))) (Deliver 14 (pos 100)) (Sent 15 (vote 3 2 2 true) ∷ [])

@@ -2,7 +2,8 @@
 #![tactic(auto)]
 
 ghost use Rattle.model.specs.TableRows.{TouchingRows, ReferenceGap, KeyTexts, RowOrder};
-ghost use Rattle.model.specs.Rows.{FirstClose, FirstAnswer, TornVote, RepeatedAppend, DecidedInsert, RefusedSubmit, Numbers, ShorterLog, RetryAfterFailover, Conflict, Restart, Clocks, Asks, NoSuchEvent, DishonestMessage, StrangeMessage, StrangeEntries, KnownLeader, NoStampLeft, OlderTerm, NextFalls, SealedQuietly, StampedAbove, VoteTellsFloor, FloorFromVotes, SealWaits, FloorIsKept, NoFloor, StrangeFloors, NoFloorAsked};
+ghost use Rattle.model.specs.Rows.{FirstClose, FirstAnswer, TornVote, RepeatedAppend, DecidedInsert, RefusedSubmit, Numbers, ShorterLog, RetryAfterFailover, Conflict, Restart, Clocks, Asks, NoSuchEvent, DishonestMessage, StrangeMessage, StrangeEntries, KnownLeader, NoStampLeft, OlderTerm, NextFalls};
+ghost use Rattle.model.specs.FloorRows.{SealedQuietly, StampedAbove, VoteTellsFloor, FloorFromVotes, SealWaits, FloorIsKept, NoFloor, StrangeFloors, NoFloorAsked, SecondStoredSeals, CountedAnew, SealOfAnotherTerm, GreatestWaits, SeekFollows, RefusedVoteTells};
 
 pub mod entry;
 pub mod mark;
@@ -64,4 +65,10 @@ pub fn rows_of_floors()
     ensures no_floor { NoFloor }
     ensures strange_floors { StrangeFloors }
     ensures no_floor_asked { NoFloorAsked }
+    ensures second_stored_seals { SecondStoredSeals }
+    ensures counted_anew { CountedAnew }
+    ensures seal_of_another_term { SealOfAnotherTerm }
+    ensures greatest_waits { GreatestWaits }
+    ensures seek_follows { SeekFollows }
+    ensures refused_vote_tells { RefusedVoteTells }
 {}

@@ -40,3 +40,27 @@ returns-clause-strange_floors c = (refl, refl, refl, refl, refl, refl, refl, ref
 pub returns-clause-no_floor_asked : goal.returns-clause-no_floor_asked
 unfolding time_out hears on_request_vote on_vote on_append on_reply_yes on_reply_no append_own ask_floor on_seek on_stored
 returns-clause-no_floor_asked c = (refl, refl, refl, refl)
+
+pub returns-clause-second_stored_seals : goal.returns-clause-second_stored_seals
+unfolding time_out hears on_request_vote on_vote on_append on_reply_yes on_reply_no append_own ask_floor on_seek on_stored
+returns-clause-second_stored_seals c = (_, _, refl, refl, (_, _, refl, refl, (_, _, refl, refl, (_, _, refl, refl, (_, _, refl, refl, (_, _, refl, refl, (_, _, refl, refl, refl)))))))
+
+pub returns-clause-counted_anew : goal.returns-clause-counted_anew
+unfolding time_out hears on_request_vote on_vote on_append on_reply_yes on_reply_no append_own ask_floor on_seek on_stored
+returns-clause-counted_anew c = (_, _, refl, refl, (_, _, refl, refl, (_, _, refl, refl, (_, _, refl, refl, (_, _, refl, refl, refl)))))
+
+pub returns-clause-seal_of_another_term : goal.returns-clause-seal_of_another_term
+unfolding time_out hears on_request_vote on_vote on_append on_reply_yes on_reply_no append_own ask_floor on_seek on_stored
+returns-clause-seal_of_another_term c = (refl, refl, refl)
+
+pub returns-clause-greatest_waits : goal.returns-clause-greatest_waits
+unfolding time_out hears on_request_vote on_vote on_append on_reply_yes on_reply_no append_own ask_floor on_seek on_stored
+returns-clause-greatest_waits c = (refl, refl, refl, refl, refl, refl)
+
+pub returns-clause-seek_follows : goal.returns-clause-seek_follows
+unfolding time_out hears on_request_vote on_vote on_append on_reply_yes on_reply_no append_own ask_floor on_seek on_stored
+returns-clause-seek_follows c = refl
+
+pub returns-clause-refused_vote_tells : goal.returns-clause-refused_vote_tells
+unfolding time_out hears on_request_vote on_vote on_append on_reply_yes on_reply_no append_own ask_floor on_seek on_stored
+returns-clause-refused_vote_tells c = (refl, refl)
