@@ -83,4 +83,4 @@ pub record HasAnswer (schema : Schema) (q : Select) (list : List Entry) : Type 0
 
 -- a query that is closed in a log of well formed texts has an answer
 abbrev pub ClosedAnswer : Type 0
-ClosedAnswer = (schema : Schema) (q : Select) (list : List Entry) → IsStamped list → AllFine schema list → IsClosed q list → HasAnswer schema q list
+ClosedAnswer = (schema : Schema) (q : Select) (list : List Entry) → IsStamped list → AllFine schema list → IsClosed q (closed list) → HasAnswer schema q list
