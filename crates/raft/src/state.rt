@@ -11,8 +11,9 @@ use fault::Refusal;
 use keep::change::Change;
 use keep::hard_state::HardState;
 use keep::state::State;
-use model::member::Member;
+use model::member::{AskedFloor, Member, SealedFloor};
 use model::message::{Body, Input, Message, Role};
+use model::stamp::Stamp;
 use schema::Schema;
 use std::alloc::Global;
 
@@ -85,8 +86,11 @@ pub(crate) struct Before {
     pub role: Role,
     pub known: Option<Member>,
     pub votes: Vec<bool>,
+    pub told: Option<Stamp>,
     pub next: Vec<usize>,
     pub matched: Vec<usize>,
+    pub asked: Option<AskedFloor>,
+    pub stored: Vec<bool>,
     ghost term_within: { term ≤ 9223372036854775807 },
     ghost stands: { is_candidate role ≡ true → 1 ≤ term },
     ghost leads: { is_leader role ≡ true → 1 ≤ term },
@@ -96,7 +100,7 @@ pub(crate) struct Before {
 /// A member of a group of up to seven, counted from 1, that all have the same tables.
 ///
 /// Its hard state and its log are to be kept over a restart; its role, its commit index, the leader that
-/// it knows, and what a candidate or a leader knows of the others are not.
+/// it knows, what a candidate or a leader knows of the others, and what it has sealed are not.
 #[derive(Drop)]
 pub struct Core {
     pub(crate) alloc: Global,
@@ -108,6 +112,8 @@ pub struct Core {
     pub me: Member,
     pub(crate) term: u64,
     pub(crate) vote: Option<Member>,
+    /// No entry that it makes as a leader is stamped at or below this.
+    pub(crate) floor: Option<Stamp>,
     /// Up to 100,000 entries, the first of which has index 1, and of which the last are here.
     pub log: ShortLog,
     pub(crate) role: Role,
@@ -116,10 +122,20 @@ pub struct Core {
     pub(crate) known: Option<Member>,
     /// On a candidate, for each member: whether it gave me its vote.
     pub(crate) votes: Vec<bool>,
+    /// On a candidate, the greatest floor that the votes told which it counted.
+    pub(crate) told: Option<Stamp>,
     /// On a leader, for each member: the index of the entry to send next.
     pub(crate) next: Vec<usize>,
     /// On a leader, for each member: up to where its log is known to agree.
     pub(crate) matched: Vec<usize>,
+    /// On a leader, the floor that it asks for.
+    pub(crate) asked: Option<AskedFloor>,
+    /// On a leader, for each member: whether it stored that floor.
+    pub(crate) stored: Vec<bool>,
+    /// The greatest floor of a seal whose entry is applied.
+    pub(crate) sealed: Option<Stamp>,
+    /// A seal whose entry is not applied yet.
+    pub(crate) waiting: Option<SealedFloor>,
     /// Memory was refused within a step, so that no further step is taken.
     pub is_spent: bool,
     ghost one_of_few: { members ≤ 7 },
@@ -156,13 +172,19 @@ impl Core {
             me,
             term: hard.term,
             vote: hard.vote,
+            floor: hard.floor,
             log,
             role: Role::Follower,
             commit: 0,
             known: None,
             votes: Vec::new(alloc),
+            told: None,
             next: Vec::new(alloc),
             matched: Vec::new(alloc),
+            asked: None,
+            stored: Vec::new(alloc),
+            sealed: None,
+            waiting: None,
             is_spent: false,
         }
     }
@@ -174,6 +196,7 @@ impl Core {
         HardState {
             term: self.term,
             vote: self.vote,
+            floor: self.floor,
         }
     }
 
@@ -182,6 +205,14 @@ impl Core {
         ensures { result ≡ self.now.log.shelved + vec_len self.now.log.tail }
     {
         self.log.length()
+    }
+
+    /// The greatest floor of a seal whose entry it has applied, none where there is none. It does not fall while the member
+    /// is up.
+    pub fn sealed(&self) -> Option<Stamp>
+        ensures { result ≡ self.now.sealed }
+    {
+        self.sealed
     }
 
     /// Up to which index the log is known to be committed.
