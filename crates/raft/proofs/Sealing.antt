@@ -1,17 +1,13 @@
 -- Seals whose entries are applied, and others.
-use Rattle.std.proofs.Common.{◌≡◌, ◌∙◌, ℕ, zero, suc, ◌≤◌, ◌<◌, max, Bool, true, false, Option, Some, None, List, [], ◌∷◌, take, slice_get, refl, sym, ap, arith}
+use Rattle.std.proofs.Common.{◌≡◌, ℕ, zero, suc, ◌≤◌, ◌<◌, max, false, Option, Some, None, List, [], ◌∷◌, take, slice_get, refl, ap, arith}
 use Rattle.model.specs.declared.member.SealedFloor.{SealedFloor}
 use Rattle.model.specs.Lists.{nth}
 use Rattle.model.specs.Members.{Node, has_term}
 use Rattle.model.specs.Stamps.{greater}
-use Rattle.model.specs.Steps.{is_applied, learned, longer_waiting, seal_floor, settled, unapplied}
+use Rattle.model.specs.Steps.{is_applied}
 use Rattle.raft.proofs.Windows.{got_taken}
 
 -- ---- the greater of two instants
-
-pub greater_none : (a : Option ℕ) → greater a None ≡ a
-greater_none None = refl
-greater_none (Some a) = refl
 
 pub greater_self : (a : Option ℕ) → greater a a ≡ a
 greater_self None = refl
@@ -43,20 +39,3 @@ applied_within x s le = ap (λ o. has_term o s.term) (nth_taken x.log s.index x.
 
 pub applied_past : (x : Node) (s : SealedFloor) → x.commit < s.index → is_applied x s ≡ false
 applied_past x s lt = ap (λ o. has_term o s.term) (nth_past x.log s.index x.commit lt)
-
--- ---- what a member learns
-
-pub learned_counts : (x : Node) (s : SealedFloor) → is_applied x s ≡ true → learned s x ≡ record x { sealed = greater x.sealed (Some s.floor) }
-learned_counts x s is = rw is refl
-
-pub learned_waits : (x : Node) (s : SealedFloor) → is_applied x s ≡ false → learned s x ≡ record x { waiting = longer_waiting x.waiting (Some s) }
-learned_waits x s is = rw (is, greater_none x.sealed) refl
-
-pub settled_none : (x : Node) → x.waiting ≡ None → settled x ≡ x
-settled_none x none = rw (none, greater_none x.sealed) (ap (λ w. record x { waiting = w }) (sym none))
-
-pub settled_counts : (x : Node) (s : SealedFloor) → x.waiting ≡ Some s → is_applied x s ≡ true → settled x ≡ record x { sealed = greater x.sealed (Some s.floor); waiting = None }
-settled_counts x s waits is = rw (waits, is) refl
-
-pub settled_waits : (x : Node) (s : SealedFloor) → x.waiting ≡ Some s → is_applied x s ≡ false → settled x ≡ x
-settled_waits x s waits is = rw (waits, is, greater_none x.sealed) (ap (λ w. record x { waiting = w }) (sym waits))

@@ -70,11 +70,11 @@ impl Core {
         ensures asks { S.asks shelf.new ≤ S.asks shelf.old + 1 }
     {
         let floor = Some(seal.floor);
-        if self.is_applied(shelf, seal)? {
-            self.sealed = greater(self.sealed, floor);
-        } else {
+        if !self.is_applied(shelf, seal)? {
             self.waiting = longer_waiting(self.waiting, seal);
+            return Ok(());
         }
+        self.sealed = greater(self.sealed, floor);
         Ok(())
     }
 

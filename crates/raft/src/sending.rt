@@ -241,10 +241,10 @@ impl Core {
                 Ok(messages)
             }
             Sending::Seals(seal) => {
-                self.learn(shelf, seal)?;
                 let SealedFloor { index, floor, .. } = seal;
                 let body = Body::Seal { index, floor };
                 let messages = self.tell_all(&body)?;
+                self.learn(shelf, seal)?;
                 Ok(messages)
             }
             Sending::Learned(seal) => {

@@ -120,10 +120,10 @@ impl Core {
 
     /// Whether a step left the log as it was: as long as then, and with an entry of the same term after those that the step
     /// leaves in any case, unless that one is still on the shelf alone.
-    fn is_log_as_before(&self, mark: Mark) -> bool
-        requires { mark.kept ≤ 100000 }
-        ensures yes { result ≡ true → IsAsBefore self.now mark }
-        ensures no { result ≡ false → IsOther self.now mark }
+    fn is_log_as_before(&self, mark: &Mark) -> bool
+        requires { mark.now.kept ≤ 100000 }
+        ensures yes { result ≡ true → IsAsBefore self.now mark.now }
+        ensures no { result ≡ false → IsOther self.now mark.now }
     {
         if self.log.length() != mark.length {
             return false;
@@ -181,12 +181,11 @@ impl Core {
         ensures small { IfOk result IsSmallChange }
         ensures fits { IfOk result (IsSince self.now mark) }
     {
-        let before = mark.hard;
-        if self.is_log_as_before(mark) {
-            return Ok(self.change_of_hard_state(before));
+        if !self.is_log_as_before(&mark) {
+            let change = self.change_from(mark.kept)?;
+            return Ok(Some(change));
         }
-        let change = self.change_from(mark.kept)?;
-        Ok(Some(change))
+        Ok(self.change_of_hard_state(mark.hard))
     }
 
     /// Does the work, and says what changes in what is stored.
