@@ -4,7 +4,7 @@ use Rattle.std.specs.List.{list_all}
 use Rattle.raft.specs.declared.state.Core.{Core}
 use Rattle.raft.specs.declared.state.Before.{Before}
 use Rattle.raft.specs.declared.state.Sending.{Sending}
-use Rattle.raft.specs.declared.state.Sending.TheVariants.{Nothing, Answer, VoteRequests, Append, Appends, Agreed}
+use Rattle.raft.specs.declared.state.Sending.TheVariants.{Nothing, Answer, VoteRequests, Append, Appends, Agreed, Accepted, Seeks, Seals, Learned}
 use Rattle.raft.specs.declared.state.Work.{Work}
 use Rattle.raft.specs.declared.state.Work.TheVariants.{Local, Delivered}
 use Rattle.raft.specs.declared.state.Effect.{Effect as Given}
@@ -27,7 +27,7 @@ use Rattle.model.specs.declared.entry.Entry.{Entry}
 use Rattle.model.specs.declared.entry.Request.{Request}
 use Rattle.model.specs.Lists.{nth_or}
 use Rattle.model.specs.Members.{Node, term_at}
-use Rattle.model.specs.Steps.{After, Effect, Moves, Refuses, answer, append_to, append_to_all, commits, entries_of, on_message, vote_requests}
+use Rattle.model.specs.Steps.{After, Effect, Moves, Refuses, answer, append_to, append_to_all, commits, entries_of, learned, on_message, settled, tell_all, vote_requests}
 use Rattle.model.specs.Steps as steps
 use Rattle.model.specs.Worlds.{hand}
 use Rattle.model.specs.Kept.{kept_at}
@@ -122,7 +122,7 @@ after_of c stored messages = record { node = node_of c stored; sent = messages }
 -- what a leader does once the log of a member is known to agree further
 abbrev pub agrees : ℕ → ℕ → ℕ → Node → After
 agrees n me sender x =
-    let y = commits n me x in
+    let y = settled (commits n me x) in
     record {
       node = y;
       sent = if nat_lt x.commit y.commit then append_to_all n y me
@@ -137,6 +137,28 @@ sends n me VoteRequests x = record { node = x; sent = vote_requests n me x }
 sends n me (Append to) x = record { node = x; sent = append_to x me to ∷ [] }
 sends n me Appends x = record { node = x; sent = append_to_all n x me }
 sends n me (Agreed sender) x = agrees n me sender x
+sends n me (Accepted to matched) x = record { node = settled x; sent = answer x me to (Reply true matched) }
+sends n me (Seeks asked) x = record { node = x; sent = tell_all n x me (Seek asked.index asked.floor) }
+sends n me (Seals seal) x = record { node = learned seal x; sent = tell_all n x me (Seal seal.index seal.floor) }
+sends n me (Learned seal) x = record { node = learned seal x; sent = [] }
+
+-- how many entries are looked at besides those that are sent: one to find what is committed, and one for a seal
+abbrev pub settling : Sending → ℕ
+settling Nothing = 0
+settling (Answer to body) = 0
+settling VoteRequests = 0
+settling (Append to) = 0
+settling Appends = 0
+settling (Agreed sender) = 2
+settling (Accepted to matched) = 1
+settling (Seeks asked) = 0
+settling (Seals seal) = 1
+settling (Learned seal) = 1
+
+abbrev pub asks_after : Given Sending → ℕ
+asks_after (Refused refusal) = 0
+asks_after Ignored = 0
+asks_after (Done sending) = settling sending
 
 -- what no step changes
 pub record IsSameSeat (old new : Core) : Type 0 where
@@ -217,6 +239,20 @@ EffectForms new d (Done t) = IsStorable new t.change d
 abbrev pub brought : Work → ℕ
 brought (Local input) = 0
 brought (Delivered reading message) = 1
+
+-- how many entries are looked at for this
+abbrev pub looked_at : Body → ℕ
+looked_at (model.Append prev prev_term es commit) = 65
+looked_at (RequestVote i t) = 0
+looked_at (Vote given floor) = 0
+looked_at (Reply ok matched) = 0
+looked_at (Seek index floor) = 0
+looked_at (model.Stored index floor) = 0
+looked_at (Seal index floor) = 0
+
+abbrev pub looks : Work → ℕ
+looks (Local input) = 0
+looks (Delivered reading message) = looked_at message.body
 
 -- the part of the log that is looked at for this work
 abbrev pub LooksAt : Work → List Entry → List Entry → Type 0

@@ -20,7 +20,7 @@ use std::alloc::Global;
 /// What is brought to a member.
 #[derive(Debug, Drop)]
 pub enum Work {
-    /// A timeout, a beat, a close or a submit.
+    /// A timeout, a beat, a close, a floor or a submit.
     Local(Input),
     /// A message, with what the clock shows in microseconds since 1970.
     Delivered { reading: i64, message: Message },
@@ -64,6 +64,14 @@ pub(crate) enum Sending {
     Appends,
     /// What a leader sends once the log of a member is known to agree further: entries may be committed now.
     Agreed(Member),
+    /// That entries were taken, and up to which index the log is now the leader's: a seal that waits may count now.
+    Accepted { to: Member, matched: usize },
+    /// A `Seek` to each other member.
+    Seeks(AskedFloor),
+    /// A `Seal` to each other member, once it is learned.
+    Seals(SealedFloor),
+    /// Nothing, once this seal is learned.
+    Learned(SealedFloor),
 }
 
 /// What is to be known of a member before a step, to tell what the step changed of what is stored.
