@@ -5,7 +5,7 @@ ghost use Rattle.sqlite.specs.State.{HasCleanDisk, KeepsCommit, Survives};
 ghost use Rattle.sqlite.specs.Held.{state};
 ghost use Rattle.model.specs.Steps.{TERM_LAST};
 ghost use Rattle.keep.specs.Log.{IsSmall};
-ghost use Rattle.durable.specs.Contents.{Contents, item_of, items_of, changed, number_of_vote, client_of, number_of, body_of};
+ghost use Rattle.durable.specs.Contents.{Contents, item_of, items_of, changed, number_of_vote, number_of_floor, client_of, number_of, body_of};
 ghost use Rattle.durable.specs.Steps.{Goes};
 ghost use Rattle.durable.specs.Rows.{Holds};
 
@@ -13,6 +13,7 @@ use crate::whole::Whole;
 use keep::Change;
 use model::entry::{Entry, Request};
 use model::member::Member;
+use model::stamp::Stamp;
 use sqlite::{Alter, Error, Transaction, params};
 
 /// The number that stands for the client: 0 for a Close.
@@ -59,6 +60,16 @@ fn number_of_vote(vote: Option<Member>) -> u64
     }
 }
 
+/// The number that stands for the floor: -1 for none.
+fn number_of_floor(floor: Option<Stamp>) -> i64
+    ensures { result ≡ number_of_floor floor }
+{
+    match floor {
+        None => -1,
+        Some(floor) => floor.micros() as i64,
+    }
+}
+
 /// Appends one entry, whose number comes next.
 pub fn append_one<S: Alter>(
     tx: &mut Transaction<'_, S>,
@@ -98,6 +109,18 @@ pub fn set_meta<S: Alter>(
     ensures survives { Survives (state S.Store tx.old.conn.now) (state S.Store tx.new.conn.now) (λ _. ⊥) }
 {
     tx.execute("UPDATE meta SET term = ?1, vote = ?2", params![term, vote])?;
+    Ok(())
+}
+
+/// Sets the floor.
+pub fn set_floor<S: Alter>(tx: &mut Transaction<'_, S>, floor: Option<Stamp>) -> Result<(), Error>
+    ensures same_reference { tx.new.conn.ghost_name ≡ tx.old.conn.ghost_name }
+    ensures ok { HasCleanDisk (state S.Store tx.new.conn.now) → OnOk result (Goes (state S.Store tx.old.conn.now) (state S.Store tx.new.conn.now) (λ d. record d { floor = floor })) }
+    ensures keeps { HasCleanDisk (state S.Store tx.new.conn.now) → KeepsCommit (state S.Store tx.old.conn.now) (state S.Store tx.new.conn.now) }
+    ensures survives { Survives (state S.Store tx.old.conn.now) (state S.Store tx.new.conn.now) (λ _. ⊥) }
+{
+    let number = number_of_floor(floor);
+    tx.execute("UPDATE floor SET t = ?1", params![number])?;
     Ok(())
 }
 
@@ -151,6 +174,7 @@ pub fn write_change<S: Alter>(tx: &mut Transaction<'_, S>, change: &Change) -> R
         value: number_of_vote(change.hard.vote),
     };
     set_meta(tx, term, vote)?;
+    set_floor(tx, change.hard.floor)?;
     let kept = change.kept as u64;
     cut_log(tx, Whole { value: kept })?;
     append_all(tx, Whole { value: kept + 1 }, &change.entries)?;
