@@ -7,7 +7,7 @@ use Rattle.keep.specs.Durable.{Durable}
 use Rattle.durable.specs.Contents.{Item, Contents, contents_of, durable_in, number_of_floor}
 use Rattle.durable.specs.Tables.{no_schema}
 use Rattle.durable.specs.Rows.{log_rows, Holds, HoldsOld, in_order}
-use Rattle.durable.specs.Stored.{number_in, floor_in, floor_of, item_in, first_row, contents_in, stored_in, IsSettled, Offers}
+use Rattle.durable.specs.Stored.{number_in, floor_in, floor_of, item_in, first_row, contents_in, stored_in, IsSettled, IsIn, Offers}
 
 items_back : (i : ℕ) (es : List Item) → map item_in (log_rows i es) ≡ es
 items_back i [] = refl
@@ -31,11 +31,16 @@ no_tables db c has none = absurd (let same = sym has.tables ∙ none in let e = 
 pub no_old : (db : Database) (c d : Contents) → Holds db c → HoldsOld db d → ⊥
 no_old db c d has old = absurd (let same = sym has.tables ∙ old.tables in let e = ap (λ s. s.tables) same in cc)
 
-pub offers_stored : (s : State) (d : Durable) → IsSettled s → Offers s d → d ≡ stored_in s.now
-offers_stored s d set it = elim it.found [
-  | inl has ↦ sym has.1 ∙ ap durable_in (sym (read_back s.committed (contents_of d) has.0) ∙ ap contents_in set.committed)
+-- what is in the three tables is what they say
+pub is_stored : (db : Database) (c : Contents) (d : Durable) → Holds db c → IsIn db d → d ≡ stored_in db
+is_stored db c d has it = elim it [
+  | inl held ↦ sym held.1 ∙ ap durable_in (sym (read_back db (contents_of d) held.0))
   | inr rest ↦ elim rest [
-    | inl old ↦ absurd (no_old s.committed _ _ (subst (λ db. Holds db (contents_in s.now)) (sym set.committed) set.holds) old.0)
-    | inr none ↦ absurd (no_tables s.now _ set.holds (ap (λ (b : Database). b.schema) (sym set.committed) ∙ none.0))
+    | inl old ↦ absurd (no_old db c (contents_of d) has old.0)
+    | inr none ↦ absurd (no_tables db c has none.0)
   ]
 ]
+
+pub offers_stored : (s : State) (d : Durable) → IsSettled s → Offers s d → d ≡ stored_in s.now
+offers_stored s d set it =
+    is_stored s.committed (contents_in s.now) d (subst (λ db. Holds db (contents_in s.now)) (sym set.committed) set.holds) it.found ∙ ap stored_in set.committed

@@ -174,7 +174,8 @@ pub fn find_log<S: Alter>(
     ensures clean { HasCleanDisk (state S.Store conn.new) → HasCleanDisk (state S.Store conn.old) }
     ensures left { (d : Durable) → Offers (state S.Store conn.new) d → Offers (state S.Store conn.old) d }
 {
-    if !set_up(conn)? {
+    let ready = set_up(conn)?;
+    if !ready {
         return Ok(None);
     }
     judge(alloc, conn, members, schema)

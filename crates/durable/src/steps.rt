@@ -5,11 +5,11 @@ ghost use Rattle.sqlite.specs.State.{HasCleanDisk, KeepsCommit, Survives};
 ghost use Rattle.sqlite.specs.Held.{state};
 ghost use Rattle.model.specs.Steps.{TERM_LAST};
 ghost use Rattle.keep.specs.Log.{IsSmall};
-ghost use Rattle.durable.specs.Contents.{Contents, item_of, items_of, changed, number_of_vote, number_of_floor, client_of, number_of, body_of};
+ghost use Rattle.durable.specs.Contents.{Contents, item_of, items_of, changed, number_of_vote, client_of, number_of, body_of};
 ghost use Rattle.durable.specs.Steps.{Goes};
 ghost use Rattle.durable.specs.Rows.{Holds};
 
-use crate::whole::Whole;
+use crate::whole::{Floor, Whole};
 use keep::Change;
 use model::entry::{Entry, Request};
 use model::member::Member;
@@ -57,16 +57,6 @@ fn number_of_vote(vote: Option<Member>) -> u64
     match vote {
         None => 0,
         Some(member) => member as u64,
-    }
-}
-
-/// The number that stands for the floor: -1 for none.
-fn number_of_floor(floor: Option<Stamp>) -> i64
-    ensures { result ≡ number_of_floor floor }
-{
-    match floor {
-        None => -1,
-        Some(floor) => floor.micros() as i64,
     }
 }
 
@@ -119,8 +109,8 @@ pub fn set_floor<S: Alter>(tx: &mut Transaction<'_, S>, floor: Option<Stamp>) ->
     ensures keeps { HasCleanDisk (state S.Store tx.new.conn.now) → KeepsCommit (state S.Store tx.old.conn.now) (state S.Store tx.new.conn.now) }
     ensures survives { Survives (state S.Store tx.old.conn.now) (state S.Store tx.new.conn.now) (λ _. ⊥) }
 {
-    let number = number_of_floor(floor);
-    tx.execute("UPDATE floor SET t = ?1", params![number])?;
+    let floor = Floor { value: floor };
+    tx.execute("UPDATE floor SET t = ?1", params![floor])?;
     Ok(())
 }
 
