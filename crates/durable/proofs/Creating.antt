@@ -18,7 +18,7 @@ use Rattle.sqlite.specs.State.{State, mode_of, Writes, Executes}
 use Rattle.sqlite.proofs.Callers.{IsPlain, command_of, statement_of, runs_as, one_step}
 use Rattle.durable.specs.Contents.{none_yet}
 use Rattle.durable.specs.Tables.{meta, log, floor, no_schema, meta_schema, old_schema, schema}
-use Rattle.durable.specs.Rows.{meta_row, floor_row, in_order, Holds, HoldsOld}
+use Rattle.durable.specs.Rows.{meta_row, floor_row, in_order, HoldsOld}
 use Rattle.durable.specs.Steps.{Ran, Makes, IsBegun, IsBlank, IsRaised, HasFloor}
 use Rattle.durable.proofs.Parts.{went, same_value}
 use Rattle.durable.proofs.Places.{cast_int, cast_whole, cast_null, one_zero, zero_two, one_two}

@@ -1,5 +1,5 @@
 -- UPDATE of the one row of floor.
-use Rattle.std.proofs.Common.{◌≡◌, ℕ, ℤ, pos, Option, List, [], ◌∷◌, map, None, Ok, refl, ap, subst, ◌∙◌}
+use Rattle.std.proofs.Common.{◌≡◌, ℕ, pos, Option, List, [], ◌∷◌, map, None, Ok, refl, ap, subst, ◌∙◌}
 use Rattle.std.specs.List.Sorted.{IsPermutation}
 use Rattle.sqlite.specs.declared.types.Value.TheVariants.{Null, Int}
 use Rattle.sqlite.specs.Order.{Row}

@@ -6,7 +6,7 @@ use Rattle.sqlite.specs.State.{State}
 use Rattle.keep.specs.Durable.{Durable}
 use Rattle.durable.specs.Contents.{Item, Contents, contents_of, durable_in, number_of_floor}
 use Rattle.durable.specs.Tables.{no_schema}
-use Rattle.durable.specs.Rows.{log_rows, Holds, HoldsOld, in_order}
+use Rattle.durable.specs.Rows.{log_rows, Holds, HoldsOld}
 use Rattle.durable.specs.Stored.{number_in, floor_in, floor_of, item_in, first_row, contents_in, stored_in, IsSettled, IsIn, Offers}
 
 items_back : (i : ℕ) (es : List Item) → map item_in (log_rows i es) ≡ es

@@ -1,5 +1,5 @@
 //! Whether rows form a log.
-ghost use Rattle.std.specs.Prelude.{◌≡◌, ◌≢◌, ◌↔◌, ◌+◌, ◌<◌, ◌≤◌, ◌^◌, ◌∷◌, [], Some, None, Option, ℕ, false, true, pos, negsuc, ℤ, length, IfOk, OnOk, IsTrue, MatchOption};
+ghost use Rattle.std.specs.Prelude.{◌≡◌, ◌≢◌, ◌↔◌, ◌+◌, ◌<◌, ◌≤◌, ◌^◌, ◌∷◌, [], Some, None, Option, ℕ, false, true, pos, length, IfOk, OnOk, IsTrue, MatchOption};
 ghost use Rattle.model.specs.declared.entry.Entry.{Entry as Kept};
 ghost use Rattle.model.specs.Steps.{is_floor, spells, TERM_LAST};
 ghost use Rattle.sqlread.specs.Meaning.{schema_of};

@@ -3,7 +3,6 @@ ghost use Rattle.std.specs.Prelude.{◌≡◌, ◌≢◌, ◌⊎◌, ◌≤◌, 
 ghost use Rattle.sqlite.specs.State.{HasCleanDisk};
 ghost use Rattle.sqlite.specs.Held.{state};
 ghost use Rattle.std.specs.Coded.{Π_prop};
-ghost use Rattle.keep.specs.Durable.{Durable};
 ghost use Rattle.keep.specs.Log.{IsLog, log_prop};
 ghost use Rattle.durable.specs.Props.{IsSettled-prop};
 ghost use Rattle.durable.specs.Stored.{contents_in, stored_in, IsBad, IsSettled, Offers};
