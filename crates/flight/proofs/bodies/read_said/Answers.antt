@@ -15,7 +15,7 @@ abbrev from_candidacy : Candidacy → ℕ × Body
 from_candidacy v = (v.term, RequestVote v.last_index v.last_term)
 
 abbrev from_voted : Voted → ℕ × Body
-from_voted v = (v.term, Vote v.given)
+from_voted v = (v.term, Vote v.given v.floor)
 
 abbrev from_appended : Appended → ℕ × Body
 from_appended v = (v.term, Append v.prev_index v.prev_term v.entries v.commit)
@@ -25,36 +25,36 @@ from_replied v = (v.term, Reply v.ok v.matched)
 
 pub returns-in_err-candidacy-clause-err : goal.returns-in_err-candidacy-clause-err
 returns-in_err-candidacy-clause-err c =
-    let unread = case_unread (codes "votereq ") from_candidacy IsCandidacy candidacy_text IsSaid said_text candidacy_of c.args.text.now c.in-Some.rest.now c.in-Some.ensures.some.0 c.in_err-candidacy.field-0.0 c.in_err-candidacy.ensures.err in
+    let unread = case_unread (codes "votereq ") from_candidacy IsCandidacy candidacy_text (IsSaid c.args.version) (said_text c.args.version) (candidacy_of c.args.version) c.args.text.now c.in-Some.rest.now c.in-Some.ensures.some.0 c.in_err-candidacy.field-0.0 c.in_err-candidacy.ensures.err in
     search (rules, unread)
 
 pub returns-in-Some-clause-only : goal.returns-in-Some-clause-only
 returns-in-Some-clause-only c =
-    case_only (codes "votereq ") from_candidacy IsCandidacy candidacy_text IsSaid said_text candidacy_of c.args.text.now c.in-Some.rest.now c.in-Some.ensures.some.0 c.in_ok-candidacy.candidacy c.in_ok-candidacy.rest.now c.in_ok-candidacy.ensures.only
+    case_only (codes "votereq ") from_candidacy IsCandidacy candidacy_text (IsSaid c.args.version) (said_text c.args.version) (candidacy_of c.args.version) c.args.text.now c.in-Some.rest.now c.in-Some.ensures.some.0 c.in_ok-candidacy.candidacy c.in_ok-candidacy.rest.now c.in_ok-candidacy.ensures.only
 
 pub returns-in_err-voted-clause-err : goal.returns-in_err-voted-clause-err
 returns-in_err-voted-clause-err c =
-    let unread = case_unread (codes "vote ") from_voted IsVoted voted_text IsSaid said_text voted_of c.args.text.now c.in-Some-after.rest.now c.in-Some-after.ensures.some.0 c.in_err-voted.field-0.0 c.in_err-voted.ensures.err in
+    let unread = case_unread (codes "vote ") from_voted (IsVoted c.args.version) (voted_text c.args.version) (IsSaid c.args.version) (said_text c.args.version) (voted_of c.args.version) c.args.text.now c.in-Some-after.rest.now c.in-Some-after.ensures.some.0 c.in_err-voted.field-0.0 c.in_err-voted.ensures.err in
     search (rules, unread)
 
 pub returns-in-Some-after-clause-only : goal.returns-in-Some-after-clause-only
 returns-in-Some-after-clause-only c =
-    case_only (codes "vote ") from_voted IsVoted voted_text IsSaid said_text voted_of c.args.text.now c.in-Some-after.rest.now c.in-Some-after.ensures.some.0 c.in_ok-voted.voted c.in_ok-voted.rest.now c.in_ok-voted.ensures.only
+    case_only (codes "vote ") from_voted (IsVoted c.args.version) (voted_text c.args.version) (IsSaid c.args.version) (said_text c.args.version) (voted_of c.args.version) c.args.text.now c.in-Some-after.rest.now c.in-Some-after.ensures.some.0 c.in_ok-voted.voted c.in_ok-voted.rest.now c.in_ok-voted.ensures.only
 
 pub returns-in_err-appended-clause-err : goal.returns-in_err-appended-clause-err
 returns-in_err-appended-clause-err c =
-    let unread = case_unread (codes "append ") from_appended IsAppended appended_text IsSaid said_text appended_of c.args.text.now c.in-Some-after-2.rest.now c.in-Some-after-2.ensures.some.0 c.in_err-appended.field-0.0 c.in_err-appended.ensures.err in
+    let unread = case_unread (codes "append ") from_appended IsAppended appended_text (IsSaid c.args.version) (said_text c.args.version) (appended_of c.args.version) c.args.text.now c.in-Some-after-2.rest.now c.in-Some-after-2.ensures.some.0 c.in_err-appended.field-0.0 c.in_err-appended.ensures.err in
     search (rules, unread)
 
 pub returns-in-Some-after-2-clause-only : goal.returns-in-Some-after-2-clause-only
 returns-in-Some-after-2-clause-only c =
-    case_only (codes "append ") from_appended IsAppended appended_text IsSaid said_text appended_of c.args.text.now c.in-Some-after-2.rest.now c.in-Some-after-2.ensures.some.0 c.in_ok-appended.appended c.in_ok-appended.rest.now c.in_ok-appended.ensures.only
+    case_only (codes "append ") from_appended IsAppended appended_text (IsSaid c.args.version) (said_text c.args.version) (appended_of c.args.version) c.args.text.now c.in-Some-after-2.rest.now c.in-Some-after-2.ensures.some.0 c.in_ok-appended.appended c.in_ok-appended.rest.now c.in_ok-appended.ensures.only
 
 pub returns-in_err-replied-clause-err : goal.returns-in_err-replied-clause-err
 returns-in_err-replied-clause-err c =
-    let unread = case_unread (codes "reply ") from_replied IsReplied replied_text IsSaid said_text replied_of c.args.text.now c.in_ok-rest.rest.now c.in_ok-rest.ensures.ok.0 c.in_err-replied.field-0.0 c.in_err-replied.ensures.err in
+    let unread = case_unread (codes "reply ") from_replied IsReplied replied_text (IsSaid c.args.version) (said_text c.args.version) (replied_of c.args.version) c.args.text.now c.in_ok-rest.rest.now c.in_ok-rest.ensures.ok.0 c.in_err-replied.field-0.0 c.in_err-replied.ensures.err in
     search (rules, unread)
 
 pub returns-clause-only : goal.returns-clause-only
 returns-clause-only c =
-    case_only (codes "reply ") from_replied IsReplied replied_text IsSaid said_text replied_of c.args.text.now c.in_ok-rest.rest.now c.in_ok-rest.ensures.ok.0 c.in_ok-replied.replied c.in_ok-replied.rest.now c.in_ok-replied.ensures.only
+    case_only (codes "reply ") from_replied IsReplied replied_text (IsSaid c.args.version) (said_text c.args.version) (replied_of c.args.version) c.args.text.now c.in_ok-rest.rest.now c.in_ok-rest.ensures.ok.0 c.in_ok-replied.replied c.in_ok-replied.rest.now c.in_ok-replied.ensures.only

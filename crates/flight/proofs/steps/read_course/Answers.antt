@@ -12,7 +12,7 @@ use Rattle.flight.proofs.steps.read_course.Goals as goal
 pub returns-in_err-step-clause-err : goal.returns-in_err-step-clause-err
 returns-in_err-step-clause-err c =
     let begun : (r : List ℕ) × (c.loop-version.rest.now ≡ codes "step " ++ r) = search rules in
-    let unread = until_broken (IsStep c.args.version c.args.node) (step_text c.args.version) (codes "step ") IsNoOutcome (steps_no_outcome c.args.version) c.args.text.now c.loop-version.steps.items c.loop-version.rest.now (IsEnding c.args.node) ending_text ending_no_step
+    let unread = until_broken (IsStep c.args.version c.args.node) (step_text c.args.version) (codes "step ") IsNoOutcome (steps_no_outcome c.args.version) c.args.text.now c.loop-version.steps.items c.loop-version.rest.now (IsEnding c.args.version c.args.node) (ending_text c.args.version) (ending_no_step c.args.version)
     c.loop-version.invariant.taken begun c.in_err-step.field-0.0 c.in_err-step.ensures.err in
     search (rules, unread)
 
@@ -33,18 +33,18 @@ loop-version-smaller c =
 pub returns-in_err-ending-clause-err : goal.returns-in_err-ending-clause-err
 returns-in_err-ending-clause-err c =
     let over : IsNotBegun (codes "step ") c.loop-version.rest.now = search rules in
-    let unread = until_unread (IsStep c.args.version c.args.node) (step_text c.args.version) (codes "step ") IsNoOutcome (steps_no_outcome c.args.version) c.args.text.now c.loop-version.steps.items c.loop-version.rest.now (IsEnding c.args.node) ending_text ending_no_step
+    let unread = until_unread (IsStep c.args.version c.args.node) (step_text c.args.version) (codes "step ") IsNoOutcome (steps_no_outcome c.args.version) c.args.text.now c.loop-version.steps.items c.loop-version.rest.now (IsEnding c.args.version c.args.node) (ending_text c.args.version) (ending_no_step c.args.version)
     (step_begins c.args.version) c.loop-version.invariant.taken over c.in_err-ending.field-0.0 c.in_err-ending.ensures.err in
     search (rules, unread)
 
 pub returns-clause-ok : goal.returns-clause-ok
 returns-clause-ok c =
     let over : IsNotBegun (codes "step ") c.loop-version.rest.now = search rules in
-    until_whole (IsStep c.args.version c.args.node) (step_text c.args.version) (codes "step ") IsNoOutcome (steps_no_outcome c.args.version) c.args.text.now c.loop-version.steps.items c.loop-version.rest.now (IsEnding c.args.node) ending_text ending_no_step
+    until_whole (IsStep c.args.version c.args.node) (step_text c.args.version) (codes "step ") IsNoOutcome (steps_no_outcome c.args.version) c.args.text.now c.loop-version.steps.items c.loop-version.rest.now (IsEnding c.args.version c.args.node) (ending_text c.args.version) (ending_no_step c.args.version)
     (step_begins c.args.version) c.loop-version.invariant.taken over c.in_ok-ending.ending c.in_ok-ending.rest.now c.in_ok-ending.ensures.ok
 
 pub returns-clause-only : goal.returns-clause-only
 returns-clause-only c =
     let over : IsNotBegun (codes "step ") c.loop-version.rest.now = search rules in
-    until_only (IsStep c.args.version c.args.node) (step_text c.args.version) (codes "step ") IsNoOutcome (steps_no_outcome c.args.version) c.args.text.now c.loop-version.steps.items c.loop-version.rest.now (IsEnding c.args.node) ending_text ending_no_step
+    until_only (IsStep c.args.version c.args.node) (step_text c.args.version) (codes "step ") IsNoOutcome (steps_no_outcome c.args.version) c.args.text.now c.loop-version.steps.items c.loop-version.rest.now (IsEnding c.args.version c.args.node) (ending_text c.args.version) (ending_no_step c.args.version)
     (step_begins c.args.version) c.loop-version.invariant.taken over c.in_ok-ending.ending c.in_ok-ending.rest.now c.in_ok-ending.ensures.only
