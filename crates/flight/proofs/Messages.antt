@@ -1,5 +1,5 @@
 -- Messages by their first word.
-use Rattle.std.proofs.Common.{◌≡◌, ◌≢◌, ◌∙◌, ℕ, ℤ, Bool, true, false, List, ◌++◌, refl, sym, ap, arith, inl, inr, get_or, drop}
+use Rattle.std.proofs.Common.{◌≡◌, ◌≢◌, ◌∙◌, ℕ, ℤ, Bool, true, false, Option, List, ◌++◌, refl, sym, ap, arith, inl, inr, get_or, drop}
 use Rattle.std.specs.Prelude.{codes}
 use Rattle.fault.specs.declared.refusal.Refusal.{Refusal}
 use Rattle.fault.specs.declared.refusal.Refusal.TheVariants.{BadFlight}
@@ -17,7 +17,7 @@ use Rattle.flight.specs.declared.life.Packet.{Packet}
 use Rattle.flight.specs.declared.life.Packet.TheVariants.{Local, Delivered}
 use Rattle.flight.specs.Spelling.{number_text, spaced, body_text, packet_text}
 use Rattle.flight.specs.Ranges.{has_floors, IsNumber, IsMark, IsPacket}
-use Rattle.flight.specs.Bodies.{candidacy_text, voted_text, appended_text, replied_text, sealing_text, said_text, IsCandidacy, IsVoted, IsAppended, IsReplied, IsSealing, IsSaid, IsOfSealing, IsSaidOfSealing}
+use Rattle.flight.specs.Bodies.{candidacy_text, given_text, voted_text, appended_text, replied_text, sealing_text, said_text, IsCandidacy, IsGiven, IsVoted, IsAppended, IsReplied, IsSealing, IsSaid, IsOfSealing, IsSaidOfSealing}
 use Rattle.flight.specs.Packets.{delivery_text, IsDelivery}
 use Rattle.flight.specs.Reading.{SpellsOnly, IsUnread, IsNotBegun}
 
@@ -44,6 +44,22 @@ voted_of version (t, Reply ok m) rest other is e = absurd (omega (arith, ap (at 
 voted_of version (t, Seek i f) rest other is e = absurd (omega (arith, ap (at 0) e))
 voted_of version (t, Stored i f) rest other is e = absurd (omega (arith, ap (at 0) e))
 voted_of version (t, Seal i f) rest other is e = absurd (omega (arith, ap (at 0) e))
+
+-- a vote by its term and what follows it
+module _ (version : Version) (text : List ℕ) (term : ℕ) (first : List ℕ) (terms : SpellsOnly IsNumber (number_text 32) text term first) where
+  given_in : (w : Voted) (other : List ℕ) → IsVoted version w → text ≡ voted_text version w other → (w.term ≡ term) × (first ≡ given_text version (w.given, w.floor) other)
+  given_in w other is e = let a = terms w.term (given_text version (w.given, w.floor) other) is.0 e in (a.0, sym a.1)
+
+  pub voted_unread : (r : Refusal) → IsUnread (IsGiven version) (given_text version) first r → IsUnread (IsVoted version) (voted_text version) text r
+  voted_unread r (inl memory) = inl memory
+  voted_unread r (inr (bad, none)) = inr (bad, λ w other is e. none (w.given, w.floor) other is.1 (given_in w other is e).1)
+
+  pub voted_only : (given : Bool) (floor : Option ℕ) (left : List ℕ) → SpellsOnly (IsGiven version) (given_text version) first (given, floor) left
+      → SpellsOnly (IsVoted version) (voted_text version) text (record { term = term; given = given; floor = floor }) left
+  voted_only given floor left only = λ w other is e.
+      let s = given_in w other is e in
+      let o = only (w.given, w.floor) other is.1 s.1 in
+      ((λ i. record { term = s.0 i; given = (o.0 i).0; floor = (o.0 i).1 }), o.1)
 
 pub appended_of : (version : Version) (w : ℕ × Body) (rest other : List ℕ) → IsSaid version w → codes "append " ++ rest ≡ said_text version w other
     → (v : Appended) × (w ≡ (v.term, Append v.prev_index v.prev_term v.entries v.commit)) × IsAppended v × (rest ≡ appended_text v other)
@@ -109,7 +125,7 @@ floors_of version (t, Stored i f) is = is.0.1.0
 floors_of version (t, Seal i f) is = is.0.1.0
 
 contrary : (b : Bool) → b ≡ true → b ≡ false → ⊥
-contrary b yes no = let h : true ≡ false = sym yes ∙ no in absurd (cc h)
+contrary b holds fails = let h : true ≡ false = sym holds ∙ fails in absurd (cc h)
 
 pub no_sealing : (version : Version) (text : List ℕ) (r : Refusal) → r ≡ BadFlight → has_floors version ≡ false → IsUnread (IsSaidOfSealing version) (said_text version) text r
 no_sealing version text r bad none = inr (bad, λ w other is e. contrary (has_floors version) (floors_of version w is) none)

@@ -162,16 +162,28 @@ fn read_said_of_sealing(version: Version, text: &str) -> Result<((u64, Body), &s
         return Err(Refusal::BadFlight);
     }
     if let Some(rest) = after(text, "seek ") {
-        let (Sealing { term, index, floor }, rest) = read_sealing(rest)?;
-        return Ok(((term, Body::Seek { index, floor }), rest));
+        let (seek, rest) = read_sealing(rest)?;
+        let body = Body::Seek {
+            index: seek.index,
+            floor: seek.floor,
+        };
+        return Ok(((seek.term, body), rest));
     }
     if let Some(rest) = after(text, "stored ") {
-        let (Sealing { term, index, floor }, rest) = read_sealing(rest)?;
-        return Ok(((term, Body::Stored { index, floor }), rest));
+        let (stored, rest) = read_sealing(rest)?;
+        let body = Body::Stored {
+            index: stored.index,
+            floor: stored.floor,
+        };
+        return Ok(((stored.term, body), rest));
     }
     let rest = past(text, "seal ")?;
-    let (Sealing { term, index, floor }, rest) = read_sealing(rest)?;
-    Ok(((term, Body::Seal { index, floor }), rest))
+    let (seal, rest) = read_sealing(rest)?;
+    let body = Body::Seal {
+        index: seal.index,
+        floor: seal.floor,
+    };
+    Ok(((seal.term, body), rest))
 }
 
 // The term of a message, and what it says.
@@ -193,8 +205,12 @@ pub(crate) fn read_said(
         return Ok(((candidacy.term, body), rest));
     }
     if let Some(rest) = after(text, "vote ") {
-        let (Voted { term, given, floor }, rest) = read_voted(version, rest)?;
-        return Ok(((term, Body::Vote { given, floor }), rest));
+        let (voted, rest) = read_voted(version, rest)?;
+        let body = Body::Vote {
+            given: voted.given,
+            floor: voted.floor,
+        };
+        return Ok(((voted.term, body), rest));
     }
     if let Some(rest) = after(text, "append ") {
         let (appended, rest) = read_appended(alloc, rest)?;
@@ -214,8 +230,12 @@ pub(crate) fn read_said(
         return Ok(((term, body), rest));
     }
     if let Some(rest) = after(text, "reply ") {
-        let (Replied { term, ok, matched }, rest) = read_replied(rest)?;
-        return Ok(((term, Body::Reply { ok, matched }), rest));
+        let (replied, rest) = read_replied(rest)?;
+        let body = Body::Reply {
+            ok: replied.ok,
+            matched: replied.matched,
+        };
+        return Ok(((replied.term, body), rest));
     }
     let (said, rest) = read_said_of_sealing(version, text)?;
     Ok((said, rest))

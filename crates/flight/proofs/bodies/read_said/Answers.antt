@@ -8,7 +8,8 @@ use Rattle.flight.specs.declared.bodies.Appended.{Appended}
 use Rattle.flight.specs.declared.bodies.Replied.{Replied}
 use Rattle.flight.specs.Bodies.{candidacy_text, voted_text, appended_text, replied_text, said_text, IsCandidacy, IsVoted, IsAppended, IsReplied, IsSaid}
 use Rattle.flight.proofs.Choices.{case_only, case_unread}
-use Rattle.flight.proofs.Messages.{candidacy_of, voted_of, appended_of, replied_of}
+use Rattle.flight.specs.Reading.{IsNotBegun}
+use Rattle.flight.proofs.Messages.{candidacy_of, voted_of, appended_of, replied_of, sealing_unread, sealing_only}
 use Rattle.flight.proofs.bodies.read_said.Goals as goal
 
 abbrev from_candidacy : Candidacy → ℕ × Body
@@ -52,9 +53,27 @@ returns-in-Some-after-2-clause-only c =
 
 pub returns-in_err-replied-clause-err : goal.returns-in_err-replied-clause-err
 returns-in_err-replied-clause-err c =
-    let unread = case_unread (codes "reply ") from_replied IsReplied replied_text (IsSaid c.args.version) (said_text c.args.version) (replied_of c.args.version) c.args.text.now c.in_ok-rest.rest.now c.in_ok-rest.ensures.ok.0 c.in_err-replied.field-0.0 c.in_err-replied.ensures.err in
+    let unread = case_unread (codes "reply ") from_replied IsReplied replied_text (IsSaid c.args.version) (said_text c.args.version) (replied_of c.args.version) c.args.text.now c.in-Some-after-3.rest.now c.in-Some-after-3.ensures.some.0 c.in_err-replied.field-0.0 c.in_err-replied.ensures.err in
+    search (rules, unread)
+
+pub returns-in-Some-after-3-clause-only : goal.returns-in-Some-after-3-clause-only
+returns-in-Some-after-3-clause-only c =
+    case_only (codes "reply ") from_replied IsReplied replied_text (IsSaid c.args.version) (said_text c.args.version) (replied_of c.args.version) c.args.text.now c.in-Some-after-3.rest.now c.in-Some-after-3.ensures.some.0 c.in_ok-replied.replied c.in_ok-replied.rest.now c.in_ok-replied.ensures.only
+
+pub returns-in_err-said-clause-err : goal.returns-in_err-said-clause-err
+returns-in_err-said-clause-err c =
+    let no_candidacy : IsNotBegun (codes "votereq ") c.args.text.now = search rules in
+    let no_vote : IsNotBegun (codes "vote ") c.args.text.now = search rules in
+    let no_append : IsNotBegun (codes "append ") c.args.text.now = search rules in
+    let no_reply : IsNotBegun (codes "reply ") c.args.text.now = search rules in
+    let unread = sealing_unread c.args.version c.args.text.now no_candidacy no_vote no_append no_reply c.in_err-said.field-0.0 c.in_err-said.ensures.err in
     search (rules, unread)
 
 pub returns-clause-only : goal.returns-clause-only
 returns-clause-only c =
-    case_only (codes "reply ") from_replied IsReplied replied_text (IsSaid c.args.version) (said_text c.args.version) (replied_of c.args.version) c.args.text.now c.in_ok-rest.rest.now c.in_ok-rest.ensures.ok.0 c.in_ok-replied.replied c.in_ok-replied.rest.now c.in_ok-replied.ensures.only
+    let no_candidacy : IsNotBegun (codes "votereq ") c.args.text.now = search rules in
+    let no_vote : IsNotBegun (codes "vote ") c.args.text.now = search rules in
+    let no_append : IsNotBegun (codes "append ") c.args.text.now = search rules in
+    let no_reply : IsNotBegun (codes "reply ") c.args.text.now = search rules in
+    let only = sealing_only c.args.version c.args.text.now no_candidacy no_vote no_append no_reply c.in_ok-said.said c.in_ok-said.rest.now c.in_ok-said.ensures.only in
+    search (rules, only)
