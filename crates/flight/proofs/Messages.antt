@@ -1,5 +1,5 @@
 -- Messages by their first word.
-use Rattle.std.proofs.Common.{◌≡◌, ◌≢◌, ◌∙◌, ℕ, ℤ, Bool, true, false, Option, List, ◌++◌, refl, sym, ap, arith, inl, inr, get_or, drop}
+use Rattle.std.proofs.Common.{◌≡◌, ◌∙◌, ℕ, ℤ, Bool, true, false, Option, List, ◌++◌, refl, sym, ap, arith, inl, inr, get_or, drop}
 use Rattle.std.specs.Prelude.{codes}
 use Rattle.fault.specs.declared.refusal.Refusal.{Refusal}
 use Rattle.fault.specs.declared.refusal.Refusal.TheVariants.{BadFlight}
@@ -17,7 +17,7 @@ use Rattle.flight.specs.declared.life.Packet.{Packet}
 use Rattle.flight.specs.declared.life.Packet.TheVariants.{Local, Delivered}
 use Rattle.flight.specs.Spelling.{number_text, spaced, body_text, packet_text}
 use Rattle.flight.specs.Ranges.{has_floors, IsNumber, IsMark, IsPacket}
-use Rattle.flight.specs.Bodies.{candidacy_text, given_text, voted_text, appended_text, replied_text, sealing_text, said_text, IsCandidacy, IsGiven, IsVoted, IsAppended, IsReplied, IsSealing, IsSaid, IsOfSealing, IsSaidOfSealing}
+use Rattle.flight.specs.Bodies.{candidacy_text, given_text, voted_text, appended_text, replied_text, sealing_text, said_text, IsCandidacy, IsGiven, IsVoted, IsAppended, IsReplied, IsSealing, IsSaid, IsSaidOfSealing}
 use Rattle.flight.specs.Packets.{delivery_text, IsDelivery}
 use Rattle.flight.specs.Reading.{SpellsOnly, IsUnread, IsNotBegun}
 

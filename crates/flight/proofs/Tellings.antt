@@ -1,8 +1,7 @@
 -- Steps with their outcomes.
-use Rattle.std.proofs.Common.{◌≡◌, ◌≢◌, ◌∙◌, ℕ, List, [], ◌∷◌, ◌++◌, refl, sym, ap, inl, inr}
+use Rattle.std.proofs.Common.{◌≡◌, ℕ, List, [], ◌++◌, refl, sym, inl, inr}
 use Rattle.std.specs.Prelude.{codes, All, ⊤}
 use Rattle.fault.specs.declared.refusal.Refusal.{Refusal}
-use Rattle.fault.specs.declared.refusal.Refusal.TheVariants.{BadFlight}
 use Rattle.flight.specs.declared.life.Step.{Step}
 use Rattle.flight.specs.declared.outcome.Outcome.{Outcome}
 use Rattle.flight.specs.declared.flight.Version.{Version}
@@ -10,7 +9,7 @@ use Rattle.flight.specs.Spelling.{outcome_text, outcomes_text, each_text, made_t
 use Rattle.flight.specs.Ranges.{IsOutcome, AreOutcomes, IsSilent, IsStep}
 use Rattle.flight.specs.Lives.{with_outcomes}
 use Rattle.flight.specs.Courses.{IsNoOutcome}
-use Rattle.flight.specs.Reading.{SpellsOnly, SpellsOnlyTo, IsUnread, IsUnreadTo, IsAfter, IsNotBegun}
+use Rattle.flight.specs.Reading.{SpellsOnly, SpellsOnlyTo, IsUnread, IsUnreadTo, IsAfter}
 
 pub outcome_begins : (o : Outcome) (r : List ℕ) → (m : List ℕ) × (outcome_text o r ≡ codes "outcome " ++ m)
 outcome_begins o r = (_, refl)

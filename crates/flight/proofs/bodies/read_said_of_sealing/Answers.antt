@@ -1,9 +1,8 @@
-use Rattle.std.proofs.Common.{◌≡◌, rules, false, ℕ, refl}
+use Rattle.std.proofs.Common.{rules, ℕ}
 use Rattle.std.specs.Prelude.{codes}
 use Rattle.model.specs.declared.message.Body.{Body}
 use Rattle.model.specs.declared.message.Body.TheVariants.{Seek, Stored, Seal}
 use Rattle.flight.specs.declared.bodies.Sealing.{Sealing}
-use Rattle.flight.specs.Ranges.{has_floors}
 use Rattle.flight.specs.Bodies.{sealing_text, said_text, IsSealing, IsSaidOfSealing}
 use Rattle.flight.proofs.Choices.{case_only, case_unread}
 use Rattle.flight.proofs.Messages.{seek_of, stored_of, seal_of}
