@@ -5,6 +5,7 @@ use Rattle.std.proofs.lemmas.List.Elements.{filter_map-append}
 use Rattle.std.proofs.lemmas.List.Sums.{fold-append}
 use mathlib.Core.List.{IsPrefix}
 use Rattle.model.specs.declared.entry.Entry.{Entry}
+use Rattle.model.specs.Stamps.{greater}
 use Rattle.sqlchecks.specs.Columns as columns
 use Rattle.apply.specs.declared.tables.Tables.{Tables}
 use Rattle.apply.specs.View.{AreTables}
@@ -58,3 +59,19 @@ sealed_more items n item sealed here is =
 pub tables_same : (schema : columns.Tables) (xs ys : List Item) (n : ℕ) (tables : Tables) → IsPrefix xs ys → n ≤ length xs
     → AreTables schema (entries_in (take n xs)) tables → AreTables schema (entries_in (take n ys)) tables
 tables_same schema xs ys n tables p le are = subst (λ list. AreTables schema (entries_in list) tables) (same_first n xs ys p le) are
+
+pub tables_next : (schema : columns.Tables) (items : List Item) (n mark : ℕ) (item : Item) (entry : Entry) (old new : Tables) → slice_get items n ≡ Some item → item ≡ Applied mark entry
+    → AreTables schema (entries_in (take n items)) old
+    → ((tables : columns.Tables) (list : List Entry) → AreTables tables list old → AreTables tables (list ++ entry ∷ []) new)
+    → AreTables schema (entries_in (take (n + 1) items)) new
+tables_next schema items n mark item entry old new here is are kept = tables_more schema items n mark entry old new (here ∙ ap Some is) are kept
+
+pub tables_sealed : (schema : columns.Tables) (items : List Item) (n mark time : ℕ) (item : Item) (tables : Tables) → slice_get items n ≡ Some item → item ≡ Sealed mark time
+    → AreTables schema (entries_in (take n items)) tables → AreTables schema (entries_in (take (n + 1) items)) tables
+tables_sealed schema items n mark time item tables here is are = tables_stay schema items n mark time tables (here ∙ ap Some is) are
+
+pub sealed_stays : (items : List Item) (n mark : ℕ) (item : Item) (entry : Entry) (sealed : Option ℕ) → slice_get items n ≡ Some item → item ≡ Applied mark entry → sealed ≡ sealed_in (take n items) → sealed ≡ sealed_in (take (n + 1) items)
+sealed_stays items n mark item entry sealed here is was = sym (ap (λ i. greater_sealed sealed i) is) ∙ sealed_more items n item sealed here was
+
+pub sealed_adds : (items : List Item) (n mark time : ℕ) (item : Item) (sealed new : Option ℕ) → slice_get items n ≡ Some item → item ≡ Sealed mark time → new ≡ greater sealed (Some time) → sealed ≡ sealed_in (take n items) → new ≡ sealed_in (take (n + 1) items)
+sealed_adds items n mark time item sealed new here is more was = more ∙ (sym (ap (λ i. greater_sealed sealed i) is) ∙ sealed_more items n item sealed here was)

@@ -88,11 +88,15 @@ impl Replay {
         match item {
             Item::Applied { entry, .. } => {
                 self.tables.apply(entry)?;
+                self.applied += 1;
+                Ok(())
             }
-            Item::Sealed { time, .. } => self.sealed = greater(self.sealed, Some(*time)),
+            Item::Sealed { time, .. } => {
+                self.sealed = greater(self.sealed, Some(*time));
+                self.applied += 1;
+                Ok(())
+            }
         }
-        self.applied += 1;
-        Ok(())
     }
 
     /// Reads a list that begins with the one read last, and takes in all that is new in it. The error is want of memory.
