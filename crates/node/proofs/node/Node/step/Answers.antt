@@ -22,4 +22,4 @@ pub returns-in-Ok-Ignored-clause-sealed : goal.returns-in-Ok-Ignored-clause-seal
 returns-in-Ok-Ignored-clause-sealed g c = λ honest.
     let step = (rw c.in-Ok-Ignored.field-0-is at c.in-Ok-Ignored.ensures.step) honest in
     let same : c.take_step.new.core.sealed ≡ c.args.self.now.core.sealed = ap (λ (x : Node). x.sealed) step.1 in
-    risen_same _ ∙ ap (risen c.args.self.now.core.sealed) (sym same)
+    risen_same c.args.self.now.core.sealed ∙ ap (risen c.args.self.now.core.sealed) (sym same)
