@@ -26,6 +26,9 @@ length_in_step c d step =
     let tail : length c.log.tail.items ≡ vec_len c.log.tail = search rules in
     sum_of (length d.log) c.log.shelved (vec_len c.log.tail) (length (take c.log.shelved d.log)) (omega (arith, len, tail)) (length-take c.log.shelved d.log) c.log.ends
 
+pub length_of_log : (c : Core) (d : Durable) → IsInStep c d → length (log_of c d.log) ≡ c.log.shelved + vec_len c.log.tail
+length_of_log c d step = ap (λ (log : List Entry). length log) (sym step.log) ∙ length_in_step c d step
+
 -- the entries on the shelf are there
 pub reached : (c : Core) (d : Durable) → IsInStep c d → Reaches c d.log
 reached c d step = omega (arith, length_in_step c d step)

@@ -1,5 +1,5 @@
 -- What a node stores, tells and answers, in the words of the definitions and of its keeper.
-use Rattle.std.specs.Prelude.{◌≡◌, ℕ, ◌+◌, ◌-◌, ◌≤◌, ◌<◌, Bool, false, Option, Some, None, Result, Ok, Err, List, [], length, ◌⊎◌}
+use Rattle.std.specs.Prelude.{◌≡◌, ℕ, ◌+◌, ◌-◌, ◌≤◌, ◌<◌, Bool, false, nat_lt, if◌then◌else◌, Option, Some, None, Result, Ok, Err, List, [], length, ◌⊎◌}
 use Rattle.std.specs.List.{filter_map, range_with_len}
 use Rattle.model.specs.declared.entry.Entry.{Entry}
 use Rattle.model.specs.declared.entry.Told.{Told}
@@ -11,7 +11,7 @@ use Rattle.model.specs.Worlds.{fresh, started}
 use Rattle.keep.specs.Durable.{Durable, after, IsBeforeOrAfter}
 use Rattle.keep.specs.declared.change.Change.{Change}
 use Rattle.keep.specs.declared.error.StoreError.{StoreError}
-use Rattle.keep.specs.declared.error.StoreError.TheVariants.{NoMemory, StoreFault}
+use Rattle.keep.specs.declared.error.StoreError.TheVariants.{NoMemory, StoreFault, BadStore}
 pub use Rattle.raft.specs.View.{after_change, hard_of, works, Grows}
 pub use Rattle.raft.specs.Reading.{IsCause, IsCauseOr}
 pub use Rattle.raft.specs.Memory.{spares_memory}
@@ -35,10 +35,16 @@ told_between schema log before commit = filter_map (told_at schema log) (range_w
 
 -- a member that is started with this stored
 abbrev pub started_from : Durable → Node
-started_from d = started (record (fresh d.hard.term d.hard.vote) { log = d.log })
+started_from d = started (record (fresh d.hard.term d.hard.vote) { floor = d.hard.floor; log = d.log })
+
+-- the instant now sealed where it is above what was sealed before, else none
+abbrev pub risen : Option ℕ → Option ℕ → Option ℕ
+risen None now = now
+risen (Some before) None = None
+risen (Some before) (Some now) = if nat_lt before now then Some now else None
 
 abbrev pub IsEmpty : Out → Type 0
-IsEmpty out = (out.messages.items ≡ []) × (out.applied.items ≡ []) × (out.told.items ≡ [])
+IsEmpty out = (out.messages.items ≡ []) × (out.applied.items ≡ []) × (out.told.items ≡ []) × (out.sealed ≡ None)
 
 -- a step from one node to another gives what its definition says; where nothing comes of it nothing is given or changed
 abbrev pub IsGiven : Node → Node → Effect → Out → Type 0
@@ -69,6 +75,10 @@ HasCause failed failed' (Down error) = IsCause failed failed' error
 abbrev pub HasCauseOr : Type 0 → ℕ → ℕ → Fault → Type 0
 HasCauseOr honest failed failed' (Kept refusal) = Unit {0}
 HasCauseOr honest failed failed' (Down error) = IsCauseOr honest failed failed' error
+
+-- the cause is one of these, or that the store was not honest, which is told as 44
+abbrev pub IsCauseOrBad : Type 0 → ℕ → ℕ → StoreError → Type 0
+IsCauseOrBad honest failed failed' error = IsCause failed failed' error ⊎ ((error ≡ BadStore) × (honest → ⊥))
 
 -- a refusal changes nothing
 abbrev pub IsSame : Node → Node → Fault → Type 0

@@ -1,10 +1,11 @@
 //! What a keeper has stored, read as a node starts, and its log.
-ghost use Rattle.std.specs.Prelude.{◌≡◌, ◌<◌, ℕ, true, length, IfOk, IfErr, OnOk};
+ghost use Rattle.std.specs.Prelude.{◌≡◌, ◌+◌, ◌≤◌, ◌<◌, ℕ, true, length, vec_len, IfOk, IfErr, OnOk};
 ghost use Rattle.model.specs.Transactions.{Schema as Tables};
 ghost use Rattle.keep.specs.Durable.{Durable};
 ghost use Rattle.raft.specs.Start.{IsStart};
 ghost use Rattle.raft.specs.Reading.{IsRead};
 ghost use Rattle.raft.specs.View.{IsInStep, IsStateOf};
+ghost use Rattle.node.specs.View.{IsCauseOrBad};
 
 use keep::error::StoreError;
 use keep::keeper::{Keeper, Shelf};
@@ -40,7 +41,8 @@ pub(crate) fn read_state<K: Keeper>(
     Ok(state)
 }
 
-/// The whole log. `BadStore` where it has fewer entries than the member knows of, as may be with a store that is not honest.
+/// The whole log, each entry of which is asked for once. `BadStore` where it has fewer entries than the member knows of, as
+/// may be with a store that is not honest.
 pub(crate) fn all_entries<S: Shelf>(
     alloc: Global,
     core: &Core,
@@ -53,6 +55,8 @@ pub(crate) fn all_entries<S: Shelf>(
     ensures up { OnOk result (S.is_up shelf.new ≡ true) }
     ensures not_down { IfErr result (λ e. e ≡ StoreError.NodeDown → ⊥) }
     ensures bad { IfErr result (λ e. e ≡ StoreError.BadStore → S.is_honest shelf.new → ⊥) }
+    ensures cause { IfErr result (IsCauseOrBad (S.is_honest shelf.new) (S.failed shelf.old) (S.failed shelf.new)) }
+    ensures asks { S.asks shelf.new ≤ S.asks shelf.old + (core.now.log.shelved + vec_len core.now.log.tail) }
 {
     let mut log = Vec::new(alloc);
     for before in 0..core.length() {

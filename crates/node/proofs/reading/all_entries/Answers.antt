@@ -1,4 +1,4 @@
-use Rattle.std.proofs.Common.{◌≡◌, ◌∙◌, ◌++◌, ◌∷◌, [], Some, sym, ap, subst}
+use Rattle.std.proofs.Common.{◌≡◌, ◌∙◌, ◌++◌, ◌∷◌, [], Some, sym, ap, subst, arith}
 use Rattle.std.specs.Prelude.{slice_get}
 use Rattle.keep.specs.Durable.{Durable}
 use Rattle.raft.specs.View.{IsInStep}
@@ -25,4 +25,5 @@ loop-before-preserved g c =
           c.in_ok-push.ensures.items ∙ ap (λ xs. xs ++ e ∷ []) (inv.read was) ∙ sym (take_more first.log i e found);
       shelf = read_both _ _ _ _ _ _ _ _ _ _ _ _ _ _ _ _ _ inv.up inv.shelf c.entry.ensures.shelf;
       up = c.in_ok-entry.ensures.up;
+      asks = omega (arith, c.entry.ensures.asks, inv.asks);
     }

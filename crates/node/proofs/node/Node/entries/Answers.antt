@@ -1,10 +1,11 @@
-use Rattle.std.proofs.Common.{◌≡◌, sym, subst}
+use Rattle.std.proofs.Common.{◌≡◌, sym, subst, arith}
 use Rattle.std.proofs.lemmas.Grind.{merely}
 use Rattle.keep.specs.Durable.{Durable}
 use Rattle.sqlread.specs.Meaning.{schema_of}
 use Rattle.model.specs.Members.{applied}
 use Rattle.apply.specs.View.{AreTables}
 use Rattle.raft.specs.View.{IsInStep, node_of}
+use Rattle.node.proofs.Fetching.{length_of_log}
 use Rattle.node.proofs.Tests.{known}
 use Rattle.node.proofs.node.Node.entries.Goals as goal
 
@@ -29,3 +30,15 @@ invariant_of-self-in-Err-clause-serves g c =
     let node = c.args.self.now in
     let core = node.core in
     merely (c.all_entries.ensures.shelf.serves core.members (schema_of core.schema) (known (g.met.K.Shelf.served_once node.keeper core.members (schema_of core.schema)) node.serves))
+
+pub returns-in-Ok-clause-asks : goal.returns-in-Ok-clause-asks
+returns-in-Ok-clause-asks g c = λ honest.
+    let node = c.args.self.now in
+    let long = length_of_log node.core (g.K.Shelf.stored node.keeper) (node.synced c.if-not-self.false (c.all_entries.ensures.shelf.honest honest)) in
+    omega (arith, c.all_entries.ensures.asks, long)
+
+pub returns-in-Err-clause-asks : goal.returns-in-Err-clause-asks
+returns-in-Err-clause-asks g c = λ honest.
+    let node = c.args.self.now in
+    let long = length_of_log node.core (g.K.Shelf.stored node.keeper) (node.synced c.if-not-self.false (c.all_entries.ensures.shelf.honest honest)) in
+    omega (arith, c.all_entries.ensures.asks, long)
