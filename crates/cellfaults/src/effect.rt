@@ -61,6 +61,11 @@ impl Notes {
         self.applied = None;
     }
 
+    /// Whether both views saw an entry with this stamp or a later one.
+    pub(crate) fn has_seen(&self, stamp: u64) -> bool {
+        matches!(self.seen, Some(seen) if stamp <= seen.last)
+    }
+
     /// Both views saw this after a packet. It is what became applied last, or what they saw before where the packet was
     /// turned away or the step torn. So it is for one step where what became applied was not published.
     pub(crate) fn look(&mut self, rt: &impl Abort, fed: Fed, seen: Option<Seen>) {

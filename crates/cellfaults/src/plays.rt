@@ -61,7 +61,8 @@ fn takes_nothing<L: Naming>(
 
 // Feeds the leader timeouts, which it ignores and records, until its life is full.
 fn fill<L: Naming>(rt: &(impl Wait + Abort), player: &mut Player<L>) {
-    for _ in player.record().steps..LIFE_STEPS {
+    let steps = player.record().steps;
+    for _ in steps..LIFE_STEPS {
         let fed = player.feed(rt, timeout());
         assert!(rt; matches!(fed, Fed::Done { applied: None, .. }));
     }
@@ -96,7 +97,7 @@ fn try_play<L: Naming>(
     if !play_turns(rt, setting, player, notes)? {
         return takes_nothing(rt, setting, player, notes, 41);
     }
-    assert!(rt; notes.seen.map_or(0, |seen| seen.last) >= 400);
+    assert!(rt; notes.has_seen(400));
     if !setting.is_full {
         return Ok(());
     }
