@@ -116,8 +116,9 @@ impl Both {
                 return Ok(());
             }
         };
-        let given = self.tables.ask(&query);
-        match (given, self.judge.ask(&self.schema, &query)) {
+        let given = self.tables.ask(&query, self.tables.closed());
+        let wanted = self.judge.ask(&self.schema, &query, self.tables.closed());
+        match (given, wanted) {
             (Ok(given), Ok(wanted)) => {
                 tally.answer(&wanted);
                 ensure!(is_same_answer(&given, &wanted), "wanted {wanted:?}");

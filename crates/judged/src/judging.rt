@@ -22,7 +22,6 @@ fn outcome_text(
     tally: &mut Tally,
 ) -> Result<String> {
     let Some(request) = &entry.request else {
-        judge.close(entry.stamp);
         return Ok(String::new(alloc));
     };
     let transaction = read_transaction(alloc, schema, request.text.as_str())?;
@@ -109,7 +108,9 @@ fn wanted(group: &Group, judge: &Judge, asked: &Asked, tally: &mut Tally) -> Res
     let node = asked.node;
     match judged_query(alloc, &group.schema, group.known.decided.as_slice(), asked)? {
         Ok(query) => {
-            let answer: Answer = judge.ask(&group.schema, &query)?;
+            let decided = group.known.decided.as_slice();
+            let closed = closed_at(decided, decided.len());
+            let answer: Answer = judge.ask(&group.schema, &query, closed)?;
             tally.answer(&answer);
             Ok(answer_text(alloc, node, query.table, &answer)?)
         }
