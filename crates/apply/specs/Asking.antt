@@ -12,13 +12,13 @@ use Rattle.sqlread.specs.Meaning.{select_of}
 use Rattle.answer.specs.declared.Answer.{Answer}
 use Rattle.answer.specs.Answers.{answer_of}
 
--- the question is closed at the last stamp, and whatever history the versions keep up to then, it is answered over that
+-- the question is closed at the closed time, and whatever history the versions keep up to then, it is answered over that
 abbrev pub IsAnswered : QueryShape → Option ℕ → List Version → Answer → Type 0
-IsAnswered q last versions a =
-    (t : ℕ) × (last ≡ Some t) × (last_instant (time_or t q.time) ≤ t)
+IsAnswered q closed versions a =
+    (t : ℕ) × (closed ≡ Some t) × (last_instant (time_or t q.time) ≤ t)
     × ((history : ℕ → Table) → Keeps versions history t → Apart versions → IsAnswerOver history (read_at t (select_of q)) (answer_of a))
 
 -- 33 where it is not closed; or there was no memory
 abbrev pub IsUnanswered : QueryShape → Option ℕ → Refusal → Type 0
-IsUnanswered q last refusal =
-    (refusal ≡ NoMemory) ⊎ ((closed_query (select_of q) last ≡ None) × (refusal ≡ NotClosed (option_map instant_text last)))
+IsUnanswered q closed refusal =
+    (refusal ≡ NoMemory) ⊎ ((closed_query (select_of q) closed ≡ None) × (refusal ≡ NotClosed (option_map instant_text closed)))

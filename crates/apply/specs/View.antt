@@ -1,5 +1,5 @@
 -- What contracts say of tables and the list of entries that they are of.
-use Rattle.std.specs.Prelude.{◌≡◌, ℕ, ◌⊎◌, Bool, None, Some, Result, Ok, Err, List, reverse, option_map}
+use Rattle.std.specs.Prelude.{◌≡◌, ℕ, ◌⊎◌, Bool, Option, None, Some, Result, Ok, Err, List, reverse, option_map}
 use Rattle.fault.specs.declared.refusal.Refusal.{Refusal}
 use Rattle.fault.specs.declared.refusal.Refusal.TheVariants.{NoMemory, NotClosed}
 use Rattle.model.specs.declared.entry.Entry.{Entry}
@@ -32,7 +32,7 @@ pub record AreTables (schema : columns.Tables) (list : List Entry) (tables : Tab
   pub current_schema : current.schema_in tables.current ≡ schema
   pub versions_schema : versions.schema_in tables.versions ≡ schema
 
--- the answer to a question that is closed in the list, or 33 where it is not; or there was no memory
-abbrev pub IsAskedOf : Schema → QueryShape → List Entry → Result Answer Refusal → Type 0
-IsAskedOf schema q list (Ok a) = (t : ℕ) × (closed list ≡ Some t) × (closed_query (select_of q) (closed list) ≡ Some (read_at t (select_of q))) × IsAnswer schema (read_at t (select_of q)) list (answer_of a)
-IsAskedOf schema q list (Err refusal) = (refusal ≡ NoMemory) ⊎ ((closed_query (select_of q) (closed list) ≡ None) × (refusal ≡ NotClosed (option_map instant_text (closed list))))
+-- the answer in the list to a question that is closed at this closed time, or 33 where it is not; or there was no memory
+abbrev pub IsAskedOf : Schema → QueryShape → List Entry → Option ℕ → Result Answer Refusal → Type 0
+IsAskedOf schema q list time (Ok a) = (t : ℕ) × (time ≡ Some t) × (closed_query (select_of q) time ≡ Some (read_at t (select_of q))) × IsAnswer schema (read_at t (select_of q)) list (answer_of a)
+IsAskedOf schema q list time (Err refusal) = (refusal ≡ NoMemory) ⊎ ((closed_query (select_of q) time ≡ None) × (refusal ≡ NotClosed (option_map instant_text time)))

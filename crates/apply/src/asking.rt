@@ -24,7 +24,7 @@ fn text_of(alloc: Global, at: Stamp) -> Result<Text, AllocError>
     Text::from_string(format!(in alloc; "{instant}")?)
 }
 
-// The refusal of a question that is not closed at this last stamp.
+// The refusal of a question that is not closed at this time.
 fn not_closed(alloc: Global, closed: Stamp) -> Refusal
     ensures { (result ≡ NoMemory) ⊎ (result ≡ NotClosed (Some (instant_text closed))) }
 {
@@ -44,20 +44,20 @@ fn time_or(query: &Query, at: Stamp) -> SystemTime
     }
 }
 
-/// Answers a question from versions that are closed at the last stamp; one without system time is AS OF that.
+/// Answers a question from versions, at a closed time; one without system time is AS OF that.
 ///
-/// `NotClosed` with the last stamp where the question's last instant is later, or where there is none; `NoMemory`.
+/// `NotClosed` with the closed time where the question's last instant is later, or where there is none; `NoMemory`.
 pub(crate) fn ask(
     alloc: Global,
     versions: &Versions,
     query: &Query,
-    last: Option<Stamp>,
+    closed: Option<Stamp>,
 ) -> Result<Answer, Refusal>
-    ensures ok { IfOk result (λ a. IsAnswered (query_of query.now) last (versions_of versions.now query.now.table) a) }
+    ensures ok { IfOk result (λ a. IsAnswered (query_of query.now) closed (versions_of versions.now query.now.table) a) }
     ensures columns { IfOk result (λ a. a.columns.items ≡ columns_in (schema_in versions.now) query.now.table) }
-    ensures err { IfErr result (λ refusal. IsUnanswered (query_of query.now) last refusal) }
+    ensures err { IfErr result (λ refusal. IsUnanswered (query_of query.now) closed refusal) }
 {
-    let Some(closed) = last else {
+    let Some(closed) = closed else {
         return Err(Refusal::NotClosed(None));
     };
     let time = time_or(query, closed);

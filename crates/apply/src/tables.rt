@@ -3,7 +3,7 @@ ghost use Rattle.std.specs.Prelude.{◌≡◌, true, false, [], ◌∷◌, ◌++
 ghost use Rattle.std.specs.Option.{option_map};
 ghost use Rattle.fault.specs.declared.refusal.Refusal.TheVariants.{NoMemory};
 ghost use Rattle.model.specs.declared.entry.Entry as entries;
-ghost use Rattle.model.specs.Logs.{IsStamped, outcome};
+ghost use Rattle.model.specs.Logs.{IsStamped, closed, outcome};
 ghost use Rattle.sqlchecks.specs.Columns as columns;
 ghost use Rattle.sqlread.specs.Calendar.{LiteralsInCalendar};
 ghost use Rattle.sqlread.specs.Meaning.{schema_of};
@@ -14,9 +14,9 @@ ghost use Rattle.apply.specs.Executing.{unless_new};
 ghost use Rattle.apply.specs.View.{AreTables, IsAskedOf, is_failed};
 ghost use Rattle.rowlaws.specs.Logs.{LogsOnRows, FineLogs};
 ghost use Rattle.rowlaws.specs.Whole.{NoOrphanAfter};
-ghost use Rattle.versionlaws.specs.Versions.{NoVersions, HeldBefore, HeldKept};
+ghost use Rattle.versionlaws.specs.Versions.{NoVersions, HeldBefore};
 ghost use Rattle.versionlaws.specs.ByKey.{HeldByKey};
-ghost use Rattle.versionlaws.specs.Committing.{CommitEntry, EntryStays};
+ghost use Rattle.versionlaws.specs.Committing.{CommitEntry, EntryStays, KeptLater};
 
 use crate::asking;
 use crate::executing::execute;
@@ -55,7 +55,7 @@ fn log_laws()
     ensures commit { CommitEntry }
     ensures by_key { HeldByKey }
     ensures stays { EntryStays }
-    ensures kept { HeldKept }
+    ensures later { KeptLater }
     ensures calendar { LiteralsInCalendar }
 {
     rowlaws::logs_on_rows();
@@ -66,7 +66,7 @@ fn log_laws()
     versionlaws::commit_entry();
     versionlaws::held_by_key();
     versionlaws::entry_stays();
-    versionlaws::held_kept();
+    versionlaws::kept_later();
     sqlread::laws::literals_in_calendar();
 }
 
@@ -161,11 +161,21 @@ impl Tables {
         }
     }
 
-    /// Answers a question; one without system time is AS OF the last stamp. `NotClosed` with the last stamp where the
-    /// question's last instant is later than that, or where there is none; `NoMemory`, always once it has failed. It
-    /// changes nothing.
-    pub fn ask(&self, query: &Query) -> Result<Answer, Refusal>
-        ensures asked { (schema : columns.Tables) (list : List entries.Entry) → AreTables schema list self.now → IsStamped list → IsAskedOf (schema_of schema) (query_of query.now) list result }
+    /// The stamp of the last entry applied, none where there is none. Takes no memory.
+    pub fn closed(&self) -> Option<Stamp>
+        ensures { (schema : columns.Tables) (list : List entries.Entry) → AreTables schema list self.now → result ≡ closed list }
+    {
+        self.last
+    }
+
+    /// Answers a question at a closed time, which is the caller's; one without system time is AS OF that. `NotClosed`
+    /// with that time where the question's last instant is later, or where it is none; `NoMemory`, always once it has
+    /// failed. It changes nothing.
+    ///
+    /// The answer is that in the list of the entries applied. It stays the answer where each entry that is applied
+    /// later has a stamp above the closed time, as is so of `closed`; that it is so of a later one is the caller's to know.
+    pub fn ask(&self, query: &Query, closed: Option<Stamp>) -> Result<Answer, Refusal>
+        ensures asked { (schema : columns.Tables) (list : List entries.Entry) → AreTables schema list self.now → IsStamped list → IsAskedOf (schema_of schema) (query_of query.now) list closed result }
         ensures columns { (schema : columns.Tables) (list : List entries.Entry) → AreTables schema list self.now → IfOk result (λ a. a.columns.items ≡ columns_in schema query.now.table) }
         ensures once_failed { is_failed self.now ≡ true → result ≡ Err NoMemory }
     {
@@ -173,7 +183,7 @@ impl Tables {
             return Err(Refusal::NoMemory);
         }
         log_laws();
-        asking::ask(self.alloc, &self.versions, query, self.last)
+        asking::ask(self.alloc, &self.versions, query, closed)
     }
 
     /// Whether a call has found no memory.

@@ -5,10 +5,8 @@ use Rattle.answertext.specs.Answers.{answer_text}
 use Rattle.fault.specs.declared.refusal.Refusal.{Refusal}
 use Rattle.model.specs.Lists.{nth}
 use Rattle.model.specs.Transactions.{Schema}
-use Rattle.model.specs.Members.{Node, applied}
+use Rattle.model.specs.Members.{Node, applied, closed_time}
 use Rattle.model.specs.Answers.{Query, Select, closed_query}
-use Rattle.model.specs.Logs.{closed}
-use Rattle.model.specs.declared.entry.Entry.{Entry}
 use Rattle.model.specs.Worlds.{Output, Ask, Answered, Gives, IsGivenAt, IsGivenBy, IsGivenIn}
 use Rattle.safety.specs.Answers.{OneAnswer}
 use Rattle.auditor.specs.Faults.{NoneAre}
@@ -40,13 +38,13 @@ told_only t table m answer output text is has told =
 
 -- ---- one outcome of a question
 
-given_in : OneAnswer → (s : Schema) (m : ℕ) (list : List Entry) (q : Option Query) (a b : List Output) → IsGivenIn s m list q a → IsGivenIn s m list q b → a ≡ b
-given_in one s m list None a b x y = x ∙ sym y
-given_in one s m list (Some q) a b x y = x.2 ∙ ap (λ z. Answered m z ∷ []) (one s q list x.0 y.0 x.1 y.1) ∙ sym y.2
+given_in : OneAnswer → (s : Schema) (m : ℕ) (x : Node) (q : Option Query) (a b : List Output) → IsGivenIn s m x q a → IsGivenIn s m x q b → a ≡ b
+given_in one s m x None a b p r = p ∙ sym r
+given_in one s m x (Some q) a b p r = p.2 ∙ ap (λ z. Answered m z ∷ []) (one s q (applied x) p.0 r.0 p.1 r.1) ∙ sym r.2
 
 given_by : OneAnswer → (s : Schema) (m : ℕ) (q : Select) (x : Node) (up : Bool) (a b : List Output) → IsGivenBy s m q x up a → IsGivenBy s m q x up b → a ≡ b
 given_by one s m q x false a b p r = p ∙ sym r
-given_by one s m q x true a b p r = given_in one s m (applied x) (closed_query q (closed (applied x))) a b p r
+given_by one s m q x true a b p r = given_in one s m x (closed_query q (closed_time x)) a b p r
 
 given_at : OneAnswer → (s : Schema) (m : ℕ) (q : Select) (o : Option Node) (a b : List Output) → IsGivenAt s m q o a → IsGivenAt s m q o b → a ≡ b
 given_at one s m q None a b p r = p ∙ sym r

@@ -17,7 +17,7 @@ use Rattle.model.specs.Worlds.Output.{Sent, Applied, Answered, Refused}
 use Rattle.keep.specs.Durable.{Durable, blank}
 use Rattle.flight.specs.Telling.{outcome_of}
 use Rattle.flight.specs.declared.flight.Version.{Version}
-use Rattle.flight.specs.declared.flight.Version.TheVariants.{One, Two}
+use Rattle.flight.specs.declared.flight.Version.TheVariants.{One, Two, Three}
 use Rattle.flight.specs.declared.outcome.Outcome.{Outcome}
 use Rattle.flight.specs.declared.life.Life.{Life}
 use Rattle.flight.specs.declared.life.Opening.{Opening}
@@ -99,10 +99,11 @@ outcomes_in (Applied m told ∷ outs) = outcome_of told ∷ outcomes_in outs
 outcomes_in (Refused m refusal ∷ outs) = outcomes_in outs
 outcomes_in (Answered m answer ∷ outs) = outcomes_in outs
 
--- in version 2 these are the outcomes that the outputs tell, in their order; version 1 has none
+-- from version 2 on these are the outcomes that the outputs tell, in their order; version 1 has none
 abbrev pub AreTold : Version → List Output → List Outcome → Type 0
 AreTold One outs outcomes = Unit {0}
 AreTold Two outs outcomes = outcomes_in outs ≡ outcomes
+AreTold Three outs outcomes = outcomes_in outs ≡ outcomes
 
 -- what the event gives tells these outcomes
 abbrev pub TellsSo : Version → Schema → ℕ → World → Event → List Outcome → Type 0

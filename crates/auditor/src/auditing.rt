@@ -68,7 +68,8 @@ fn explain(
 ///
 /// The events are those of a run that explains all of it: each node begins, takes what it took and tells what it told,
 /// is cut short, answers and ends as was recorded. Of flights of version 1 it is not known what the steps told, and
-/// their outcomes are not looked at. All members agree about the events, as `World::run` says.
+/// their outcomes are not looked at. What a life begins with is its term, vote, floor and log; of versions 1 and 2 it has
+/// no floor. All members agree about the events, as `World::run` says.
 ///
 /// A fault is 53 exactly where the marks of a node do not rise over its openings and steps, or a message's is not
 /// below that of the step that takes it; 43 aside. Else no events explain what was recorded. It is then 54 of an answer

@@ -49,7 +49,10 @@ fn life_of(lives: &[Vec<Life>], node: Member, place: usize) -> Option<&Life>
 fn is_blank(opening: &Opening) -> bool
     ensures { IsTrue result ↔ (opened_with opening.now ≡ blank) }
 {
-    opening.hard.term == 0 && opening.hard.vote.is_none() && opening.entries.is_empty()
+    opening.hard.term == 0
+        && opening.hard.vote.is_none()
+        && opening.hard.floor.is_none()
+        && opening.entries.is_empty()
 }
 
 // Whether an output of an Ask is told by this text.

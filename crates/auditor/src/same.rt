@@ -53,7 +53,13 @@ fn is_same_body(one: &Body, other: &Body) -> bool
                 last_term: term,
             },
         ) => last_index == index && last_term == term,
-        (Body::Vote { given }, Body::Vote { given: another }) => given == another,
+        (
+            Body::Vote { given, floor },
+            Body::Vote {
+                given: another,
+                floor: other,
+            },
+        ) => given == another && floor == other,
         (
             Body::Append {
                 prev_index,
@@ -80,6 +86,27 @@ fn is_same_body(one: &Body, other: &Body) -> bool
                 matched: other,
             },
         ) => { ok == another && matched == other }
+        (
+            Body::Seek { index, floor },
+            Body::Seek {
+                index: another,
+                floor: other,
+            },
+        ) => { index == another && floor == other }
+        (
+            Body::Stored { index, floor },
+            Body::Stored {
+                index: another,
+                floor: other,
+            },
+        ) => { index == another && floor == other }
+        (
+            Body::Seal { index, floor },
+            Body::Seal {
+                index: another,
+                floor: other,
+            },
+        ) => { index == another && floor == other }
         _ => false,
     }
 }

@@ -66,7 +66,7 @@ pub(crate) fn are_told(
 {
     match version {
         Version::One => Ok(true),
-        Version::Two => {
+        Version::Two | Version::Three => {
             let told = told_in(alloc, outputs)?;
             Ok(are_same_outcomes(outcomes, &told))
         }

@@ -37,7 +37,7 @@ use Rattle.durable.specs.Rows.{entry_row, log_rows, in_order, Holds}
 use Rattle.sqlite_keyed.proofs.ListLemmas.{IsPermutation-flat_map, IsPermutation-filter}
 use Rattle.durable.proofs.Orders.{placed, unplaced}
 use Rattle.durable.proofs.Parts.{went, same_value}
-use Rattle.durable.proofs.Places.{zero_one}
+use Rattle.durable.proofs.Places.{zero_one, two_one}
 use Rattle.durable.proofs.Meaning.{delete_text, delete_query, delete_is, delete_plain}
 
 -- ---- the test
@@ -187,4 +187,5 @@ cuts old new d k count has h =
     let applied = one_step schema _ db written.0 (edit_of db log (ids_of queried.0) Given 0 []) refl written.1 in
     let one = ap (λ (b : Database). in_order (b.trees 1)) now ∙ ap (λ (x : Trees). in_order (x 1)) trees ∙ ap in_order (applied.rows ∙ without_is (ids_of queried.0) (db 1)) ∙ left_placed k d.log (db 1) (ids_of queried.0) has.log ids in
     let zero = ap (λ (b : Database). b.trees 0) now ∙ ap (λ (x : Trees). x 0) trees ∙ applied.others 0 zero_one tt ∙ has.meta in
-    record { tables = ap (λ (b : Database). b.schema) now; meta = zero; log = one }
+    let two = ap (λ (b : Database). b.trees 2) now ∙ ap (λ (x : Trees). x 2) trees ∙ applied.others 2 two_one tt ∙ has.floor in
+    record { tables = ap (λ (b : Database). b.schema) now; meta = zero; log = one; floor = two }

@@ -14,7 +14,7 @@ use Rattle.sqlite.proofs.Callers.{statement_of, runs_as, one_step}
 use Rattle.durable.specs.Contents.{Item, Contents}
 use Rattle.durable.specs.Tables.{log, schema}
 use Rattle.durable.specs.Rows.{entry_row, entry_values, in_order, Holds}
-use Rattle.durable.proofs.Places.{cast_int, cast_null, zero_one}
+use Rattle.durable.proofs.Places.{cast_int, cast_null, zero_one, two_one}
 use Rattle.durable.proofs.Orders.{put_placed}
 use Rattle.durable.proofs.Parts.{went, same_value}
 use Rattle.durable.proofs.Meaning.{insert_text, insert_terms, insert_is, insert_plain}
@@ -37,4 +37,5 @@ inserts old new d e count has h =
     let edit : edited db (edit_of db log [] Chosen 0 given.0) ≡ put_row (entry_row (length d.log + 1) e) (db 1) = ap (λ all. edited db (edit_of db log [] Chosen 0 all)) given.1.1 ∙ simp (cast_int, cast_null) in
     let one = ap (λ (b : Database). in_order (b.trees 1)) now ∙ ap (λ (t : Trees). in_order (t 1)) trees ∙ ap in_order (applied.rows ∙ edit) ∙ put_placed d.log e (db 1) has.log in
     let zero = ap (λ (b : Database). b.trees 0) now ∙ ap (λ (t : Trees). t 0) trees ∙ applied.others 0 zero_one tt ∙ has.meta in
-    record { tables = ap (λ (b : Database). b.schema) now; meta = zero; log = one }
+    let two = ap (λ (b : Database). b.trees 2) now ∙ ap (λ (t : Trees). t 2) trees ∙ applied.others 2 two_one tt ∙ has.floor in
+    record { tables = ap (λ (b : Database). b.schema) now; meta = zero; log = one; floor = two }

@@ -1,16 +1,16 @@
 -- Rows that form a log, and the log that they form.
-use Rattle.std.proofs.Common.{drop-cons, add-one, ◌≡◌, ◌↔◌, ℕ, suc, ◌+◌, ◌<◌, ◌≤◌, Bool, true, false, ◌&&◌, nat_lt, nat_le, Option, Some, None, option_map, is_ok, Result, Ok, Err, List, [], ◌∷◌, length, drop, get_or, arith, refl, sym, ap, subst, ◌∙◌}
+use Rattle.std.proofs.Common.{drop-cons, add-one, ◌≡◌, ◌↔◌, ℕ, suc, ◌+◌, ◌<◌, ◌≤◌, ℤ, pos, negsuc, Bool, true, false, ◌&&◌, nat_lt, nat_le, Option, Some, None, option_map, is_ok, Result, Ok, Err, List, [], ◌∷◌, length, drop, get_or, arith, refl, sym, ap, subst, ◌∙◌}
 use Rattle.std.specs.List.{list_all}
 use Rattle.std.proofs.lemmas.Bool.Decides.{nat_tests}
 use Rattle.sqlite.specs.Order.{Row}
 use Rattle.fault.specs.declared.refusal.Refusal.{Refusal}
 use Rattle.model.specs.declared.entry.Entry.{Entry}
-use Rattle.model.specs.Stamps.{above}
+use Rattle.model.specs.Stamps.{above, TIME_LAST}
 use Rattle.model.specs.Transactions.{Schema, Statement, misreading}
 use Rattle.model.specs.Members.{term_of}
-use Rattle.model.specs.Steps.{go_on}
+use Rattle.model.specs.Steps.{go_on, is_floor}
 use Rattle.keep.specs.Log.{is_numbered, is_entry}
-use Rattle.durable.specs.Contents.{Item, item_of, items_of, entry_in}
+use Rattle.durable.specs.Contents.{Item, item_of, items_of, entry_in, number_of_floor}
 use Rattle.durable.specs.Rows.{entry_values, shown_log}
 use Rattle.durable.specs.Stored.{AreTexts}
 use Rattle.durable.specs.Judging.{Follows, Go, Forms}
@@ -30,6 +30,23 @@ same_entry i j a b is p q = sym (entry_numbered a p) ∙ ap entry_in (same_item 
 
 pub same_index : (i j : ℕ) (a b : Item) → entry_values i a ≡ entry_values j b → i ≡ j
 same_index i j a b is = cc
+
+le_true : (m n : ℕ) → m ≤ n → nat_le m n ≡ true
+le_true m n h = grind (arith, nat_tests)
+
+lt_true : (m n : ℕ) → m < n → nat_lt m n ≡ true
+lt_true m n h = grind (arith, nat_tests)
+
+le_from : (m n : ℕ) → nat_le m n ≡ true → m ≤ n
+le_from m n h = grind (arith, nat_tests)
+
+lt_from : (m n : ℕ) → nat_lt m n ≡ true → m < n
+lt_from m n h = grind (arith, nat_tests)
+
+-- a number stands for no floor
+pub no_floor : (n : ℤ) (f : Option ℕ) → (n ≡ negsuc 0 → ⊥) → ((t : ℕ) → n ≡ pos t → t ≤ TIME_LAST → ⊥) → n ≡ number_of_floor f → is_floor f ≡ true → ⊥
+no_floor n None not_none no_time is fits = not_none is
+no_floor n (Some t) not_none no_time is fits = no_time t is (le_from _ _ fits)
 
 -- ---- one step of the loop
 
@@ -69,18 +86,6 @@ forms_of tables top at term least (r ∷ rs) (e ∷ es) is go =
     let here : r ≡ entry_values at (item_of e) = cc in
     let later : rs ≡ shown_log (at + 1) (items_of es) = cc in
     (e, here, go.0, forms_of tables top (at + 1) e.term (e.stamp + 1) rs es later go.1)
-
-le_true : (m n : ℕ) → m ≤ n → nat_le m n ≡ true
-le_true m n h = grind (arith, nat_tests)
-
-lt_true : (m n : ℕ) → m < n → nat_lt m n ≡ true
-lt_true m n h = grind (arith, nat_tests)
-
-le_from : (m n : ℕ) → nat_le m n ≡ true → m ≤ n
-le_from m n h = grind (arith, nat_tests)
-
-lt_from : (m n : ℕ) → nat_lt m n ≡ true → m < n
-lt_from m n h = grind (arith, nat_tests)
 
 all_true : (a b : Bool) → a ≡ true → b ≡ true → (a && b) ≡ true
 all_true true b p q = q

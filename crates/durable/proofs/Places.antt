@@ -1,5 +1,5 @@
 -- Rows by their number.
-use Rattle.std.proofs.Common.{◌≡◌, ℕ, ◌+◌, ◌<◌, pos, List, [], ◌∷◌, ◌++◌, length, cond, Bool, true, false, refl, ap, ◌∙◌, arith}
+use Rattle.std.proofs.Common.{◌≡◌, ℕ, ◌+◌, ◌<◌, ℤ, pos, negsuc, List, [], ◌∷◌, ◌++◌, length, cond, Bool, true, false, refl, ap, ◌∙◌, arith}
 use Rattle.std.proofs.lemmas.Int.{ints}
 use Rattle.std.proofs.lemmas.Bool.Decides.{nat_tests}
 use Rattle.std.specs.declared.cmp.Ordering.TheVariants.{Less}
@@ -35,6 +35,11 @@ pub cast_null : cast Integer Null ≡ Null
 unfolding unary
 cast_null = either _ _
 
+pub cast_whole : (n : ℤ) → cast Integer (Int n) ≡ Int n
+unfolding unary
+cast_whole (pos n) = either _ _
+cast_whole (negsuc n) = either _ _
+
 pub cast_entry : (i : ℕ) (e : Item) → cast_row log (entry_row i e) ≡ entry_row i e
 cast_entry i e = simp (cast_int, cast_null)
 
@@ -46,6 +51,18 @@ zero_one e = absurd (omega arith)
 
 pub one_zero : (◌≡◌ {A = ℕ} 1 0) → ⊥
 one_zero e = absurd (omega arith)
+
+pub zero_two : (◌≡◌ {A = ℕ} 0 2) → ⊥
+zero_two e = absurd (omega arith)
+
+pub one_two : (◌≡◌ {A = ℕ} 1 2) → ⊥
+one_two e = absurd (omega arith)
+
+pub two_zero : (◌≡◌ {A = ℕ} 2 0) → ⊥
+two_zero e = absurd (omega arith)
+
+pub two_one : (◌≡◌ {A = ℕ} 2 1) → ⊥
+two_one e = absurd (omega arith)
 
 pub one_more : (n : ℕ) → n + 1 ≡ 1 + n
 one_more n = omega arith

@@ -21,7 +21,7 @@ use Rattle.durable.specs.Contents.{Contents}
 use Rattle.durable.specs.Tables.{meta, schema}
 use Rattle.durable.specs.Rows.{meta_row, in_order, Holds}
 use Rattle.durable.proofs.Parts.{went, same_value}
-use Rattle.durable.proofs.Places.{cast_int, cast_null, one_zero}
+use Rattle.durable.proofs.Places.{cast_int, cast_null, one_zero, two_zero}
 use Rattle.durable.proofs.Meaning.{update_all_text, update_query, update_is, update_plain}
 
 -- the rows that the UPDATE reads: the old number, and the new row
@@ -56,4 +56,5 @@ updates old new d t v count has h =
     let edit = applied.rows ∙ ap (λ all. edited db (edit_of db meta (ids_of all) Given 1 all)) rows ∙ replaced db d.term d.vote t v has.meta in
     let zero = ap (λ (b : Database). b.trees 0) now ∙ ap (λ (x : Trees). x 0) trees ∙ edit in
     let one = ap (λ (b : Database). in_order (b.trees 1)) now ∙ ap (λ (x : Trees). in_order (x 1)) trees ∙ ap in_order (applied.others 1 one_zero tt) ∙ has.log in
-    record { tables = ap (λ (b : Database). b.schema) now; meta = zero; log = one }
+    let two = ap (λ (b : Database). b.trees 2) now ∙ ap (λ (x : Trees). x 2) trees ∙ applied.others 2 two_zero tt ∙ has.floor in
+    record { tables = ap (λ (b : Database). b.schema) now; meta = zero; log = one; floor = two }

@@ -26,9 +26,9 @@ use Rattle.sqlite_trees.specs.Tree.{IsAscending}
 use Rattle.sqlite_catalog.specs.Listing.{IsSound}
 use Rattle.sqlite.specs.State.{State, Shown}
 use Rattle.sqlite.proofs.Callers.{reads_as, one_permutation}
-use Rattle.durable.specs.Tables.{schema, meta, log}
-use Rattle.durable.specs.Rows.{meta_row, meta_values, entry_row, entry_values, log_rows, in_order, shown_log, shown_meta, shown_entry}
-use Rattle.durable.proofs.Meaning.{read_meta, meta_query, meta_is, meta_plain, read_log, log_query, log_is, log_plain}
+use Rattle.durable.specs.Tables.{schema, meta, log, floor}
+use Rattle.durable.specs.Rows.{meta_row, meta_values, floor_row, floor_values, shown_floor, entry_row, entry_values, log_rows, in_order, shown_log, shown_meta, shown_entry}
+use Rattle.durable.proofs.Meaning.{read_meta, meta_query, meta_is, meta_plain, read_log, log_query, log_is, log_plain, read_floor, floor_query, floor_is, floor_plain}
 
 then_equal : (o : Ordering) → ordering_then o Equal ≡ o
 then_equal Less = refl
@@ -92,11 +92,27 @@ meta_answer db rows a =
 pub reads_any_meta : (old new : State) (rows : List Row) → old.now.schema ≡ schema → Shown read_meta [] old new rows → IsPermutation (map shown_meta (old.now.trees 0)) rows
 reads_any_meta old new rows has h = meta_answer old.now.trees rows ((reads_as read_meta [] old new schema has _ meta_is.0 meta_plain meta_is.1 rows h).answer Null)
 
+floor_out : Row → Output
+floor_out r = output floor_query ([] ∷ r ∷ [])
+
+floor_answer : (db : Trees) (rows : List Row) → IsAnswer floor_query (overlay db []) [] rows → IsPermutation (map shown_floor (db 2)) rows
+unfolding floor_out
+floor_answer db rows a =
+    let staged : a.staged ≡ map (λ r. [] ∷ r ∷ []) (db 2) = a.grouped ∙ flat_ones (λ r. [] ∷ r ∷ []) (db 2) in
+    let kept : a.kept ≡ map floor_out (db 2) = a.distinct ∙ ap (map (output floor_query)) staged ∙ map-map (output floor_query) (λ r. [] ∷ r ∷ []) (db 2) in
+    let shown = map-map (λ (p : Output). p.1) floor_out (db 2) in
+    let all = IsPermutation-map (λ (p : Output). p.1) a.kept a.ordered a.same in
+    let from : IsPermutation (map shown_floor (db 2)) (map (λ (p : Output). p.1) a.ordered) = subst (λ l. IsPermutation l (map (λ (p : Output). p.1) a.ordered)) (ap (map (λ (p : Output). p.1)) kept ∙ shown) all in
+    subst (IsPermutation (map shown_floor (db 2))) (sym a.shown) from
+
+pub reads_any_floor : (old new : State) (rows : List Row) → old.now.schema ≡ schema → Shown read_floor [] old new rows → IsPermutation (map shown_floor (old.now.trees 2)) rows
+reads_any_floor old new rows has h = floor_answer old.now.trees rows ((reads_as read_floor [] old new schema has _ floor_is.0 floor_plain floor_is.1 rows h).answer Null)
+
 -- one row is shown, so one is there
-pub only_meta : (all rows : List Row) (v : Row) → IsPermutation (map shown_meta all) rows → rows ≡ v ∷ [] → (r : Row) × (all ≡ r ∷ []) × (shown_meta r ≡ v)
-only_meta [] rows v same is = absurd (let e = length_permutation [] rows same in omega (arith, e, ap length is))
-only_meta (r ∷ []) rows v same is = (r, refl, let one = one_permutation (shown_meta r) rows same in cc)
-only_meta (r ∷ s ∷ more) rows v same is = absurd (let e = length_permutation _ rows same in omega (arith, e, ap length is))
+pub only_row : (show : Row → Row) (all rows : List Row) (v : Row) → IsPermutation (map show all) rows → rows ≡ v ∷ [] → (r : Row) × (all ≡ r ∷ []) × (show r ≡ v)
+only_row show [] rows v same is = absurd (let e = length_permutation [] rows same in omega (arith, e, ap length is))
+only_row show (r ∷ []) rows v same is = (r, refl, let one = one_permutation (show r) rows same in cc)
+only_row show (r ∷ s ∷ more) rows v same is = absurd (let e = length_permutation _ rows same in omega (arith, e, ap length is))
 
 -- ---- rows of the declared types are known by what is shown of them
 
@@ -124,6 +140,13 @@ meta_row_is (a ∷ b ∷ []) t v typed is = absurd cc
 meta_row_is (a ∷ b ∷ c ∷ []) t v typed is = absurd cc
 meta_row_is (a ∷ b ∷ c ∷ d ∷ []) t v typed is = let none = is_nothing b (both _ _ typed).0 in cc
 meta_row_is (a ∷ b ∷ c ∷ d ∷ e ∷ more) t v typed is = absurd (let short = at_most (Some 0) 0 meta.columns (b ∷ c ∷ d ∷ e ∷ more) typed in omega (arith, short))
+
+pub floor_row_is : (r : Row) (t : Option ℕ) → are_typed floor.key 0 floor.columns (drop 1 r) ≡ true → shown_floor r ≡ floor_values t → r ≡ floor_row t
+floor_row_is [] t typed is = absurd cc
+floor_row_is (a ∷ []) t typed is = absurd cc
+floor_row_is (a ∷ b ∷ []) t typed is = absurd cc
+floor_row_is (a ∷ b ∷ c ∷ []) t typed is = let none = is_nothing b (both _ _ typed).0 in cc
+floor_row_is (a ∷ b ∷ c ∷ d ∷ more) t typed is = absurd (let short = at_most (Some 0) 0 floor.columns (b ∷ c ∷ d ∷ more) typed in omega (arith, short))
 
 entry_row_is : (r : Row) (i : ℕ) (e : Item) → are_typed log.key 0 log.columns (drop 1 r) ≡ true → shown_entry r ≡ entry_values i e → r ≡ entry_row i e
 entry_row_is [] i x typed is = absurd cc
@@ -177,3 +200,6 @@ meta_typed db sound = parts_typed meta db (db 0) (sound.obeys.rules Datatype).0
 
 pub log_typed : (db : Trees) → IsSound schema db → AreTyped log (db 1)
 log_typed db sound = parts_typed log db (db 1) (sound.obeys.rules Datatype).1.0
+
+pub floor_typed : (db : Trees) → IsSound schema db → AreTyped floor (db 2)
+floor_typed db sound = parts_typed floor db (db 2) (sound.obeys.rules Datatype).1.1.0

@@ -1,6 +1,6 @@
 -- That the tables are settled has one proof.
-use Rattle.std.specs.Prelude.{ℕ, List}
-use Rattle.std.specs.Coded.{Coded, Coded-set, code_by, coded×, coded_ℕ, coded_list}
+use Rattle.std.specs.Prelude.{ℕ, Option, List}
+use Rattle.std.specs.Coded.{Coded, Coded-set, code_by, coded×, coded_ℕ, coded_list, coded_option}
 use Rattle.std.proofs.Common.{ap, refl}
 use mathlib.Core.Bool.{Bool-set}
 use Rattle.sqlite_schema.specs.contracts.schema.Schema as schema_row
@@ -24,9 +24,9 @@ coded_item =
 
 abbrev coded_contents : Coded Contents
 coded_contents =
-    code_by (ℕ × (ℕ × List Item)) (coded× coded_ℕ (coded× coded_ℕ (coded_list coded_item)))
-    (λ c. (c.term, (c.vote, c.log)))
-    (λ p. record { term = p.0; vote = p.1.0; log = p.1.1 })
+    code_by (ℕ × (ℕ × (Option ℕ × List Item))) (coded× coded_ℕ (coded× coded_ℕ (coded× (coded_option coded_ℕ) (coded_list coded_item))))
+    (λ c. (c.term, (c.vote, (c.floor, c.log))))
+    (λ p. record { term = p.0; vote = p.1.0; floor = p.1.1.0; log = p.1.1.1 })
     (λ _. refl)
 
 pub Contents-set : IsSet Contents
@@ -43,6 +43,7 @@ Holds-prop db c x y = λ i. record {
   tables = Schema-set _ _ x.tables y.tables i;
   meta = rows_set _ _ x.meta y.meta i;
   log = rows_set _ _ x.log y.log i;
+  floor = rows_set _ _ x.floor y.floor i;
 }
 
 pub IsSettled-prop : (s : State) → IsProp (IsSettled s)

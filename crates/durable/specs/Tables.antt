@@ -1,4 +1,4 @@
--- The two tables.
+-- The three tables.
 use Rattle.sqlite.specs.Collation.TheVariants.{Binary}
 use Rattle.std.specs.Prelude.{true, false, [], ◌∷◌, Some, codes, List, ℕ}
 use Rattle.sqlite.specs.declared.types.Value.TheVariants.{Null}
@@ -38,11 +38,19 @@ abbrev pub log : Table
 log = plain_table (codes "log") 1
     (id_column (codes "idx") ∷ a_column (codes "term") Integer ∷ a_column (codes "stamp") Integer ∷ a_column (codes "client") Integer ∷ a_column (codes "number") Integer ∷ a_column (codes "body") Text ∷ [])
 
+-- its column t is the floor
+abbrev pub floor : Table
+floor = plain_table (codes "floor") 2 (id_column (codes "id") ∷ a_column (codes "t") Integer ∷ [])
+
 abbrev pub no_schema : Schema
 no_schema = record { tables = []; indexes = []; views = [] }
 
 abbrev pub meta_schema : Schema
 meta_schema = record { tables = meta ∷ []; indexes = []; views = [] }
 
+-- of a database that was made before members had floors
+abbrev pub old_schema : Schema
+old_schema = record { tables = meta ∷ log ∷ []; indexes = []; views = [] }
+
 abbrev pub schema : Schema
-schema = record { tables = meta ∷ log ∷ []; indexes = []; views = [] }
+schema = record { tables = meta ∷ log ∷ floor ∷ []; indexes = []; views = [] }

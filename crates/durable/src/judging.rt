@@ -1,16 +1,17 @@
 //! Whether rows form a log.
 ghost use Rattle.std.specs.Prelude.{◌≡◌, ◌≢◌, ◌↔◌, ◌+◌, ◌<◌, ◌≤◌, ◌^◌, ◌∷◌, [], Some, None, Option, ℕ, false, true, pos, length, IfOk, OnOk, IsTrue, MatchOption};
 ghost use Rattle.model.specs.declared.entry.Entry.{Entry as Kept};
-ghost use Rattle.model.specs.Steps.{spells, TERM_LAST};
+ghost use Rattle.model.specs.Steps.{is_floor, spells, TERM_LAST};
 ghost use Rattle.sqlread.specs.Meaning.{schema_of};
-ghost use Rattle.durable.specs.Contents.{item_of, number_of_vote, vote_in};
-ghost use Rattle.durable.specs.Rows.{entry_values, meta_values};
+ghost use Rattle.durable.specs.Contents.{item_of, number_of_vote, number_of_floor, vote_in};
+ghost use Rattle.durable.specs.Rows.{entry_values, floor_values, meta_values};
 ghost use Rattle.durable.specs.Judging.{Follows, Forms};
 
-use crate::reading::{entry_shown, natural_at};
-use keep::HardState;
+use crate::reading::{entry_shown, integer_at, natural_at};
 use model::entry::{Entry, Request};
+use model::member::Member;
 use model::message::LAST_TERM;
+use model::stamp::{LAST_MICROS, Stamp};
 use schema::Schema;
 use sqlite::{Error, Row};
 use sqlread::transaction::misreading;
@@ -81,8 +82,15 @@ pub fn forms_log(alloc: Global, schema: &Schema, top: u64, rows: &[Row]) -> Resu
     Ok(true)
 }
 
+/// What the row of meta tells.
+#[derive(Clone, Copy, Debug)]
+pub struct Meta {
+    pub term: u64,
+    pub vote: Option<Member>,
+}
+
 /// What the rows of meta show, none where they show no term and vote.
-pub fn meta_shown(rows: &[Row]) -> Result<Option<HardState>, Error>
+pub fn meta_shown(rows: &[Row]) -> Result<Option<Meta>, Error>
     ensures { IfOk result (λ o. MatchOption o ((t v : ℕ) → rows.now ≡ meta_values t v ∷ [] → t ≤ TERM_LAST → ⊥) (λ m. (rows.now ≡ meta_values m.term (number_of_vote m.vote) ∷ []) × (m.term ≤ TERM_LAST) × (vote_in (number_of_vote m.vote) ≡ m.vote))) }
 {
     let [row] = rows else {
@@ -104,5 +112,40 @@ pub fn meta_shown(rows: &[Row]) -> Result<Option<HardState>, Error>
         return Ok(None);
     }
     let vote = if vote == 0 { None } else { Some(vote as usize) };
-    Ok(Some(HardState { term, vote }))
+    Ok(Some(Meta { term, vote }))
+}
+
+/// The floor that a number stands for: -1 for none, else an instant. None where it stands for neither.
+fn floor_of(number: i64) -> Option<Option<Stamp>>
+    ensures { MatchOption result ((f : Option ℕ) → number ≡ number_of_floor f → is_floor f ≡ true → ⊥) (λ f. (number ≡ number_of_floor f) × (is_floor f ≡ true)) }
+{
+    if number == -1 {
+        return Some(None);
+    }
+    if number < 0 || number > LAST_MICROS as i64 {
+        return None;
+    }
+    Some(Some(Stamp::new(number as u64)))
+}
+
+/// What the rows of floor show, none where they show no floor.
+pub fn floor_shown(rows: &[Row]) -> Result<Option<Option<Stamp>>, Error>
+    ensures { IfOk result (λ o. MatchOption o ((f : Option ℕ) → rows.now ≡ floor_values f ∷ [] → is_floor f ≡ true → ⊥) (λ f. (rows.now ≡ floor_values f ∷ []) × (is_floor f ≡ true))) }
+{
+    let [row] = rows else {
+        return Ok(None);
+    };
+    if row.column_count() != 2 {
+        return Ok(None);
+    }
+    let Some(id) = natural_at(row, 0)? else {
+        return Ok(None);
+    };
+    let Some(number) = integer_at(row, 1)? else {
+        return Ok(None);
+    };
+    if id != 1 {
+        return Ok(None);
+    }
+    Ok(floor_of(number))
 }

@@ -3,15 +3,12 @@ ghost use Rattle.std.specs.Prelude.{◌≡◌, ◌≢◌, ◌⊎◌, ◌≤◌, 
 ghost use Rattle.sqlite.specs.State.{HasCleanDisk};
 ghost use Rattle.sqlite.specs.Held.{state};
 ghost use Rattle.std.specs.Coded.{Π_prop};
-ghost use Rattle.keep.specs.Durable.{Durable};
 ghost use Rattle.keep.specs.Log.{IsLog, log_prop};
 ghost use Rattle.durable.specs.Props.{IsSettled-prop};
-ghost use Rattle.durable.specs.Stored.{contents_in, stored_in, IsSettled, Offers};
+ghost use Rattle.durable.specs.Stored.{contents_in, stored_in, IsBad, IsSettled, Offers};
 ghost use Rattle.durable.specs.Found.{offers_stored};
 
-use crate::finding::{judge, read_state};
-use crate::opening::{commit_tables, is_blank};
-use crate::ours::is_ours;
+use crate::finding::{find_log, read_state};
 use crate::reading::find_entry;
 use crate::saving::commit_change;
 use crate::whole::Whole;
@@ -21,13 +18,15 @@ use schema::Schema;
 use sqlite::{Alter, Connection, Error, ErrorCode};
 use std::alloc::Global;
 
-/// Keeps a member's hard state and log in two tables of a database, over every store that `sqlite` has.
+/// Keeps a member's hard state and log in three tables of a database, over every store that `sqlite` has.
 /// What it opens, and what is left of it, is the connection. It is honest while the store is clean:
 /// memory always is, and a file while it gave back what was written to it.
 ///
-/// An open of a database that has no table makes both tables and the first row of meta in one commit.
-/// Of any other it reads all rows, and answers `BadStore` where the schema is not these two tables alone
-/// or the rows are not those of a log of the member. Each `save` is one commit: a crash within it, or an
+/// An open of a database that has no table makes the three and the rows of meta and floor in one commit.
+/// One that has meta and log alone, as they were made before members had floors, holds a hard state with
+/// no floor: an open of it makes the table floor with its row in one commit. An open reads all rows, and
+/// answers `BadStore` where the schema is not the three tables alone or the rows are not those of a log of
+/// the member. Each `save` is one commit: a crash within it, or an
 /// error of it, leaves the state before or after. `state` and `entry` read single rows by their number.
 #[derive(Drop)]
 pub struct SqlKeeper<S: Alter + Drop> {
@@ -138,7 +137,7 @@ impl<S: Alter + Drop> Keeper for SqlKeeper<S> {
 
     ghost suits = { λ _ _ _. Unit {0} };
 
-    ghost is_bad = { λ c members tables. (d : Durable) → Offers (state S.Store c) d → IsLog members tables d → ⊥ };
+    ghost is_bad = { λ c members tables. IsBad (state S.Store c) members tables };
 
     fn open(
         alloc: Global,
@@ -150,25 +149,7 @@ impl<S: Alter + Drop> Keeper for SqlKeeper<S> {
         if !image.is_autocommit() {
             return Err((StoreError::BadStore, image));
         }
-        if is_blank(image.schema()) {
-            return match commit_tables(&mut image) {
-                Ok(()) => Ok(SqlKeeper {
-                    conn: image,
-                    count: 0,
-                    failures: 0,
-                    asked: 0,
-                    is_up: true,
-                }),
-                Err(error) => {
-                    let error = error_of(&error);
-                    Err((error, image))
-                }
-            };
-        }
-        if !is_ours(image.schema()) {
-            return Err((StoreError::BadStore, image));
-        }
-        match judge(alloc, &mut image, members, schema) {
+        match find_log(alloc, &mut image, members, schema) {
             Ok(Some(count)) => Ok(SqlKeeper {
                 conn: image,
                 count,

@@ -1,4 +1,4 @@
-//! What a node keeps over a restart, in two tables of a SQL database.
+//! What a node keeps over a restart, in three tables of a SQL database.
 #![tactic(auto)]
 
 pub mod finding;

@@ -1,5 +1,5 @@
-//! Reading the two tables.
-ghost use Rattle.std.specs.Prelude.{◌≡◌, ◌+◌, ◌-◌, ◌<◌, ◌≤◌, ◌^◌, ◌∷◌, ◌&&◌, [], Some, Option, ℕ, false, true, pos, length, drop, option_map, slice_get, nat_le, string_bytes, IsUtf8, IfOk, OnOk, MatchOption};
+//! Reading the rows of the tables.
+ghost use Rattle.std.specs.Prelude.{◌≡◌, ◌+◌, ◌-◌, ◌<◌, ◌≤◌, ◌^◌, ◌∷◌, ◌&&◌, [], Some, Option, ℕ, false, true, ℤ, pos, length, drop, option_map, slice_get, nat_le, string_bytes, IsUtf8, IfOk, OnOk, MatchOption};
 ghost use Rattle.sqlite.specs.State.{HasCleanDisk, IsUnchanged, KeepsCommit};
 ghost use Rattle.sqlite.specs.Held.{state};
 ghost use Rattle.sqlite.specs.Order.{column};
@@ -26,6 +26,20 @@ pub fn natural_at(row: &Row, at: usize) -> Result<Option<u64>, Error>
     ensures { IfOk result (λ o. MatchOption o ((n : ℕ) → column row.now at ≡ Int (pos n) → ⊥) (λ n. column row.now at ≡ Int (pos n))) }
 {
     match row.get::<u64>(at) {
+        Ok(number) => Ok(Some(number)),
+        Err(Error::SqliteFailure(ErrorCode::OutOfMemory)) => {
+            Err(Error::SqliteFailure(ErrorCode::OutOfMemory))
+        }
+        Err(_) => Ok(None),
+    }
+}
+
+/// The number with a sign in this column, none where it holds something else.
+pub fn integer_at(row: &Row, at: usize) -> Result<Option<i64>, Error>
+    requires { at < length row.now }
+    ensures { IfOk result (λ o. MatchOption o ((n : ℤ) → column row.now at ≡ Int n → ⊥) (λ n. column row.now at ≡ Int n)) }
+{
+    match row.get::<i64>(at) {
         Ok(number) => Ok(Some(number)),
         Err(Error::SqliteFailure(ErrorCode::OutOfMemory)) => {
             Err(Error::SqliteFailure(ErrorCode::OutOfMemory))

@@ -9,10 +9,11 @@ ghost use Rattle.durable.specs.Contents.{Contents, item_of, items_of, changed, n
 ghost use Rattle.durable.specs.Steps.{Goes};
 ghost use Rattle.durable.specs.Rows.{Holds};
 
-use crate::whole::Whole;
+use crate::whole::{Floor, Whole};
 use keep::Change;
 use model::entry::{Entry, Request};
 use model::member::Member;
+use model::stamp::Stamp;
 use sqlite::{Alter, Error, Transaction, params};
 
 /// The number that stands for the client: 0 for a Close.
@@ -101,6 +102,18 @@ pub fn set_meta<S: Alter>(
     Ok(())
 }
 
+/// Sets the floor.
+pub fn set_floor<S: Alter>(tx: &mut Transaction<'_, S>, floor: Option<Stamp>) -> Result<(), Error>
+    ensures same_reference { tx.new.conn.ghost_name ≡ tx.old.conn.ghost_name }
+    ensures ok { HasCleanDisk (state S.Store tx.new.conn.now) → OnOk result (Goes (state S.Store tx.old.conn.now) (state S.Store tx.new.conn.now) (λ d. record d { floor = floor })) }
+    ensures keeps { HasCleanDisk (state S.Store tx.new.conn.now) → KeepsCommit (state S.Store tx.old.conn.now) (state S.Store tx.new.conn.now) }
+    ensures survives { Survives (state S.Store tx.old.conn.now) (state S.Store tx.new.conn.now) (λ _. ⊥) }
+{
+    let floor = Floor { value: floor };
+    tx.execute("UPDATE floor SET t = ?1", params![floor])?;
+    Ok(())
+}
+
 /// Keeps the first entries of the log.
 pub fn cut_log<S: Alter>(tx: &mut Transaction<'_, S>, kept: Whole) -> Result<(), Error>
     ensures same_reference { tx.new.conn.ghost_name ≡ tx.old.conn.ghost_name }
@@ -151,6 +164,7 @@ pub fn write_change<S: Alter>(tx: &mut Transaction<'_, S>, change: &Change) -> R
         value: number_of_vote(change.hard.vote),
     };
     set_meta(tx, term, vote)?;
+    set_floor(tx, change.hard.floor)?;
     let kept = change.kept as u64;
     cut_log(tx, Whole { value: kept })?;
     append_all(tx, Whole { value: kept + 1 }, &change.entries)?;

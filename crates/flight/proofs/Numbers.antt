@@ -29,9 +29,10 @@ lacks_cons : (end c : ℕ) (cs : List ℕ) → c ≢ end → Lacks end cs → La
 lacks_cons end c cs first h zero lt = first
 lacks_cons end c cs first h (suc i) lt = h i (omega (arith, lt))
 
-pub signed_lacks : (z : ℤ) → IsSigned z → Lacks 32 (signed_decimal z)
-signed_lacks (pos n) small = decimal_lacks 32 n (omega (arith, small)) (omega arith)
-signed_lacks (negsuc k) small = lacks_cons 32 45 (decimal (suc k)) (λ e. absurd (omega (arith, e))) (decimal_lacks 32 (suc k) (omega (arith, small)) (omega arith))
+-- no sign, which is 45, nor a digit is below 45
+pub signed_lacks : (end : ℕ) (z : ℤ) → end < 45 → IsSigned z → Lacks end (signed_decimal z)
+signed_lacks end (pos n) low small = decimal_lacks end n (omega (arith, small)) (omega (arith, low))
+signed_lacks end (negsuc k) low small = lacks_cons end 45 (decimal (suc k)) (λ e. absurd (omega (arith, low, e))) (decimal_lacks end (suc k) (omega (arith, small)) (omega (arith, low)))
 
 first_of : (ds more : List ℕ) → 0 < length ds → get_or (ds ++ more) 0 0 ≡ get_or ds 0 0
 first_of [] more some = absurd (omega (arith, some))

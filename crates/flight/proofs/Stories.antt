@@ -28,10 +28,10 @@ steps_no_outcome v [] other not = not
 steps_no_outcome v (s ∷ steps) other not = λ r e. absurd (omega (arith, ap (at 0) e))
 
 -- no ending is a step or an outcome
-pub ending_no_step : (e : Ending) (other : List ℕ) → IsNotBegun (codes "step ") (ending_text e other) × IsNoOutcome (ending_text e other)
-ending_no_step Up other = (λ r e. absurd (omega (arith, ap (at 0) e)), λ r e. absurd (omega (arith, ap (at 0) e)))
-ending_no_step Stopped other = (λ r e. absurd (omega (arith, ap (at 2) e)), λ r e. absurd (omega (arith, ap (at 0) e)))
-ending_no_step (Torn s) other = (λ r e. absurd (omega (arith, ap (at 0) e)), λ r e. absurd (omega (arith, ap (at 0) e)))
+pub ending_no_step : (v : Version) (e : Ending) (other : List ℕ) → IsNotBegun (codes "step ") (ending_text v e other) × IsNoOutcome (ending_text v e other)
+ending_no_step v Up other = (λ r e. absurd (omega (arith, ap (at 0) e)), λ r e. absurd (omega (arith, ap (at 0) e)))
+ending_no_step v Stopped other = (λ r e. absurd (omega (arith, ap (at 2) e)), λ r e. absurd (omega (arith, ap (at 0) e)))
+ending_no_step v (Torn s) other = (λ r e. absurd (omega (arith, ap (at 0) e)), λ r e. absurd (omega (arith, ap (at 0) e)))
 
 pub life_begins : (v : Version) (l : LifeContents) (r : List ℕ) → (m : List ℕ) × (life_text v l r ≡ codes "life " ++ m)
 life_begins v l r = (_, refl)
@@ -49,7 +49,7 @@ end_no_answer other = (λ r e. absurd (omega (arith, ap (at 0) e)), tt)
 
 -- ---- a life is its opening and its course
 
-module _ (version : Version) (node : ℕ) (text : List ℕ) (opening : OpeningContents) (rest : List ℕ) (openings : SpellsOnly IsOpening opening_text text opening rest) where
+module _ (version : Version) (node : ℕ) (text : List ℕ) (opening : OpeningContents) (rest : List ℕ) (openings : SpellsOnly (IsOpening version) (opening_text version) text opening rest) where
   course_in : (w : LifeContents) (other : List ℕ) → IsLife version node w → text ≡ life_text version w other → (w.opening ≡ opening) × (rest ≡ course_text version (w.steps, w.ending) other)
   course_in w other is e = let o = openings w.opening (course_text version (w.steps, w.ending) other) is.0 e in (o.0, sym o.1)
 

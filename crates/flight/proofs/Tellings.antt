@@ -1,8 +1,7 @@
 -- Steps with their outcomes.
-use Rattle.std.proofs.Common.{◌≡◌, ◌≢◌, ◌∙◌, ℕ, List, [], ◌∷◌, ◌++◌, refl, sym, ap, inl, inr}
+use Rattle.std.proofs.Common.{◌≡◌, ℕ, List, [], ◌++◌, refl, sym, inl, inr}
 use Rattle.std.specs.Prelude.{codes, All, ⊤}
 use Rattle.fault.specs.declared.refusal.Refusal.{Refusal}
-use Rattle.fault.specs.declared.refusal.Refusal.TheVariants.{BadFlight}
 use Rattle.flight.specs.declared.life.Step.{Step}
 use Rattle.flight.specs.declared.outcome.Outcome.{Outcome}
 use Rattle.flight.specs.declared.flight.Version.{Version}
@@ -10,7 +9,7 @@ use Rattle.flight.specs.Spelling.{outcome_text, outcomes_text, each_text, made_t
 use Rattle.flight.specs.Ranges.{IsOutcome, AreOutcomes, IsSilent, IsStep}
 use Rattle.flight.specs.Lives.{with_outcomes}
 use Rattle.flight.specs.Courses.{IsNoOutcome}
-use Rattle.flight.specs.Reading.{SpellsOnly, SpellsOnlyTo, IsUnread, IsUnreadTo, IsAfter, IsNotBegun}
+use Rattle.flight.specs.Reading.{SpellsOnly, SpellsOnlyTo, IsUnread, IsUnreadTo, IsAfter}
 
 pub outcome_begins : (o : Outcome) (r : List ℕ) → (m : List ℕ) × (outcome_text o r ≡ codes "outcome " ++ m)
 outcome_begins o r = (_, refl)
@@ -27,17 +26,17 @@ module _ (text : List ℕ) where
 
 module _ (version : Version) (node : ℕ) (text first : List ℕ) (after : IsAfter (codes "step ") text first) where
   -- the step but for its outcomes
-  silent : (w : Step) → IsStep version node w → IsSilent node (with_outcomes [] w)
+  silent : (w : Step) → IsStep version node w → IsSilent version node (with_outcomes [] w)
   silent w is = (is.0, is.1, is.2, refl)
 
-  made_in : (w : Step) (other : List ℕ) → text ≡ step_text version w other → first ≡ made_text (with_outcomes [] w) (outcomes_text version w.outcomes other)
-  made_in w other e = sym (after.1 (made_text w (outcomes_text version w.outcomes other)) e)
+  made_in : (w : Step) (other : List ℕ) → text ≡ step_text version w other → first ≡ made_text version (with_outcomes [] w) (outcomes_text version w.outcomes other)
+  made_in w other e = sym (after.1 (made_text version w (outcomes_text version w.outcomes other)) e)
 
-  pub step_unmade : (f : Refusal) → IsUnread (IsSilent node) made_text first f → IsUnreadTo (IsStep version node) (step_text version) IsNoOutcome text f
+  pub step_unmade : (f : Refusal) → IsUnread (IsSilent version node) (made_text version) first f → IsUnreadTo (IsStep version node) (step_text version) IsNoOutcome text f
   step_unmade f (inl memory) = inl memory
   step_unmade f (inr (bad, none)) = inr (bad, λ w other is not e. none (with_outcomes [] w) (outcomes_text version w.outcomes other) (silent w is) (made_in w other e))
 
-  module _ (step : Step) (second : List ℕ) (made : SpellsOnly (IsSilent node) made_text first step second) where
+  module _ (step : Step) (second : List ℕ) (made : SpellsOnly (IsSilent version node) (made_text version) first step second) where
     told_in : (w : Step) (other : List ℕ) → IsStep version node w → text ≡ step_text version w other
         → (with_outcomes [] w ≡ step) × (second ≡ outcomes_text version w.outcomes other)
     told_in w other is e =

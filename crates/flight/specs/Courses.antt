@@ -19,10 +19,10 @@ IsUntil Is IsLast w = All Is w.0 × IsLast w.1
 
 -- the steps of a life and its ending
 abbrev pub course_text : Version → List Step × Ending → List ℕ → List ℕ
-course_text version w rest = until_text (step_text version) ending_text w rest
+course_text version w rest = until_text (step_text version) (ending_text version) w rest
 
 abbrev pub IsCourse : Version → ℕ → List Step × Ending → Type 0
-IsCourse version node w = IsUntil (IsStep version node) (IsEnding node) w
+IsCourse version node w = IsUntil (IsStep version node) (IsEnding version node) w
 
 -- what stands here is no further outcome of a step
 abbrev pub IsNoOutcome : List ℕ → Type 0

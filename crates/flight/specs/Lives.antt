@@ -45,6 +45,7 @@ abbrev pub shown : Packet → ℤ
 shown (Local input.Timeout) = pos 0
 shown (Local input.Beat) = pos 0
 shown (Local (input.Close reading)) = reading
+shown (Local (input.Floor reading)) = reading
 shown (Local (input.Submit reading request)) = reading
 shown (Delivered mark reading message) = reading
 

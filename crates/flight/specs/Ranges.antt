@@ -3,7 +3,7 @@ use Rattle.std.specs.Prelude.{◌≡◌, ℕ, ℤ, ◌≤◌, ◌<◌, ◌^◌, 
 use Rattle.model.specs.declared.entry.Request.{Request}
 use Rattle.model.specs.declared.entry.Entry.{Entry}
 use Rattle.model.specs.declared.message.Body.{Body}
-use Rattle.model.specs.declared.message.Body.TheVariants.{RequestVote, Vote, Append, Reply}
+use Rattle.model.specs.declared.message.Body.TheVariants.{RequestVote, Vote, Append, Reply, Seek, Stored, Seal}
 use Rattle.model.specs.declared.message.Input.TheVariants as input
 use Rattle.model.specs.declared.message.Message.{Message}
 use Rattle.lines.specs.Number.{IsSigned}
@@ -18,7 +18,7 @@ use Rattle.flight.specs.declared.life.Ending.{Ending}
 use Rattle.flight.specs.declared.life.Ending.TheVariants.{Up, Stopped, Torn}
 use Rattle.flight.specs.declared.outcome.Outcome.{Outcome}
 use Rattle.flight.specs.declared.flight.Version.{Version}
-use Rattle.flight.specs.declared.flight.Version.TheVariants.{One, Two}
+use Rattle.flight.specs.declared.flight.Version.TheVariants.{One, Two, Three}
 use Rattle.flight.specs.declared.flight.Recorded.{Recorded}
 use Rattle.flight.specs.Contents.{OpeningContents, LifeContents, FlightContents}
 
@@ -27,6 +27,14 @@ IsNumber n = n < 2 ^ 64
 
 abbrev pub IsMark : ℕ → Type 0
 IsMark n = (0 < n) × (n ≤ 9223372036854775807)
+
+-- ---- versions
+
+-- versions 1 and 2 know of no floors
+abbrev pub has_floors : Version → Bool
+has_floors One = false
+has_floors Two = false
+has_floors Three = true
 
 -- ---- entries
 
@@ -40,6 +48,11 @@ IsRequestNumber n = (0 < n) × (n ≤ 2 ^ 62)
 abbrev pub IsStamp : ℕ → Type 0
 IsStamp n = n ≤ 253402214399999999
 
+-- an instant, or none
+abbrev pub IsFloor : Option ℕ → Type 0
+IsFloor None = ⊤
+IsFloor (Some floor) = IsStamp floor
+
 abbrev pub IsRequest : Request → Type 0
 IsRequest r = IsClient r.client × IsRequestNumber r.number
 
@@ -52,27 +65,41 @@ IsEntry e = IsNumber e.term × IsStamp e.stamp × IsAsked e.request
 
 -- ---- messages and steps
 
-abbrev pub IsBody : Body → Type 0
-IsBody (RequestVote last_index last_term) = IsNumber last_index × IsNumber last_term
-IsBody (Vote given) = ⊤
-IsBody (Append prev_index prev_term entries commit) = IsNumber prev_index × IsNumber prev_term × All IsEntry entries × IsNumber commit
-IsBody (Reply ok matched) = IsNumber matched
+-- a floor that a member has, of which versions 1 and 2 know none
+abbrev pub IsFloorIn : Version → Option ℕ → Type 0
+IsFloorIn One floor = floor ≡ None
+IsFloorIn Two floor = floor ≡ None
+IsFloorIn Three floor = IsFloor floor
+
+-- the index of an entry and a floor, of which versions 1 and 2 know no messages
+abbrev pub IsFloorAt : Version → ℕ → ℕ → Type 0
+IsFloorAt version index floor = (has_floors version ≡ true) × IsNumber index × IsStamp floor
+
+abbrev pub IsBody : Version → Body → Type 0
+IsBody version (RequestVote last_index last_term) = IsNumber last_index × IsNumber last_term
+IsBody version (Vote given floor) = IsFloorIn version floor
+IsBody version (Append prev_index prev_term entries commit) = IsNumber prev_index × IsNumber prev_term × All IsEntry entries × IsNumber commit
+IsBody version (Reply ok matched) = IsNumber matched
+IsBody version (Seek index floor) = IsFloorAt version index floor
+IsBody version (Stored index floor) = IsFloorAt version index floor
+IsBody version (Seal index floor) = IsFloorAt version index floor
 
 -- a message to the node whose flight it is
-abbrev pub IsMessage : ℕ → Message → Type 0
-IsMessage node m = IsNumber m.sender × (m.addressee ≡ node) × IsNumber m.term × IsBody m.body
+abbrev pub IsMessage : Version → ℕ → Message → Type 0
+IsMessage version node m = IsNumber m.sender × (m.addressee ≡ node) × IsNumber m.term × IsBody version m.body
 
--- a packet that bears this reading, if it bears one
-abbrev pub IsPacket : ℕ → ℤ → Packet → Type 0
-IsPacket node reading (Local input.Timeout) = ⊤
-IsPacket node reading (Local input.Beat) = ⊤
-IsPacket node reading (Local (input.Close own)) = own ≡ reading
-IsPacket node reading (Local (input.Submit own request)) = (own ≡ reading) × IsRequest request
-IsPacket node reading (Delivered mark own message) = (own ≡ reading) × IsMark mark × IsMessage node message
+-- a packet that bears this reading, if it bears one; versions 1 and 2 know no Floor
+abbrev pub IsPacket : Version → ℕ → ℤ → Packet → Type 0
+IsPacket version node reading (Local input.Timeout) = ⊤
+IsPacket version node reading (Local input.Beat) = ⊤
+IsPacket version node reading (Local (input.Close own)) = own ≡ reading
+IsPacket version node reading (Local (input.Floor own)) = (has_floors version ≡ true) × (own ≡ reading)
+IsPacket version node reading (Local (input.Submit own request)) = (own ≡ reading) × IsRequest request
+IsPacket version node reading (Delivered mark own message) = (own ≡ reading) × IsMark mark × IsMessage version node message
 
 -- a step that told nothing
-abbrev pub IsSilent : ℕ → Step → Type 0
-IsSilent node s = IsMark s.mark × IsSigned s.reading × IsPacket node s.reading s.packet × (s.outcomes ≡ [])
+abbrev pub IsSilent : Version → ℕ → Step → Type 0
+IsSilent version node s = IsMark s.mark × IsSigned s.reading × IsPacket version node s.reading s.packet × (s.outcomes ≡ [])
 
 abbrev pub IsOutcome : Outcome → Type 0
 IsOutcome o = IsNumber o.index × IsClient o.client × IsRequestNumber o.number
@@ -81,14 +108,15 @@ IsOutcome o = IsNumber o.index × IsClient o.client × IsRequestNumber o.number
 abbrev pub AreOutcomes : Version → List Outcome → Type 0
 AreOutcomes One outcomes = outcomes ≡ []
 AreOutcomes Two outcomes = All IsOutcome outcomes
+AreOutcomes Three outcomes = All IsOutcome outcomes
 
 abbrev pub IsStep : Version → ℕ → Step → Type 0
-IsStep version node s = IsMark s.mark × IsSigned s.reading × IsPacket node s.reading s.packet × AreOutcomes version s.outcomes
+IsStep version node s = IsMark s.mark × IsSigned s.reading × IsPacket version node s.reading s.packet × AreOutcomes version s.outcomes
 
-abbrev pub IsEnding : ℕ → Ending → Type 0
-IsEnding node Up = ⊤
-IsEnding node Stopped = ⊤
-IsEnding node (Torn s) = IsSilent node s
+abbrev pub IsEnding : Version → ℕ → Ending → Type 0
+IsEnding version node Up = ⊤
+IsEnding version node Stopped = ⊤
+IsEnding version node (Torn s) = IsSilent version node s
 
 -- ---- lives, answers and the whole
 
@@ -96,11 +124,11 @@ abbrev pub IsVote : Option ℕ → Type 0
 IsVote None = ⊤
 IsVote (Some member) = (0 < member) × IsNumber member
 
-abbrev pub IsOpening : OpeningContents → Type 0
-IsOpening o = IsMark o.mark × IsNumber o.hard.term × IsVote o.hard.vote × All IsEntry o.entries
+abbrev pub IsOpening : Version → OpeningContents → Type 0
+IsOpening version o = IsMark o.mark × IsNumber o.hard.term × IsVote o.hard.vote × IsFloorIn version o.hard.floor × All IsEntry o.entries
 
 abbrev pub IsLife : Version → ℕ → LifeContents → Type 0
-IsLife version node l = IsOpening l.opening × All (IsStep version node) l.steps × IsEnding node l.ending
+IsLife version node l = IsOpening version l.opening × All (IsStep version node) l.steps × IsEnding version node l.ending
 
 -- its query reads over these tables
 abbrev pub IsAnswer : Tables → Recorded → Type 0

@@ -1,11 +1,11 @@
 -- The one spelling of a flight file, part by part. A function spells a value and then what follows it in the file. Each line ends with
 -- LF, which is 10, and a space is 32.
-use Rattle.std.specs.Prelude.{ℕ, ℤ, Bool, true, false, List, [], ◌∷◌, ◌++◌, length, codes, decimal, Option, None, Some}
+use Rattle.std.specs.Prelude.{ℕ, ℤ, pos, negsuc, Bool, true, false, List, [], ◌∷◌, ◌++◌, length, codes, decimal, Option, None, Some}
 use Rattle.std.specs.Fmt.{signed_decimal}
 use Rattle.model.specs.declared.entry.Request.{Request}
 use Rattle.model.specs.declared.entry.Entry.{Entry}
 use Rattle.model.specs.declared.message.Body.{Body}
-use Rattle.model.specs.declared.message.Body.TheVariants.{RequestVote, Vote, Append, Reply}
+use Rattle.model.specs.declared.message.Body.TheVariants.{RequestVote, Vote, Append, Reply, Seek, Stored, Seal}
 use Rattle.model.specs.declared.message.Input.TheVariants as input
 use Rattle.model.specs.declared.message.Message.{Message}
 use Rattle.flight.specs.declared.life.Packet.{Packet}
@@ -15,7 +15,7 @@ use Rattle.flight.specs.declared.life.Ending.{Ending}
 use Rattle.flight.specs.declared.life.Ending.TheVariants.{Up, Stopped, Torn}
 use Rattle.flight.specs.declared.outcome.Outcome.{Outcome}
 use Rattle.flight.specs.declared.flight.Version.{Version}
-use Rattle.flight.specs.declared.flight.Version.TheVariants.{One, Two}
+use Rattle.flight.specs.declared.flight.Version.TheVariants.{One, Two, Three}
 use Rattle.flight.specs.declared.flight.Recorded.{Recorded}
 use Rattle.flight.specs.Contents.{OpeningContents, LifeContents, FlightContents}
 
@@ -31,9 +31,9 @@ spaced n rest = number_text 32 n rest
 abbrev pub ended : ℕ → List ℕ → List ℕ
 ended n rest = number_text 10 n rest
 
--- what a clock shows, with `-` where it is below zero
-abbrev pub reading_text : ℤ → List ℕ → List ℕ
-reading_text reading rest = signed_decimal reading ++ 32 ∷ rest
+-- a number with `-` where it is below zero, and the byte that ends it
+abbrev pub signed_text : ℕ → ℤ → List ℕ → List ℕ
+signed_text end z rest = signed_decimal z ++ end ∷ rest
 
 abbrev pub flag_number : Bool → ℕ
 flag_number true = 1
@@ -49,6 +49,14 @@ vote_number (Some member) = member
 
 abbrev pub vote_text : Option ℕ → List ℕ → List ℕ
 vote_text vote rest = spaced (vote_number vote) rest
+
+-- the instant of a floor, -1 for none
+abbrev pub floor_number : Option ℕ → ℤ
+floor_number None = negsuc 0
+floor_number (Some floor) = pos floor
+
+abbrev pub floor_text : ℕ → Option ℕ → List ℕ → List ℕ
+floor_text end floor rest = signed_text end (floor_number floor) rest
 
 -- how many bytes, and then these bytes
 abbrev pub block_text : List ℕ → List ℕ → List ℕ
@@ -77,28 +85,38 @@ entries_text entries rest = ended (length entries) (each_text entry_text entries
 
 -- ---- messages and steps
 
+-- whether a vote is given, and the voter's floor, which versions 1 and 2 leave out
+abbrev pub ballot_text : Version → Bool → Option ℕ → List ℕ → List ℕ
+ballot_text One given floor rest = flag_text 10 given rest
+ballot_text Two given floor rest = flag_text 10 given rest
+ballot_text Three given floor rest = flag_text 32 given (floor_text 10 floor rest)
+
 -- what a message of this term says
-abbrev pub body_text : ℕ → Body → List ℕ → List ℕ
-body_text term (RequestVote last_index last_term) rest = codes "votereq " ++ spaced term (spaced last_index (ended last_term rest))
-body_text term (Vote given) rest = codes "vote " ++ spaced term (flag_text 10 given rest)
-body_text term (Append prev_index prev_term entries commit) rest =
+abbrev pub body_text : Version → ℕ → Body → List ℕ → List ℕ
+body_text version term (RequestVote last_index last_term) rest = codes "votereq " ++ spaced term (spaced last_index (ended last_term rest))
+body_text version term (Vote given floor) rest = codes "vote " ++ spaced term (ballot_text version given floor rest)
+body_text version term (Append prev_index prev_term entries commit) rest =
     codes "append " ++ spaced term (spaced prev_index (spaced prev_term (spaced commit (entries_text entries rest))))
-body_text term (Reply ok matched) rest = codes "reply " ++ spaced term (flag_text 32 ok (ended matched rest))
+body_text version term (Reply ok matched) rest = codes "reply " ++ spaced term (flag_text 32 ok (ended matched rest))
+body_text version term (Seek index floor) rest = codes "seek " ++ spaced term (spaced index (ended floor rest))
+body_text version term (Stored index floor) rest = codes "stored " ++ spaced term (spaced index (ended floor rest))
+body_text version term (Seal index floor) rest = codes "seal " ++ spaced term (spaced index (ended floor rest))
 
 -- a message that the step with this mark sent
-abbrev pub message_text : ℕ → Message → List ℕ → List ℕ
-message_text mark m rest = spaced m.sender (spaced mark (body_text m.term m.body rest))
+abbrev pub message_text : Version → ℕ → Message → List ℕ → List ℕ
+message_text version mark m rest = spaced m.sender (spaced mark (body_text version m.term m.body rest))
 
-abbrev pub packet_text : Packet → List ℕ → List ℕ
-packet_text (Local input.Timeout) rest = codes "timeout\n" ++ rest
-packet_text (Local input.Beat) rest = codes "beat\n" ++ rest
-packet_text (Local (input.Close reading)) rest = codes "close\n" ++ rest
-packet_text (Local (input.Submit reading request)) rest = codes "submit " ++ request_text request rest
-packet_text (Delivered mark reading message) rest = codes "from " ++ message_text mark message rest
+abbrev pub packet_text : Version → Packet → List ℕ → List ℕ
+packet_text version (Local input.Timeout) rest = codes "timeout\n" ++ rest
+packet_text version (Local input.Beat) rest = codes "beat\n" ++ rest
+packet_text version (Local (input.Close reading)) rest = codes "close\n" ++ rest
+packet_text version (Local (input.Floor reading)) rest = codes "floor\n" ++ rest
+packet_text version (Local (input.Submit reading request)) rest = codes "submit " ++ request_text request rest
+packet_text version (Delivered mark reading message) rest = codes "from " ++ message_text version mark message rest
 
 -- a step but for its outcomes
-abbrev pub made_text : Step → List ℕ → List ℕ
-made_text s rest = spaced s.mark (reading_text s.reading (packet_text s.packet rest))
+abbrev pub made_text : Version → Step → List ℕ → List ℕ
+made_text version s rest = spaced s.mark (signed_text 32 s.reading (packet_text version s.packet rest))
 
 abbrev pub outcome_text : Outcome → List ℕ → List ℕ
 outcome_text o rest = codes "outcome " ++ spaced o.index (spaced o.client (ended o.number (codes "text " ++ block_text o.text rest)))
@@ -107,22 +125,29 @@ outcome_text o rest = codes "outcome " ++ spaced o.index (spaced o.client (ended
 abbrev pub outcomes_text : Version → List Outcome → List ℕ → List ℕ
 outcomes_text One outcomes rest = rest
 outcomes_text Two outcomes rest = each_text outcome_text outcomes rest
+outcomes_text Three outcomes rest = each_text outcome_text outcomes rest
 
 abbrev pub step_text : Version → Step → List ℕ → List ℕ
-step_text version s rest = codes "step " ++ made_text s (outcomes_text version s.outcomes rest)
+step_text version s rest = codes "step " ++ made_text version s (outcomes_text version s.outcomes rest)
 
-abbrev pub ending_text : Ending → List ℕ → List ℕ
-ending_text Up rest = codes "up\n" ++ rest
-ending_text Stopped rest = codes "stopped\n" ++ rest
-ending_text (Torn s) rest = codes "torn " ++ made_text s rest
+abbrev pub ending_text : Version → Ending → List ℕ → List ℕ
+ending_text version Up rest = codes "up\n" ++ rest
+ending_text version Stopped rest = codes "stopped\n" ++ rest
+ending_text version (Torn s) rest = codes "torn " ++ made_text version s rest
 
 -- ---- lives, answers and the whole
 
-abbrev pub opening_text : OpeningContents → List ℕ → List ℕ
-opening_text o rest = codes "life " ++ spaced o.mark (spaced o.hard.term (vote_text o.hard.vote (entries_text o.entries rest)))
+-- the floor that was stored, which versions 1 and 2 leave out
+abbrev pub opening_floor_text : Version → Option ℕ → List ℕ → List ℕ
+opening_floor_text One floor rest = rest
+opening_floor_text Two floor rest = rest
+opening_floor_text Three floor rest = floor_text 32 floor rest
+
+abbrev pub opening_text : Version → OpeningContents → List ℕ → List ℕ
+opening_text version o rest = codes "life " ++ spaced o.mark (spaced o.hard.term (vote_text o.hard.vote (opening_floor_text version o.hard.floor (entries_text o.entries rest))))
 
 abbrev pub life_text : Version → LifeContents → List ℕ → List ℕ
-life_text version l rest = opening_text l.opening (each_text (step_text version) l.steps (ending_text l.ending rest))
+life_text version l rest = opening_text version l.opening (each_text (step_text version) l.steps (ending_text version l.ending rest))
 
 abbrev pub answer_text : Recorded → List ℕ → List ℕ
 answer_text a rest = codes "answer " ++ ended a.mark (codes "query " ++ block_text a.query (codes "text " ++ block_text a.answer rest))
@@ -134,6 +159,7 @@ closing_text answers rest = each_text answer_text answers (codes "end\n" ++ rest
 abbrev pub version_number : Version → ℕ
 version_number One = 1
 version_number Two = 2
+version_number Three = 3
 
 -- the first line
 abbrev pub version_text : Version → List ℕ → List ℕ

@@ -1,13 +1,15 @@
 //! Readers of what messages say.
 ghost use Rattle.std.specs.Prelude.{◌≡◌, IfOk, IfErr, ⊤, All};
-ghost use Rattle.flight.specs.Bodies.{candidacy_text, voted_text, appended_text, replied_text, said_text, IsCandidacy, IsVoted, IsAppended, IsReplied, IsSaid};
+ghost use Rattle.flight.specs.Bodies.{candidacy_text, given_text, voted_text, appended_text, replied_text, sealing_text, said_text, IsCandidacy, IsGiven, IsVoted, IsAppended, IsReplied, IsSealing, IsSaid, IsSaidOfSealing};
 ghost use Rattle.flight.specs.Reading.{Spells, SpellsOnly, IsUnread};
 
 use crate::entries::read_entries;
-use crate::parts::{after, past, read_flag, read_number};
+use crate::flight::Version;
+use crate::parts::{after, past, read_flag, read_floor, read_number, read_stamp};
 use fault::Refusal;
 use model::entry::Entries;
 use model::message::Body;
+use model::stamp::Stamp;
 use std::alloc::Global;
 
 // The numbers of a `votereq`.
@@ -23,6 +25,7 @@ struct Candidacy {
 struct Voted {
     term: u64,
     given: bool,
+    floor: Option<Stamp>,
 }
 
 // The numbers of an `append`, and its entries.
@@ -43,6 +46,14 @@ struct Replied {
     matched: usize,
 }
 
+// The numbers of a `seek`, a `stored` or a `seal`.
+#[derive(Clone, Copy)]
+struct Sealing {
+    term: u64,
+    index: usize,
+    floor: Stamp,
+}
+
 fn read_candidacy(text: &str) -> Result<(Candidacy, &str), Refusal>
     ensures ok { IfOk result (λ p. Spells IsCandidacy candidacy_text text.now p.0 p.1.now) }
     ensures only { IfOk result (λ p. SpellsOnly IsCandidacy candidacy_text text.now p.0 p.1.now) }
@@ -59,14 +70,33 @@ fn read_candidacy(text: &str) -> Result<(Candidacy, &str), Refusal>
     Ok((candidacy, rest))
 }
 
-fn read_voted(text: &str) -> Result<(Voted, &str), Refusal>
-    ensures ok { IfOk result (λ p. Spells IsVoted voted_text text.now p.0 p.1.now) }
-    ensures only { IfOk result (λ p. SpellsOnly IsVoted voted_text text.now p.0 p.1.now) }
-    ensures err { IfErr result (IsUnread IsVoted voted_text text.now) }
+// Whether a vote is given, and the voter's floor, which versions 1 and 2 leave out.
+fn read_given(version: Version, text: &str) -> Result<((bool, Option<Stamp>), &str), Refusal>
+    ensures ok { IfOk result (λ p. Spells (IsGiven version) (given_text version) text.now p.0 p.1.now) }
+    ensures only { IfOk result (λ p. SpellsOnly (IsGiven version) (given_text version) text.now p.0 p.1.now) }
+    ensures err { IfErr result (IsUnread (IsGiven version) (given_text version) text.now) }
+{
+    match version {
+        Version::One | Version::Two => {
+            let (given, rest) = read_flag(text, '\n')?;
+            Ok(((given, None), rest))
+        }
+        Version::Three => {
+            let (given, rest) = read_flag(text, ' ')?;
+            let (floor, rest) = read_floor(rest, '\n')?;
+            Ok(((given, floor), rest))
+        }
+    }
+}
+
+fn read_voted(version: Version, text: &str) -> Result<(Voted, &str), Refusal>
+    ensures ok { IfOk result (λ p. Spells (IsVoted version) (voted_text version) text.now p.0 p.1.now) }
+    ensures only { IfOk result (λ p. SpellsOnly (IsVoted version) (voted_text version) text.now p.0 p.1.now) }
+    ensures err { IfErr result (IsUnread (IsVoted version) (voted_text version) text.now) }
 {
     let (term, rest) = read_number(text, ' ')?;
-    let (given, rest) = read_flag(rest, '\n')?;
-    Ok((Voted { term, given }, rest))
+    let ((given, floor), rest) = read_given(version, rest)?;
+    Ok((Voted { term, given, floor }, rest))
 }
 
 fn read_appended(alloc: Global, text: &str) -> Result<(Appended, &str), Refusal>
@@ -105,11 +135,66 @@ fn read_replied(text: &str) -> Result<(Replied, &str), Refusal>
     Ok((replied, rest))
 }
 
+fn read_sealing(text: &str) -> Result<(Sealing, &str), Refusal>
+    ensures ok { IfOk result (λ p. Spells IsSealing sealing_text text.now p.0 p.1.now) }
+    ensures only { IfOk result (λ p. SpellsOnly IsSealing sealing_text text.now p.0 p.1.now) }
+    ensures err { IfErr result (IsUnread IsSealing sealing_text text.now) }
+{
+    let (term, rest) = read_number(text, ' ')?;
+    let (index, rest) = read_number(rest, ' ')?;
+    let (floor, rest) = read_stamp(rest, '\n')?;
+    let sealing = Sealing {
+        term,
+        index: index as usize,
+        floor,
+    };
+    Ok((sealing, rest))
+}
+
+// The term of a message by which a floor is stored and sealed, of which versions 1 and 2 know none, and what it
+// says.
+fn read_said_of_sealing(version: Version, text: &str) -> Result<((u64, Body), &str), Refusal>
+    ensures ok { IfOk result (λ p. Spells (IsSaidOfSealing version) (said_text version) text.now p.0 p.1.now) }
+    ensures only { IfOk result (λ p. SpellsOnly (IsSaidOfSealing version) (said_text version) text.now p.0 p.1.now) }
+    ensures err { IfErr result (IsUnread (IsSaidOfSealing version) (said_text version) text.now) }
+{
+    if !version.has_floors() {
+        return Err(Refusal::BadFlight);
+    }
+    if let Some(rest) = after(text, "seek ") {
+        let (seek, rest) = read_sealing(rest)?;
+        let body = Body::Seek {
+            index: seek.index,
+            floor: seek.floor,
+        };
+        return Ok(((seek.term, body), rest));
+    }
+    if let Some(rest) = after(text, "stored ") {
+        let (stored, rest) = read_sealing(rest)?;
+        let body = Body::Stored {
+            index: stored.index,
+            floor: stored.floor,
+        };
+        return Ok(((stored.term, body), rest));
+    }
+    let rest = past(text, "seal ")?;
+    let (seal, rest) = read_sealing(rest)?;
+    let body = Body::Seal {
+        index: seal.index,
+        floor: seal.floor,
+    };
+    Ok(((seal.term, body), rest))
+}
+
 // The term of a message, and what it says.
-pub(crate) fn read_said(alloc: Global, text: &str) -> Result<((u64, Body), &str), Refusal>
-    ensures ok { IfOk result (λ p. Spells IsSaid said_text text.now p.0 p.1.now) }
-    ensures only { IfOk result (λ p. SpellsOnly IsSaid said_text text.now p.0 p.1.now) }
-    ensures err { IfErr result (IsUnread IsSaid said_text text.now) }
+pub(crate) fn read_said(
+    alloc: Global,
+    version: Version,
+    text: &str,
+) -> Result<((u64, Body), &str), Refusal>
+    ensures ok { IfOk result (λ p. Spells (IsSaid version) (said_text version) text.now p.0 p.1.now) }
+    ensures only { IfOk result (λ p. SpellsOnly (IsSaid version) (said_text version) text.now p.0 p.1.now) }
+    ensures err { IfErr result (IsUnread (IsSaid version) (said_text version) text.now) }
 {
     if let Some(rest) = after(text, "votereq ") {
         let (candidacy, rest) = read_candidacy(rest)?;
@@ -120,8 +205,11 @@ pub(crate) fn read_said(alloc: Global, text: &str) -> Result<((u64, Body), &str)
         return Ok(((candidacy.term, body), rest));
     }
     if let Some(rest) = after(text, "vote ") {
-        let (voted, rest) = read_voted(rest)?;
-        let body = Body::Vote { given: voted.given };
+        let (voted, rest) = read_voted(version, rest)?;
+        let body = Body::Vote {
+            given: voted.given,
+            floor: voted.floor,
+        };
         return Ok(((voted.term, body), rest));
     }
     if let Some(rest) = after(text, "append ") {
@@ -141,11 +229,14 @@ pub(crate) fn read_said(alloc: Global, text: &str) -> Result<((u64, Body), &str)
         };
         return Ok(((term, body), rest));
     }
-    let rest = past(text, "reply ")?;
-    let (replied, rest) = read_replied(rest)?;
-    let body = Body::Reply {
-        ok: replied.ok,
-        matched: replied.matched,
-    };
-    Ok(((replied.term, body), rest))
+    if let Some(rest) = after(text, "reply ") {
+        let (replied, rest) = read_replied(rest)?;
+        let body = Body::Reply {
+            ok: replied.ok,
+            matched: replied.matched,
+        };
+        return Ok(((replied.term, body), rest));
+    }
+    let (said, rest) = read_said_of_sealing(version, text)?;
+    Ok((said, rest))
 }

@@ -49,7 +49,7 @@ fn read_entry(alloc: Global, text: &str) -> Result<(Entry, &str), Refusal>
 {
     let rest = past(text, "entry ")?;
     let (term, rest) = read_number(rest, ' ')?;
-    let (stamp, rest) = read_stamp(rest)?;
+    let (stamp, rest) = read_stamp(rest, ' ')?;
     let (request, rest) = read_asked(alloc, rest)?;
     let entry = Entry {
         term,

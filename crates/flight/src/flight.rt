@@ -1,4 +1,7 @@
 //! What is recorded of a node.
+ghost use Rattle.std.specs.Prelude.{◌≡◌};
+ghost use Rattle.flight.specs.Ranges.{has_floors};
+
 use crate::life::Life;
 use fault::Text;
 use model::mark::Mark;
@@ -11,6 +14,22 @@ pub enum Version {
     One,
     /// Each step bears the outcomes that it told.
     Two,
+    /// As in version 2, and there are floors: in each life's opening, in votes, and in the input and the
+    /// messages by which one is stored and sealed.
+    Three,
+}
+
+impl Version {
+    /// Whether a flight of this version knows of floors.
+    pub fn has_floors(self) -> bool
+        ensures { result ≡ has_floors self }
+    {
+        match self {
+            Version::One => false,
+            Version::Two => false,
+            Version::Three => true,
+        }
+    }
 }
 
 /// A question that a view of the node was asked, and what it answered.

@@ -78,6 +78,7 @@ impl Packet {
             Packet::Local(Input::Timeout) => 0,
             Packet::Local(Input::Beat) => 0,
             Packet::Local(Input::Close { reading }) => *reading,
+            Packet::Local(Input::Floor { reading }) => *reading,
             Packet::Local(Input::Submit { reading, .. }) => *reading,
             Packet::Delivered { reading, .. } => *reading,
         }

@@ -10,7 +10,7 @@ use crate::answers::read_answers;
 use crate::entries::read_entries;
 use crate::flight::{Recorded, Version};
 use crate::life::{Ending, Life, Opening};
-use crate::parts::{begins, past, read_mark, read_number, read_vote};
+use crate::parts::{begins, past, read_mark, read_number, read_opening_floor, read_vote};
 use crate::steps::read_course;
 use fault::Refusal;
 use keep::hard_state::HardState;
@@ -19,17 +19,18 @@ use schema::Schema;
 use std::alloc::Global;
 
 // What was stored as a life began.
-fn read_opening(alloc: Global, text: &str) -> Result<(Opening, &str), Refusal>
-    ensures ok { IfOk result (λ p. Spells IsOpening opening_text text.now (in_opening p.0) p.1.now) }
-    ensures only { IfOk result (λ p. SpellsOnly IsOpening opening_text text.now (in_opening p.0) p.1.now) }
-    ensures err { IfErr result (IsUnread IsOpening opening_text text.now) }
+fn read_opening(alloc: Global, version: Version, text: &str) -> Result<(Opening, &str), Refusal>
+    ensures ok { IfOk result (λ p. Spells (IsOpening version) (opening_text version) text.now (in_opening p.0) p.1.now) }
+    ensures only { IfOk result (λ p. SpellsOnly (IsOpening version) (opening_text version) text.now (in_opening p.0) p.1.now) }
+    ensures err { IfErr result (IsUnread (IsOpening version) (opening_text version) text.now) }
 {
     let rest = past(text, "life ")?;
     let (mark, rest) = read_mark(rest, ' ')?;
     let (term, rest) = read_number(rest, ' ')?;
     let (vote, rest) = read_vote(rest)?;
+    let (floor, rest) = read_opening_floor(version, rest)?;
     let (entries, rest) = read_entries(alloc, rest)?;
-    let hard = HardState { term, vote };
+    let hard = HardState { term, vote, floor };
     let opening = Opening {
         mark,
         hard,
@@ -49,7 +50,7 @@ fn read_life(
     ensures only { IfOk result (λ p. SpellsOnly (IsLife version node) (life_text version) text.now (in_life p.0) p.1.now) }
     ensures err { IfErr result (IsUnread (IsLife version node) (life_text version) text.now) }
 {
-    let (opening, rest) = read_opening(alloc, text)?;
+    let (opening, rest) = read_opening(alloc, version, text)?;
     let (steps, ending, rest) = read_course(alloc, version, node, rest)?;
     let life = Life {
         opening,

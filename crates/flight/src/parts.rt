@@ -2,13 +2,13 @@
 ghost use Rattle.std.specs.Prelude.{◌≡◌, ◌≢◌, ◌<◌, ℕ, List, ◌++◌, ◌∷◌, IfSome, IfNone, IfOk, IfErr, MatchBool, ⊤};
 ghost use Rattle.fault.specs.declared.refusal.Refusal.TheVariants.{BadFlight};
 ghost use Rattle.lines.specs.Number.{IsSigned};
-ghost use Rattle.flight.specs.Spelling.{number_text, reading_text, flag_text, vote_text, block_text, version_text};
-ghost use Rattle.flight.specs.Ranges.{IsNumber, IsMark, IsClient, IsRequestNumber, IsStamp, IsVote};
+ghost use Rattle.flight.specs.Spelling.{number_text, signed_text, flag_text, vote_text, floor_text, opening_floor_text, block_text, version_text};
+ghost use Rattle.flight.specs.Ranges.{IsNumber, IsMark, IsClient, IsRequestNumber, IsStamp, IsVote, IsFloor, IsFloorIn};
 ghost use Rattle.flight.specs.Reading.{Spells, SpellsOnly, IsUnread, IsAfter, IsNotBegun, Lacks};
 
 use crate::flight::Version;
 use fault::{Refusal, Text};
-use lines::number::{read_number as number_of, read_signed};
+use lines::number::{read_number as number_of, read_signed as signed_of};
 use model::mark::{LAST_MARK, Mark};
 use model::member::Member;
 use model::request::{Client, RequestNumber};
@@ -67,17 +67,18 @@ pub(crate) fn read_number(text: &str, end: char) -> Result<(u64, &str), Refusal>
     }
 }
 
-// What a clock showed, up to a space.
-pub(crate) fn read_reading(text: &str) -> Result<(i64, &str), Refusal>
-    ensures ok { IfOk result (λ p. Spells IsSigned reading_text text.now p.0 p.1.now) }
-    ensures only { IfOk result (λ p. SpellsOnly IsSigned reading_text text.now p.0 p.1.now) }
-    ensures err { IfErr result (IsUnread IsSigned reading_text text.now) }
+// A number that may be below zero, up to the character that ends it.
+pub(crate) fn read_signed(text: &str, end: char) -> Result<(i64, &str), Refusal>
+    requires { end < 45 }
+    ensures ok { IfOk result (λ p. Spells IsSigned (signed_text end) text.now p.0 p.1.now) }
+    ensures only { IfOk result (λ p. SpellsOnly IsSigned (signed_text end) text.now p.0 p.1.now) }
+    ensures err { IfErr result (IsUnread IsSigned (signed_text end) text.now) }
 {
-    let Some((word, rest)) = split(text, ' ') else {
+    let Some((word, rest)) = split(text, end) else {
         return Err(Refusal::BadFlight);
     };
-    match read_signed(word) {
-        Some(reading) => Ok((reading, rest)),
+    match signed_of(word) {
+        Some(number) => Ok((number, rest)),
         None => Err(Refusal::BadFlight),
     }
 }
@@ -108,6 +109,7 @@ pub(crate) fn read_version(text: &str) -> Result<(Version, &str), Refusal>
     match number {
         1 => Ok((Version::One, rest)),
         2 => Ok((Version::Two, rest)),
+        3 => Ok((Version::Three, rest)),
         _ => Err(Refusal::BadFlight),
     }
 }
@@ -126,13 +128,14 @@ pub(crate) fn read_mark(text: &str, end: char) -> Result<(Mark, &str), Refusal>
     Ok((Mark::new(number), rest))
 }
 
-// A stamp, up to a space.
-pub(crate) fn read_stamp(text: &str) -> Result<(Stamp, &str), Refusal>
-    ensures ok { IfOk result (λ p. Spells IsStamp (number_text 32) text.now p.0 p.1.now) }
-    ensures only { IfOk result (λ p. SpellsOnly IsStamp (number_text 32) text.now p.0 p.1.now) }
-    ensures err { IfErr result (IsUnread IsStamp (number_text 32) text.now) }
+// A stamp, up to the character that ends it.
+pub(crate) fn read_stamp(text: &str, end: char) -> Result<(Stamp, &str), Refusal>
+    requires { end < 48 }
+    ensures ok { IfOk result (λ p. Spells IsStamp (number_text end) text.now p.0 p.1.now) }
+    ensures only { IfOk result (λ p. SpellsOnly IsStamp (number_text end) text.now p.0 p.1.now) }
+    ensures err { IfErr result (IsUnread IsStamp (number_text end) text.now) }
 {
-    let (number, rest) = read_number(text, ' ')?;
+    let (number, rest) = read_number(text, end)?;
     if number > LAST_MICROS {
         return Err(Refusal::BadFlight);
     }
@@ -180,6 +183,42 @@ pub(crate) fn read_vote(text: &str) -> Result<(Option<Member>, &str), Refusal>
         return Ok((None, rest));
     }
     Ok((Some(number as usize), rest))
+}
+
+// A floor, or -1 for none, up to the character that ends it.
+pub(crate) fn read_floor(text: &str, end: char) -> Result<(Option<Stamp>, &str), Refusal>
+    requires { end < 45 }
+    ensures ok { IfOk result (λ p. Spells IsFloor (floor_text end) text.now p.0 p.1.now) }
+    ensures only { IfOk result (λ p. SpellsOnly IsFloor (floor_text end) text.now p.0 p.1.now) }
+    ensures err { IfErr result (IsUnread IsFloor (floor_text end) text.now) }
+{
+    let (number, rest) = read_signed(text, end)?;
+    if number == -1 {
+        return Ok((None, rest));
+    }
+    if number < 0 || number > LAST_MICROS as i64 {
+        return Err(Refusal::BadFlight);
+    }
+    Ok((Some(Stamp::new(number as u64)), rest))
+}
+
+// The floor of a life's opening, up to a space. Versions 1 and 2 leave it out, and there is none.
+pub(crate) fn read_opening_floor(
+    version: Version,
+    text: &str,
+) -> Result<(Option<Stamp>, &str), Refusal>
+    ensures ok { IfOk result (λ p. Spells (IsFloorIn version) (opening_floor_text version) text.now p.0 p.1.now) }
+    ensures only { IfOk result (λ p. SpellsOnly (IsFloorIn version) (opening_floor_text version) text.now p.0 p.1.now) }
+    ensures err { IfErr result (IsUnread (IsFloorIn version) (opening_floor_text version) text.now) }
+{
+    match version {
+        Version::One => Ok((None, text)),
+        Version::Two => Ok((None, text)),
+        Version::Three => {
+            let (floor, rest) = read_floor(text, ' ')?;
+            Ok((floor, rest))
+        }
+    }
 }
 
 // The length of a block, and then the block.

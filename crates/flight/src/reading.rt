@@ -62,7 +62,7 @@ fn read_tables(alloc: Global, text: &str) -> Result<Schema, Refusal>
 /// The flight whose file this is, which has one spelling: each of its lines ends with LF, numbers are in decimal
 /// without leading zeros, each count and each length is the true one, the schema is one that `read_schema`
 /// accepts and each query one that `read_query` accepts over it, there is a life, none but the last is still up, and
-/// where steps bear outcomes the version is 2.
+/// where steps bear outcomes the version is 2 or 3, and where there are floors it is 3.
 ///
 /// Any other text is refused 50. The only other refusal is 43, for want of memory.
 pub fn read_flight(alloc: Global, text: &str) -> Result<Flight, Refusal>

@@ -60,7 +60,7 @@ fn read_outcomes(alloc: Global, version: Version, text: &str) -> Result<(Outcome
 {
     match version {
         Version::One => Ok((Outcomes::none(alloc), text)),
-        Version::Two => {
+        Version::Two | Version::Three => {
             let (outcomes, rest) = read_each_outcome(alloc, text)?;
             Ok((Outcomes::new(outcomes), rest))
         }
@@ -79,15 +79,20 @@ fn read_step(
     ensures err { IfErr result (IsUnreadTo (IsStep version node) (step_text version) IsNoOutcome text.now) }
 {
     let rest = past(text, "step ")?;
-    let (step, rest) = read_made(alloc, node, rest)?;
+    let (step, rest) = read_made(alloc, version, node, rest)?;
     let (outcomes, rest) = read_outcomes(alloc, version, rest)?;
     Ok((step.with_outcomes(outcomes), rest))
 }
 
-fn read_ending(alloc: Global, node: Member, text: &str) -> Result<(Ending, &str), Refusal>
-    ensures ok { IfOk result (λ p. Spells (IsEnding node) ending_text text.now p.0 p.1.now) }
-    ensures only { IfOk result (λ p. SpellsOnly (IsEnding node) ending_text text.now p.0 p.1.now) }
-    ensures err { IfErr result (IsUnread (IsEnding node) ending_text text.now) }
+fn read_ending(
+    alloc: Global,
+    version: Version,
+    node: Member,
+    text: &str,
+) -> Result<(Ending, &str), Refusal>
+    ensures ok { IfOk result (λ p. Spells (IsEnding version node) (ending_text version) text.now p.0 p.1.now) }
+    ensures only { IfOk result (λ p. SpellsOnly (IsEnding version node) (ending_text version) text.now p.0 p.1.now) }
+    ensures err { IfErr result (IsUnread (IsEnding version node) (ending_text version) text.now) }
 {
     if let Some(rest) = after(text, "up\n") {
         return Ok((Ending::Up, rest));
@@ -96,7 +101,7 @@ fn read_ending(alloc: Global, node: Member, text: &str) -> Result<(Ending, &str)
         return Ok((Ending::Stopped, rest));
     }
     let rest = past(text, "torn ")?;
-    let (step, rest) = read_made(alloc, node, rest)?;
+    let (step, rest) = read_made(alloc, version, node, rest)?;
     Ok((Ending::Torn(step), rest))
 }
 
@@ -118,6 +123,6 @@ pub(crate) fn read_course(
         steps.push(step)?;
         rest = left;
     }
-    let (ending, rest) = read_ending(alloc, node, rest)?;
+    let (ending, rest) = read_ending(alloc, version, node, rest)?;
     Ok((steps, ending, rest))
 }

@@ -1,7 +1,7 @@
 //! The text of a flight file.
 ghost use Rattle.std.specs.Prelude.{◌≡◌, IfOk, OnOk, map, codes, ◌++◌, string_bytes};
 ghost use Rattle.flight.specs.Contents.{in_opening, in_life, in_flight};
-ghost use Rattle.flight.specs.Spelling.{spaced, ended, block_text, request_text, entry_text, entries_text, each_text, flag_number, body_text, packet_text, made_text, outcome_text, outcomes_text, step_text, ending_text, opening_text, life_text, answer_text, version_number, version_text, flight_text};
+ghost use Rattle.flight.specs.Spelling.{spaced, ended, block_text, request_text, entry_text, entries_text, each_text, flag_number, floor_number, ballot_text, body_text, packet_text, made_text, outcome_text, outcomes_text, step_text, ending_text, opening_floor_text, opening_text, life_text, answer_text, version_number, version_text, flight_text};
 ghost use Rattle.flight.specs.Additions.{Adds};
 
 use crate::flight::{Flight, Recorded, Version};
@@ -9,6 +9,7 @@ use crate::life::{Ending, Life, Opening, Packet, Step};
 use crate::outcome::Outcome;
 use model::entry::{Entry, Request};
 use model::message::{Body, Input};
+use model::stamp::Stamp;
 use std::alloc::{AllocError, Global};
 
 fn put_request(request: &Request, text: &mut String) -> Result<(), AllocError>
@@ -57,18 +58,61 @@ fn flag_number(flag: bool) -> u8
     if flag { 1 } else { 0 }
 }
 
+// The number that a floor is spelled with.
+fn floor_number(floor: Option<Stamp>) -> i64
+    ensures { result ≡ floor_number floor }
+{
+    match floor {
+        None => -1,
+        Some(floor) => floor.micros() as i64,
+    }
+}
+
+// Whether a vote is given, and the voter's floor, which versions 1 and 2 leave out.
+fn put_ballot(
+    version: Version,
+    given: bool,
+    floor: Option<Stamp>,
+    text: &mut String,
+) -> Result<(), AllocError>
+    ensures { OnOk result (Adds (string_bytes text.old) (string_bytes text.new) (ballot_text version given floor)) }
+{
+    let given = flag_number(given);
+    match version {
+        Version::One | Version::Two => write!(text, "{given}\n"),
+        Version::Three => {
+            let floor = floor_number(floor);
+            write!(text, "{given} {floor}\n")
+        }
+    }
+}
+
+// A message of this term by which a floor is stored and sealed, after this word.
+fn put_sealing(
+    word: &str,
+    term: u64,
+    index: usize,
+    floor: Stamp,
+    text: &mut String,
+) -> Result<(), AllocError>
+    ensures { OnOk result (Adds (string_bytes text.old) (string_bytes text.new) (λ rest. word.now ++ spaced term (spaced index (ended floor rest)))) }
+{
+    let floor = floor.micros();
+    write!(text, "{word}{term} {index} {floor}\n")
+}
+
 // A message of this term.
-fn put_body(term: u64, body: &Body, text: &mut String) -> Result<(), AllocError>
-    ensures { OnOk result (Adds (string_bytes text.old) (string_bytes text.new) (body_text term body.now)) }
+fn put_body(version: Version, term: u64, body: &Body, text: &mut String) -> Result<(), AllocError>
+    ensures { OnOk result (Adds (string_bytes text.old) (string_bytes text.new) (body_text version term body.now)) }
 {
     match body {
         Body::RequestVote {
             last_index,
             last_term,
         } => write!(text, "votereq {term} {last_index} {last_term}\n"),
-        Body::Vote { given } => {
-            let given = flag_number(*given);
-            write!(text, "vote {term} {given}\n")
+        Body::Vote { given, floor } => {
+            write!(text, "vote {term} ")?;
+            put_ballot(version, *given, *floor, text)
         }
         Body::Append {
             prev_index,
@@ -83,16 +127,20 @@ fn put_body(term: u64, body: &Body, text: &mut String) -> Result<(), AllocError>
             let ok = flag_number(*ok);
             write!(text, "reply {term} {ok} {matched}\n")
         }
+        Body::Seek { index, floor } => put_sealing("seek ", term, *index, *floor, text),
+        Body::Stored { index, floor } => put_sealing("stored ", term, *index, *floor, text),
+        Body::Seal { index, floor } => put_sealing("seal ", term, *index, *floor, text),
     }
 }
 
-fn put_packet(packet: &Packet, text: &mut String) -> Result<(), AllocError>
-    ensures { OnOk result (Adds (string_bytes text.old) (string_bytes text.new) (packet_text packet.now)) }
+fn put_packet(version: Version, packet: &Packet, text: &mut String) -> Result<(), AllocError>
+    ensures { OnOk result (Adds (string_bytes text.old) (string_bytes text.new) (packet_text version packet.now)) }
 {
     match packet {
         Packet::Local(Input::Timeout) => text.push_str("timeout\n"),
         Packet::Local(Input::Beat) => text.push_str("beat\n"),
         Packet::Local(Input::Close { .. }) => text.push_str("close\n"),
+        Packet::Local(Input::Floor { .. }) => text.push_str("floor\n"),
         Packet::Local(Input::Submit { request, .. }) => {
             text.push_str("submit ")?;
             put_request(request, text)
@@ -101,19 +149,19 @@ fn put_packet(packet: &Packet, text: &mut String) -> Result<(), AllocError>
             let sender = message.sender;
             let mark = mark.number();
             write!(text, "from {sender} {mark} ")?;
-            put_body(message.term, &message.body, text)
+            put_body(version, message.term, &message.body, text)
         }
     }
 }
 
 // A step after its word, without its outcomes.
-fn put_made(step: &Step, text: &mut String) -> Result<(), AllocError>
-    ensures { OnOk result (Adds (string_bytes text.old) (string_bytes text.new) (made_text step.now)) }
+fn put_made(version: Version, step: &Step, text: &mut String) -> Result<(), AllocError>
+    ensures { OnOk result (Adds (string_bytes text.old) (string_bytes text.new) (made_text version step.now)) }
 {
     let mark = step.mark.number();
     let reading = step.reading;
     write!(text, "{mark} {reading} ")?;
-    put_packet(&step.packet, text)
+    put_packet(version, &step.packet, text)
 }
 
 fn put_outcome(outcome: &Outcome, text: &mut String) -> Result<(), AllocError>
@@ -145,7 +193,7 @@ fn put_outcomes(version: Version, outcomes: &[Outcome], text: &mut String) -> Re
 {
     match version {
         Version::One => Ok(()),
-        Version::Two => put_each_outcome(outcomes, text),
+        Version::Two | Version::Three => put_each_outcome(outcomes, text),
     }
 }
 
@@ -153,7 +201,7 @@ fn put_step(version: Version, step: &Step, text: &mut String) -> Result<(), Allo
     ensures { OnOk result (Adds (string_bytes text.old) (string_bytes text.new) (step_text version step.now)) }
 {
     text.push_str("step ")?;
-    put_made(step, text)?;
+    put_made(version, step, text)?;
     put_outcomes(version, step.outcomes.as_slice(), text)
 }
 
@@ -166,21 +214,38 @@ fn put_steps(version: Version, steps: &[Step], text: &mut String) -> Result<(), 
     Ok(())
 }
 
-fn put_ending(ending: &Ending, text: &mut String) -> Result<(), AllocError>
-    ensures { OnOk result (Adds (string_bytes text.old) (string_bytes text.new) (ending_text ending.now)) }
+fn put_ending(version: Version, ending: &Ending, text: &mut String) -> Result<(), AllocError>
+    ensures { OnOk result (Adds (string_bytes text.old) (string_bytes text.new) (ending_text version ending.now)) }
 {
     match ending {
         Ending::Up => text.push_str("up\n"),
         Ending::Stopped => text.push_str("stopped\n"),
         Ending::Torn(step) => {
             text.push_str("torn ")?;
-            put_made(step, text)
+            put_made(version, step, text)
         }
     }
 }
 
-fn put_opening(opening: &Opening, text: &mut String) -> Result<(), AllocError>
-    ensures { OnOk result (Adds (string_bytes text.old) (string_bytes text.new) (opening_text (in_opening opening.now))) }
+// The floor of a life's opening, which versions 1 and 2 leave out.
+fn put_opening_floor(
+    version: Version,
+    floor: Option<Stamp>,
+    text: &mut String,
+) -> Result<(), AllocError>
+    ensures { OnOk result (Adds (string_bytes text.old) (string_bytes text.new) (opening_floor_text version floor)) }
+{
+    match version {
+        Version::One | Version::Two => Ok(()),
+        Version::Three => {
+            let floor = floor_number(floor);
+            write!(text, "{floor} ")
+        }
+    }
+}
+
+fn put_opening(version: Version, opening: &Opening, text: &mut String) -> Result<(), AllocError>
+    ensures { OnOk result (Adds (string_bytes text.old) (string_bytes text.new) (opening_text version (in_opening opening.now))) }
 {
     let mark = opening.mark.number();
     let term = opening.hard.term;
@@ -189,15 +254,16 @@ fn put_opening(opening: &Opening, text: &mut String) -> Result<(), AllocError>
         Some(member) => member,
     };
     write!(text, "life {mark} {term} {vote} ")?;
+    put_opening_floor(version, opening.hard.floor, text)?;
     put_entries(&opening.entries, text)
 }
 
 fn put_life(version: Version, life: &Life, text: &mut String) -> Result<(), AllocError>
     ensures { OnOk result (Adds (string_bytes text.old) (string_bytes text.new) (life_text version (in_life life.now))) }
 {
-    put_opening(&life.opening, text)?;
+    put_opening(version, &life.opening, text)?;
     put_steps(version, &life.steps, text)?;
-    put_ending(&life.ending, text)
+    put_ending(version, &life.ending, text)
 }
 
 fn put_lives(version: Version, lives: &[Life], text: &mut String) -> Result<(), AllocError>
@@ -236,6 +302,7 @@ fn version_number(version: Version) -> u8
     match version {
         Version::One => 1,
         Version::Two => 2,
+        Version::Three => 3,
     }
 }
 

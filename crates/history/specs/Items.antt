@@ -1,20 +1,38 @@
 -- What contracts say of a list of items.
-use Rattle.std.specs.Prelude.{ℕ, max, Option, Some, None, unwrap_or, List, map, fold}
+use Rattle.std.specs.Prelude.{ℕ, max, Option, Some, None, unwrap_or, List, fold}
+use Rattle.std.specs.List.{filter_map}
 use Rattle.model.specs.declared.entry.Entry.{Entry}
+use Rattle.model.specs.Stamps.{greater}
+use Rattle.model.specs.Logs.{closed}
 use Rattle.history.specs.declared.item.Item.{Item}
-use Rattle.history.specs.declared.item.Item.TheVariants.{Applied}
+use Rattle.history.specs.declared.item.Item.TheVariants.{Applied, Sealed}
 
 -- the mark of the step that an item comes of
 abbrev pub mark_of : Item → ℕ
 mark_of (Applied mark entry) = mark
+mark_of (Sealed mark time) = mark
 
--- the entry that became applied
-abbrev pub entry_of : Item → Entry
-entry_of (Applied mark entry) = entry
+-- the entry that became applied, none where an instant became sealed
+abbrev pub entry_of : Item → Option Entry
+entry_of (Applied mark entry) = Some entry
+entry_of (Sealed mark time) = None
 
 -- the entries of items, in their order
-abbrev pub entries_of : List Item → List Entry
-entries_of items = map entry_of items
+abbrev pub entries_in : List Item → List Entry
+entries_in items = filter_map entry_of items
+
+-- the greatest sealed time, after so great a one, if there is one, and an item
+abbrev pub greater_sealed : Option ℕ → Item → Option ℕ
+greater_sealed sealed (Applied mark entry) = sealed
+greater_sealed sealed (Sealed mark time) = greater sealed (Some time)
+
+-- the greatest sealed time of items, none where nothing is sealed in them
+abbrev pub sealed_in : List Item → Option ℕ
+sealed_in items = fold greater_sealed None items
+
+-- the closed time of items: the greater of the last entry's stamp and the greatest sealed time
+abbrev pub closed_in : List Item → Option ℕ
+closed_in items = greater (closed (entries_in items)) (sealed_in items)
 
 -- the greater of a mark, if there is one, and an item's
 abbrev pub greater_mark : Option ℕ → Item → Option ℕ

@@ -1,9 +1,10 @@
 //! Items, of which a history is a list.
 ghost use Rattle.std.specs.Prelude.{◌≡◌};
-ghost use Rattle.history.specs.Items.{entry_of, mark_of};
+ghost use Rattle.history.specs.Items.{mark_of};
 
 use model::entry::Entry;
 use model::mark::Mark;
+use model::stamp::Stamp;
 use std::alloc::AllocError;
 
 /// What a node publishes, with the mark of the step that it comes of.
@@ -11,6 +12,8 @@ use std::alloc::AllocError;
 pub enum Item {
     /// An entry that became applied.
     Applied { mark: Mark, entry: Entry },
+    /// A time that became sealed: the node applies no later entry that is stamped at or below it.
+    Sealed { mark: Mark, time: Stamp },
 }
 
 impl Item {
@@ -19,16 +22,7 @@ impl Item {
         ensures { result ≡ mark_of self.now }
     {
         match self {
-            Item::Applied { mark, .. } => *mark,
-        }
-    }
-
-    /// The entry that became applied.
-    pub fn entry(&self) -> &Entry
-        ensures { result.now ≡ entry_of self.now }
-    {
-        match self {
-            Item::Applied { entry, .. } => entry,
+            Item::Applied { mark, .. } | Item::Sealed { mark, .. } => *mark,
         }
     }
 }
@@ -42,6 +36,10 @@ impl Clone for Item {
             Item::Applied { mark, entry } => Ok(Item::Applied {
                 mark: *mark,
                 entry: entry.clone()?,
+            }),
+            Item::Sealed { mark, time } => Ok(Item::Sealed {
+                mark: *mark,
+                time: *time,
             }),
         }
     }

@@ -9,7 +9,7 @@ use apply::Tables;
 use fault::Text;
 use model::entry::{Entry, Request};
 use model::request::{Client, RequestNumber};
-use model::stamp::Stamp;
+use model::stamp::{LAST_MICROS, Stamp};
 use plain::Judge;
 use schema::Schema;
 use schemaread::schemas::read_schema;
@@ -106,9 +106,10 @@ impl Both {
         Ok(())
     }
 
-    /// Asks both the same.
-    fn ask(&mut self, question: &str, tally: &mut Tally) -> Result<()> {
+    /// Asks both the same, where time is closed so many microseconds past the last entry.
+    fn ask(&mut self, question: &str, quiet: u32, tally: &mut Tally) -> Result<()> {
         self.note(question)?;
+        let closed = self.closed(quiet);
         let query = match read_query(self.alloc, &self.schema, question) {
             Ok(query) => query,
             Err(refusal) => {
@@ -116,10 +117,10 @@ impl Both {
                 return Ok(());
             }
         };
-        let given = self.tables.ask(&query);
-        match (given, self.judge.ask(&self.schema, &query)) {
+        let given = self.tables.ask(&query, closed);
+        match (given, self.judge.ask(&self.schema, &query, closed)) {
             (Ok(given), Ok(wanted)) => {
-                tally.answer(&wanted);
+                tally.answer(&wanted, self.tables.closed());
                 ensure!(is_same_answer(&given, &wanted), "wanted {wanted:?}");
                 Ok(())
             }
@@ -133,6 +134,13 @@ impl Both {
         }
     }
 
+    /// So many microseconds past the last entry; none where there is no entry.
+    fn closed(&self, quiet: u32) -> Option<Stamp> {
+        let last = self.tables.closed()?;
+        let micros = last.micros().saturating_add(u64::from(quiet));
+        Some(Stamp::new(micros.min(LAST_MICROS)))
+    }
+
     /// Asks both some random questions.
     fn ask_some(&mut self, draws: &mut Draws, tally: &mut Tally) -> Result<()> {
         for _ in 0..8 {
@@ -140,7 +148,8 @@ impl Both {
             let one = u64::from(draws.below(bound));
             let other = u64::from(draws.below(bound));
             let question = draws.question(one, other)?;
-            self.ask(question.as_str(), tally)?;
+            let quiet = draws.few();
+            self.ask(question.as_str(), quiet, tally)?;
         }
         Ok(())
     }
@@ -150,7 +159,7 @@ impl Both {
         for names in [DEPT, EMP] {
             let last = Stamp::new(u64::from(self.last)).instant();
             let question = whole_history(self.alloc, names, last)?;
-            self.ask(question.as_str(), tally)?;
+            self.ask(question.as_str(), 0, tally)?;
         }
         Ok(())
     }

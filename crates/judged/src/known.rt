@@ -1,6 +1,19 @@
-//! What is known of a group from outside: what was decided, and who leads.
+//! What is known of a group from outside: what was sent, what was decided, and who leads.
 use model::entry::{Entry, Request};
+use model::member::SealedFloor;
 use std::alloc::{AllocError, Global};
+
+/// A message that was sent.
+#[derive(Clone, Copy, Debug)]
+pub(crate) struct Letter {
+    pub sender: usize,
+    pub addressee: usize,
+    /// Whether it asks for a floor, or tells that one is stored or sealed.
+    pub is_about_floors: bool,
+    pub seal: Option<SealedFloor>,
+    /// Whether it is neither delivered nor lost.
+    pub is_left: bool,
+}
 
 /// What is known of a group.
 #[derive(Drop)]
@@ -8,8 +21,8 @@ pub(crate) struct Known {
     pub members: usize,
     /// Who last sent entries.
     pub leader: usize,
-    /// How many messages were sent.
-    pub sent: usize,
+    /// The messages that were sent, in their order.
+    pub letters: Vec<Letter>,
     /// The longest list of entries that any member had applied.
     pub decided: Vec<Entry>,
     /// The term and the place, from 0, of entries that a member had stored past these.
@@ -36,10 +49,57 @@ impl Known {
         Known {
             members,
             leader: 1,
-            sent: 0,
+            letters: Vec::new(alloc),
             decided: Vec::new(alloc),
             stored: Vec::new(alloc),
         }
+    }
+
+    /// The place, from 0, of the message of this number.
+    pub(crate) fn place_of(&self, number: u64) -> Option<usize> {
+        let place = usize::try_from(number).ok()?.checked_sub(1)?;
+        if place < self.letters.len() {
+            Some(place)
+        } else {
+            None
+        }
+    }
+
+    /// The message in this place is delivered or lost.
+    pub(crate) fn take_away(&mut self, place: usize) {
+        if let Some(letter) = self.letters.get_mut(place) {
+            letter.is_left = false;
+        }
+    }
+
+    /// All of the first so many messages are delivered or lost.
+    pub(crate) fn take_all(&mut self, count: usize) {
+        for letter in self.letters.iter_mut().take(count) {
+            letter.is_left = false;
+        }
+    }
+
+    /// Whether a message is left.
+    pub(crate) fn is_one_left(&self) -> bool {
+        self.letters.iter().any(|letter| letter.is_left)
+    }
+
+    /// Whether a message about floors is left.
+    pub(crate) fn is_floor_left(&self) -> bool {
+        self.letters
+            .iter()
+            .any(|letter| letter.is_left && letter.is_about_floors)
+    }
+
+    /// The greatest floor that was sealed, in microseconds, or 0.
+    pub(crate) fn floor(&self) -> u64 {
+        let mut most = 0;
+        for letter in self.letters.iter() {
+            if let Some(seal) = letter.seal {
+                most = most.max(seal.floor.micros());
+            }
+        }
+        most
     }
 
     /// How many requests of a client were executed.

@@ -12,6 +12,7 @@ mod printed;
 mod questions;
 mod random_lines;
 mod scripts;
+mod seals;
 mod shown;
 mod staff;
 mod statements;

@@ -1,6 +1,8 @@
 //! What a line prints, taken apart.
-use crate::known::Known;
+use crate::known::{Known, Letter};
 use lines::number::read_number;
+use model::member::SealedFloor;
+use model::stamp::{LAST_MICROS, Stamp};
 use std::alloc::{AllocError, Global};
 
 /// What a member told of a request.
@@ -36,20 +38,50 @@ pub(crate) fn read_told(alloc: Global, printed: &str) -> Result<Vec<Told>, Alloc
     Ok(all)
 }
 
-/// Who sent the message of a line of the form `sent M N->..`.
-fn sender(line: &str) -> Option<usize> {
+/// The sender, the addressee and the message of a line of the form `sent M N->A ..`.
+fn split_sent(line: &str) -> Option<(usize, usize, &str)> {
     let (_, rest) = line.strip_prefix("sent ")?.split_once(' ')?;
-    let (node, _) = rest.split_once('-')?;
-    number(node)
+    let (nodes, body) = rest.split_once(' ')?;
+    let (sender, addressee) = nodes.split_once("->")?;
+    Some((number(sender)?, number(addressee)?, body))
 }
 
-/// Counts the messages that were sent, and sees who sent entries.
-pub(crate) fn hear(known: &mut Known, printed: &str) {
+/// The seal of a message of the form `seal term T index I floor F`.
+fn read_seal(body: &str) -> Option<SealedFloor> {
+    let (term, rest) = body.strip_prefix("seal term ")?.split_once(" index ")?;
+    let (index, floor) = rest.split_once(" floor ")?;
+    let micros = read_number(floor)?;
+    if micros > LAST_MICROS {
+        return None;
+    }
+    Some(SealedFloor {
+        term: read_number(term)?,
+        index: number(index)?,
+        floor: Stamp::new(micros),
+    })
+}
+
+/// The message that a line tells of.
+fn read_letter(line: &str) -> Option<Letter> {
+    let (sender, addressee, body) = split_sent(line)?;
+    Some(Letter {
+        sender,
+        addressee,
+        is_about_floors: !body.contains("vote") && body.contains(" floor "),
+        seal: read_seal(body),
+        is_left: true,
+    })
+}
+
+/// Notes the messages that were sent, and sees who sent entries.
+pub(crate) fn hear(known: &mut Known, printed: &str) -> Result<(), AllocError> {
     for line in printed.lines() {
-        let Some(node) = sender(line) else { continue };
-        known.sent = known.sent.saturating_add(1);
-        if line.contains(" append ") {
-            known.leader = node;
+        if let Some(letter) = read_letter(line) {
+            if line.contains(" append ") {
+                known.leader = letter.sender;
+            }
+            known.letters.push(letter)?;
         }
     }
+    Ok(())
 }

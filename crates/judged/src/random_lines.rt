@@ -70,7 +70,10 @@ impl Draws {
         let leader = known.leader;
         let (one, two) = (self.request(known)?, self.request(known)?);
         let other = self.one_of(known.members);
-        let heard = known.sent.saturating_add(self.one_of(known.members));
+        let heard = known
+            .letters
+            .len()
+            .saturating_add(self.one_of(known.members));
         let stops = match self.below(3) {
             0 => format!(in self.alloc; "stop {leader}\n")?,
             1 => format!(in self.alloc; "deliver {heard}\n")?,
@@ -83,11 +86,12 @@ impl Draws {
 
     /// A message, mostly one that was sent.
     fn message(&mut self, known: &Known) -> usize {
-        let late = known.sent.saturating_sub(self.place(40));
+        let sent = known.letters.len();
+        let late = sent.saturating_sub(self.place(40));
         if self.chance(70) {
             late
         } else {
-            self.one_of(known.sent.saturating_add(2))
+            self.one_of(sent.saturating_add(2))
         }
     }
 
@@ -116,11 +120,12 @@ impl Draws {
 
     /// What a step that is cut short is about.
     fn job(&mut self, known: &Known) -> Result<String, AllocError> {
-        let word = match self.below(8) {
+        let word = match self.below(9) {
             0 => "timeout",
             1 => "beat",
             2 => "close",
-            3 | 4 => {
+            3 => "floor",
+            4 | 5 => {
                 let request = self.request(known)?;
                 return format!(in self.alloc; "submit {request}");
             }
@@ -141,6 +146,43 @@ impl Draws {
         let left = if self.chance(50) { "old" } else { "new" };
         let job = self.job(known)?;
         format!(in self.alloc; "torn {node} {left} {job}\n")
+    }
+
+    /// An instant soon after the last stamp, which mostly is past what is closed.
+    fn soon(&mut self, known: &Known) -> u64 {
+        let last = known.decided.last();
+        let last = last.map_or(0, |entry| entry.stamp.micros());
+        last.max(known.floor())
+            .saturating_add(u64::from(self.below(50)))
+    }
+
+    /// A floor, mostly at the leader, whose clock mostly went on. All messages are brought on, or some, and now and then
+    /// another member stands for election then.
+    fn floor(&mut self, known: &Known) -> Result<String, AllocError> {
+        let node = if self.chance(90) {
+            known.leader
+        } else {
+            self.one_of(known.members)
+        };
+        let reading = self.soon(known);
+        let clock = if self.chance(80) {
+            format!(in self.alloc; "clock {node} {reading}\n")?
+        } else {
+            String::new(self.alloc)
+        };
+        let after = match self.below(6) {
+            0 => "settle 1\n",
+            1 => "settle 2\n",
+            2 => "",
+            _ => "settle\n",
+        };
+        let other = self.one_of(known.members);
+        let rival = match self.below(5) {
+            0 => format!(in self.alloc; "timeout {other}\nsettle\n")?,
+            1 => format!(in self.alloc; "stop {node}\ntimeout {other}\nsettle\n")?,
+            _ => String::new(self.alloc),
+        };
+        format!(in self.alloc; "{clock}floor {node}\n{after}{rival}")
     }
 
     /// A line with one number, or with none.
@@ -175,13 +217,16 @@ impl Draws {
         format!(in self.alloc; "settle {rounds}\n")
     }
 
-    /// Microseconds at, before or after one of the stamps.
+    /// Microseconds at, before or after one of the stamps, or what is sealed.
     fn micros(&mut self, known: &Known) -> u64 {
         let place = self.place(known.decided.len());
-        let stamp = known
-            .decided
-            .get(place)
-            .map_or(0, |entry| entry.stamp.micros());
+        let stamp = known.decided.get(place);
+        let stamp = stamp.map_or(0, |entry| entry.stamp.micros());
+        let stamp = if self.chance(20) {
+            known.floor()
+        } else {
+            stamp
+        };
         match self.below(20) {
             0..=11 => stamp,
             12..=14 => stamp.saturating_add(1),
@@ -210,13 +255,14 @@ impl Draws {
     /// The next line, or a few lines that go together.
     pub(crate) fn lines(&mut self, known: &Known) -> Result<String, AllocError> {
         match self.below(100) {
-            0..=37 => self.submission(known),
-            38..=43 => self.settling(),
-            44..=61 => self.ask(known),
-            62..=67 => self.election(known),
-            68..=70 => self.conflict(known),
-            71..=90 => self.short(known),
-            91..=94 => self.torn(known),
+            0..=33 => self.submission(known),
+            34..=38 => self.settling(),
+            39..=55 => self.ask(known),
+            56..=61 => self.election(known),
+            62..=64 => self.conflict(known),
+            65..=82 => self.short(known),
+            83..=87 => self.torn(known),
+            88..=95 => self.floor(known),
             _ => self.clock(known),
         }
     }

@@ -15,7 +15,7 @@ beginning hard = record { hard = hard; log = [] }
 
 -- before anything was stored
 abbrev pub blank : Durable
-blank = beginning (record { term = 0; vote = None })
+blank = beginning (record { term = 0; vote = None; floor = None })
 
 -- what a change makes of what is stored
 abbrev pub after : Change → Durable → Durable

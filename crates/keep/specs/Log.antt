@@ -6,7 +6,7 @@ use Rattle.model.specs.declared.entry.Entry.{Entry}
 use Rattle.model.specs.declared.entry.Request.{Request}
 use Rattle.model.specs.Stamps.{TIME_LAST}
 use Rattle.model.specs.Transactions.{Schema}
-use Rattle.model.specs.Steps.{TERM_LAST, LOG_LIMIT, go_on, spells}
+use Rattle.model.specs.Steps.{TERM_LAST, LOG_LIMIT, go_on, is_floor, spells}
 use Rattle.keep.specs.declared.change.Change.{Change}
 use Rattle.keep.specs.Durable.{Durable}
 
@@ -32,6 +32,8 @@ is_entry schema e = nat_le e.stamp TIME_LAST && (is_numbered e.request && spells
 pub record IsLog (members : ℕ) (schema : Schema) (d : Durable) : Type 0 where
   pub term : d.hard.term ≤ TERM_LAST
   pub vote : is_vote members d.hard.vote ≡ true
+  -- none, or an instant
+  pub floor : is_floor d.hard.floor ≡ true
   pub room : length d.log ≤ LOG_LIMIT
   -- terms are at least 1, do not fall, and are not above the member's; stamps rise
   pub rises : go_on None d.hard.term d.log ≡ true

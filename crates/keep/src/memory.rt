@@ -26,7 +26,7 @@ impl MemImage {
     ghost use Rattle.keep.specs.Durable.{after, blank, failing_call, beginning, stored_in};
     ghost use Rattle.keep.specs.Log.{IsLog, is_vote};
 
-    /// Nothing stored yet: term 0, no vote, an empty log, which form a log of every member. No call is
+    /// Nothing stored yet: term 0, no vote, no floor, an empty log, which form a log of every member. No call is
     /// to fail.
     pub fn new(alloc: Global) -> MemImage
         ensures stored { stored_in result ≡ blank }
@@ -36,6 +36,7 @@ impl MemImage {
         let hard = HardState {
             term: 0,
             vote: None,
+            floor: None,
         };
         MemImage::with_hard_state(alloc, hard)
     }

@@ -11,7 +11,7 @@ use Rattle.lines.specs.declared.line.Left.TheVariants.{Old, New}
 use Rattle.lines.specs.declared.line.Job.{Job}
 use Rattle.lines.specs.declared.line.Job.TheVariants as jobs
 use Rattle.lines.specs.declared.line.Line.{Line}
-use Rattle.lines.specs.declared.line.Line.TheVariants.{Clock, ClockAll, Submit, Timeout, Beat, Close, Deliver, Lose, LoseAll, Settle, Stop, Start, Torn, Ask}
+use Rattle.lines.specs.declared.line.Line.TheVariants.{Clock, ClockAll, Submit, Timeout, Beat, Close, Floor, Deliver, Lose, LoseAll, Settle, Stop, Start, Torn, Ask}
 use Rattle.lines.specs.Number.{IsSigned}
 use Rattle.lines.specs.Line.{left_text, request_text, job_text, line_text, IsNode, IsRequest, IsJobInRange, IsInRange, IsNoLine}
 use Rattle.lines.specs.Reading.{HasNoSpace, IsNoNode, IsNoRequest, IsNoJob, IsNoTorn, IsNoLong}
@@ -112,13 +112,14 @@ module _ (members : ℕ) (few : members < 2 ^ 64) (rest word after : List ℕ) (
   torn_left kept job is2 first2 old new n Old text node e = old (same_split kept (codes "old") job text first2 (left_no_space Old) (sym is2 ∙ (node_first n _ node e).1)).0
   torn_left kept job is2 first2 old new n New text node e = new (same_split kept (codes "new") job text first2 (left_no_space New) (sym is2 ∙ (node_first n _ node e).1)).0
 
--- a text without a space that is none of the three words
-pub job_unspaced : (text : List ℕ) → HasNoSpace text → text ≢ codes "timeout" → text ≢ codes "beat" → text ≢ codes "close" → IsNoJob text
-job_unspaced text h timeout beat close jobs.Timeout range e = timeout e
-job_unspaced text h timeout beat close jobs.Beat range e = beat e
-job_unspaced text h timeout beat close jobs.Close range e = close e
-job_unspaced text h timeout beat close (jobs.Submit c k t) range e = not_spaced text (codes "submit") _ h e
-job_unspaced text h timeout beat close (jobs.Deliver m) range e = not_spaced text (codes "deliver") _ h e
+-- a text without a space that is none of the four words
+pub job_unspaced : (text : List ℕ) → HasNoSpace text → text ≢ codes "timeout" → text ≢ codes "beat" → text ≢ codes "close" → text ≢ codes "floor" → IsNoJob text
+job_unspaced text h timeout beat close floor jobs.Timeout range e = timeout e
+job_unspaced text h timeout beat close floor jobs.Beat range e = beat e
+job_unspaced text h timeout beat close floor jobs.Close range e = close e
+job_unspaced text h timeout beat close floor jobs.Floor range e = floor e
+job_unspaced text h timeout beat close floor (jobs.Submit c k t) range e = not_spaced text (codes "submit") _ h e
+job_unspaced text h timeout beat close floor (jobs.Deliver m) range e = not_spaced text (codes "deliver") _ h e
 
 -- a first word that is neither of the two
 pub job_word : (text word rest : List ℕ) → text ≡ word ++ 32 ∷ rest → HasNoSpace word → word ≢ codes "submit" → word ≢ codes "deliver" → IsNoJob text
@@ -126,6 +127,7 @@ unfolding has_space
 job_word text word rest is first submit deliver jobs.Timeout range e = not_spaced (codes "timeout") word rest (no_space_test (codes "timeout") refl) (sym e ∙ is)
 job_word text word rest is first submit deliver jobs.Beat range e = not_spaced (codes "beat") word rest (no_space_test (codes "beat") refl) (sym e ∙ is)
 job_word text word rest is first submit deliver jobs.Close range e = not_spaced (codes "close") word rest (no_space_test (codes "close") refl) (sym e ∙ is)
+job_word text word rest is first submit deliver jobs.Floor range e = not_spaced (codes "floor") word rest (no_space_test (codes "floor") refl) (sym e ∙ is)
 job_word text word rest is first submit deliver (jobs.Submit c k t) range e = submit (same_split word (codes "submit") rest _ first (no_space_test (codes "submit") refl) (sym is ∙ e)).0
 job_word text word rest is first submit deliver (jobs.Deliver m) range e = deliver (same_split word (codes "deliver") rest _ first (no_space_test (codes "deliver") refl) (sym is ∙ e)).0
 
@@ -235,6 +237,7 @@ line_unspaced members text h settle (Submit n c k t) range e = not_spaced text (
 line_unspaced members text h settle (Timeout n) range e = not_spaced text (codes "timeout") _ h e
 line_unspaced members text h settle (Beat n) range e = not_spaced text (codes "beat") _ h e
 line_unspaced members text h settle (Close n) range e = not_spaced text (codes "close") _ h e
+line_unspaced members text h settle (Floor n) range e = not_spaced text (codes "floor") _ h e
 line_unspaced members text h settle (Deliver m) range e = not_spaced text (codes "deliver") _ h e
 line_unspaced members text h settle (Lose m) range e = not_spaced text (codes "lose") _ h e
 line_unspaced members text h settle LoseAll range e = not_spaced text (codes "lose") _ h e
@@ -250,6 +253,7 @@ pub record IsNoShort (word : List ℕ) : Type 0 where
   pub timeout : word ≢ codes "timeout"
   pub beat : word ≢ codes "beat"
   pub close : word ≢ codes "close"
+  pub floor : word ≢ codes "floor"
   pub stop : word ≢ codes "stop"
   pub start : word ≢ codes "start"
   pub deliver : word ≢ codes "deliver"
@@ -268,6 +272,7 @@ module _ (members : ℕ) (word rest : List ℕ) (first : HasNoSpace word) where
   line_word long short (Timeout n) range e = short.timeout (begins _ _ refl e)
   line_word long short (Beat n) range e = short.beat (begins _ _ refl e)
   line_word long short (Close n) range e = short.close (begins _ _ refl e)
+  line_word long short (Floor n) range e = short.floor (begins _ _ refl e)
   line_word long short (Deliver m) range e = short.deliver (begins _ _ refl e)
   line_word long short (Lose m) range e = short.lose (begins _ _ refl e)
   line_word long short LoseAll range e = short.lose (begins _ (codes "all") refl e)

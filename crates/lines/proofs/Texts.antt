@@ -14,7 +14,7 @@ use Rattle.lines.specs.declared.line.Left.TheVariants.{Old, New}
 use Rattle.lines.specs.declared.line.Job.{Job}
 use Rattle.lines.specs.declared.line.Job.TheVariants as jobs
 use Rattle.lines.specs.declared.line.Line.{Line}
-use Rattle.lines.specs.declared.line.Line.TheVariants.{Clock, ClockAll, Submit, Timeout, Beat, Close, Deliver, Lose, LoseAll, Settle, Stop, Start, Torn, Ask}
+use Rattle.lines.specs.declared.line.Line.TheVariants.{Clock, ClockAll, Submit, Timeout, Beat, Close, Floor, Deliver, Lose, LoseAll, Settle, Stop, Start, Torn, Ask}
 use Rattle.lines.specs.Number.{IsSigned}
 use Rattle.lines.specs.Line.{left_text, request_text, job_text, line_text, IsNode, IsRequest, IsJobInRange, IsInRange}
 
@@ -59,6 +59,7 @@ same_job : (a b : Job) → IsJobInRange a → IsJobInRange b → job_text a ≡ 
 same_job jobs.Timeout jobs.Timeout h k e = refl
 same_job jobs.Beat jobs.Beat h k e = refl
 same_job jobs.Close jobs.Close h k e = refl
+same_job jobs.Floor jobs.Floor h k e = refl
 same_job (jobs.Submit c n t) (jobs.Submit c' n' t') h k e = let s = same_request c c' n n' t t' h k (ap (drop 7) e) in λ i. jobs.Submit (s.0 i) (s.1 i) (s.2 i)
 same_job (jobs.Deliver m) (jobs.Deliver m') h k e = ap jobs.Deliver (decimal_injective m m' h k (ap (drop 8) e))
 same_job a b h k e = absurd (first_apart (job_text a) (job_text b) refl e)
@@ -76,6 +77,7 @@ kind_of (Submit n c k t) = kind (codes "subm")
 kind_of (Timeout n) = kind (codes "time")
 kind_of (Beat n) = kind (codes "beat")
 kind_of (Close n) = kind (codes "clos")
+kind_of (Floor n) = kind (codes "floo")
 kind_of (Deliver m) = kind (codes "deli")
 kind_of (Lose m) = kind (codes "lose")
 kind_of LoseAll = kind (codes "lose")
@@ -118,6 +120,7 @@ module _ (members : ℕ) (few : members < 2 ^ 64) where
   same_line (Timeout n) (Timeout n') h k e = ap Timeout (same_node n n' h k (ap (drop 8) e))
   same_line (Beat n) (Beat n') h k e = ap Beat (same_node n n' h k (ap (drop 5) e))
   same_line (Close n) (Close n') h k e = ap Close (same_node n n' h k (ap (drop 6) e))
+  same_line (Floor n) (Floor n') h k e = ap Floor (same_node n n' h k (ap (drop 6) e))
   same_line (Deliver m) (Deliver m') h k e = ap Deliver (decimal_injective m m' h k (ap (drop 8) e))
   same_line (Lose m) (Lose m') h k e = ap Lose (decimal_injective m m' h k (ap (drop 5) e))
   same_line LoseAll LoseAll h k e = refl

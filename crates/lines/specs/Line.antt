@@ -7,7 +7,7 @@ use Rattle.lines.specs.declared.line.Left.TheVariants.{Old, New}
 use Rattle.lines.specs.declared.line.Job.{Job}
 use Rattle.lines.specs.declared.line.Job.TheVariants as jobs
 use Rattle.lines.specs.declared.line.Line.{Line}
-use Rattle.lines.specs.declared.line.Line.TheVariants.{Clock, ClockAll, Submit, Timeout, Beat, Close, Deliver, Lose, LoseAll, Settle, Stop, Start, Torn, Ask}
+use Rattle.lines.specs.declared.line.Line.TheVariants.{Clock, ClockAll, Submit, Timeout, Beat, Close, Floor, Deliver, Lose, LoseAll, Settle, Stop, Start, Torn, Ask}
 
 abbrev pub left_text : Left → List ℕ
 left_text Old = codes "old"
@@ -21,6 +21,7 @@ abbrev pub job_text : Job → List ℕ
 job_text jobs.Timeout = codes "timeout"
 job_text jobs.Beat = codes "beat"
 job_text jobs.Close = codes "close"
+job_text jobs.Floor = codes "floor"
 job_text (jobs.Submit client number text) = codes "submit " ++ request_text client number text
 job_text (jobs.Deliver message) = codes "deliver " ++ decimal message
 
@@ -31,6 +32,7 @@ line_text (Submit node client number text) = codes "submit " ++ (decimal node ++
 line_text (Timeout node) = codes "timeout " ++ decimal node
 line_text (Beat node) = codes "beat " ++ decimal node
 line_text (Close node) = codes "close " ++ decimal node
+line_text (Floor node) = codes "floor " ++ decimal node
 line_text (Deliver message) = codes "deliver " ++ decimal message
 line_text (Lose message) = codes "lose " ++ decimal message
 line_text LoseAll = codes "lose all"
@@ -53,6 +55,7 @@ abbrev pub IsJobInRange : Job → Type 0
 IsJobInRange jobs.Timeout = ⊤
 IsJobInRange jobs.Beat = ⊤
 IsJobInRange jobs.Close = ⊤
+IsJobInRange jobs.Floor = ⊤
 IsJobInRange (jobs.Submit client number text) = IsRequest client number
 IsJobInRange (jobs.Deliver message) = message < 2 ^ 64
 
@@ -64,6 +67,7 @@ IsInRange members (Submit node client number text) = IsNode members node × IsRe
 IsInRange members (Timeout node) = IsNode members node
 IsInRange members (Beat node) = IsNode members node
 IsInRange members (Close node) = IsNode members node
+IsInRange members (Floor node) = IsNode members node
 IsInRange members (Deliver message) = message < 2 ^ 64
 IsInRange members (Lose message) = message < 2 ^ 64
 IsInRange members LoseAll = ⊤

@@ -24,6 +24,7 @@ pub enum Job {
     Timeout,
     Beat,
     Close,
+    Floor,
     Submit {
         client: Client,
         number: RequestNumber,
@@ -63,6 +64,10 @@ pub enum Line {
     },
     /// `close N`: a node is told to close the times so far.
     Close {
+        node: Member,
+    },
+    /// `floor N`: a node is told to close them without an entry, by a floor that others store.
+    Floor {
         node: Member,
     },
     /// `deliver M`: the message of this number is delivered.
@@ -147,6 +152,9 @@ fn read_short(members: usize, word: &str, rest: &str) -> Option<Line>
             node: read_node(members, rest)?,
         }),
         "close" => Some(Line::Close {
+            node: read_node(members, rest)?,
+        }),
+        "floor" => Some(Line::Floor {
             node: read_node(members, rest)?,
         }),
         "stop" => Some(Line::Stop {
@@ -256,6 +264,7 @@ fn read_job(alloc: Global, text: &str) -> Result<Option<Job>, AllocError>
             "timeout" => Some(Job::Timeout),
             "beat" => Some(Job::Beat),
             "close" => Some(Job::Close),
+            "floor" => Some(Job::Floor),
             _ => None,
         });
     };

@@ -1,7 +1,7 @@
 -- Which lines of scripts are played on nodes that run on threads of their own.
 use Rattle.std.specs.Prelude.{⊤}
 use Rattle.lines.specs.declared.line.Line.{Line}
-use Rattle.lines.specs.declared.line.Line.TheVariants.{Clock, ClockAll, Submit, Timeout, Beat, Close, Deliver, Lose, LoseAll, Settle, Stop, Start, Torn, Ask}
+use Rattle.lines.specs.declared.line.Line.TheVariants.{Clock, ClockAll, Submit, Timeout, Beat, Close, Floor, Deliver, Lose, LoseAll, Settle, Stop, Start, Torn, Ask}
 
 abbrev pub IsTaken : Line → Type 0
 IsTaken (Clock node reading) = ⊤
@@ -10,6 +10,7 @@ IsTaken (Submit node client number text) = ⊤
 IsTaken (Timeout node) = ⊥
 IsTaken (Beat node) = ⊥
 IsTaken (Close node) = ⊥
+IsTaken (Floor node) = ⊥
 IsTaken (Deliver message) = ⊥
 IsTaken (Lose message) = ⊥
 IsTaken LoseAll = ⊥

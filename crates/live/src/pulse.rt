@@ -1,5 +1,5 @@
 //! When a node is due for a timeout or a beat.
-ghost use Rattle.std.specs.Prelude.{◌≡◌, ◌≤◌, ◌<◌, ◌+◌, ◌%◌, ◌⊎◌, true, false, Some, None};
+ghost use Rattle.std.specs.Prelude.{◌≡◌, ◌≤◌, ◌<◌, ◌+◌, ◌%◌, ◌⊎◌, ◌&&◌, ◌==◌, true, false, Some, None};
 ghost use Rattle.network.specs.Fates.{generator_of};
 ghost use Rattle.rand_pcg.specs.Pcg.{pcg32};
 ghost use Rattle.model.specs.declared.message.Input.TheVariants.{Timeout, Beat};
@@ -11,6 +11,9 @@ use rand_pcg::Pcg32;
 
 /// How many rounds a leader lets pass from one beat to the next.
 pub const BEAT_ROUNDS: u64 = 3;
+
+/// How many rounds a leader lets pass from one floor that it asks for to the next.
+pub const FLOOR_ROUNDS: u64 = 5;
 
 /// What a driver knows of a node by what it took and sent, and how long it still waits for a leader.
 #[derive(Drop)]
@@ -85,6 +88,14 @@ impl Pulse {
         Some(Input::Timeout)
     }
 
+    /// Whether the node is due to ask for a floor in the round of this number, after the beat of that round: a leader is in
+    /// each fifth round.
+    pub fn asks_for_floor(&self, round: u64) -> bool
+        ensures { result ≡ (self.now.leads && (round % 5 == 0)) }
+    {
+        self.leads && round % FLOOR_ROUNDS == 0
+    }
+
     /// The node took a message of this term: one of a greater term ends its lead, and an Append of its own term shows that
     /// there is a leader.
     pub fn took(&mut self, term: u64, is_append: bool)
@@ -112,7 +123,11 @@ impl Pulse {
         match message.body {
             Body::Append { .. } => self.leads = true,
             Body::RequestVote { .. } => self.leads = false,
-            Body::Vote { .. } | Body::Reply { .. } => {}
+            Body::Vote { .. }
+            | Body::Reply { .. }
+            | Body::Seek { .. }
+            | Body::Stored { .. }
+            | Body::Seal { .. } => {}
         }
     }
 }

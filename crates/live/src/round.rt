@@ -14,7 +14,7 @@ use std::sync::Wait;
 // What a packet was, for when its report comes.
 #[derive(Clone, Copy, PartialEq, Eq, Debug, Drop)]
 pub(crate) enum Note {
-    /// A timeout or a beat.
+    /// A timeout, a beat, or a floor that is to be asked for.
     Tick,
     /// The request that is on its way.
     Errand,
@@ -37,7 +37,8 @@ fn note_of(message: &Message) -> Note {
 }
 
 impl Driver {
-    /// Plays one round: each node that runs is sent the timeout or beat that it is due for, then the messages that come
+    /// Plays one round: each node that runs is sent the timeout or beat that it is due for, and, if it is due to ask for one,
+    /// a floor, then the messages that come
     /// now, then the request that is to go to it; what comes of them is taken in the order of the nodes.
     pub(crate) fn round<R: Wait>(&mut self, rt: &R) -> Result<(), Refusal> {
         let mut sent = Vec::new(self.alloc);
@@ -83,6 +84,18 @@ impl Driver {
         }
     }
 
+    // The floor that the node is due to ask for, if it runs.
+    fn floor(&self, at: usize, round: u64) -> Option<Input> {
+        let station = self.stations.get(at)?;
+        if station.runs && station.pulse.asks_for_floor(round) {
+            Some(Input::Floor {
+                reading: station.reading(self.rounds),
+            })
+        } else {
+            None
+        }
+    }
+
     fn send_ticks<R: Wait>(
         &mut self,
         rt: &R,
@@ -91,6 +104,9 @@ impl Driver {
     ) -> Result<(), Refusal> {
         for at in 0..self.stations.len() {
             if let Some(input) = self.tick(at, round) {
+                self.send(rt, sent, at + 1, Note::Tick, Packet::Local(input))?;
+            }
+            if let Some(input) = self.floor(at, round) {
                 self.send(rt, sent, at + 1, Note::Tick, Packet::Local(input))?;
             }
         }
@@ -198,6 +214,7 @@ impl Driver {
             messages,
             applied: _,
             told,
+            sealed: _,
         } = given;
         if let Some(station) = self.stations.get_mut(node.saturating_sub(1)) {
             if let Note::Letter { term, is_append } = note {

@@ -9,7 +9,7 @@ use Rattle.model.specs.Values.{key_cmp}
 use Rattle.model.specs.Tables.{Table, Row, IsRow}
 use Rattle.model.specs.Transactions.{Schema}
 use Rattle.model.specs.declared.entry.Entry.{Entry}
-use Rattle.model.specs.Logs.{state_at, closed}
+use Rattle.model.specs.Logs.{state_at}
 
 -- which instants a query asks about, all from the first to the last: AS OF t asks about t alone, FROM a TO b about a to
 -- the instant before b, BETWEEN a AND b about a to b
@@ -85,9 +85,9 @@ pub record IsAnswerOver (history : ℕ → Table) (q : Query) (a : Answer) : Typ
 abbrev pub IsAnswer : Schema → Query → List Entry → Answer → Type 0
 IsAnswer schema q list = IsAnswerOver (λ u. state_at schema list u q.table) q
 
--- no later entry can have an instant that the query asks about
-abbrev pub IsClosed : Select → List Entry → Type 0
-IsClosed q list = (t : ℕ) × (closed list ≡ Some t) × (last_instant (time_or t q.time) ≤ t)
+-- at this closed time no later entry can have an instant that the query asks about
+abbrev pub IsClosed : Select → Option ℕ → Type 0
+IsClosed q time = (t : ℕ) × (time ≡ Some t) × (last_instant (time_or t q.time) ≤ t)
 
 abbrev pub if_closed : Query → ℕ → Option Query
 if_closed q t = if nat_le (last_instant q.time) t then Some q else None

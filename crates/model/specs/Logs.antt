@@ -10,7 +10,7 @@ use Rattle.model.specs.Transactions.{State, Schema, executed_text}
 use Rattle.model.specs.declared.entry.Request.{Request}
 use Rattle.model.specs.declared.entry.Entry.{Entry}
 use Rattle.model.specs.declared.entry.Told.{Told}
-use Rattle.model.specs.Stamps.{TIME_LAST, above}
+use Rattle.model.specs.Stamps.{TIME_LAST, above, greater}
 
 -- ---- stamps and closed times
 
@@ -30,6 +30,10 @@ closed list = option_map (λ e. e.stamp) (last_entry list)
 -- one more than the last stamp
 abbrev pub least_stamp : List Entry → ℕ
 least_stamp log = above (closed log)
+
+-- one more than the last stamp and the floor
+abbrev pub least_over : Option ℕ → List Entry → ℕ
+least_over floor log = above (greater (closed log) floor)
 
 -- ---- requests. In what follows `before` is a list of entries from the newest back to the oldest.
 

@@ -62,7 +62,7 @@ abbrev pub FirstAnswer : Type 0
 FirstAnswer = IsAnswer dept (record { table = 0; time = as_of 100; passes = λ row. true }) (close_entry 1 100 ∷ []) (record { last = 100; rows = [] })
 
 abbrev pub vote : ℕ → ℕ → ℕ → Bool → Message
-vote from to term given = record { sender = from; addressee = to; term = term; body = Vote given }
+vote from to term given = record { sender = from; addressee = to; term = term; body = Vote given None }
 
 -- the step in which member 2 gave its vote was cut short; then it starts again, and member 3 asks for its vote
 abbrev pub torn_vote : Left → List Event
@@ -255,7 +255,7 @@ rising (suc k) = rising k ++ close_entry 1 k ∷ []
 -- wrong addressee, unknown or own sender, a term past the last, 65 entries
 abbrev pub StrangeMessage : Type 0
 StrangeMessage =
-    let vote_from : ℕ → ℕ → ℕ → Bool = λ from to term. is_taken (on_body_from from to term (Vote false) (fresh 1 None)) in
+    let vote_from : ℕ → ℕ → ℕ → Bool = λ from to term. is_taken (on_body_from from to term (Vote false None) (fresh 1 None)) in
     (vote_from 1 2 1 ≡ true) × (vote_from 1 3 1 ≡ false) × (vote_from 0 2 1 ≡ false) × (vote_from 4 2 1 ≡ false) × (vote_from 2 2 1 ≡ false)
     × (vote_from 1 2 9223372036854775807 ≡ true) × (vote_from 1 2 9223372036854775808 ≡ false)
     × (is_taken (on_body_from 1 2 1 (Append 0 0 (rising 64) 0) (fresh 1 None)) ≡ true) × (is_taken (on_body_from 1 2 1 (Append 0 0 (rising 65) 0) (fresh 1 None)) ≡ false)
@@ -292,7 +292,7 @@ NextFalls =
 abbrev pub NoStampLeft : Type 0
 NoStampLeft =
     let candidate : Node = record (fresh 2 (Some 2)) { log = close_entry 1 253402214399999999 ∷ []; role = Candidate; votes = false ∷ true ∷ false ∷ [] } in
-    let effect : Effect = on_body_from 1 2 2 (Vote true) candidate in
+    let effect : Effect = on_body_from 1 2 2 (Vote true None) candidate in
     let heartbeat : ℕ → Message = λ to. record { sender = 2; addressee = to; term = 2; body = Append 1 1 [] 0 } in
     ((node_after candidate effect).role ≡ Leader) × ((node_after candidate effect).log ≡ candidate.log) × (messages_of effect ≡ heartbeat 1 ∷ heartbeat 3 ∷ [])
 

@@ -1,7 +1,8 @@
 -- One step of one member, by what it is given: Figure 2 of "In search of an understandable consensus algorithm", with
 -- fixed members. Unlike there a term, a log and a message have limits, each entry has a stamp that rises, a new leader
--- appends a Close at once, and a message that no honest member can send changes nothing, the term neither.
-use Rattle.std.specs.Prelude.{ℕ, zero, suc, ◌+◌, ◌-◌, ℤ, max, min, Bool, true, false, not, ◌&&◌, ◌||◌, ◌==◌, nat_lt, nat_le, if◌then◌else◌, Option, Some, None, option_map, is_ok, List, [], ◌∷◌, ◌++◌, map, length, take, drop, replicate}
+-- appends a Close at once, a leader can have a floor stored below which no entry is stamped any more, and a message that no
+-- honest member can send changes nothing, the term neither.
+use Rattle.std.specs.Prelude.{ℕ, zero, suc, ◌+◌, ◌-◌, ℤ, max, min, Bool, true, false, not, ◌&&◌, ◌||◌, ◌==◌, nat_lt, nat_le, if◌then◌else◌, Option, Some, None, option_map, unwrap_or, is_ok, List, [], ◌∷◌, ◌++◌, map, length, take, drop, replicate}
 use Rattle.std.specs.List.{list_all}
 use Rattle.model.specs.Lists.{nth, nth_or, with_nth}
 use Rattle.fault.specs.declared.refusal.Refusal.{Refusal}
@@ -9,15 +10,17 @@ use Rattle.fault.specs.declared.refusal.Refusal.TheVariants.{NotLeader, TimeFull
 use Rattle.model.specs.Transactions.{Schema}
 use Rattle.model.specs.declared.entry.Entry.{Entry}
 use Rattle.model.specs.declared.entry.Request.{Request}
-use Rattle.model.specs.Stamps.{TIME_LAST, above, stamp}
-use Rattle.model.specs.Logs.{least_stamp}
+use Rattle.model.specs.declared.member.AskedFloor.{AskedFloor}
+use Rattle.model.specs.declared.member.SealedFloor.{SealedFloor}
+use Rattle.model.specs.Stamps.{TIME_LAST, above, greater, stamp}
+use Rattle.model.specs.Logs.{last_entry, closed, least_over}
 use Rattle.model.specs.declared.message.Body.{Body}
 use Rattle.model.specs.declared.message.Message.{Message}
-use Rattle.model.specs.Members.{Node, is_majority, is_in, others, is_leader, is_candidate, is_free_for, term_of, term_at, last_term, stands, is_up_to_date, agreed}
-use Rattle.model.specs.declared.message.Body.TheVariants.{RequestVote, Vote, Append, Reply}
+use Rattle.model.specs.Members.{Node, applied, is_majority, is_in, others, is_leader, is_candidate, is_free_for, term_of, term_at, last_term, has_term, stands, is_up_to_date, agreed}
+use Rattle.model.specs.declared.message.Body.TheVariants.{RequestVote, Vote, Append, Reply, Seek, Stored, Seal}
 use Rattle.model.specs.declared.message.Role.TheVariants.{Follower, Candidate, Leader}
 use Rattle.model.specs.declared.message.Input.{Input}
-use Rattle.model.specs.declared.message.Input.TheVariants.{Timeout, Beat, Close, Submit}
+use Rattle.model.specs.declared.message.Input.TheVariants.{Timeout, Beat, Close, Submit, Floor}
 
 -- the last term, 2^63 - 1
 abbrev pub TERM_LAST : ℕ
@@ -54,10 +57,14 @@ append_to_all n x me = map (append_to x me) (others n me)
 abbrev pub answer : Node → ℕ → ℕ → Body → List Message
 answer x me to body = record { sender = me; addressee = to; term = x.term; body = body } ∷ []
 
+-- the same to each other member
+abbrev pub tell_all : ℕ → Node → ℕ → Body → List Message
+tell_all n x me body = map (λ to. record { sender = me; addressee = to; term = x.term; body = body }) (others n me)
+
 -- ---- a message of a greater term: the term is taken, vote and known leader are none, the role is follower
 
 abbrev pub in_term : ℕ → Node → Node
-in_term term x = record x { term = term; vote = None; role = Follower; known = None; votes = []; next = []; matched = [] }
+in_term term x = record x { term = term; vote = None; role = Follower; known = None; votes = []; told = None; next = []; matched = []; asked = None; stored = [] }
 
 unfoldable pub hears : ℕ → Node → Node
 hears term x = if nat_lt x.term term then in_term term x else x
@@ -66,7 +73,7 @@ hears term x = if nat_lt x.term term then in_term term x else x
 
 -- the leader that it knew stays known
 abbrev pub stands_up : ℕ → ℕ → Node → Node
-stands_up n me x = record x { term = x.term + 1; vote = Some me; role = Candidate; votes = with_nth (replicate n false) me true; next = []; matched = [] }
+stands_up n me x = record x { term = x.term + 1; vote = Some me; role = Candidate; votes = with_nth (replicate n false) me true; told = None; next = []; matched = []; asked = None; stored = [] }
 
 -- what a candidate asks of a member, with the index and the term of its last entry
 abbrev pub vote_request : Node → ℕ → ℕ → Message
@@ -83,23 +90,41 @@ time_out n me x =
 
 -- ---- Close, Submit
 
--- no stamp is left
-abbrev pub is_time_full : List Entry → Bool
-is_time_full log = nat_lt TIME_LAST (least_stamp log)
+-- no stamp is left above the floor and the last one
+abbrev pub is_time_full : Option ℕ → List Entry → Bool
+is_time_full floor log = nat_lt TIME_LAST (least_over floor log)
 
 abbrev pub is_log_full : List Entry → Bool
 is_log_full log = nat_le LOG_LIMIT (length log)
 
 -- the leader's own log with one entry more
 abbrev pub extended : ℤ → Option Request → Node → Node
-extended reading request x = record x { log = x.log ++ record { term = x.term; stamp = stamp reading (least_stamp x.log); request = request } ∷ [] }
+extended reading request x = record x { log = x.log ++ record { term = x.term; stamp = stamp reading (least_over x.floor x.log); request = request } ∷ [] }
 
 unfoldable pub append_own : ℕ → ℕ → ℤ → Option Request → Node → Effect
 append_own n me reading request x =
     if not (is_leader x.role) then Refuses (NotLeader x.known)
-    else if is_time_full x.log then Refuses TimeFull
+    else if is_time_full x.floor x.log then Refuses TimeFull
     else if is_log_full x.log then Refuses LogFull
     else Moves (record { node = extended reading request x; sent = append_to_all n (extended reading request x) me })
+
+-- ---- Floor
+
+-- the greatest of what the clock shows, the last stamp and the floor so far
+abbrev pub next_floor : ℤ → Node → ℕ
+next_floor reading x = stamp reading (unwrap_or (greater (closed x.log) x.floor) 0)
+
+-- the leader stores it first
+abbrev pub asking : ℕ → ℕ → ℤ → Node → Node
+asking n me reading x =
+    let floor = next_floor reading x in
+    record x { floor = Some floor; asked = Some (record { index = length x.log; floor = floor }); stored = with_nth (replicate n false) me true }
+
+unfoldable pub ask_floor : ℕ → ℕ → ℤ → Node → Effect
+ask_floor n me reading x =
+    if is_leader x.role && has_term (last_entry x.log) x.term
+    then Moves (record { node = asking n me reading x; sent = tell_all n x me (Seek (length x.log) (next_floor reading x)) })
+    else Nothing
 
 -- ---- Beat, and every local input
 
@@ -107,6 +132,7 @@ abbrev pub on_input : ℕ → ℕ → Input → Node → Effect
 on_input n me Timeout x = time_out n me x
 on_input n me Beat x = if is_leader x.role then Moves (record { node = x; sent = append_to_all n x me }) else Nothing
 on_input n me (Close reading) x = append_own n me reading None x
+on_input n me (Floor reading) x = ask_floor n me reading x
 on_input n me (Submit reading request) x = append_own n me reading (Some request) x
 
 -- ---- RequestVote
@@ -118,31 +144,62 @@ grants sender term last_index last_term_of x = (term == x.term) && is_free_for x
 unfoldable pub on_request_vote : ℕ → ℕ → ℕ → ℕ → ℕ → Node → After
 on_request_vote me sender term last_index last_term_of x =
     if grants sender term last_index last_term_of x
-    then record { node = record x { vote = Some sender }; sent = answer x me sender (Vote true) }
-    else record { node = x; sent = answer x me sender (Vote false) }
+    then record { node = record x { vote = Some sender }; sent = answer x me sender (Vote true x.floor) }
+    else record { node = x; sent = answer x me sender (Vote false x.floor) }
 
 -- ---- Vote
 
--- one vote more
-abbrev pub counted : ℕ → Node → Node
-counted sender x = record x { votes = with_nth x.votes sender true }
+-- one vote more, and the floor that it tells
+abbrev pub counted : ℕ → Option ℕ → Node → Node
+counted sender floor x = record x { votes = with_nth x.votes sender true; told = greater x.told floor }
 
--- a majority gave their vote: next is the index after the last entry, and nothing is known to match
+-- a majority gave their vote: no floor that they told is above the new leader's, next is the index after the last entry, and
+-- nothing is known to match
 abbrev pub crowned : ℕ → Node → Node
-crowned n x = record x { role = Leader; votes = []; next = replicate n (length x.log + 1); matched = replicate n 0 }
+crowned n x = record x { floor = greater x.floor x.told; role = Leader; votes = []; told = None; next = replicate n (length x.log + 1); matched = replicate n 0; asked = None; stored = [] }
 
 -- a new leader's Close, if a stamp and room are there
 abbrev pub opened : ℤ → Node → Node
-opened reading x = if is_time_full x.log || is_log_full x.log then x else extended reading None x
+opened reading x = if is_time_full x.floor x.log || is_log_full x.log then x else extended reading None x
 
-unfoldable pub on_vote : ℕ → ℕ → ℤ → ℕ → ℕ → Bool → Node → After
-on_vote n me reading sender term given x =
-    let leading = opened reading (crowned n x) in
+unfoldable pub on_vote : ℕ → ℕ → ℤ → ℕ → ℕ → Bool → Option ℕ → Node → After
+on_vote n me reading sender term given floor x =
+    let leading = opened reading (crowned n (counted sender floor x)) in
     if given && (term == x.term) && is_candidate x.role
-    then (if is_majority n (is_in (counted sender x).votes)
+    then (if is_majority n (is_in (counted sender floor x).votes)
     then record { node = leading; sent = append_to_all n leading me }
-    else record { node = counted sender x; sent = [] })
+    else record { node = counted sender floor x; sent = [] })
     else record { node = x; sent = [] }
+
+-- ---- a member learns a seal
+
+-- the seal's entry is applied: it has the seal's term
+abbrev pub is_applied : Node → SealedFloor → Bool
+is_applied x s = has_term (nth (applied x) s.index) s.term
+
+-- the floor of a seal whose entry is applied
+abbrev pub seal_floor : Node → Option SealedFloor → Option ℕ
+seal_floor x None = None
+seal_floor x (Some s) = if is_applied x s then Some s.floor else None
+
+-- a seal whose entry is not applied
+abbrev pub unapplied : Node → Option SealedFloor → Option SealedFloor
+unapplied x None = None
+unapplied x (Some s) = if is_applied x s then None else Some s
+
+-- the one that waits, unless the new one has a greater floor
+abbrev pub longer_waiting : Option SealedFloor → Option SealedFloor → Option SealedFloor
+longer_waiting w None = w
+longer_waiting None (Some s) = Some s
+longer_waiting (Some w) (Some s) = if nat_lt w.floor s.floor then Some s else Some w
+
+-- a seal counts if its entry is applied, and else it waits
+abbrev pub learned : SealedFloor → Node → Node
+learned s x = record x { sealed = greater x.sealed (seal_floor x (Some s)); waiting = longer_waiting x.waiting (unapplied x (Some s)) }
+
+-- the waiting seal counts once its entry is applied
+abbrev pub settled : Node → Node
+settled x = record x { sealed = greater x.sealed (seal_floor x x.waiting); waiting = unapplied x x.waiting }
 
 -- ---- Append
 
@@ -169,7 +226,7 @@ continues log prev bound es =
 
 -- a candidate becomes follower; the sender is the known leader
 abbrev pub follows : ℕ → Node → Node
-follows sender x = record x { role = Follower; known = Some sender; votes = []; next = []; matched = [] }
+follows sender x = record x { role = Follower; known = Some sender; votes = []; told = None; next = []; matched = []; asked = None; stored = [] }
 
 -- the entries are taken, and commit goes up to what the leader has committed of them
 abbrev pub takes_entries : ℕ → List Entry → ℕ → Node → Node
@@ -182,7 +239,7 @@ on_append me sender term prev prev_term es commit x =
     else if is_leader x.role then Nothing
     else if not (stands x.log prev prev_term) then Moves (record { node = follows sender x; sent = answer x me sender (Reply false 0) })
     else if not (continues x.log prev term es) || cuts_below x.commit x.log prev es || nat_lt LOG_LIMIT (length (accepted x.log prev es)) then Nothing
-    else Moves (record { node = takes_entries prev es commit (follows sender x); sent = answer x me sender (Reply true (prev + length es)) })
+    else Moves (record { node = settled (takes_entries prev es commit (follows sender x)); sent = answer x me sender (Reply true (prev + length es)) })
 
 -- ---- Reply
 
@@ -212,7 +269,7 @@ commits n me x = record x { commit = max x.commit (greatest (is_matched n me x) 
 -- Nothing: a matched beyond the log, which no honest member can send
 unfoldable pub on_reply_yes : ℕ → ℕ → ℕ → ℕ → Node → Effect
 on_reply_yes n me sender matched x =
-    let y = commits n me (noted sender matched x) in
+    let y = settled (commits n me (noted sender matched x)) in
     if nat_lt (length x.log) matched then Nothing
     else Moves (record {
       node = y;
@@ -233,19 +290,77 @@ on_reply n me sender term ok matched x =
     then (if ok then on_reply_yes n me sender matched x else on_reply_no me sender x)
     else Moves (record { node = x; sent = [] })
 
+-- ---- Seek
+
+-- the floor is stored; a candidate becomes follower, and the sender is the known leader
+abbrev pub stores : ℕ → ℕ → Node → Node
+stores sender floor x = record (follows sender x) { floor = greater x.floor (Some floor) }
+
+-- Nothing: no honest member can send it
+unfoldable pub on_seek : ℕ → ℕ → ℕ → ℕ → ℕ → Node → Effect
+on_seek me sender term index floor x =
+    if nat_lt term x.term then Moves (record { node = x; sent = [] })
+    else if is_leader x.role then Nothing
+    else Moves (record { node = stores sender floor x; sent = answer x me sender (Stored index floor) })
+
+-- ---- Stored
+
+-- this is what a leader asks for
+abbrev pub asks_for : Option AskedFloor → ℕ → ℕ → Bool
+asks_for None index floor = false
+asks_for (Some a) index floor = (a.index == index) && (a.floor == floor)
+
+-- one member more has stored it
+abbrev pub with_stored : ℕ → Node → Node
+with_stored sender x = record x { stored = with_nth x.stored sender true }
+
+-- the member that makes them a majority makes the seal
+unfoldable pub on_stored : ℕ → ℕ → ℕ → ℕ → ℕ → ℕ → Node → After
+on_stored n me sender term index floor x =
+    let y = with_stored sender x in
+    if is_leader x.role && (term == x.term) && asks_for x.asked index floor
+    then (if not (is_majority n (is_in x.stored)) && is_majority n (is_in y.stored)
+    then record { node = learned (record { term = term; index = index; floor = floor }) y; sent = tell_all n y me (Seal index floor) }
+    else record { node = y; sent = [] })
+    else record { node = x; sent = [] }
+
 -- ---- every message
 
 abbrev pub on_body : ℕ → ℕ → ℤ → ℕ → ℕ → Body → Node → Effect
 on_body n me reading sender term (RequestVote last_index last_term_of) x = Moves (on_request_vote me sender term last_index last_term_of x)
-on_body n me reading sender term (Vote given) x = Moves (on_vote n me reading sender term given x)
+on_body n me reading sender term (Vote given floor) x = Moves (on_vote n me reading sender term given floor x)
 on_body n me reading sender term (Append prev prev_term es commit) x = on_append me sender term prev prev_term es commit x
 on_body n me reading sender term (Reply ok matched) x = on_reply n me sender term ok matched x
+on_body n me reading sender term (Seek index floor) x = on_seek me sender term index floor x
+on_body n me reading sender term (Stored index floor) x = Moves (on_stored n me sender term index floor x)
+on_body n me reading sender term (Seal index floor) x = Moves (record { node = learned (record { term = term; index = index; floor = floor }) x; sent = [] })
 
 abbrev pub entries_of : Body → List Entry
 entries_of (Append prev prev_term es commit) = es
 entries_of (RequestVote i t) = []
-entries_of (Vote given) = []
+entries_of (Vote given floor) = []
 entries_of (Reply ok matched) = []
+entries_of (Seek index floor) = []
+entries_of (Stored index floor) = []
+entries_of (Seal index floor) = []
+
+-- an index that a log can have, and an instant
+abbrev pub can_be_asked : ℕ → ℕ → Bool
+can_be_asked index floor = nat_lt 0 index && nat_le index LOG_LIMIT && nat_le floor TIME_LAST
+
+abbrev pub is_floor : Option ℕ → Bool
+is_floor None = true
+is_floor (Some t) = nat_le t TIME_LAST
+
+-- the floor that it tells is an instant, and the index can be that of an entry
+abbrev pub floor_fits : Body → Bool
+floor_fits (RequestVote i t) = true
+floor_fits (Vote given floor) = is_floor floor
+floor_fits (Append prev prev_term es commit) = true
+floor_fits (Reply ok matched) = true
+floor_fits (Seek index floor) = can_be_asked index floor
+floor_fits (Stored index floor) = true
+floor_fits (Seal index floor) = can_be_asked index floor
 
 -- the entry's text spells a transaction
 abbrev pub spells : Schema → Option Request → Bool
@@ -256,7 +371,7 @@ spells schema (Some r) = is_ok (schema.reads r.text)
 abbrev pub is_honest : Schema → ℕ → ℕ → Message → Bool
 is_honest schema n me m =
     (m.addressee == me) && nat_lt 0 m.sender && nat_le m.sender n && not (m.sender == me) && nat_lt 0 m.term && nat_le m.term TERM_LAST
-    && nat_le (length (entries_of m.body)) 64 && go_on None m.term (entries_of m.body) && list_all (λ e. spells schema e.request) (entries_of m.body)
+    && nat_le (length (entries_of m.body)) 64 && go_on None m.term (entries_of m.body) && list_all (λ e. spells schema e.request) (entries_of m.body) && floor_fits m.body
 
 abbrev pub on_message : Schema → ℕ → ℕ → ℤ → Message → Node → Effect
 on_message schema n me reading m x =

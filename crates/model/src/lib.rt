@@ -3,6 +3,7 @@
 
 ghost use Rattle.model.specs.TableRows.{TouchingRows, ReferenceGap, KeyTexts, RowOrder};
 ghost use Rattle.model.specs.Rows.{FirstClose, FirstAnswer, TornVote, RepeatedAppend, DecidedInsert, RefusedSubmit, Numbers, ShorterLog, RetryAfterFailover, Conflict, Restart, Clocks, Asks, NoSuchEvent, DishonestMessage, StrangeMessage, StrangeEntries, KnownLeader, NoStampLeft, OlderTerm, NextFalls};
+ghost use Rattle.model.specs.FloorRows.{SealedQuietly, StampedAbove, VoteTellsFloor, FloorFromVotes, SealWaits, FloorIsKept, NoFloor, StrangeFloors, NoFloorAsked, SecondStoredSeals, CountedAnew, SealOfAnotherTerm, GreatestWaits, SeekFollows, RefusedVoteTells};
 
 pub mod entry;
 pub mod mark;
@@ -51,4 +52,23 @@ pub fn rows_of_events()
     ensures dishonest_message { DishonestMessage }
     ensures strange_message { StrangeMessage }
     ensures strange_entries { StrangeEntries }
+{}
+
+/// Floors, and times that close without an entry.
+pub fn rows_of_floors()
+    ensures sealed_quietly { SealedQuietly }
+    ensures stamped_above { StampedAbove }
+    ensures vote_tells_floor { VoteTellsFloor }
+    ensures floor_from_votes { FloorFromVotes }
+    ensures seal_waits { SealWaits }
+    ensures floor_is_kept { FloorIsKept }
+    ensures no_floor { NoFloor }
+    ensures strange_floors { StrangeFloors }
+    ensures no_floor_asked { NoFloorAsked }
+    ensures second_stored_seals { SecondStoredSeals }
+    ensures counted_anew { CountedAnew }
+    ensures seal_of_another_term { SealOfAnotherTerm }
+    ensures greatest_waits { GreatestWaits }
+    ensures seek_follows { SeekFollows }
+    ensures refused_vote_tells { RefusedVoteTells }
 {}

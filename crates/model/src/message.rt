@@ -4,6 +4,7 @@ ghost use Rattle.std.specs.Prelude.{◌≡◌};
 
 use crate::entry::{Entries, Request};
 use crate::member::Member;
+use crate::stamp::Stamp;
 use std::alloc::AllocError;
 
 /// The last term. The first one is 1, and 0 is before it.
@@ -31,9 +32,10 @@ pub enum Body {
         last_index: usize,
         last_term: u64,
     },
-    /// Whether the vote that was asked for is given.
+    /// Whether the vote that was asked for is given, and the voter's floor, if it has one.
     Vote {
         given: bool,
+        floor: Option<Stamp>,
     },
     /// A leader sends the entries that come after an index, which has an entry of this term, and
     /// tells how far it has committed.
@@ -49,6 +51,22 @@ pub enum Body {
         ok: bool,
         matched: usize,
     },
+    /// A leader, whose last entry has this index, asks that this floor be stored.
+    Seek {
+        index: usize,
+        floor: Stamp,
+    },
+    /// The floor that was asked for is stored.
+    Stored {
+        index: usize,
+        floor: Stamp,
+    },
+    /// A majority stored the floor in this term: no entry that comes after the term's entry at this
+    /// index is ever stamped at or below it.
+    Seal {
+        index: usize,
+        floor: Stamp,
+    },
 }
 
 impl Clone for Body {
@@ -63,7 +81,10 @@ impl Clone for Body {
                 last_index: *last_index,
                 last_term: *last_term,
             }),
-            Body::Vote { given } => Ok(Body::Vote { given: *given }),
+            Body::Vote { given, floor } => Ok(Body::Vote {
+                given: *given,
+                floor: *floor,
+            }),
             Body::Append {
                 prev_index,
                 prev_term,
@@ -78,6 +99,18 @@ impl Clone for Body {
             Body::Reply { ok, matched } => Ok(Body::Reply {
                 ok: *ok,
                 matched: *matched,
+            }),
+            Body::Seek { index, floor } => Ok(Body::Seek {
+                index: *index,
+                floor: *floor,
+            }),
+            Body::Stored { index, floor } => Ok(Body::Stored {
+                index: *index,
+                floor: *floor,
+            }),
+            Body::Seal { index, floor } => Ok(Body::Seal {
+                index: *index,
+                floor: *floor,
             }),
         }
     }
@@ -103,6 +136,8 @@ pub enum Input {
     Beat,
     /// A leader is to append an entry without a request, so that a later instant is closed.
     Close { reading: i64 },
+    /// A leader is to ask that a floor be stored, so that a later instant is closed without an entry.
+    Floor { reading: i64 },
     /// A leader is to append an entry with this request.
     Submit { reading: i64, request: Request },
 }
@@ -128,6 +163,7 @@ impl Clone for Input {
             Input::Timeout => Ok(Input::Timeout),
             Input::Beat => Ok(Input::Beat),
             Input::Close { reading } => Ok(Input::Close { reading: *reading }),
+            Input::Floor { reading } => Ok(Input::Floor { reading: *reading }),
             Input::Submit { reading, request } => Ok(Input::Submit {
                 reading: *reading,
                 request: request.clone()?,

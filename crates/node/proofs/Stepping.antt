@@ -4,7 +4,7 @@ use Rattle.sqlchecks.specs.Columns as columns
 use Rattle.model.specs.declared.entry.Entry.{Entry}
 use Rattle.model.specs.declared.entry.Told.{Told}
 use Rattle.model.specs.declared.message.Message.{Message}
-use Rattle.model.specs.declared.message.Input.TheVariants.{Timeout, Beat, Close, Submit}
+use Rattle.model.specs.declared.message.Input.TheVariants.{Timeout, Beat, Close, Floor, Submit}
 use Rattle.model.specs.Kept.{node_after}
 use Rattle.model.specs.Members.{Node, applied}
 use Rattle.model.specs.Steps.{Effect, Moves}
@@ -63,14 +63,12 @@ applied_stay c new change d step fits grows = sym grows.log ∙ ap (λ (log : Li
 not_true : false ≡ true → ⊥
 not_true e = cc e
 
-not_both : {b : Bool} → false ≡ b → b ≡ true → ⊥
-not_both e f = not_true (e ∙ f)
-
 -- a step that takes no memory sends nothing and changes nothing
 pub not_idle : (schema : columns.Tables) (n me : ℕ) (work : Work) (x : Node) (a : _) → spares_memory n me work x ≡ true → Moves a ≡ works schema n me work x → ⊥
-not_idle schema n me (Local Timeout) x a idle is = not_both (ap is_idle is) idle
-not_idle schema n me (Local Beat) x a idle is = not_both (ap is_idle is) idle
-not_idle schema n me (Local (Close reading)) x a idle is = not_both (ap is_idle is) idle
+not_idle schema n me (Local Timeout) x a idle is = cc (ap is_idle is, idle)
+not_idle schema n me (Local Beat) x a idle is = cc (ap is_idle is, idle)
+not_idle schema n me (Local (Close reading)) x a idle is = cc (ap is_idle is, idle)
+not_idle schema n me (Local (Floor reading)) x a idle is = cc (ap is_idle is, idle)
 not_idle schema n me (Local (Submit reading request)) x a idle is = not_true idle
 not_idle schema n me (Delivered reading message) x a idle is = not_true idle
 

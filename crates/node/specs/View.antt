@@ -1,5 +1,5 @@
 -- What a node stores, tells and answers, in the words of the definitions and of its keeper.
-use Rattle.std.specs.Prelude.{◌≡◌, ℕ, ◌+◌, ◌-◌, ◌≤◌, ◌<◌, Bool, false, Option, Some, None, Result, Ok, Err, List, [], length, ◌⊎◌}
+use Rattle.std.specs.Prelude.{◌≡◌, ℕ, ◌+◌, ◌-◌, ◌≤◌, ◌<◌, Bool, false, nat_lt, if◌then◌else◌, Option, Some, None, Result, Ok, Err, List, [], length, ◌⊎◌}
 use Rattle.std.specs.List.{filter_map, range_with_len}
 use Rattle.model.specs.declared.entry.Entry.{Entry}
 use Rattle.model.specs.declared.entry.Told.{Told}
@@ -35,10 +35,16 @@ told_between schema log before commit = filter_map (told_at schema log) (range_w
 
 -- a member that is started with this stored
 abbrev pub started_from : Durable → Node
-started_from d = started (record (fresh d.hard.term d.hard.vote) { log = d.log })
+started_from d = started (record (fresh d.hard.term d.hard.vote) { floor = d.hard.floor; log = d.log })
+
+-- the instant now sealed where it is above what was sealed before, else none
+abbrev pub risen : Option ℕ → Option ℕ → Option ℕ
+risen None now = now
+risen (Some before) None = None
+risen (Some before) (Some now) = if nat_lt before now then Some now else None
 
 abbrev pub IsEmpty : Out → Type 0
-IsEmpty out = (out.messages.items ≡ []) × (out.applied.items ≡ []) × (out.told.items ≡ [])
+IsEmpty out = (out.messages.items ≡ []) × (out.applied.items ≡ []) × (out.told.items ≡ []) × (out.sealed ≡ None)
 
 -- a step from one node to another gives what its definition says; where nothing comes of it nothing is given or changed
 abbrev pub IsGiven : Node → Node → Effect → Out → Type 0

@@ -1,4 +1,4 @@
-//! One member with what it keeps over a restart, what it tells of requests, and what it answers.
+//! One member with what it keeps over a restart, what it tells of requests and of what is sealed, and what it answers.
 #![tactic(auto)]
 
 pub mod durable;

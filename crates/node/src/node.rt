@@ -8,19 +8,20 @@ ghost use Rattle.answer.specs.Answers.{columns_in};
 ghost use Rattle.apply.specs.View.{AreTables, IsAskedOf};
 ghost use Rattle.node.specs.Once.{step_prop, tables_prop};
 ghost use Rattle.model.specs.Kept.{node_after};
-ghost use Rattle.model.specs.Members.{applied};
+ghost use Rattle.model.specs.Members.{applied, closed_time};
 ghost use Rattle.keep.specs.Durable.{Durable, IsBeforeOrAfter};
 ghost use Rattle.raft.specs.Memory.{spares_memory};
 ghost use Rattle.raft.specs.View.{brought, hard_of, node_of, works, Grows, IsInStep, after_change};
-ghost use Rattle.node.specs.View.{durable_of, Gave, IsKept, IsSame, IsTorn, IsCause, IsCauseOr, IsCauseOrBad, HasCauseOr, LeavesUp, started_from, told_between};
+ghost use Rattle.node.specs.View.{durable_of, Gave, IsKept, IsSame, IsTorn, IsCause, IsCauseOr, IsCauseOrBad, HasCauseOr, LeavesUp, risen, started_from, told_between};
 ghost use Rattle.node.specs.Applying.{AreApplied, AreMade};
 ghost use Rattle.node.specs.Saving.{IsDue};
-ghost use Rattle.node.specs.Stepping.{applied_in, sent_in, IsStep};
+ghost use Rattle.node.specs.Stepping.{applied_in, sent_in, IsStep, TellsSealed};
 
 use crate::reading::{all_entries, read_state};
 use crate::telling::{Applied, apply_after};
 use answer::Answer;
 use apply::Tables;
+use closedtime::greater;
 use fault::Refusal;
 use keep::change::Change;
 use keep::error::StoreError;
@@ -29,6 +30,7 @@ use keep::keeper::Keeper;
 use model::entry::{Entry, Told};
 use model::member::Member;
 use model::message::Message;
+use model::stamp::Stamp;
 use raft::state::{Core, Effect, Taken, Work};
 use schema::Schema;
 use sqlread::query::Query;
@@ -44,6 +46,8 @@ pub struct Out {
     pub applied: Vec<Entry>,
     /// What is told of each request that became applied, in the order of the log.
     pub told: Vec<Told>,
+    /// What is sealed after the step, where that rose in it, else none.
+    pub sealed: Option<Stamp>,
 }
 
 /// Why a step gives nothing. It prints as what it holds.
@@ -104,14 +108,25 @@ fn store<K: Keeper>(
     }
 }
 
+/// The instant that is sealed now, where it is above what was sealed before; else none.
+fn risen(before: Option<Stamp>, now: Option<Stamp>) -> Option<Stamp>
+    ensures { result ≡ risen before now }
+{
+    match (before, now) {
+        (Some(before), Some(now)) if now.micros() <= before.micros() => None,
+        (_, now) => now,
+    }
+}
+
 /// Stores what a step of the core changed, and only then applies the entries that became committed, and gives its
-/// messages and what is told.
+/// messages, what is told, and what is sealed where it rose.
 fn finish<K: Keeper>(
     alloc: Global,
     core: &Core,
     keeper: &mut K,
     tables: &mut Tables,
     taken: Taken,
+    sealed_before: Option<Stamp>,
 ) -> Result<Out, StoreError>
     requires due { K.is_honest keeper.old → IsDue core.now taken.change (K.stored keeper.old) }
     requires current { K.is_honest keeper.old → AreTables core.now.schema (take taken.committed_before (after_change taken.change (K.stored keeper.old)).log) tables.old }
@@ -122,6 +137,7 @@ fn finish<K: Keeper>(
     ensures serves { K.serves keeper.new core.now.members (schema_of core.now.schema) }
     ensures messages { IfOk result (λ out. out.messages.items ≡ taken.messages.items) }
     ensures applied { IfOk result (λ out. K.is_honest keeper.new → AreApplied core.now.schema (after_change taken.change (K.stored keeper.old)).log taken.committed_before core.now.commit out.applied.items out.told.items tables.new) }
+    ensures sealed { IfOk result (λ out. out.sealed ≡ risen sealed_before core.now.sealed) }
     ensures made { OnOk result (AreMade core.now.schema tables.old → AreMade core.now.schema tables.new) }
     ensures ok { OnOk result (K.is_honest keeper.new → K.stored keeper.new ≡ after_change taken.change (K.stored keeper.old)) }
     ensures up { OnOk result (K.is_up keeper.new ≡ true) }
@@ -142,6 +158,7 @@ fn finish<K: Keeper>(
         messages,
         applied: entries,
         told,
+        sealed: risen(sealed_before, core.sealed()),
     })
 }
 
@@ -159,6 +176,7 @@ fn take_step<K: Keeper>(
     requires serves { K.serves keeper.old core.old.members (schema_of core.old.schema) }
     requires current { K.is_honest keeper.old → AreTables core.old.schema (applied (node_of core.old (K.stored keeper.old).log)) tables.old }
     ensures step { IfOk result (λ e. K.is_honest keeper.new → IsStep core.old.schema (node_of core.old (K.stored keeper.old).log) (node_of core.new (K.stored keeper.new).log) (works core.old.schema core.old.members core.old.me work (node_of core.old (K.stored keeper.old).log)) e) }
+    ensures sealed { IfOk result (TellsSealed core.old.sealed core.new.sealed) }
     ensures grows { OnOk result (K.is_honest keeper.new → Grows (node_of core.old (K.stored keeper.old).log) (node_of core.new (K.stored keeper.new).log)) }
     ensures stored { OnOk result (K.is_honest keeper.new → IsInStep core.new (K.stored keeper.new)) }
     ensures current { OnOk result (K.is_honest keeper.new → AreTables core.new.schema (applied (node_of core.new (K.stored keeper.new).log)) tables.new) }
@@ -173,9 +191,10 @@ fn take_step<K: Keeper>(
     ensures cause { IfErr result (IsCauseOr (K.is_honest keeper.new) (K.failed keeper.old) (K.failed keeper.new)) }
     ensures asks { IfOk result (λ e. K.asks keeper.new ≤ K.asks keeper.old + (65 * (brought work + sent_in e) + 1 + applied_in e)) }
 {
+    let sealed_before = core.sealed();
     match core.step(keeper, work)? {
         Effect::Done(taken) => {
-            let out = finish(alloc, core, keeper, tables, taken)?;
+            let out = finish(alloc, core, keeper, tables, taken, sealed_before)?;
             Ok(Effect::Done(out))
         }
         Effect::Ignored => Ok(Effect::Ignored),
@@ -230,19 +249,21 @@ impl<K: Keeper> Node<K> {
     }
 
     /// Takes one step: the core's, then one save if what is stored changes, then what became committed
-    /// is applied to the tables and told. What it gives is empty where the message is one that no honest member can send, or
-    /// the input is one that its role has no use for: nothing changed then. An entry of the log that the core no longer has
-    /// comes from the keeper.
+    /// is applied to the tables and told, and what is sealed where that rose. What it gives is empty where the message is one
+    /// that no honest member can send, or the input is one that its role has no use for: nothing changed then. An entry of
+    /// the log that the core no longer has comes from the keeper.
     ///
     /// `Fault::Kept` is a refusal that leaves the node as it was: `NodeDown` where it is down, and
     /// those of `Core::step`. `Fault::Down` takes the node down: `StoreFault` where the store fails,
     /// `NoMemory` where memory is refused. What is stored is then what was so before the step, or
-    /// after it. A timeout, a beat or a close that is refused or ignored takes no memory, and never takes the node down.
+    /// after it. A timeout, a beat, a close or a floor that is refused or ignored takes no memory, and never takes the node
+    /// down.
     pub fn step(&mut self, work: Work) -> Result<Out, Fault>
         ensures done { self.old.is_up ≡ true → K.is_honest self.new.keeper → Gave (member_of self.old) (member_of self.new) (effect_at self.old work) result }
         ensures grows { OnOk result (K.is_honest self.new.keeper → Grows (member_of self.old) (member_of self.new)) }
         ensures applied { IfOk result (λ out. K.is_honest self.new.keeper → out.applied.items ≡ slice_range (member_of self.new).log (member_of self.old).commit (member_of self.new).commit) }
         ensures told { IfOk result (λ out. K.is_honest self.new.keeper → out.told.items ≡ told_between (schema_of (tables_of self.old)) (member_of self.new).log (member_of self.old).commit (member_of self.new).commit) }
+        ensures sealed { IfOk result (λ out. K.is_honest self.new.keeper → out.sealed ≡ risen (member_of self.old).sealed (member_of self.new).sealed) }
         ensures spares { K.is_honest self.new.keeper → spares_memory (members_of self.old) (me_of self.old) work (member_of self.old) ≡ true → IfErr result IsKept }
         ensures same { IfErr result (λ fault. K.is_honest self.new.keeper → IsSame (member_of self.old) (member_of self.new) fault) }
         ensures torn { IsTorn (durable_of (member_of self.old)) (durable_of (node_after (member_of self.old) (effect_at self.old work))) (K.may_hold self.new.keeper) result }
@@ -271,6 +292,7 @@ impl<K: Keeper> Node<K> {
                 messages: Vec::new(self.alloc),
                 applied: Vec::new(self.alloc),
                 told: Vec::new(self.alloc),
+                sealed: None,
             }),
             Ok(Effect::Refused(refusal)) => Err(Fault::Kept(refusal)),
             Err(error) => {
@@ -281,17 +303,17 @@ impl<K: Keeper> Node<K> {
     }
 
     /// Answers a question from the applied entries, and changes nothing; one without system time is AS OF the closed
-    /// time, the stamp of the last of them. `NodeDown` where the node is down, `NotClosed` with the closed time where the
-    /// question's last instant is later than it, or where nothing is applied, `NoMemory` where memory is refused.
+    /// time. `NodeDown` where the node is down, `NotClosed` with the closed time where the question's last instant is later
+    /// than it, or where nothing is closed, `NoMemory` where memory is refused.
     pub fn ask(&self, query: &Query) -> Result<Answer, Refusal>
-        ensures asked { self.now.is_up ≡ true → K.is_honest self.now.keeper → IsAskedOf (schema_of (tables_of self.now)) (query_of query.now) (applied (member_of self.now)) result }
+        ensures asked { self.now.is_up ≡ true → K.is_honest self.now.keeper → IsAskedOf (schema_of (tables_of self.now)) (query_of query.now) (applied (member_of self.now)) (closed_time (member_of self.now)) result }
         ensures columns { IfOk result (λ a. a.columns.items ≡ columns_in (tables_of self.now) query.now.table) }
         ensures down { self.now.is_up ≡ false → result ≡ Err Refusal.NodeDown }
     {
         if !self.is_up {
             return Err(Refusal::NodeDown);
         }
-        self.tables.ask(query)
+        self.tables.ask(query, self.closed_time())
     }
 
     /// Whether it takes steps and answers: no step has failed.
@@ -309,6 +331,18 @@ impl<K: Keeper> Node<K> {
             return None;
         }
         Some(self.core.commit())
+    }
+
+    /// Up to which instant it answers: the greater of the stamp of the last applied entry and what is sealed, none where
+    /// nothing is applied or sealed, and none where it is down. Takes no memory.
+    pub fn closed_time(&self) -> Option<Stamp>
+        ensures closed { self.now.is_up ≡ true → K.is_honest self.now.keeper → result ≡ closed_time (member_of self.now) }
+        ensures down { self.now.is_up ≡ false → result ≡ None }
+    {
+        if !self.is_up {
+            return None;
+        }
+        greater(self.tables.closed(), self.core.sealed())
     }
 
     /// Takes it down, as a step that fails does.
@@ -336,16 +370,16 @@ impl<K: Keeper> Node<K> {
         self.core.me
     }
 
-    /// Its term and its vote, which it keeps over a restart.
+    /// Its term, its vote and its floor, which it keeps over a restart.
     pub fn hard_state(&self) -> HardState
         ensures { result ≡ hard_of (member_of self.now) }
     {
         self.core.hard_state()
     }
 
-    /// A copy of its log; those entries that the core no longer has are read from the keeper, one at a time. `NodeDown` where
-    /// the node is down, with nothing changed; after another error it is down: `StoreFault` where the store fails, `NoMemory`
-    /// where memory is refused, or `BadStore` where the store was not honest.
+    /// A copy of its log, read from the keeper an entry at a time, each once. `NodeDown` where the node is down, with nothing
+    /// changed; after another error it is down: `StoreFault` where the store fails, `NoMemory` where memory is refused, or
+    /// `BadStore` where the store was not honest.
     pub fn entries(&mut self) -> Result<Vec<Entry>, StoreError>
         ensures ok { IfOk result (λ entries. K.is_honest self.new.keeper → entries.items ≡ (member_of self.old).log) }
         ensures up { OnOk result ((self.old.is_up ≡ true) × (self.new.is_up ≡ true)) }

@@ -2,12 +2,12 @@
 ghost use Rattle.std.specs.Prelude.{◌≡◌, ◌≢◌, ◌≤◌, ◌<◌, ◌+◌, ◌⊎◌, [], ◌++◌, ◌∷◌, true, false, Some, None, Err, IfOk, IfErr, OnOk, OnErr, MatchOption, MatchResult, slice_range, unwrap_or};
 ghost use Rattle.sqlread.specs.Meaning.{schema_of};
 ghost use Rattle.keep.specs.Durable.{Durable};
-ghost use Rattle.node.specs.View.{durable_of, spares_memory, Gave, IsKept, LeavesUp, HasCauseOr, told_between};
+ghost use Rattle.node.specs.View.{durable_of, spares_memory, Gave, IsKept, LeavesUp, HasCauseOr, risen, told_between};
 ghost use Rattle.node.specs.Member.{effect_at, me_of, member_of, members_of, tables_of, IsSameSeat};
 ghost use Rattle.model.specs.Marks.{mark_after};
 ghost use Rattle.model.specs.Members.{applied};
 ghost use Rattle.fault.specs.declared.refusal.Refusal.TheVariants.{NoMemory, NoView, BadStore};
-ghost use Rattle.history.specs.Items.{entries_of};
+ghost use Rattle.history.specs.Items.{entries_in, sealed_in};
 ghost use Rattle.view.specs.Publishing.{published, pending, given_of as views_of, book_of, IsSameLife};
 ghost use Rattle.view.specs.Viewing.{seen_by, name_seen, schema_seen, book_seen, IsTold};
 ghost use Rattle.flight.specs.Lives.{torn_step, all_steps, mark_for, step_of};
@@ -38,8 +38,9 @@ pub struct Out {
 }
 
 /// A node, its life, and what it publishes of it. While the node is up it is what its life replays to, and what is
-/// published and what is pending are together the entries that it has applied, each with the mark of its step. Once it is
-/// down what is published are the first of those that it had applied before the torn step. All this holds while its store is
+/// published and what is pending are together the entries that it has applied and the times that it has sealed, in their
+/// order and each with the mark of its step: what these close is the node's closed time. Once it is down what is published are
+/// the first of those before the torn step. All this holds while its store is
 /// honest. The store never holds anything but what was stored before the last step or after it.
 ///
 /// End it by `stop`; one that is dropped keeps the memory of what it published.
@@ -53,7 +54,8 @@ pub struct Cell<K: Keeper> {
     pub ghost torn: { node.is_up ≡ false → torn_step life.ending ≢ [] },
     pub ghost rising: { marks_rise life.opening.mark (all_steps life) ≡ true },
     pub ghost held: { node.is_up ≡ false → (d : Durable) → K.may_hold node.keeper d → ∥ IsLeft (tables_of node) (members_of node) (me_of node) life d ∥₁ },
-    pub ghost listed: { K.is_honest node.keeper → entries_of (items_of node life) ≡ applied (replay (tables_of node) (members_of node) (me_of node) life) },
+    pub ghost listed: { K.is_honest node.keeper → entries_in (items_of node life) ≡ applied (replay (tables_of node) (members_of node) (me_of node) life) },
+    pub ghost sealed: { K.is_honest node.keeper → sealed_in (items_of node life) ≡ (replay (tables_of node) (members_of node) (me_of node) life).sealed },
     pub ghost whole: { node.is_up ≡ true → K.is_honest node.keeper → published publisher ++ pending publisher ≡ items_of node life },
     pub ghost shown: { node.is_up ≡ false → K.is_honest node.keeper → AreFirst (published publisher) (items_of node life) },
     pub ghost named: { IsPublisherOf (tables_of node) (me_of node) life.opening.mark publisher },
@@ -136,12 +138,12 @@ impl<K: Keeper> Cell<K> {
     /// One step of the node by this packet, recorded with the mark that is one more than the greater of
     /// the last mark and the packet's, and with what it told of requests. A refused step and one without effect are recorded
     /// too. Then the entries that
-    /// became applied are published, for which it may wait for a view that reads; where there is no memory to publish
+    /// became applied are published, and what became sealed, for which it may wait for a view that reads; where there is no memory to publish
     /// them they stay pending, and a later step publishes them.
     ///
     /// 41 where the node is down; 42 where the life has its last step or no mark is left; 43 where there is no
     /// memory to record the step: these record and change nothing. A step that goes down is recorded as torn, and so is
-    /// one where there is no memory to record what it told or to append the entries that became applied; nothing is published
+    /// one where there is no memory to record what it told or to append what became applied or sealed; nothing is published
     /// then.
     pub fn feed<R: Wait>(&mut self, rt: &R, packet: Packet) -> Result<Out, Fault>
         ensures fed { (IsTurnedAway self.old.node.is_up (mark_for self.old.life packet) result
@@ -151,6 +153,7 @@ impl<K: Keeper> Cell<K> {
             × MatchOption (mark_for self.old.life packet) ⊥ (λ m. IsRecorded self.old.life self.new.life (step_of m packet) result)
             × (K.is_honest self.new.node.keeper → Gave (member_of self.old.node) (member_of self.new.node) (effect_at self.old.node (work_of packet)) (given_of result))) }
         ensures applied { IfOk result (λ out. K.is_honest self.new.node.keeper → out.given.applied.items ≡ slice_range (member_of self.new.node).log (member_of self.old.node).commit (member_of self.new.node).commit) }
+        ensures sealed { IfOk result (λ out. K.is_honest self.new.node.keeper → out.given.sealed ≡ risen (member_of self.old.node).sealed (member_of self.new.node).sealed) }
         ensures told { IfOk result (λ out. K.is_honest self.new.node.keeper → out.given.told.items ≡ told_between (schema_of (tables_of self.old.node)) (member_of self.new.node).log (member_of self.old.node).commit (member_of self.new.node).commit) }
         ensures published { (published self.new.publisher ≡ published self.old.publisher) ⊎ (K.is_honest self.new.node.keeper → published self.new.publisher ≡ items_of self.new.node self.new.life) }
         ensures silent { OnErr result (published self.new.publisher ≡ published self.old.publisher) }

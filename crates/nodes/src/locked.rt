@@ -2,7 +2,7 @@
 ghost use Rattle.std.specs.Prelude.{◌≡◌, ◌≤◌, ◌<◌, ◌+◌, ◌⊎◌, [], ◌∷◌, length, true, Some, Err, IfOk, IfErr, OnOk, OnErr, MatchOption, MatchResult, slice_range};
 ghost use Rattle.sqlread.specs.Meaning.{schema_of};
 ghost use Rattle.node.specs.View.{Gave, LeavesUp, told_between};
-ghost use Rattle.node.specs.Member.{effect_at, me_of, member_of, tables_of, IsSameSeat};
+ghost use Rattle.node.specs.Member.{effect_at, me_of, member_of, tables_of};
 ghost use Rattle.fault.specs.declared.refusal.Refusal.TheVariants.{NoMemory, NoView};
 ghost use Rattle.view.specs.Publishing.{published, book_of, given_of};
 ghost use Rattle.view.specs.Viewing.{seen_by, name_seen, book_seen, book_told, IsTold};
@@ -82,7 +82,6 @@ impl<K: Keeper, L: Naming> LockedNode<K, L> {
         ensures published { (published self.new.cell.publisher ≡ published self.old.cell.publisher) ⊎ (K.is_honest self.new.cell.node.keeper → published self.new.cell.publisher ≡ items_of self.new.cell.node self.new.cell.life) }
         ensures leaves { IfErr result (LeavesUp self.old.cell.node.is_up self.new.cell.node.is_up) }
         ensures honest { K.is_honest self.new.cell.node.keeper → K.is_honest self.old.cell.node.keeper }
-        ensures group { IsSameSeat self.old.cell.node self.new.cell.node }
         ensures counted { share.new.amount + length (all_steps self.old.cell.life) ≡ share.old.amount + length (all_steps self.new.cell.life) }
         ensures parts { share.new.parts ≡ share.old.parts }
     {

@@ -41,7 +41,6 @@ pub struct Judge {
     days: Period,
     accepted: Vec<Accepted>,
     executed: Vec<Executed>,
-    last: Option<Stamp>,
 }
 
 fn stamp_text(alloc: Global, stamp: Stamp) -> Result<Text, AllocError> {
@@ -73,13 +72,7 @@ impl Judge {
             days,
             accepted: Vec::new(alloc),
             executed: Vec::new(alloc),
-            last: None,
         }
-    }
-
-    /// Takes an entry that only bears its stamp.
-    pub fn close(&mut self, stamp: Stamp) {
-        self.last = Some(stamp);
     }
 
     /// Takes an entry with a client's request of this number, and gives its outcome: the transaction is executed where
@@ -93,7 +86,6 @@ impl Judge {
         number: u64,
         transaction: Transaction,
     ) -> Result<Outcome, AllocError> {
-        self.last = Some(stamp);
         let last = self.last_number(client);
         if last.checked_add(1) == Some(number) {
             return self.execute(schema, stamp, client, number, transaction);
@@ -185,15 +177,20 @@ impl Judge {
         }
     }
 
-    /// The answer to a question; one without system time is AS OF the last stamp. `NotClosed` with the last stamp where
-    /// the question's last instant is later than that, or where there is none; `NoMemory`.
-    pub fn ask(&self, schema: &Schema, query: &Query) -> Result<Answer, Refusal> {
-        let Some(last) = self.last else {
+    /// The answer to a question where time is closed up to this instant: one without system time is AS OF it.
+    /// `NotClosed` with that instant where the question's last one is later, or where there is none; `NoMemory`.
+    pub fn ask(
+        &self,
+        schema: &Schema,
+        query: &Query,
+        closed: Option<Stamp>,
+    ) -> Result<Answer, Refusal> {
+        let Some(closed) = closed else {
             return Err(Refusal::NotClosed(None));
         };
-        let time = query.time.unwrap_or(SystemTime::as_of(last));
-        if time.last.micros() > last.micros() {
-            return Err(Refusal::NotClosed(Some(stamp_text(self.alloc, last)?)));
+        let time = query.time.unwrap_or(SystemTime::as_of(closed));
+        if time.last.micros() > closed.micros() {
+            return Err(Refusal::NotClosed(Some(stamp_text(self.alloc, closed)?)));
         }
         let history = self.history(schema)?;
         Ok(answer_to(self.alloc, &history, query, time)?)

@@ -7,15 +7,15 @@ use Rattle.fault.specs.declared.refusal.Refusal.{Refusal}
 use Rattle.model.specs.declared.entry.Entry.{Entry}
 use Rattle.model.specs.declared.entry.Request.{Request}
 use Rattle.model.specs.declared.message.Body.{Body}
-use Rattle.model.specs.declared.message.Body.TheVariants.{RequestVote, Vote, Append, Reply}
+use Rattle.model.specs.declared.message.Body.TheVariants.{RequestVote, Vote, Append, Reply, Seek, Stored, Seal}
 use Rattle.model.specs.declared.message.Message.{Message}
 use Rattle.model.specs.declared.message.Input.{Input}
-use Rattle.model.specs.declared.message.Input.TheVariants.{Timeout, Beat, Close, Submit}
-use Rattle.model.specs.Stamps.{TIME_LAST, stamp}
-use Rattle.model.specs.Logs.{least_stamp}
+use Rattle.model.specs.declared.message.Input.TheVariants.{Timeout, Beat, Close, Floor, Submit}
+use Rattle.model.specs.Stamps.{TIME_LAST, above, greater, stamp}
+use Rattle.model.specs.Logs.{closed, last_entry, least_over, least_stamp}
 use Rattle.model.specs.Transactions.{Schema, Statement}
-use Rattle.model.specs.Members.{Node, is_leader, is_candidate, is_majority, is_in, stands}
-use Rattle.model.specs.Steps.{After, Effect, Moves, Refuses, Nothing, TERM_LAST, LOG_LIMIT, accepted, time_out, append_own, on_input, is_time_full, is_log_full, extended, opened, crowned, counted, hears, in_term, grants, on_request_vote, on_vote, continues, cuts_below, go_on, spells, entries_of, on_append, on_reply, on_reply_yes, on_reply_no, on_body, is_honest, on_message}
+use Rattle.model.specs.Members.{Node, has_term, is_leader, is_candidate, is_majority, is_in, stands}
+use Rattle.model.specs.Steps.{After, Effect, Moves, Refuses, Nothing, TERM_LAST, LOG_LIMIT, accepted, time_out, append_own, on_input, is_time_full, is_log_full, extended, opened, crowned, counted, hears, in_term, grants, on_request_vote, on_vote, continues, cuts_below, go_on, spells, entries_of, on_append, on_reply, on_reply_yes, on_reply_no, ask_floor, asks_for, on_seek, on_stored, with_stored, floor_fits, on_body, is_honest, on_message}
 use Rattle.model.specs.Worlds.{hand, unless_misread}
 use Rattle.model.specs.Kept.{node_after}
 use Rattle.sqlchecks.specs.Columns.{Tables}
@@ -64,21 +64,28 @@ stamp_below : (reading : ℤ) (least : ℕ) → least ≤ TIME_LAST → stamp re
 stamp_below (pos reading) least h = elim (leb_tells reading TIME_LAST) [ inl low ↦ rw low.0 (omega (arith, low.1, h)) | inr high ↦ rw high.0 h ]
 stamp_below (negsuc n) least h = h
 
-not_full : (log : List Entry) → is_time_full log ≡ false → least_stamp log ≤ TIME_LAST
-not_full log e = elim (ltb_tells TIME_LAST (least_stamp log)) [ inl lt ↦ absurd (cc (e, lt.0)) | inr ge ↦ ge.1 ]
+not_full : (floor : Option ℕ) (log : List Entry) → is_time_full floor log ≡ false → least_over floor log ≤ TIME_LAST
+not_full floor log e = elim (ltb_tells TIME_LAST (least_over floor log)) [ inl lt ↦ absurd (cc (e, lt.0)) | inr ge ↦ ge.1 ]
 
-extended_forms : (schema : Schema) (reading : ℤ) (request : Option Request) (x : Node) → 1 ≤ x.term → is_time_full x.log ≡ false → is_numbered request ≡ true → spells schema request ≡ true → Forms schema x → Forms schema (extended reading request x)
+over_none : (a b : Option ℕ) → above a ≤ above (greater a b)
+over_none None b = omega arith
+over_none (Some a) None = omega arith
+over_none (Some a) (Some b) = omega arith
+
+extended_forms : (schema : Schema) (reading : ℤ) (request : Option Request) (x : Node) → 1 ≤ x.term → is_time_full x.floor x.log ≡ false → is_numbered request ≡ true → spells schema request ≡ true → Forms schema x → Forms schema (extended reading request x)
 extended_forms schema reading request x first room numbered reads f =
-    let e : Entry = record { term = x.term; stamp = stamp reading (least_stamp x.log); request = request } in
-    let later : least_stamp x.log ≤ e.stamp = stamp_least reading (least_stamp x.log) in
-    let fine : is_entry schema e ≡ true = joint _ _ (le-leb e.stamp TIME_LAST (stamp_below reading (least_stamp x.log) (not_full x.log room))) (joint _ _ numbered reads) in
+    let least = least_over x.floor x.log in
+    let e : Entry = record { term = x.term; stamp = stamp reading least; request = request } in
+    let over : least_stamp x.log ≤ least = over_none (closed x.log) x.floor in
+    let later : least_stamp x.log ≤ e.stamp = omega (arith, over, stamp_least reading least) in
+    let fine : is_entry schema e ≡ true = joint _ _ (le-leb e.stamp TIME_LAST (stamp_below reading least (not_full x.floor x.log room))) (joint _ _ numbered reads) in
     record { rises = pushed_rises x.log e f.rises first later; entries = pushed_entries (is_entry schema) x.log e f.entries fine }
 
 append_own_forms : (schema : Schema) (n me : ℕ) (reading : ℤ) (request : Option Request) (x : Node) → Stands x → is_numbered request ≡ true → spells schema request ≡ true → Forms schema x → Formed schema x (append_own n me reading request x)
 unfolding append_own
 append_own_forms schema n me reading request x s numbered reads f =
     let P : Effect → Type 0 = Formed schema x in
-    told P (not (is_leader x.role)) _ _ (λ h. record { forms = f }) (λ leads. told P (is_time_full x.log) _ _ (λ h. record { forms = f }) (λ room. told P (is_log_full x.log) _ _ (λ h. record { forms = f }) (λ h.
+    told P (not (is_leader x.role)) _ _ (λ h. record { forms = f }) (λ leads. told P (is_time_full x.floor x.log) _ _ (λ h. record { forms = f }) (λ room. told P (is_log_full x.log) _ _ (λ h. record { forms = f }) (λ h.
     record { forms = extended_forms schema reading request x (s.leads (is_so (is_leader x.role) leads)) room numbered reads f })))
 
 time_out_forms : (schema : Schema) (n me : ℕ) (x : Node) → Forms schema x → Formed schema x (time_out n me x)
@@ -95,26 +102,32 @@ unless_forms : (schema : Schema) (r : Result (List Statement) Refusal) (effect :
 unless_forms schema (Ok statements) effect x f h = h refl
 unless_forms schema (Err refusal) effect x f h = record { forms = f }
 
+ask_forms : (schema : Schema) (n me : ℕ) (reading : ℤ) (x : Node) → Forms schema x → Formed schema x (ask_floor n me reading x)
+unfolding ask_floor
+ask_forms schema n me reading x f =
+    told (Formed schema x) (is_leader x.role && has_term (last_entry x.log) x.term) _ _ (λ h. record { forms = record { rises = f.rises; entries = f.entries } }) (λ h. record { forms = f })
+
 hand_forms : (schema : Tables) (n me : ℕ) (input : Input) (x : Node) → Stands x → IsRanged (Local input) → Forms (schema_of schema) x → Formed (schema_of schema) x (hand (schema_of schema) n me input x)
 hand_forms schema n me Timeout x s ranged f = time_out_forms (schema_of schema) n me x f
 hand_forms schema n me Beat x s ranged f = beat_forms (schema_of schema) n me x f
 hand_forms schema n me (Close reading) x s ranged f = append_own_forms (schema_of schema) n me reading None x s refl refl f
+hand_forms schema n me (Floor reading) x s ranged f = ask_forms (schema_of schema) n me reading x f
 hand_forms schema n me (Submit reading request) x s ranged f = unless_forms (schema_of schema) ((schema_of schema).reads request.text) _ x f (λ reads. append_own_forms (schema_of schema) n me reading (Some request) x s ranged reads f)
 
 -- ---- messages
 
 opened_forms : (schema : Schema) (reading : ℤ) (x : Node) → 1 ≤ x.term → Forms schema x → Forms schema (opened reading x)
 opened_forms schema reading x first f =
-    told (Forms schema) (is_time_full x.log || is_log_full x.log) _ _ (λ h. f) (λ h. extended_forms schema reading None x first (neither (is_time_full x.log) (is_log_full x.log) h).0 refl refl f)
+    told (Forms schema) (is_time_full x.floor x.log || is_log_full x.log) _ _ (λ h. f) (λ h. extended_forms schema reading None x first (neither (is_time_full x.floor x.log) (is_log_full x.log) h).0 refl refl f)
 
-vote_forms : (schema : Schema) (n me : ℕ) (reading : ℤ) (sender term : ℕ) (given : Bool) (x : Node) → Stands x → Forms schema x → FormedAfter schema (on_vote n me reading sender term given x)
+vote_forms : (schema : Schema) (n me : ℕ) (reading : ℤ) (sender term : ℕ) (given : Bool) (floor : Option ℕ) (x : Node) → Stands x → Forms schema x → FormedAfter schema (on_vote n me reading sender term given floor x)
 unfolding on_vote
-vote_forms schema n me reading sender term given x s f =
+vote_forms schema n me reading sender term given floor x s f =
     let P : After → Type 0 = FormedAfter schema in
-    let same : Forms schema (crowned n x) = record { rises = f.rises; entries = f.entries } in
+    let same : Forms schema (crowned n (counted sender floor x)) = record { rises = f.rises; entries = f.entries } in
     told P (given && (term == x.term) && is_candidate x.role) _ _
-    (λ h. told P (is_majority n (is_in (counted sender x).votes)) _ _
-    (λ elected. record { forms = opened_forms schema reading (crowned n x) (s.stands (parts (given && (term == x.term)) (is_candidate x.role) h).1) same })
+    (λ h. told P (is_majority n (is_in (counted sender floor x).votes)) _ _
+    (λ elected. record { forms = opened_forms schema reading (crowned n (counted sender floor x)) (s.stands (parts (given && (term == x.term)) (is_candidate x.role) h).1) same })
     (λ lost. record { forms = record { rises = f.rises; entries = f.entries } }))
     (λ h. record { forms = f })
 
@@ -155,11 +168,27 @@ reply_forms schema n me sender term ok matched x f =
     let P : Effect → Type 0 = Formed schema x in
     told P (is_leader x.role && (term == x.term)) _ _ (λ h. told P ok _ _ (λ h. reply_yes_forms schema n me sender matched x f) (λ h. reply_no_forms schema me sender x f)) (λ h. record { forms = f })
 
+seek_forms : (schema : Schema) (me sender term index floor : ℕ) (x : Node) → Forms schema x → Formed schema x (on_seek me sender term index floor x)
+unfolding on_seek
+seek_forms schema me sender term index floor x f =
+    told (Formed schema x) (nat_lt term x.term) _ _ (λ h. record { forms = f }) (λ h. told (Formed schema x) (is_leader x.role) _ _ (λ h. record { forms = f }) (λ h. record { forms = record { rises = f.rises; entries = f.entries } }))
+
+stored_forms : (schema : Schema) (n me sender term index floor : ℕ) (x : Node) → Forms schema x → FormedAfter schema (on_stored n me sender term index floor x)
+unfolding on_stored
+stored_forms schema n me sender term index floor x f =
+    let same : Forms schema (with_stored sender x) = record { rises = f.rises; entries = f.entries } in
+    told (FormedAfter schema) (is_leader x.role && (term == x.term) && asks_for x.asked index floor) _ _
+    (λ h. told (FormedAfter schema) (not (is_majority n (is_in x.stored)) && is_majority n (is_in (with_stored sender x).stored)) _ _ (λ h. record { forms = record { rises = f.rises; entries = f.entries } }) (λ h. record { forms = same }))
+    (λ h. record { forms = f })
+
 body_forms : (schema : Schema) (n me : ℕ) (reading : ℤ) (sender term : ℕ) (b : Body) (x : Node) → Stands x → term ≤ x.term → list_all (is_entry schema) (entries_of b) ≡ true → Forms schema x → Formed schema x (on_body n me reading sender term b x)
 body_forms schema n me reading sender term (RequestVote i t) x s low new f = record { forms = (request_vote_forms schema me sender term i t x f).forms }
-body_forms schema n me reading sender term (Vote given) x s low new f = record { forms = (vote_forms schema n me reading sender term given x s f).forms }
+body_forms schema n me reading sender term (Vote given floor) x s low new f = record { forms = (vote_forms schema n me reading sender term given floor x s f).forms }
 body_forms schema n me reading sender term (Append prev prev_term es commit) x s low new f = append_forms schema me sender term prev prev_term es commit x low new f
 body_forms schema n me reading sender term (Reply ok matched) x s low new f = reply_forms schema n me sender term ok matched x f
+body_forms schema n me reading sender term (Seek index floor) x s low new f = seek_forms schema me sender term index floor x f
+body_forms schema n me reading sender term (Stored index floor) x s low new f = record { forms = (stored_forms schema n me sender term index floor x f).forms }
+body_forms schema n me reading sender term (Seal index floor) x s low new f = record { forms = record { rises = f.rises; entries = f.entries } }
 
 -- the term that is heard of
 record Heard (schema : Schema) (term : ℕ) (y : Node) : Type 0 where
@@ -196,7 +225,8 @@ message_forms : (schema : Schema) (n me : ℕ) (reading : ℤ) (m : Message) (x 
 message_forms schema n me reading m x s ranged f =
     told (Formed schema x) (is_honest schema n me m) _ _ (λ honest.
     let h = hears_forms schema m.term x s f in
-    let reads = (parts _ (list_all (λ e. spells schema e.request) (entries_of m.body)) honest).1 in
+    let told_floor = parts _ (floor_fits m.body) honest in
+    let reads = (parts _ (list_all (λ e. spells schema e.request) (entries_of m.body)) told_floor.0).1 in
     after_heard schema x (hears m.term x) _ f (body_forms schema n me reading m.sender m.term m.body (hears m.term x) h.stands h.low (entries_fine schema (entries_of m.body) ranged reads) h.forms)) (λ h. record { forms = f })
 
 pub work_forms : (schema : Tables) (n me : ℕ) (work : Work) (x : Node) → Stands x → IsRanged work → Forms (schema_of schema) x → Forms (schema_of schema) (node_after x (works schema n me work x))

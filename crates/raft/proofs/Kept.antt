@@ -3,16 +3,16 @@ use Rattle.std.proofs.Common.{◌≡◌, ◌⊎◌, ℕ, ℤ, Bool, true, false,
 use Rattle.model.specs.declared.entry.Entry.{Entry}
 use Rattle.model.specs.declared.entry.Request.{Request}
 use Rattle.model.specs.declared.message.Body.{Body}
-use Rattle.model.specs.declared.message.Body.TheVariants.{RequestVote, Vote, Append, Reply}
+use Rattle.model.specs.declared.message.Body.TheVariants.{RequestVote, Vote, Append, Reply, Seek, Stored, Seal}
 use Rattle.model.specs.declared.message.Message.{Message}
 use Rattle.model.specs.declared.message.Input.{Input}
-use Rattle.model.specs.declared.message.Input.TheVariants.{Timeout, Beat, Close, Submit}
+use Rattle.model.specs.declared.message.Input.TheVariants.{Timeout, Beat, Close, Floor, Submit}
 use Rattle.fault.specs.declared.refusal.Refusal.{Refusal}
 use Rattle.model.specs.Stamps.{stamp}
-use Rattle.model.specs.Logs.{least_stamp}
+use Rattle.model.specs.Logs.{last_entry, least_over}
 use Rattle.model.specs.Transactions.{Schema, Statement}
-use Rattle.model.specs.Members.{Node, is_leader, is_candidate, is_majority, is_in, stands}
-use Rattle.model.specs.Steps.{After, Effect, Moves, Refuses, Nothing, TERM_LAST, LOG_LIMIT, accepted, time_out, append_own, on_input, is_time_full, is_log_full, extended, opened, crowned, counted, hears, in_term, grants, on_request_vote, on_vote, continues, cuts_below, on_append, on_reply, on_reply_yes, on_reply_no, on_body, is_honest, on_message}
+use Rattle.model.specs.Members.{Node, has_term, is_leader, is_candidate, is_majority, is_in, stands}
+use Rattle.model.specs.Steps.{After, Effect, Moves, Refuses, Nothing, TERM_LAST, LOG_LIMIT, accepted, time_out, append_own, on_input, is_time_full, is_log_full, extended, opened, crowned, counted, hears, in_term, grants, on_request_vote, on_vote, continues, cuts_below, on_append, on_reply, on_reply_yes, on_reply_no, ask_floor, asks_for, on_seek, on_stored, with_stored, on_body, is_honest, on_message}
 use Rattle.model.specs.Worlds.{hand, unless_misread}
 use Rattle.model.specs.Kept.{kept_under, kept_at, node_after}
 use Rattle.raft.proofs.Lists.{stands_within, is_so}
@@ -38,7 +38,7 @@ pub record Leaves (k : ℕ) (x : Node) (effect : Effect) : Type 0 where
   pub turns : ((node_after x effect).log ≡ x.log) ⊎ Cut k x.log (node_after x effect).log
 
 extended_keeps : (reading : ℤ) (request : Option Request) (x : Node) → Begins (length x.log) x.log (extended reading request x)
-extended_keeps reading request x = record { turns = inr (pushed x.log (record { term = x.term; stamp = stamp reading (least_stamp x.log); request = request })) }
+extended_keeps reading request x = record { turns = inr (pushed x.log (record { term = x.term; stamp = stamp reading (least_over x.floor x.log); request = request })) }
 
 time_out_keeps : (n me k : ℕ) (x : Node) → Leaves k x (time_out n me x)
 unfolding time_out
@@ -48,12 +48,17 @@ append_own_keeps : (n me : ℕ) (reading : ℤ) (request : Option Request) (x : 
 unfolding append_own
 append_own_keeps n me reading request x =
     let P : Effect → Type 0 = Leaves (length x.log) x in
-    cond_both P (not (is_leader x.role)) _ _ (record { turns = inl refl }) (cond_both P (is_time_full x.log) _ _ (record { turns = inl refl }) (cond_both P (is_log_full x.log) _ _ (record { turns = inl refl }) (record { turns = (extended_keeps reading request x).turns })))
+    cond_both P (not (is_leader x.role)) _ _ (record { turns = inl refl }) (cond_both P (is_time_full x.floor x.log) _ _ (record { turns = inl refl }) (cond_both P (is_log_full x.log) _ _ (record { turns = inl refl }) (record { turns = (extended_keeps reading request x).turns })))
+
+ask_keeps : (n me : ℕ) (reading : ℤ) (k : ℕ) (x : Node) → Leaves k x (ask_floor n me reading x)
+unfolding ask_floor
+ask_keeps n me reading k x = cond_both (Leaves k x) (is_leader x.role && has_term (last_entry x.log) x.term) _ _ (record { turns = inl refl }) (record { turns = inl refl })
 
 input_keeps : (n me : ℕ) (input : Input) (x : Node) → Leaves (length x.log) x (on_input n me input x)
 input_keeps n me Timeout x = time_out_keeps n me (length x.log) x
 input_keeps n me Beat x = cond_both (Leaves (length x.log) x) (is_leader x.role) _ _ (record { turns = inl refl }) (record { turns = inl refl })
 input_keeps n me (Close reading) x = append_own_keeps n me reading None x
+input_keeps n me (Floor reading) x = ask_keeps n me reading (length x.log) x
 input_keeps n me (Submit reading request) x = append_own_keeps n me reading (Some request) x
 
 unless_keeps : (r : Result (List Statement) Refusal) (effect : Effect) (x : Node) → Leaves (length x.log) x effect → Leaves (length x.log) x (unless_misread r effect)
@@ -64,10 +69,11 @@ pub hand_keeps : (schema : Schema) (n me : ℕ) (input : Input) (x : Node) → L
 hand_keeps schema n me Timeout x = input_keeps n me Timeout x
 hand_keeps schema n me Beat x = input_keeps n me Beat x
 hand_keeps schema n me (Close reading) x = input_keeps n me (Close reading) x
+hand_keeps schema n me (Floor reading) x = input_keeps n me (Floor reading) x
 hand_keeps schema n me (Submit reading request) x = unless_keeps (schema.reads request.text) _ x (input_keeps n me (Submit reading request) x)
 
 opened_keeps : (reading : ℤ) (x : Node) → Begins (length x.log) x.log (opened reading x)
-opened_keeps reading x = cond_both (Begins (length x.log) x.log) (is_time_full x.log || is_log_full x.log) _ _ (record { turns = inl refl }) (extended_keeps reading None x)
+opened_keeps reading x = cond_both (Begins (length x.log) x.log) (is_time_full x.floor x.log || is_log_full x.log) _ _ (record { turns = inl refl }) (extended_keeps reading None x)
 
 hears_keeps : (term : ℕ) (x : Node) → (hears term x).log ≡ x.log
 unfolding hears
@@ -77,11 +83,11 @@ request_vote_keeps : (me sender term i t k : ℕ) (x : Node) → Keeps k x.log (
 unfolding on_request_vote
 request_vote_keeps me sender term i t k x = cond_both (Keeps k x.log) (grants sender term i t x) _ _ (record { turns = inl refl }) (record { turns = inl refl })
 
-vote_keeps : (n me : ℕ) (reading : ℤ) (sender term : ℕ) (given : Bool) (x : Node) → Keeps (length x.log) x.log (on_vote n me reading sender term given x)
+vote_keeps : (n me : ℕ) (reading : ℤ) (sender term : ℕ) (given : Bool) (floor : Option ℕ) (x : Node) → Keeps (length x.log) x.log (on_vote n me reading sender term given floor x)
 unfolding on_vote
-vote_keeps n me reading sender term given x =
+vote_keeps n me reading sender term given floor x =
     let P : After → Type 0 = Keeps (length x.log) x.log in
-    cond_both P (given && (term == x.term) && is_candidate x.role) _ _ (cond_both P (is_majority n (is_in (counted sender x).votes)) _ _ (record { turns = (opened_keeps reading (crowned n x)).turns }) (record { turns = inl refl })) (record { turns = inl refl })
+    cond_both P (given && (term == x.term) && is_candidate x.role) _ _ (cond_both P (is_majority n (is_in (counted sender floor x).votes)) _ _ (record { turns = (opened_keeps reading (crowned n (counted sender floor x))).turns }) (record { turns = inl refl })) (record { turns = inl refl })
 
 append_keeps : (me sender term prev prev_term : ℕ) (es : List Entry) (commit : ℕ) (x : Node) → Leaves (kept_under prev es x.log) x (on_append me sender term prev prev_term es commit x)
 unfolding on_append
@@ -103,11 +109,24 @@ reply_keeps : (n me sender term : ℕ) (ok : Bool) (matched k : ℕ) (x : Node) 
 reply_keeps n me sender term ok matched k x =
     cond_both (Leaves k x) (is_leader x.role && (term == x.term)) _ _ (cond_both (Leaves k x) ok _ _ (reply_yes_keeps n me sender matched k x) (reply_no_keeps me sender k x)) (record { turns = inl refl })
 
+seek_keeps : (me sender term index floor k : ℕ) (x : Node) → Leaves k x (on_seek me sender term index floor x)
+unfolding on_seek
+seek_keeps me sender term index floor k x = cond_both (Leaves k x) (nat_lt term x.term) _ _ (record { turns = inl refl }) (cond_both (Leaves k x) (is_leader x.role) _ _ (record { turns = inl refl }) (record { turns = inl refl }))
+
+stored_keeps : (n me sender term index floor k : ℕ) (x : Node) → Keeps k x.log (on_stored n me sender term index floor x)
+unfolding on_stored
+stored_keeps n me sender term index floor k x =
+    let P : After → Type 0 = Keeps k x.log in
+    cond_both P (is_leader x.role && (term == x.term) && asks_for x.asked index floor) _ _ (cond_both P (not (is_majority n (is_in x.stored)) && is_majority n (is_in (with_stored sender x).stored)) _ _ (record { turns = inl refl }) (record { turns = inl refl })) (record { turns = inl refl })
+
 body_keeps : (n me : ℕ) (reading : ℤ) (sender term : ℕ) (b : Body) (x : Node) → Leaves (kept_at b x.log) x (on_body n me reading sender term b x)
 body_keeps n me reading sender term (RequestVote i t) x = record { turns = (request_vote_keeps me sender term i t (length x.log) x).turns }
-body_keeps n me reading sender term (Vote given) x = record { turns = (vote_keeps n me reading sender term given x).turns }
+body_keeps n me reading sender term (Vote given floor) x = record { turns = (vote_keeps n me reading sender term given floor x).turns }
 body_keeps n me reading sender term (Append prev prev_term es commit) x = append_keeps me sender term prev prev_term es commit x
 body_keeps n me reading sender term (Reply ok matched) x = reply_keeps n me sender term ok matched (length x.log) x
+body_keeps n me reading sender term (Seek index floor) x = seek_keeps me sender term index floor (length x.log) x
+body_keeps n me reading sender term (Stored index floor) x = record { turns = (stored_keeps n me sender term index floor (length x.log) x).turns }
+body_keeps n me reading sender term (Seal index floor) x = record { turns = inl refl }
 
 -- the term that was heard of changes no log
 heard : (b : Body) (x y : Node) (effect : Effect) → y.log ≡ x.log → Leaves (kept_at b y.log) y effect → Leaves (kept_at b x.log) x effect

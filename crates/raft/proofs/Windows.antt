@@ -6,9 +6,9 @@ use Rattle.std.proofs.lemmas.Bool.Decides.{eqb_tells, leb_tells}
 use Rattle.std.specs.Prelude.{vec_len}
 use Rattle.model.specs.declared.entry.Entry.{Entry}
 use Rattle.model.specs.Lists.{nth}
-use Rattle.model.specs.Logs.{last_entry, least_stamp}
+use Rattle.model.specs.Logs.{closed, last_entry, least_over}
 use Rattle.model.specs.Members.{agreed, has_term, last_term, stands, term_at, term_of}
-use Rattle.model.specs.Stamps.{above}
+use Rattle.model.specs.Stamps.{above, greater}
 use Rattle.model.specs.Steps.{continues}
 use Rattle.model.specs.Kept.{kept_under}
 use Rattle.raft.proofs.Lists.{agreed_reach, drop_min}
@@ -63,8 +63,11 @@ last_of c stored =
 pub last_term_of : (c : Core) (stored : List Entry) → last_term (log_of c stored) ≡ last_term c.log.tail.items
 last_term_of c stored = ap term_of (last_of c stored)
 
-pub least_stamp_of : (c : Core) (stored : List Entry) → least_stamp (log_of c stored) ≡ least_stamp c.log.tail.items
-least_stamp_of c stored = ap (λ (o : Option Entry). above (option_map (λ e. e.stamp) o)) (last_of c stored)
+pub closed_of : (c : Core) (stored : List Entry) → closed (log_of c stored) ≡ closed c.log.tail.items
+closed_of c stored = ap (λ (o : Option Entry). option_map (λ e. e.stamp) o) (last_of c stored)
+
+pub least_over_of : (c : Core) (stored : List Entry) (floor : Option ℕ) → least_over floor (log_of c stored) ≡ least_over floor c.log.tail.items
+least_over_of c stored floor = ap (λ (o : Option ℕ). above (greater o floor)) (closed_of c stored)
 
 pub length_of : (c : Core) (stored : List Entry) → Reaches c stored → length (log_of c stored) ≡ c.log.shelved + vec_len c.log.tail
 length_of c stored there =

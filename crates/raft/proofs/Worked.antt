@@ -9,9 +9,9 @@ use Rattle.keep.specs.Log.{IsLog, is_entry}
 use Rattle.model.specs.declared.entry.Entry.{Entry}
 use Rattle.model.specs.declared.message.Body.TheVariants as body
 use Rattle.model.specs.declared.message.Message.{Message}
-use Rattle.model.specs.declared.message.Input.TheVariants.{Timeout, Beat, Close, Submit}
+use Rattle.model.specs.declared.message.Input.TheVariants.{Timeout, Beat, Close, Floor, Submit}
 use Rattle.model.specs.Members.{Node, agreed}
-use Rattle.model.specs.Steps.{After, Effect, Moves, Nothing, entries_of, go_on, is_honest, on_body, spells, hears}
+use Rattle.model.specs.Steps.{After, Effect, Moves, Nothing, entries_of, go_on, is_honest, floor_fits, is_floor, on_body, spells, hears}
 use Rattle.model.specs.Kept.{kept_at, kept_under}
 use Rattle.raft.specs.declared.short_log.ShortLog.{ShortLog}
 use Rattle.raft.specs.declared.state.Core.{Core}
@@ -74,6 +74,10 @@ sends_term n me sending.VoteRequests x = refl
 sends_term n me (sending.Append to) x = refl
 sends_term n me sending.Appends x = refl
 sends_term n me (sending.Agreed sender) x = refl
+sends_term n me (sending.Accepted to matched) x = refl
+sends_term n me (sending.Seeks asked) x = refl
+sends_term n me (sending.Seals seal) x = refl
+sends_term n me (sending.Learned seal) x = refl
 
 pub sends_log : (n me : ℕ) (s : Sending) (x : Node) → (sends n me s x).node.log ≡ x.log
 sends_log n me sending.Nothing x = refl
@@ -82,6 +86,10 @@ sends_log n me sending.VoteRequests x = refl
 sends_log n me (sending.Append to) x = refl
 sends_log n me sending.Appends x = refl
 sends_log n me (sending.Agreed sender) x = refl
+sends_log n me (sending.Accepted to matched) x = refl
+sends_log n me (sending.Seeks asked) x = refl
+sends_log n me (sending.Seals seal) x = refl
+sends_log n me (sending.Learned seal) x = refl
 
 -- ---- the work
 
@@ -112,9 +120,9 @@ mid_forms old mid stored work s e ranged log =
     let whole = sends_log mid.members mid.me s (node_of mid stored) in
     record { rises = rw (term, whole) at after.rises; entries = rw whole at after.entries }
 
-pub new_log : (old mid new : Core) (stored : List Entry) → new.schema ≡ old.schema → new.log ≡ mid.log → new.term ≡ mid.term → Reaches new stored → Forms (schema_of old.schema) (node_of mid stored)
+pub new_log : (old mid new : Core) (stored : List Entry) → new.schema ≡ old.schema → new.log ≡ mid.log → new.term ≡ mid.term → is_floor new.floor ≡ true → Reaches new stored → Forms (schema_of old.schema) (node_of mid stored)
     → IsLog new.members (schema_of new.schema) (record { hard = hard_in new; log = log_of new stored })
-new_log old mid new stored schema log term near f =
+new_log old mid new stored schema log term floor near f =
     let P : ShortLog → Type 0 = λ l. go_on None mid.term (take l.shelved stored ++ l.tail.items) ≡ true in
     let Q : ShortLog → Type 0 = λ l. list_all (is_entry (schema_of old.schema)) (take l.shelved stored ++ l.tail.items) ≡ true in
     let rises : go_on None mid.term (log_of new stored) ≡ true = subst P (sym log) f.rises in
@@ -122,6 +130,7 @@ new_log old mid new stored schema log term near f =
     record {
       term = new.term_within;
       vote = new.vote_within;
+      floor = floor;
       room = omega (arith, length_of new stored near, new.log.within);
       rises = subst (λ (t : ℕ). go_on None t (log_of new stored) ≡ true) (sym term) rises;
       entries = subst (λ (s : Tables). list_all (is_entry (schema_of s)) (log_of new stored) ≡ true) (sym schema) entries;
@@ -134,7 +143,8 @@ moves_carried schema n me (Delivered reading m) x a e =
     let P : Bool → Type 0 = λ b. is_honest (schema_of schema) n me m ≡ b → Moves a ≡ cond b (on_body n me reading m.sender m.term m.body (hears m.term x)) Nothing → length (entries_of m.body) ≤ 64 in
     let either : P (is_honest (schema_of schema) n me m) = elim (is_honest (schema_of schema) n me m) as P [
       | true ↦ λ honest moves.
-          let reads = parts _ (list_all (λ d. spells (schema_of schema) d.request) (entries_of m.body)) honest in
+          let told = parts _ (floor_fits m.body) honest in
+          let reads = parts _ (list_all (λ d. spells (schema_of schema) d.request) (entries_of m.body)) told.0 in
           let goes = parts _ (go_on None m.term (entries_of m.body)) reads.0 in
           let few = parts _ (nat_le (length (entries_of m.body)) 64) goes.0 in
           leb-true (length (entries_of m.body)) 64 few.1
@@ -158,6 +168,9 @@ spared old mid stored (Local Beat) seen o s idle none done is =
 spared old mid stored (Local (Close reading)) seen o s idle none done is =
     let reads : list_all (is_entry (schema_of old.schema)) seen ≡ true = subst (λ (w : List Entry). list_all (is_entry (schema_of old.schema)) w ≡ true) (sym (none refl)) refl in
     idle_moves _ _ (subst (λ (x : Given Sending). outcome_of mid stored x ≡ works old.schema old.members old.me (Local (Close reading)) (node_of old stored)) is (done tt reads)) idle
+spared old mid stored (Local (Floor reading)) seen o s idle none done is =
+    let reads : list_all (is_entry (schema_of old.schema)) seen ≡ true = subst (λ (w : List Entry). list_all (is_entry (schema_of old.schema)) w ≡ true) (sym (none refl)) refl in
+    idle_moves _ _ (subst (λ (x : Given Sending). outcome_of mid stored x ≡ works old.schema old.members old.me (Local (Floor reading)) (node_of old stored)) is (done tt reads)) idle
 spared old mid stored (Local (Submit reading request)) seen o s idle none done is = absurd (cc idle)
 spared old mid stored (Delivered reading message) seen o s idle none done is = absurd (cc idle)
 

@@ -4,7 +4,7 @@ use Rattle.std.specs.List.{list_all}
 use Rattle.raft.specs.declared.state.Core.{Core}
 use Rattle.raft.specs.declared.state.Before.{Before}
 use Rattle.raft.specs.declared.state.Sending.{Sending}
-use Rattle.raft.specs.declared.state.Sending.TheVariants.{Nothing, Answer, VoteRequests, Append, Appends, Agreed}
+use Rattle.raft.specs.declared.state.Sending.TheVariants.{Nothing, Answer, VoteRequests, Append, Appends, Agreed, Accepted, Seeks, Seals, Learned}
 use Rattle.raft.specs.declared.state.Work.{Work}
 use Rattle.raft.specs.declared.state.Work.TheVariants.{Local, Delivered}
 use Rattle.raft.specs.declared.state.Effect.{Effect as Given}
@@ -19,15 +19,15 @@ use Rattle.keep.specs.Log.{IsLog, IsSmall, is_entry, is_numbered, is_vote}
 use Rattle.model.specs.declared.message.Message.{Message}
 use Rattle.model.specs.declared.message.Body.{Body}
 use Rattle.model.specs.declared.message.Body.TheVariants as model
-use Rattle.model.specs.declared.message.Body.TheVariants.{RequestVote, Vote, Reply}
+use Rattle.model.specs.declared.message.Body.TheVariants.{RequestVote, Vote, Reply, Seek, Seal}
 use Rattle.model.specs.declared.message.Role.TheVariants.{Follower}
-use Rattle.model.specs.declared.message.Input.TheVariants.{Timeout, Beat, Close, Submit}
-use Rattle.model.specs.Stamps.{TIME_LAST}
+use Rattle.model.specs.declared.message.Input.TheVariants.{Timeout, Beat, Close, Floor, Submit}
+use Rattle.model.specs.Stamps.{TIME_LAST, greater}
 use Rattle.model.specs.declared.entry.Entry.{Entry}
 use Rattle.model.specs.declared.entry.Request.{Request}
 use Rattle.model.specs.Lists.{nth_or}
 use Rattle.model.specs.Members.{Node, term_at}
-use Rattle.model.specs.Steps.{After, Effect, Moves, Refuses, answer, append_to, append_to_all, commits, entries_of, on_message, vote_requests}
+use Rattle.model.specs.Steps.{After, Effect, Moves, Refuses, answer, append_to, append_to_all, commits, entries_of, learned, on_message, settled, tell_all, vote_requests}
 use Rattle.model.specs.Steps as steps
 use Rattle.model.specs.Worlds.{hand}
 use Rattle.model.specs.Kept.{kept_at}
@@ -43,22 +43,28 @@ abbrev pub node_of : Core → List Entry → Node
 node_of c stored = record {
   term = c.term;
   vote = c.vote;
+  floor = c.floor;
   log = log_of c stored;
   up = true;
   role = c.role;
   commit = c.commit;
   known = c.known;
   votes = c.votes.items;
+  told = c.told;
   next = c.next.items;
   matched = c.matched.items;
+  asked = c.asked;
+  stored = c.stored.items;
+  sealed = c.sealed;
+  waiting = c.waiting;
 }
 
 -- what of a member is stored besides its log
 abbrev pub hard_of : Node → HardState
-hard_of x = record { term = x.term; vote = x.vote }
+hard_of x = record { term = x.term; vote = x.vote; floor = x.floor }
 
 abbrev pub hard_in : Core → HardState
-hard_in c = record { term = c.term; vote = c.vote }
+hard_in c = record { term = c.term; vote = c.vote; floor = c.floor }
 
 -- the entries on the shelf are there
 abbrev pub Reaches : Core → List Entry → Type 0
@@ -83,7 +89,7 @@ after_change (Some c) d = after c d
 -- a node with its parts from before it heard of a term
 abbrev pub forgotten : Option Before → Node → Node
 forgotten None x = x
-forgotten (Some b) x = record x { term = b.term; vote = b.vote; role = b.role; known = b.known; votes = b.votes.items; next = b.next.items; matched = b.matched.items }
+forgotten (Some b) x = record x { term = b.term; vote = b.vote; role = b.role; known = b.known; votes = b.votes.items; told = b.told; next = b.next.items; matched = b.matched.items; asked = b.asked; stored = b.stored.items }
 
 -- it can go back to what it was: its vote was for one of the group
 abbrev pub CanForget : Option Before → Core → Type 0
@@ -92,7 +98,8 @@ CanForget (Some b) c = is_vote c.members b.vote ≡ true
 
 -- a member that starts with what is stored
 abbrev pub opening : HardState → List Entry → Node
-opening hard log = record { term = hard.term; vote = hard.vote; log = log; up = true; role = Follower; commit = 0; known = None; votes = []; next = []; matched = [] }
+opening hard log =
+    record { term = hard.term; vote = hard.vote; floor = hard.floor; log = log; up = true; role = Follower; commit = 0; known = None; votes = []; told = None; next = []; matched = []; asked = None; stored = []; sealed = None; waiting = None }
 
 -- its log has one entry more, of its own term
 abbrev pub with_entry : ℕ → Option Request → Node → Node
@@ -115,7 +122,7 @@ after_of c stored messages = record { node = node_of c stored; sent = messages }
 -- what a leader does once the log of a member is known to agree further
 abbrev pub agrees : ℕ → ℕ → ℕ → Node → After
 agrees n me sender x =
-    let y = commits n me x in
+    let y = settled (commits n me x) in
     record {
       node = y;
       sent = if nat_lt x.commit y.commit then append_to_all n y me
@@ -130,6 +137,28 @@ sends n me VoteRequests x = record { node = x; sent = vote_requests n me x }
 sends n me (Append to) x = record { node = x; sent = append_to x me to ∷ [] }
 sends n me Appends x = record { node = x; sent = append_to_all n x me }
 sends n me (Agreed sender) x = agrees n me sender x
+sends n me (Accepted to matched) x = record { node = settled x; sent = answer x me to (Reply true matched) }
+sends n me (Seeks asked) x = record { node = x; sent = tell_all n x me (Seek asked.index asked.floor) }
+sends n me (Seals seal) x = record { node = learned seal x; sent = tell_all n x me (Seal seal.index seal.floor) }
+sends n me (Learned seal) x = record { node = learned seal x; sent = [] }
+
+-- how many entries are looked at besides those that are sent: one to find what is committed, and one for a seal
+abbrev pub settling : Sending → ℕ
+settling Nothing = 0
+settling (Answer to body) = 0
+settling VoteRequests = 0
+settling (Append to) = 0
+settling Appends = 0
+settling (Agreed sender) = 2
+settling (Accepted to matched) = 1
+settling (Seeks asked) = 0
+settling (Seals seal) = 1
+settling (Learned seal) = 1
+
+abbrev pub asks_after : Given Sending → ℕ
+asks_after (Refused refusal) = 0
+asks_after Ignored = 0
+asks_after (Done sending) = settling sending
 
 -- what no step changes
 pub record IsSameSeat (old new : Core) : Type 0 where
@@ -160,8 +189,11 @@ effect_of c stored (Done t) = Moves (after_of c stored t.messages.items)
 abbrev pub Sees : Body → List Entry → List Entry → Type 0
 Sees (model.Append prev prev_term es commit) log window = window ≡ take 65 (drop (prev - 1) log)
 Sees (RequestVote i t) log window = Unit {0}
-Sees (Vote given) log window = Unit {0}
+Sees (Vote given floor) log window = Unit {0}
 Sees (Reply ok matched) log window = Unit {0}
+Sees (Seek index floor) log window = Unit {0}
+Sees (model.Stored index floor) log window = Unit {0}
+Sees (Seal index floor) log window = Unit {0}
 
 -- it is that part of the log, and its texts spell transactions
 pub record IsWindow (schema : Tables) (body : Body) (log window : List Entry) : Type 0 where
@@ -208,6 +240,20 @@ abbrev pub brought : Work → ℕ
 brought (Local input) = 0
 brought (Delivered reading message) = 1
 
+-- how many entries are looked at for this
+abbrev pub looked_at : Body → ℕ
+looked_at (model.Append prev prev_term es commit) = 65
+looked_at (RequestVote i t) = 0
+looked_at (Vote given floor) = 0
+looked_at (Reply ok matched) = 0
+looked_at (Seek index floor) = 0
+looked_at (model.Stored index floor) = 0
+looked_at (Seal index floor) = 0
+
+abbrev pub looks : Work → ℕ
+looks (Local input) = 0
+looks (Delivered reading message) = looked_at message.body
+
 -- the part of the log that is looked at for this work
 abbrev pub LooksAt : Work → List Entry → List Entry → Type 0
 LooksAt (Local input) log window = Unit {0}
@@ -227,13 +273,15 @@ abbrev pub IsRanged : Work → Type 0
 IsRanged (Local Timeout) = Unit {0}
 IsRanged (Local Beat) = Unit {0}
 IsRanged (Local (Close reading)) = Unit {0}
+IsRanged (Local (Floor reading)) = Unit {0}
 IsRanged (Local (Submit reading request)) = is_numbered (Some request) ≡ true
 IsRanged (Delivered reading message) = list_all is_ranged (entries_of message.body) ≡ true
 
--- no index that is committed is taken back, and the log stays up to there
+-- no index that is committed is taken back, the log stays up to there, and what is sealed does not fall
 pub record Grows (x y : Node) : Type 0 where
   pub commit : x.commit ≤ y.commit
   pub log : take x.commit y.log ≡ take x.commit x.log
+  pub sealed : greater x.sealed y.sealed ≡ y.sealed
 
 -- a change of which the numbers fit the store, or none
 abbrev pub IsSmallChange : Option Change → Type 0

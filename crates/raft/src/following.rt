@@ -4,7 +4,7 @@ ghost use Rattle.std.specs.List.{list_all};
 ghost use Rattle.model.specs.declared.entry.Entry as in_log;
 ghost use Rattle.model.specs.Members.{agreed, stands};
 ghost use Rattle.model.specs.Steps.{accepted, cuts_below, on_append, follows, takes_entries, LOG_LIMIT, TERM_LAST};
-ghost use Rattle.raft.specs.View.{log_of, node_of, IsSameSeat, Reaches, outcome_of, SameUnlessDone};
+ghost use Rattle.raft.specs.View.{log_of, node_of, IsSameSeat, Reaches, outcome_of, asks_after, SameUnlessDone};
 
 use crate::logs::{agreed, continues, has_term};
 use crate::state::{Core, Effect, Sending};
@@ -59,7 +59,7 @@ impl Core {
     }
 
     /// Takes this member for the leader.
-    fn follow(&mut self, leader: Member)
+    pub(crate) fn follow(&mut self, leader: Member)
         ghost stored: { List in_log.Entry }
         ensures node { node_of self.new stored ≡ follows leader (node_of self.old stored) }
         ensures seat { IsSameSeat self.old self.new }
@@ -69,8 +69,11 @@ impl Core {
         self.role = Role::Follower;
         self.known = Some(leader);
         self.votes.clear();
+        self.told = None;
         self.next.clear();
         self.matched.clear();
+        self.asked = None;
+        self.stored.clear();
     }
 
     /// Takes the entries after `prev`, with which the log agrees up to an index, and what the leader says of its commit
@@ -125,6 +128,7 @@ impl Core {
             (λ o. outcome_of self.new stored o
             ≡ on_append self.old.me sender term prev prev_term entries.items commit (node_of self.old stored)) }
         ensures same { IfOk result (SameUnlessDone self.old self.new stored) }
+        ensures few { IfOk result (λ o. asks_after o ≤ 1) }
         ensures seat { IsSameSeat self.old self.new }
         ensures lower { self.new.log.shelved ≤ self.old.log.shelved }
         ensures short { vec_len self.new.log.tail ≤ vec_len self.old.log.tail + 64 }
@@ -156,12 +160,9 @@ impl Core {
         let end = prev + entries.len();
         self.follow(sender);
         self.take_entries(index, prev, entries, commit)?;
-        Ok(Effect::Done(Sending::Answer {
+        Ok(Effect::Done(Sending::Accepted {
             to: sender,
-            body: Body::Reply {
-                ok: true,
-                matched: end,
-            },
+            matched: end,
         }))
     }
 }

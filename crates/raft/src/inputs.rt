@@ -2,10 +2,10 @@
 ghost use Rattle.std.specs.Prelude.{◌≡◌, ◌+◌, ◌<◌, ◌≤◌, List, vec_len, IfOk, IsOk, IfSome, IfNone, true, false};
 ghost use Rattle.model.specs.declared.entry.Entry as in_log;
 ghost use Rattle.model.specs.Stamps.{stamp};
-ghost use Rattle.model.specs.Logs.{least_stamp};
+ghost use Rattle.model.specs.Logs.{least_over};
 ghost use Rattle.model.specs.Steps.{time_out, append_own, is_time_full, is_log_full, on_input};
 ghost use Rattle.raft.specs.Memory.{is_idle};
-ghost use Rattle.raft.specs.View.{log_of, node_of, with_entry, IsSameSeat, Reaches, outcome_of, SameUnlessDone};
+ghost use Rattle.raft.specs.View.{log_of, node_of, with_entry, IsSameSeat, Reaches, outcome_of, asks_after, SameUnlessDone};
 
 use crate::state::{Core, Effect, Sending};
 use closedtime::stamp;
@@ -24,6 +24,7 @@ impl Core {
             (λ o. outcome_of self.new stored o ≡ time_out self.old.members self.old.me (node_of self.old stored)) }
         ensures spares { is_idle (time_out self.old.members self.old.me (node_of self.old stored)) ≡ true → IsOk result }
         ensures same { IfOk result (SameUnlessDone self.old self.new stored) }
+        ensures few { IfOk result (λ o. asks_after o ≤ 1) }
         ensures seat { IsSameSeat self.old self.new }
         ensures log { self.new.log ≡ self.old.log }
     {
@@ -38,13 +39,13 @@ impl Core {
     }
 
     /// The stamp of its next entry, none where no stamp is left.
-    #[tactic(auto, using(crate::proofs::Windows::least_stamp_of))]
+    #[tactic(auto, using(crate::proofs::Windows::least_over_of))]
     pub(crate) fn next_stamp(&self, reading: i64) -> Option<Stamp>
         ghost stored: { List in_log.Entry }
-        ensures some { IfSome result (λ t. (t ≡ stamp reading (least_stamp (log_of self.now stored))) × (is_time_full (log_of self.now stored) ≡ false)) }
-        ensures none { IfNone result (is_time_full (log_of self.now stored) ≡ true) }
+        ensures some { IfSome result (λ t. (t ≡ stamp reading (least_over self.now.floor (log_of self.now stored))) × (is_time_full self.now.floor (log_of self.now stored) ≡ false)) }
+        ensures none { IfNone result (is_time_full self.now.floor (log_of self.now stored) ≡ true) }
     {
-        stamp(reading, self.log.closed())
+        stamp(reading, self.log.closed(), self.floor)
     }
 
     /// No room is left in the log.
@@ -94,6 +95,7 @@ impl Core {
             ≡ append_own self.old.members self.old.me reading request (node_of self.old stored)) }
         ensures spares { is_idle (append_own self.old.members self.old.me reading request (node_of self.old stored)) ≡ true → IsOk result }
         ensures same { IfOk result (SameUnlessDone self.old self.new stored) }
+        ensures few { IfOk result (λ o. asks_after o ≤ 1) }
         ensures seat { IsSameSeat self.old self.new }
         ensures shelved { self.new.log.shelved ≡ self.old.log.shelved }
         ensures short { vec_len self.new.log.tail ≤ vec_len self.old.log.tail + 1 }
@@ -120,6 +122,7 @@ impl Core {
             ≡ on_input self.old.members self.old.me input (node_of self.old stored)) }
         ensures spares { is_idle (on_input self.old.members self.old.me input (node_of self.old stored)) ≡ true → IsOk result }
         ensures same { IfOk result (SameUnlessDone self.old self.new stored) }
+        ensures few { IfOk result (λ o. asks_after o ≤ 1) }
         ensures seat { IsSameSeat self.old self.new }
         ensures shelved { self.new.log.shelved ≡ self.old.log.shelved }
         ensures short { vec_len self.new.log.tail ≤ vec_len self.old.log.tail + 1 }
@@ -133,6 +136,7 @@ impl Core {
                 Ok(Effect::Done(Sending::Appends))
             }
             Input::Close { reading } => self.append_own(reading, None),
+            Input::Floor { reading } => self.ask_floor(reading),
             Input::Submit { reading, request } => self.append_own(reading, Some(request)),
         }
     }

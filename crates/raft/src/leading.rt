@@ -8,19 +8,20 @@ ghost use Rattle.raft.specs.View.{log_of, node_of, outcome_of, IsSameSeat, Reach
 
 use crate::counted::{flag_at, number_at, set_number};
 use crate::state::{Core, Effect, Sending};
+use closedtime::greater;
 use model::member::Member;
 use model::message::Role;
 use std::alloc::AllocError;
 
-/// How many members gave their vote.
-fn count_votes(votes: &[bool], members: usize) -> usize
+/// How many members are in a set.
+pub(crate) fn count_set(set: &[bool], members: usize) -> usize
     requires { members ≤ 7 }
-    ensures value { result ≡ count_members members (is_in votes.now) }
+    ensures value { result ≡ count_members members (is_in set.now) }
     ensures small { result ≤ members }
 {
     let mut count = 0;
     for index in 0..members {
-        if flag_at(votes, index + 1) {
+        if flag_at(set, index + 1) {
             count += 1;
         }
     }
@@ -62,7 +63,7 @@ impl Core {
     pub(crate) fn is_elected(&self) -> bool
         ensures { result ≡ is_majority self.now.members (is_in self.now.votes.items) }
     {
-        2 * count_votes(&self.votes, self.members) > self.members
+        2 * count_set(&self.votes, self.members) > self.members
     }
 
     /// A majority match the log up to this index.
@@ -88,8 +89,8 @@ impl Core {
     }
 
     /// Takes the lead of its term, as a member does that a majority chose: it is to send each member
-    /// what comes after its own log, and knows of no match yet. Changes nothing where memory is
-    /// refused.
+    /// what comes after its own log, and knows of no match yet; no floor that they told is above its
+    /// own. Changes nothing where memory is refused.
     #[tactic(auto, using(crate::proofs::Lists::zeros, crate::proofs::Windows::length_of))]
     pub(crate) fn become_leader(&mut self) -> Result<(), AllocError>
         ghost stored: { List in_log.Entry }
@@ -103,10 +104,14 @@ impl Core {
         let first = self.log.length() + 1;
         let next = vec![in self.alloc; first; self.members]?;
         let matched = vec![in self.alloc; 0; self.members]?;
+        self.floor = greater(self.floor, self.told);
         self.role = Role::Leader;
         self.votes.clear();
+        self.told = None;
         self.next = next;
         self.matched = matched;
+        self.asked = None;
+        self.stored.clear();
         Ok(())
     }
 

@@ -4,12 +4,14 @@
 #![tactic(auto)]
 
 mod counted;
+mod floors;
 mod following;
 pub mod forms;
 mod inputs;
 mod leading;
 mod logs;
 mod reading;
+mod seals;
 mod sending;
 pub mod short_log;
 pub mod state;

@@ -1,8 +1,8 @@
 //! What a member sends.
 ghost use Rattle.std.specs.Prelude.{◌≡◌, ◌+◌, ◌*◌, ◌≤◌, IfOk, IfErr, OnOk, ◌∷◌, [], List, None, length, vec_len, true};
 ghost use Rattle.model.specs.declared.entry.Entry as in_log;
-ghost use Rattle.model.specs.Steps.{append_to, append_to_all, commits, go_on, vote_request, vote_requests};
-ghost use Rattle.raft.specs.View.{log_of, node_of, sends, after_of, agrees, IsSameSeat, Reaches};
+ghost use Rattle.model.specs.Steps.{append_to, append_to_all, commits, go_on, tell_all, vote_request, vote_requests};
+ghost use Rattle.raft.specs.View.{log_of, node_of, sends, after_of, agrees, settling, IsSameSeat, Reaches};
 ghost use Rattle.raft.specs.Reading.{IsRead, IsCauseOr};
 
 use crate::counted::number_at;
@@ -10,7 +10,7 @@ use crate::state::{Core, Sending};
 use keep::error::StoreError;
 use keep::keeper::Shelf;
 use model::entry::Entries;
-use model::member::Member;
+use model::member::{AskedFloor, Member, SealedFloor};
 use model::message::{Body, CARRIED_MOST, Message};
 use std::alloc::AllocError;
 
@@ -122,6 +122,23 @@ impl Core {
         Ok(messages)
     }
 
+    /// The same to each other member, in order.
+    #[tactic(auto, using(crate::proofs::Lists::sent_more, crate::proofs::Lists::sent_same))]
+    fn tell_all(&self, body: &Body) -> Result<Vec<Message>, AllocError>
+        ensures { IfOk result
+            (λ ms. (stored : List in_log.Entry) → ms.items ≡ tell_all self.now.members (node_of self.now stored) self.now.me body.now) }
+    {
+        let mut messages = Vec::new(self.alloc);
+        for index in 0..self.members {
+            let to = index + 1;
+            if to != self.me {
+                let body = body.clone()?;
+                messages.push(self.message(to, body))?;
+            }
+        }
+        Ok(messages)
+    }
+
     /// The greatest index that can be committed now: up to there a majority match, and an entry of its
     /// own term stands there. Where the entry is of another term, so are all before it.
     fn commits<S: Shelf>(&self, shelf: &mut S) -> Result<usize, StoreError>
@@ -148,8 +165,8 @@ impl Core {
         }
     }
 
-    /// Commits what can be committed now that the log of a member is known to agree further, and sends what comes of it:
-    /// to all where something is committed, else to that member what it has not yet.
+    /// Commits what can be committed now that the log of a member is known to agree further, so that a seal that waits may
+    /// count, and sends what comes of it: to all where something is committed, else to that member what it has not yet.
     fn on_agreed<S: Shelf>(
         &mut self,
         shelf: &mut S,
@@ -166,10 +183,11 @@ impl Core {
         ensures shelf { IsRead (S.is_honest shelf.old) (S.is_honest shelf.new) (S.stored shelf.old) (S.stored shelf.new) (S.may_hold shelf.old) (S.may_hold shelf.new) (S.serves shelf.old) (S.serves shelf.new) (S.failed shelf.old) (S.failed shelf.new) (S.is_up shelf.new) }
         ensures up { OnOk result (S.is_up shelf.new ≡ true) }
         ensures cause { IfErr result (IsCauseOr (S.is_honest shelf.new) (S.failed shelf.old) (S.failed shelf.new)) }
-        ensures asks { IfOk result (λ ms. S.asks shelf.new ≤ S.asks shelf.old + (65 * length ms.items + 1)) }
+        ensures asks { IfOk result (λ ms. S.asks shelf.new ≤ S.asks shelf.old + (65 * length ms.items + 2)) }
     {
         let before = self.commit;
         self.commit = self.commits(shelf)?;
+        self.settle(shelf)?;
         if before < self.commit {
             return self.append_to_all(shelf);
         }
@@ -196,7 +214,7 @@ impl Core {
         ensures shelf { IsRead (S.is_honest shelf.old) (S.is_honest shelf.new) (S.stored shelf.old) (S.stored shelf.new) (S.may_hold shelf.old) (S.may_hold shelf.new) (S.serves shelf.old) (S.serves shelf.new) (S.failed shelf.old) (S.failed shelf.new) (S.is_up shelf.new) }
         ensures up { OnOk result (S.is_up shelf.new ≡ true) }
         ensures cause { IfErr result (IsCauseOr (S.is_honest shelf.new) (S.failed shelf.old) (S.failed shelf.new)) }
-        ensures asks { IfOk result (λ ms. S.asks shelf.new ≤ S.asks shelf.old + (65 * length ms.items + 1)) }
+        ensures asks { IfOk result (λ ms. S.asks shelf.new ≤ S.asks shelf.old + (65 * length ms.items + settling sending)) }
     {
         match sending {
             Sending::Nothing => Ok(Vec::new(self.alloc)),
@@ -211,6 +229,28 @@ impl Core {
             Sending::Append(to) => self.append_one(shelf, to),
             Sending::Appends => self.append_to_all(shelf),
             Sending::Agreed(sender) => self.on_agreed(shelf, sender),
+            Sending::Accepted { to, matched } => {
+                self.settle(shelf)?;
+                let messages = self.one(self.message(to, Body::Reply { ok: true, matched }))?;
+                Ok(messages)
+            }
+            Sending::Seeks(asked) => {
+                let AskedFloor { index, floor } = asked;
+                let body = Body::Seek { index, floor };
+                let messages = self.tell_all(&body)?;
+                Ok(messages)
+            }
+            Sending::Seals(seal) => {
+                let SealedFloor { index, floor, .. } = seal;
+                let body = Body::Seal { index, floor };
+                let messages = self.tell_all(&body)?;
+                self.learn(shelf, seal)?;
+                Ok(messages)
+            }
+            Sending::Learned(seal) => {
+                self.learn(shelf, seal)?;
+                Ok(Vec::new(self.alloc))
+            }
         }
     }
 }

@@ -1,12 +1,12 @@
 //! A log of which only the end is in memory.
 ghost use Rattle.std.specs.Prelude.{◌≡◌, ◌⊎◌, List, length, ◌+◌, ◌-◌, ◌<◌, ◌≤◌, ◌++◌, ◌∷◌, [], nat_le, min, take, drop, vec_len, true, OnOk, OnErr};
 ghost use Rattle.std.specs.List.{list_all};
-ghost use Rattle.model.specs.Logs.{closed};
+ghost use Rattle.model.specs.Logs.{closed, last_entry};
 ghost use Rattle.model.specs.declared.entry.Entry as in_log;
-ghost use Rattle.model.specs.Members.{agreed, last_term};
+ghost use Rattle.model.specs.Members.{agreed, has_term, last_term};
 ghost use Rattle.model.specs.Steps.{TERM_LAST, accepted};
 
-use crate::logs::last_term;
+use crate::logs::{has_term, last_term};
 use keep::state::TAIL_MOST;
 use model::entry::Entry;
 use model::message::CARRIED_MOST;
@@ -140,6 +140,14 @@ impl ShortLog {
         ensures { result ≡ last_term self.now.tail.items }
     {
         last_term(&self.tail)
+    }
+
+    /// The last entry is of this term.
+    pub(crate) fn ends_in(&self, term: u64) -> bool
+        ensures { result ≡ has_term (last_entry self.now.tail.items) term }
+    {
+        let len = self.tail.len();
+        0 < len && has_term(&self.tail, len - 1, term)
     }
 
     /// The stamp of the last entry, none where there is none.

@@ -11,15 +11,16 @@ use fault::Refusal;
 use keep::change::Change;
 use keep::hard_state::HardState;
 use keep::state::State;
-use model::member::Member;
+use model::member::{AskedFloor, Member, SealedFloor};
 use model::message::{Body, Input, Message, Role};
+use model::stamp::Stamp;
 use schema::Schema;
 use std::alloc::Global;
 
 /// What is brought to a member.
 #[derive(Debug, Drop)]
 pub enum Work {
-    /// A timeout, a beat, a close or a submit.
+    /// A timeout, a beat, a close, a floor or a submit.
     Local(Input),
     /// A message, with what the clock shows in microseconds since 1970.
     Delivered { reading: i64, message: Message },
@@ -63,6 +64,14 @@ pub(crate) enum Sending {
     Appends,
     /// What a leader sends once the log of a member is known to agree further: entries may be committed now.
     Agreed(Member),
+    /// That entries were taken, and up to which index the log is now the leader's: a seal that waits may count now.
+    Accepted { to: Member, matched: usize },
+    /// A `Seek` to each other member.
+    Seeks(AskedFloor),
+    /// A `Seal` to each other member, once it is learned.
+    Seals(SealedFloor),
+    /// Nothing, once this seal is learned.
+    Learned(SealedFloor),
 }
 
 /// What is to be known of a member before a step, to tell what the step changed of what is stored.
@@ -85,8 +94,11 @@ pub(crate) struct Before {
     pub role: Role,
     pub known: Option<Member>,
     pub votes: Vec<bool>,
+    pub told: Option<Stamp>,
     pub next: Vec<usize>,
     pub matched: Vec<usize>,
+    pub asked: Option<AskedFloor>,
+    pub stored: Vec<bool>,
     ghost term_within: { term ≤ 9223372036854775807 },
     ghost stands: { is_candidate role ≡ true → 1 ≤ term },
     ghost leads: { is_leader role ≡ true → 1 ≤ term },
@@ -96,7 +108,7 @@ pub(crate) struct Before {
 /// A member of a group of up to seven, counted from 1, that all have the same tables.
 ///
 /// Its hard state and its log are to be kept over a restart; its role, its commit index, the leader that
-/// it knows, and what a candidate or a leader knows of the others are not.
+/// it knows, what a candidate or a leader knows of the others, and what it has sealed are not.
 #[derive(Drop)]
 pub struct Core {
     pub(crate) alloc: Global,
@@ -108,6 +120,8 @@ pub struct Core {
     pub me: Member,
     pub(crate) term: u64,
     pub(crate) vote: Option<Member>,
+    /// No entry that it makes as a leader is stamped at or below this.
+    pub(crate) floor: Option<Stamp>,
     /// Up to 100,000 entries, the first of which has index 1, and of which the last are here.
     pub log: ShortLog,
     pub(crate) role: Role,
@@ -116,10 +130,20 @@ pub struct Core {
     pub(crate) known: Option<Member>,
     /// On a candidate, for each member: whether it gave me its vote.
     pub(crate) votes: Vec<bool>,
+    /// On a candidate, the greatest floor that the votes told which it counted.
+    pub(crate) told: Option<Stamp>,
     /// On a leader, for each member: the index of the entry to send next.
     pub(crate) next: Vec<usize>,
     /// On a leader, for each member: up to where its log is known to agree.
     pub(crate) matched: Vec<usize>,
+    /// On a leader, the floor that it asks for.
+    pub(crate) asked: Option<AskedFloor>,
+    /// On a leader, for each member: whether it stored that floor.
+    pub(crate) stored: Vec<bool>,
+    /// The greatest floor of a seal whose entry is applied.
+    pub(crate) sealed: Option<Stamp>,
+    /// A seal whose entry is not applied yet.
+    pub(crate) waiting: Option<SealedFloor>,
     /// Memory was refused within a step, so that no further step is taken.
     pub is_spent: bool,
     ghost one_of_few: { members ≤ 7 },
@@ -156,13 +180,19 @@ impl Core {
             me,
             term: hard.term,
             vote: hard.vote,
+            floor: hard.floor,
             log,
             role: Role::Follower,
             commit: 0,
             known: None,
             votes: Vec::new(alloc),
+            told: None,
             next: Vec::new(alloc),
             matched: Vec::new(alloc),
+            asked: None,
+            stored: Vec::new(alloc),
+            sealed: None,
+            waiting: None,
             is_spent: false,
         }
     }
@@ -174,6 +204,7 @@ impl Core {
         HardState {
             term: self.term,
             vote: self.vote,
+            floor: self.floor,
         }
     }
 
@@ -182,6 +213,14 @@ impl Core {
         ensures { result ≡ self.now.log.shelved + vec_len self.now.log.tail }
     {
         self.log.length()
+    }
+
+    /// The greatest floor of a seal whose entry it has applied, none where there is none. It does not fall while the member
+    /// is up.
+    pub fn sealed(&self) -> Option<Stamp>
+        ensures { result ≡ self.now.sealed }
+    {
+        self.sealed
     }
 
     /// Up to which index the log is known to be committed.

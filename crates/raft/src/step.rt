@@ -5,21 +5,22 @@ ghost use Rattle.keep.specs.Log.{IsLog, IsSmall, is_entry};
 ghost use Rattle.keep.specs.Durable.{Durable};
 ghost use Rattle.sqlread.specs.Meaning.{schema_of};
 ghost use Rattle.model.specs.declared.entry.Entry as in_log;
-ghost use Rattle.model.specs.Steps.{is_honest, entries_of, spells, on_message, on_body, go_on, TERM_LAST};
+ghost use Rattle.model.specs.Steps.{is_honest, entries_of, floor_fits, spells, on_message, on_body, go_on, TERM_LAST};
 ghost use Rattle.model.specs.Worlds.{hand};
 ghost use Rattle.model.specs.Members.{term_at};
 ghost use Rattle.raft.specs.Memory.{spares_memory};
 ghost use Rattle.raft.specs.declared.state.Work.TheVariants.{Local};
 ghost use Rattle.raft.specs.declared.state.Effect.TheVariants as effects;
 ghost use Rattle.raft.specs.Reading.{IsRead, IsCauseOr};
-ghost use Rattle.raft.specs.View.{brought, effect_of, hard_in, hard_of, kept_of, log_of, node_of, outcome_of, works, EffectFits, EffectForms, Grows, IsCarried, IsInStep, IsRanged, IsSameSeat, IsWindow, LooksAt, Reaches, SameUnlessDone, Sees, is_ranged};
+ghost use Rattle.raft.specs.View.{asks_after, brought, looked_at, looks, effect_of, hard_in, hard_of, kept_of, log_of, node_of, outcome_of, works, EffectFits, EffectForms, Grows, IsCarried, IsInStep, IsRanged, IsSameSeat, IsWindow, LooksAt, Reaches, SameUnlessDone, Sees, is_ranged};
 
+use crate::floors::floor_fits;
 use crate::forms::reads;
 use crate::logs::{go_on, has_ranges, term_at};
 use crate::state::{Core, Effect, Sending, Work};
 use fault::Text;
 use model::entry::{Entry, Request};
-use model::member::Member;
+use model::member::{Member, SealedFloor};
 use model::message::{Body, CARRIED_MOST, Input, LAST_TERM, Message};
 use sqlread::transaction::misreading;
 use std::alloc::AllocError;
@@ -111,13 +112,13 @@ impl Core {
         Ok(true)
     }
 
-    /// Entries that a message may carry.
+    /// Entries that a message may carry, and a floor that a member may tell.
     fn may_carry(&self, window: &[Entry], term: u64, body: &Body) -> Result<bool, AllocError>
         requires { term ≤ LAST_TERM }
         ensures value { list_all (is_entry (schema_of self.now.schema)) window.now ≡ true → IfOk result
             (λ yes. yes
             ≡ (nat_le (length (entries_of body.now)) 64 && go_on None term (entries_of body.now)
-            && list_all (λ e. spells (schema_of self.now.schema) e.request) (entries_of body.now))) }
+            && list_all (λ e. spells (schema_of self.now.schema) e.request) (entries_of body.now) && floor_fits body.now)) }
         ensures few { IfOk result (λ yes. yes ≡ true → length (entries_of body.now) ≤ 64) }
         ensures terms { IfOk result (λ yes. yes ≡ true → list_all (λ e. nat_le e.term TERM_LAST) (entries_of body.now) ≡ true) }
     {
@@ -133,7 +134,7 @@ impl Core {
                 }
                 self.all_spell(window, (*prev_index).min(1), entries)
             }
-            Body::RequestVote { .. } | Body::Vote { .. } | Body::Reply { .. } => Ok(true),
+            body => Ok(floor_fits(body)),
         }
     }
 
@@ -175,6 +176,7 @@ impl Core {
         ensures done { Sees body (log_of self.old stored) window.now → IfOk result
             (λ o. outcome_of self.new stored o
             ≡ on_body self.old.members self.old.me reading sender term body (node_of self.old stored)) }
+        ensures asks { IfOk result (λ o. asks_after o + looked_at body ≤ 66) }
         ensures same { IfOk result (SameUnlessDone self.old self.new stored) }
         ensures seat { IsSameSeat self.old self.new }
         ensures lower { self.new.log.shelved ≤ self.old.log.shelved }
@@ -185,8 +187,8 @@ impl Core {
                 last_index,
                 last_term,
             } => Ok(Effect::Done(self.on_request_vote(sender, term, last_index, last_term))),
-            Body::Vote { given } => {
-                let sending = self.on_vote(reading, sender, term, given)?;
+            Body::Vote { given, floor } => {
+                let sending = self.on_vote(reading, sender, term, given, floor)?;
                 Ok(Effect::Done(sending))
             }
             Body::Append {
@@ -204,6 +206,13 @@ impl Core {
                 commit,
             ),
             Body::Reply { ok, matched } => Ok(self.on_reply(sender, term, ok, matched)),
+            Body::Seek { index, floor } => Ok(self.on_seek(sender, term, index, floor)),
+            Body::Stored { index, floor } => {
+                Ok(Effect::Done(self.on_stored(sender, term, index, floor)))
+            }
+            Body::Seal { index, floor } => {
+                Ok(Effect::Done(Sending::Learned(SealedFloor { term, index, floor })))
+            }
         }
     }
 
@@ -219,6 +228,7 @@ impl Core {
         ensures done { IsWindow self.old.schema message.body (log_of self.old stored) window.now → IfOk result
             (λ o. outcome_of self.new stored o
             ≡ on_message (schema_of self.old.schema) self.old.members self.old.me reading message (node_of self.old stored)) }
+        ensures asks { IfOk result (λ o. asks_after o + looked_at message.body ≤ 66) }
         ensures same { IfOk result (SameUnlessDone self.old self.new stored) }
         ensures seat { IsSameSeat self.old self.new }
         ensures lower { self.new.log.shelved ≤ self.old.log.shelved }
@@ -255,6 +265,7 @@ impl Core {
             (λ o. outcome_of self.new stored o
             ≡ hand (schema_of self.old.schema) self.old.members self.old.me input (node_of self.old stored)) }
         ensures spares { spares_memory self.old.members self.old.me (Local input) (node_of self.old stored) ≡ true → IsOk result }
+        ensures asks { IfOk result (λ o. asks_after o ≤ 1) }
         ensures same { IfOk result (SameUnlessDone self.old self.new stored) }
         ensures seat { IsSameSeat self.old self.new }
         ensures shelved { self.new.log.shelved ≡ self.old.log.shelved }
@@ -264,6 +275,7 @@ impl Core {
             Input::Timeout => self.on_input(Input::Timeout),
             Input::Beat => self.on_input(Input::Beat),
             Input::Close { reading } => self.on_input(Input::Close { reading }),
+            Input::Floor { reading } => self.on_input(Input::Floor { reading }),
             Input::Submit { reading, request } => {
                 let refusal = misreading(self.alloc, &self.schema, request.text.as_str())?;
                 if let Some(refusal) = refusal {
@@ -287,6 +299,7 @@ impl Core {
             (λ o. outcome_of self.new stored o
             ≡ works self.old.schema self.old.members self.old.me work (node_of self.old stored)) }
         ensures spares { spares_memory self.old.members self.old.me work (node_of self.old stored) ≡ true → IsOk result }
+        ensures asks { IfOk result (λ o. asks_after o + looks work ≤ 65 * brought work + 1) }
         ensures same { IfOk result (SameUnlessDone self.old self.new stored) }
         ensures seat { IsSameSeat self.old self.new }
         ensures lower { self.new.log.shelved ≤ self.old.log.shelved }

@@ -7,8 +7,9 @@ ghost use Rattle.model.specs.declared.entry.Entry as in_log;
 ghost use Rattle.model.specs.Members.{term_at};
 ghost use Rattle.raft.specs.Memory.{spares_memory};
 ghost use Rattle.raft.specs.Reading.{IsRead, IsCauseOr};
-ghost use Rattle.raft.specs.View.{brought, effect_of, hard_in, kept_of, log_of, node_of, sent_by, works, EffectFits, EffectForms, Grows, IsAsBefore, IsCarried, IsInStep, IsOther, IsSameSeat, IsSince, IsSmallChange, IsSmallEffect, LooksAt, Reaches};
+ghost use Rattle.raft.specs.View.{brought, looks, effect_of, hard_in, kept_of, log_of, node_of, sent_by, works, EffectFits, EffectForms, Grows, IsAsBefore, IsCarried, IsInStep, IsOther, IsSameSeat, IsSince, IsSmallChange, IsSmallEffect, LooksAt, Reaches};
 
+use crate::floors::is_instant;
 use crate::logs::term_at;
 use crate::state::{Core, Effect, Mark, Taken, Work};
 use crate::step::has_ranges_in;
@@ -30,7 +31,7 @@ impl Core {
         ensures shelf { IsRead (S.is_honest shelf.old) (S.is_honest shelf.new) (S.stored shelf.old) (S.stored shelf.new) (S.may_hold shelf.old) (S.may_hold shelf.new) (S.serves shelf.old) (S.serves shelf.new) (S.failed shelf.old) (S.failed shelf.new) (S.is_up shelf.new) }
         ensures up { OnOk result (S.is_up shelf.new ≡ true) }
         ensures cause { IfErr result (IsCauseOr (S.is_honest shelf.new) (S.failed shelf.old) (S.failed shelf.new)) }
-        ensures asks { S.asks shelf.new ≤ S.asks shelf.old + 65 * brought work.now }
+        ensures asks { S.asks shelf.new ≤ S.asks shelf.old + looks work.now }
         ensures local { brought work.now ≡ 0 → IsOk result }
         ensures none { IfOk result (λ window. brought work.now ≡ 0 → window.items ≡ []) }
     {
@@ -119,10 +120,10 @@ impl Core {
 
     /// Whether a step left the log as it was: as long as then, and with an entry of the same term after those that the step
     /// leaves in any case, unless that one is still on the shelf alone.
-    fn is_log_as_before(&self, mark: Mark) -> bool
-        requires { mark.kept ≤ 100000 }
-        ensures yes { result ≡ true → IsAsBefore self.now mark }
-        ensures no { result ≡ false → IsOther self.now mark }
+    fn is_log_as_before(&self, mark: &Mark) -> bool
+        requires { mark.now.kept ≤ 100000 }
+        ensures yes { result ≡ true → IsAsBefore self.now mark.now }
+        ensures no { result ≡ false → IsOther self.now mark.now }
     {
         if self.log.length() != mark.length {
             return false;
@@ -180,11 +181,11 @@ impl Core {
         ensures small { IfOk result IsSmallChange }
         ensures fits { IfOk result (IsSince self.now mark) }
     {
-        if self.is_log_as_before(mark) {
-            return Ok(self.change_of_hard_state(mark.hard));
+        if !self.is_log_as_before(&mark) {
+            let change = self.change_from(mark.kept)?;
+            return Ok(Some(change));
         }
-        let change = self.change_from(mark.kept)?;
-        Ok(Some(change))
+        Ok(self.change_of_hard_state(mark.hard))
     }
 
     /// Does the work, and says what changes in what is stored.
@@ -223,6 +224,7 @@ impl Core {
         };
         let messages = self.send(shelf, sending)?;
         let change = self.change_since(mark)?;
+        is_instant(self.floor);
         Ok(Effect::Done(Taken {
             change,
             messages,
@@ -231,16 +233,18 @@ impl Core {
     }
 
     /// Takes one step, by Figure 2 of "In search of an understandable consensus algorithm". Entries that are no longer in
-    /// memory come from the shelf: at most 65 for an `Append` that is taken or sent, and one to find what is committed.
+    /// memory come from the shelf: at most 65 for an `Append` that is taken or sent, one to find what is committed, and one to
+    /// find whether a seal's entry is applied.
     ///
     /// A refusal leaves the member as it was: the reader's refusal of a submitted text, `NotLeader`
     /// with the known leader where a close or a submit comes to no leader, then `TimeFull` where no
     /// stamp is left, then `LogFull` where the log has 100,000 entries; `TermFull` at a timeout in the
-    /// last term. A message that no honest member can send, a timeout of a leader and a beat of
-    /// another are ignored. The commit index never falls, and the log stays as it is up to there.
+    /// last term. A message that no honest member can send, a timeout of a leader, a beat of another, and a floor where the
+    /// member does not lead or its last entry is of another term are ignored. The commit index never falls, the log stays as
+    /// it is up to there, and what is sealed does not fall.
     ///
     /// An `Err` is want of memory or the shelf's: the state may be half changed, and each later step gives an `Err`
-    /// too. A timeout, a beat or a close that is refused or ignored takes no memory. Owed: the shelf is up, what it stores
+    /// too. A timeout, a beat, a close or a floor that is refused or ignored takes no memory. Owed: the shelf is up, what it stores
     /// is what the member has, and it was opened for such a member.
     pub fn step<S: Shelf>(&mut self, shelf: &mut S, work: Work) -> Result<Effect<Taken>, StoreError>
         requires up { S.is_up shelf.old ≡ true }

@@ -1,14 +1,16 @@
 //! Elections.
 ghost use Rattle.std.specs.Prelude.{◌≡◌, ◌+◌, ◌<◌, ◌≤◌, ◌++◌, List, take, vec_len, IfOk};
 ghost use Rattle.model.specs.Members.{is_free_for, is_up_to_date, is_leader, is_candidate};
-ghost use Rattle.model.specs.Steps.{hears, grants, on_request_vote, on_vote, opened, stands_up};
+ghost use Rattle.model.specs.Steps.{counted, hears, grants, on_request_vote, on_vote, opened, stands_up};
 ghost use Rattle.model.specs.declared.entry.Entry as in_log;
 ghost use Rattle.raft.specs.View.{log_of, node_of, sends, CanForget, IsSameSeat, Reaches, forgotten};
 
 use crate::counted::set_flag;
 use crate::state::{Before, Core, Sending};
+use closedtime::greater;
 use model::member::Member;
 use model::message::{Body, LAST_TERM, Role};
+use model::stamp::Stamp;
 use std::alloc::AllocError;
 use std::mem;
 
@@ -62,13 +64,18 @@ impl Core {
             role: self.role,
             known: self.known,
             votes: mem::replace(&mut self.votes, Vec::new(self.alloc)),
+            told: self.told,
             next: mem::replace(&mut self.next, Vec::new(self.alloc)),
             matched: mem::replace(&mut self.matched, Vec::new(self.alloc)),
+            asked: self.asked,
+            stored: mem::replace(&mut self.stored, Vec::new(self.alloc)),
         };
         self.term = term;
         self.vote = None;
         self.role = Role::Follower;
         self.known = None;
+        self.told = None;
+        self.asked = None;
         Some(before)
     }
 
@@ -87,8 +94,11 @@ impl Core {
                 role,
                 known,
                 votes,
+                told,
                 next,
                 matched,
+                asked,
+                stored,
             },
         ) = heard
         else {
@@ -99,8 +109,11 @@ impl Core {
         self.role = role;
         self.known = known;
         self.votes = votes;
+        self.told = told;
         self.next = next;
         self.matched = matched;
+        self.asked = asked;
+        self.stored = stored;
     }
 
     /// A log of this length and last term is at least as up to date as its own: its last term is greater, or equal where it
@@ -148,7 +161,10 @@ impl Core {
         }
         Sending::Answer {
             to: sender,
-            body: Body::Vote { given },
+            body: Body::Vote {
+                given,
+                floor: self.floor,
+            },
         }
     }
 
@@ -166,8 +182,11 @@ impl Core {
         self.vote = Some(self.me);
         self.role = Role::Candidate;
         self.votes = votes;
+        self.told = None;
         self.next.clear();
         self.matched.clear();
+        self.asked = None;
+        self.stored.clear();
         Ok(())
     }
 
@@ -190,6 +209,17 @@ impl Core {
         self.extend(stamp, None)
     }
 
+    /// Counts one vote more, and the floor that it tells.
+    fn count(&mut self, sender: Member, floor: Option<Stamp>)
+        ghost stored: { List in_log.Entry }
+        ensures node { node_of self.new stored ≡ counted sender floor (node_of self.old stored) }
+        ensures seat { IsSameSeat self.old self.new }
+        ensures log { self.new.log ≡ self.old.log }
+    {
+        set_flag(&mut self.votes, sender, true);
+        self.told = greater(self.told, floor);
+    }
+
     #[tactic(auto, unfolding(model::specs::Steps::on_vote))]
     pub(crate) fn on_vote(
         &mut self,
@@ -197,12 +227,13 @@ impl Core {
         sender: Member,
         term: u64,
         given: bool,
+        floor: Option<Stamp>,
     ) -> Result<Sending, AllocError>
         ghost stored: { List in_log.Entry }
         requires { Reaches self.old stored }
         ensures done { IfOk result
             (λ sending. sends self.old.members self.old.me sending (node_of self.new stored)
-            ≡ on_vote self.old.members self.old.me reading sender term given (node_of self.old stored)) }
+            ≡ on_vote self.old.members self.old.me reading sender term given floor (node_of self.old stored)) }
         ensures seat { IsSameSeat self.old self.new }
         ensures shelved { self.new.log.shelved ≡ self.old.log.shelved }
         ensures short { vec_len self.new.log.tail ≤ vec_len self.old.log.tail + 1 }
@@ -210,7 +241,7 @@ impl Core {
         if !(given && term == self.term && self.is_candidate()) {
             return Ok(Sending::Nothing);
         }
-        set_flag(&mut self.votes, sender, true);
+        self.count(sender, floor);
         if !self.is_elected() {
             return Ok(Sending::Nothing);
         }

@@ -2,6 +2,7 @@
 use Rattle.std.proofs.Common.{◌≡◌, ℕ, suc, ◌+◌, ◌<◌, ◌≤◌, List, ◌++◌, length, slice_get, Option, Some, None, reverse, sym, ap, ◌∙◌, subst, arith, ◌↔◌}
 use Rattle.std.proofs.lemmas.List.{reverse-append}
 use Rattle.std.proofs.lemmas.List.Elements.{All-weaker}
+use Rattle.model.specs.Lists.{nth}
 use Rattle.model.specs.Tables.{Table, Row, IsRow}
 use Rattle.model.specs.Transactions.{Schema, State}
 use Rattle.model.specs.declared.entry.Entry.{Entry}
@@ -17,12 +18,12 @@ later_rest w t list rest R c h = later_from w rest (λ i e p. at i e p)
     at : (i : ℕ) (e : Entry) → slice_get rest i ≡ Some e → w < e.stamp
     at i e p = let l : t < e.stamp = past_closed list rest R t c (suc (length list + i)) e (omega arith) (get_append_right list rest i ∙ p) in omega arith
 
--- the state at a closed instant is the same for every longer list
-pub same_state : (schema : Schema) (w t : ℕ) (list rest : List Entry) → Rising (list ++ rest) → closed list ≡ Some t → w ≤ t → state_at schema (list ++ rest) w ≡ state_at schema list w
+-- the state at an instant is the same for every longer list in which all that comes later is stamped above it
+pub same_state : (schema : Schema) (w : ℕ) (list rest : List Entry) → Later w rest → state_at schema (list ++ rest) w ≡ state_at schema list w
 unfolding state_at
-same_state schema w t list rest R c h =
+same_state schema w list rest l =
     ap (λ es. run_all schema (some_up_to w (accepted schema es))) (reverse-append list rest)
-    ∙ ap (run_all schema) (accepted_later schema w (reverse rest) (reverse list) (later_reverse w rest (later_rest w t list rest R c h)))
+    ∙ ap (run_all schema) (accepted_later schema w (reverse rest) (reverse list) (later_reverse w rest l))
 
 -- two histories that agree up to the last instant of a query have the same answers
 asked_over : (old new : ℕ → Table) (q : Query) (row : Row) → ((w : ℕ) → w ≤ last_instant q.time → old w ≡ new w) → IsAsked old q row → IsAsked new q row
@@ -41,10 +42,20 @@ answer_over old new q a same h = record {
   ends = All-weaker (λ (s : Shown). IsShownEnd old (last_instant q.time) s.row s.end) (λ (s : Shown). IsShownEnd new (last_instant q.time) s.row s.end) (λ s e. end_over old new (last_instant q.time) s.row s.end same e) a.rows h.ends;
 }
 
+-- an answer to a query is its answer in every longer list in which all that comes later is stamped above its instants
+pub late_answer : (schema : Schema) (q : Query) (list rest : List Entry) (a : Answer) → ((w : ℕ) → w ≤ last_instant q.time → Later w rest) → IsAnswer schema q list a ↔ IsAnswer schema q (list ++ rest) a
+late_answer schema q list rest a l =
+    let table : List Entry → ℕ → Table = λ es w. state_at schema es w q.table in
+    let same : (w : ℕ) → w ≤ last_instant q.time → table (list ++ rest) w ≡ table list w = λ w b. ap (λ (x : State). x q.table) (same_state schema w list rest (l w b)) in
+    (answer_over (table list) (table (list ++ rest)) q a (λ w b. sym (same w b)), answer_over (table (list ++ rest)) (table list) q a same)
+
 -- an answer to a query that is closed in a list is its answer in every longer one
 pub however_late : (schema : Schema) (q : Query) (t : ℕ) (list rest : List Entry) (a : Answer) → IsStamped (list ++ rest) → closed list ≡ Some t → last_instant q.time ≤ t →
     IsAnswer schema q list a ↔ IsAnswer schema q (list ++ rest) a
-however_late schema q t list rest a s c l =
-    let table : List Entry → ℕ → Table = λ es w. state_at schema es w q.table in
-    let same : (w : ℕ) → w ≤ last_instant q.time → table (list ++ rest) w ≡ table list w = λ w b. ap (λ (x : State). x q.table) (same_state schema w t list rest (rising_stamped (list ++ rest) s) c (omega arith)) in
-    (answer_over (table list) (table (list ++ rest)) q a (λ w b. sym (same w b)), answer_over (table (list ++ rest)) (table list) q a same)
+however_late schema q t list rest a s c l = late_answer schema q list rest a (λ w b. later_rest w t list rest (rising_stamped (list ++ rest) s) c (omega arith))
+
+-- the same where what comes later is known by its index
+pub late_after : (schema : Schema) (q : Query) (t : ℕ) (list rest : List Entry) (a : Answer) → ((i : ℕ) (e : Entry) → length list < i → nth (list ++ rest) i ≡ Some e → t < e.stamp) → last_instant q.time ≤ t →
+    IsAnswer schema q list a ↔ IsAnswer schema q (list ++ rest) a
+late_after schema q t list rest a above l = late_answer schema q list rest a (λ w b. later_from w rest (λ i e p.
+    (let h : t < e.stamp = above (suc (length list + i)) e (omega arith) (get_append_right list rest i ∙ p) in omega arith)))

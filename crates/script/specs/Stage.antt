@@ -21,7 +21,7 @@ use Rattle.lines.specs.declared.line.Job.TheVariants as torn
 use Rattle.lines.specs.declared.line.Left.{Left as TornLeft}
 use Rattle.lines.specs.declared.line.Left.TheVariants as kept
 use Rattle.lines.specs.declared.line.Line.{Line}
-use Rattle.lines.specs.declared.line.Line.TheVariants.{Clock, ClockAll, Submit, Timeout, Beat, Close, Deliver, Lose, LoseAll, Settle, Stop, Start, Torn as TornLine, Ask}
+use Rattle.lines.specs.declared.line.Line.TheVariants.{Clock, ClockAll, Submit, Timeout, Beat, Close, Floor, Deliver, Lose, LoseAll, Settle, Stop, Start, Torn as TornLine, Ask}
 use Rattle.script.specs.declared.sent.Sent.{Sent}
 use Rattle.script.specs.Mail.{newly_sent, as_delivered, as_lost, changed, left_from}
 use Rattle.script.specs.Printing.{output_text}
@@ -127,6 +127,7 @@ module _ (tables : Tables) (n : ℕ) where
   job_at s m torn.Timeout = Some (Local input.Timeout)
   job_at s m torn.Beat = Some (Local input.Beat)
   job_at s m torn.Close = Some (Local (input.Close (reading_of s m)))
+  job_at s m torn.Floor = Some (Local (input.Floor (reading_of s m)))
   job_at s m (torn.Submit client number text) = Some (Local (input.Submit (reading_of s m) (record { client = client; number = number; text = text })))
   job_at s m (torn.Deliver k) = torn_delivery s m k (nth s.sent k)
 
@@ -135,6 +136,7 @@ module _ (tables : Tables) (n : ℕ) where
   torn_stage s torn.Timeout = s
   torn_stage s torn.Beat = s
   torn_stage s torn.Close = s
+  torn_stage s torn.Floor = s
   torn_stage s (torn.Submit client number text) = s
   torn_stage s (torn.Deliver k) = delivered s k
 
@@ -155,6 +157,7 @@ module _ (tables : Tables) (n : ℕ) where
   played s (Timeout m) = event_at s (model.Hand m input.Timeout)
   played s (Beat m) = event_at s (model.Hand m input.Beat)
   played s (Close m) = event_at s (model.Hand m (input.Close (reading_of s m)))
+  played s (Floor m) = event_at s (model.Hand m (input.Floor (reading_of s m)))
   played s (Deliver k) = delivery s k (nth s.sent k)
   played s (Lose k) = nothing (record { clocks = s.clocks; world = s.world; sent = changed as_lost s.sent k })
   played s LoseAll = nothing (record { clocks = s.clocks; world = s.world; sent = map as_lost s.sent })

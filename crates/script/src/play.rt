@@ -260,6 +260,10 @@ impl Play {
                 let reading = self.reading_of(node);
                 Ok(Some(event::Job::Local(Input::Close { reading })))
             }
+            Job::Floor => {
+                let reading = self.reading_of(node);
+                Ok(Some(event::Job::Local(Input::Floor { reading })))
+            }
             Job::Submit {
                 client,
                 number,
@@ -396,6 +400,10 @@ impl Play {
             Line::Close { node } => {
                 let reading = self.reading_of(*node);
                 self.happen(Event::Hand(*node, Input::Close { reading }), writer)
+            }
+            Line::Floor { node } => {
+                let reading = self.reading_of(*node);
+                self.happen(Event::Hand(*node, Input::Floor { reading }), writer)
             }
             Line::Deliver { message } => self.deliver(*message, writer),
             Line::Settle { rounds } => self.settle(rounds.unwrap_or(ROUNDS_MOST), writer),

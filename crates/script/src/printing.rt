@@ -1,12 +1,13 @@
 //! What the outputs of a group print.
-ghost use Rattle.std.specs.Prelude.{◌≡◌, ◌++◌, Some};
+ghost use Rattle.std.specs.Prelude.{◌≡◌, ◌++◌, ◌∷◌, [], Some};
 ghost use Rattle.std.specs.Fmt.{WritesOnOk};
-ghost use Rattle.script.specs.Printing.{yes_or_no as word_of, body_text, sent_text, node_text, told_text, output_text};
+ghost use Rattle.script.specs.Printing.{yes_or_no as word_of, floor_or_none, floor_text, body_text, sent_text, node_text, told_text, output_text};
 
 use answertext::Lines;
 use model::entry::Told;
 use model::member::Member;
 use model::message::{Body, Message};
+use model::stamp::Stamp;
 use std::fmt;
 use world::output::Output;
 
@@ -52,9 +53,10 @@ fn write_body<W: fmt::Write>(term: u64, body: &Body, f: &mut fmt::Formatter<W>) 
             last_index,
             last_term,
         } => write!(f, "votereq term {term} last {last_index} {last_term}\n"),
-        Body::Vote { given } => {
+        Body::Vote { given, floor } => {
             let given = yes_or_no(*given);
-            write!(f, "vote term {term} {given}\n")
+            write!(f, "vote term {term} {given} floor ")?;
+            write_floor_or_none(*floor, f)
         }
         Body::Append {
             prev_index,
@@ -70,7 +72,40 @@ fn write_body<W: fmt::Write>(term: u64, body: &Body, f: &mut fmt::Formatter<W>) 
             let ok = yes_or_no(*ok);
             write!(f, "reply term {term} {ok} {matched}\n")
         }
+        Body::Seek { index, floor } => write_floor("seek", term, *index, *floor, f),
+        Body::Stored { index, floor } => write_floor("stored", term, *index, *floor, f),
+        Body::Seal { index, floor } => write_floor("seal", term, *index, *floor, f),
     }
+}
+
+// A voter's floor, to the end of the line.
+fn write_floor_or_none<W: fmt::Write>(
+    floor: Option<Stamp>,
+    f: &mut fmt::Formatter<W>,
+) -> fmt::Result
+    ensures { WritesOnOk W.write_str_gives f.old result (floor_or_none floor ++ 10 ∷ []) f.new }
+{
+    match floor {
+        Some(floor) => {
+            let micros = floor.micros();
+            write!(f, "{micros}\n")
+        }
+        None => write!(f, "none\n"),
+    }
+}
+
+// A message about a floor that is asked for, by its word, to the end of the line.
+fn write_floor<W: fmt::Write>(
+    word: &str,
+    term: u64,
+    index: usize,
+    floor: Stamp,
+    f: &mut fmt::Formatter<W>,
+) -> fmt::Result
+    ensures { WritesOnOk W.write_str_gives f.old result (floor_text word.now term index floor) f.new }
+{
+    let micros = floor.micros();
+    write!(f, "{word} term {term} index {index} floor {micros}\n")
 }
 
 fn yes_or_no(yes: bool) -> &'static str

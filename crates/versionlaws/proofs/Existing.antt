@@ -7,9 +7,9 @@ use Rattle.model.specs.Tables.{Table}
 use Rattle.model.specs.Logs.{state_at}
 use Rattle.model.specs.Answers.{SystemTime, last_instant, Query, read_at, IsAnswer, IsAnswerOver, IsShownEnd}
 use Rattle.rowlaws.proofs.Contents.{contains_has}
-use Rattle.safety.specs.Answers.{HoweverLate, OneAnswer}
+use Rattle.safety.specs.Answers.{HoweverLate, HoweverSealed, OneAnswer}
 use Rattle.versionlaws.specs.Committing.{versions_after}
-use Rattle.versionlaws.specs.Answering.{HasInstant, answer_from, VersionsAnswer, SomeAnswer, ClosedAnswer}
+use Rattle.versionlaws.specs.Answering.{HasInstant, answer_from, VersionsAnswer, SomeAnswer, ClosedAnswer, SealedAnswer}
 
 -- ---- a query that has no instant
 
@@ -46,6 +46,21 @@ closed_has_one late one some schema q list stamped fine is_closed =
       at = is_closed.1;
       is = found.1;
       only = λ later a s. let stays = late schema (read_at t q) t list later a s is_closed.1 is_closed.2 in (
+        (λ h. one schema (read_at t q) list a found.0 (stays.1 h) found.1),
+        (λ e. stays.0 (subst (IsAnswer schema (read_at t q) list) (sym e) found.1)),
+      );
+    }
+
+pub sealed_has_one : HoweverSealed → OneAnswer → SomeAnswer → SealedAnswer
+sealed_has_one sealed one some schema q list time stamped fine is_closed =
+    let t : ℕ = is_closed.0 in
+    let found = some schema (read_at t q) list stamped fine in
+    record {
+      now = t;
+      answer = found.0;
+      at = is_closed.1;
+      is = found.1;
+      only = λ later a s. let stays = sealed schema (read_at t q) t list later a s is_closed.2 in (
         (λ h. one schema (read_at t q) list a found.0 (stays.1 h) found.1),
         (λ e. stays.0 (subst (IsAnswer schema (read_at t q) list) (sym e) found.1)),
       );

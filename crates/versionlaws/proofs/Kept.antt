@@ -12,7 +12,7 @@ use Rattle.rowlaws.specs.Rows.{Has}
 use Rattle.rowlaws.specs.Touching.{rows_without, IsTouched, Touched}
 use Rattle.rowlaws.specs.Logs.{rows_after, IsFineRequest, AllFine, LogsOnRows, LogsFollow}
 use Rattle.versionlaws.specs.Versions.{Version, Holds, NoVersions}
-use Rattle.versionlaws.specs.Committing.{committed, versions_after, CommitEntry, EntryStays, Lasts, HoldsAfter, KeepsAfter}
+use Rattle.versionlaws.specs.Committing.{committed, versions_after, CommitEntry, EntryStays, Lasts, KeptLater, HoldsAfter, KeepsAfter}
 use Rattle.versionlaws.proofs.Lasting.{Falling, falling, stamped_beginning, filter-reverse, all_kept, none_later, AreOlder, lasts}
 use Rattle.versionlaws.proofs.Committed.{holds_next, held_on, held_kept}
 
@@ -168,6 +168,10 @@ entry_stays_held same schema n list e versions s h stays =
     ]) in
     subst (λ (t : Table). Holds versions (λ u. state_at schema (list ++ e ∷ []) u n) (least_stamp (list ++ e ∷ [])) t) (sym stays) on
 
+pub kept_later : StateUpTo → KeptLater
+kept_later same schema n list versions now s h =
+    held_kept versions (λ u. state_at schema list u n) (least_stamp list) now (state_after schema (reverse list) n) h (λ u g le. stays_from schema n same list u s g)
+
 pub lasts_in_log : StateUpTo → LogsFollow → Lasts
 lasts_in_log same follows schema list n t w row s fine le b h =
     subst (λ x. IsRow x row) (sym (at schema n same list w s))
@@ -179,5 +183,4 @@ holds_in_log same listed follows touched schema list n s fine =
 
 pub keeps_in_log : StateUpTo → LogsOnRows → LogsFollow → Touched → KeepsAfter
 keeps_in_log same listed follows touched schema list n now s fine =
-    held_kept (versions_after schema n (reverse list)) (λ u. state_at schema list u n) (least_stamp list) now (state_after schema (reverse list) n) (holds_in_log same listed follows touched schema list n s fine)
-    (λ u g le. stays_from schema n same list u s g)
+    kept_later same schema n list (versions_after schema n (reverse list)) now s (holds_in_log same listed follows touched schema list n s fine)

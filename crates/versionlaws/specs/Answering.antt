@@ -1,6 +1,7 @@
 -- The answer that versions give.
-use Rattle.std.specs.Prelude.{◌≡◌, ◌↔◌, ℕ, ◌≤◌, Bool, true, ◌&&◌, nat_lt, nat_le, IsTrue, Option, Some, None, List, ◌++◌, map, filter, reverse, if◌then◌else◌}
+use Rattle.std.specs.Prelude.{◌≡◌, ◌↔◌, ℕ, ◌<◌, ◌≤◌, Bool, true, ◌&&◌, nat_lt, nat_le, IsTrue, Option, Some, None, List, ◌++◌, map, filter, length, reverse, if◌then◌else◌}
 use Rattle.std.specs.declared.cmp.Ordering.{Ordering}
+use Rattle.model.specs.Lists.{nth}
 use Rattle.model.specs.declared.entry.Entry.{Entry}
 use Rattle.model.specs.Tables.{Table, Row}
 use Rattle.model.specs.Transactions.{Schema}
@@ -81,6 +82,23 @@ pub record HasAnswer (schema : Schema) (q : Select) (list : List Entry) : Type 0
   pub is : IsAnswer schema (read_at now q) list answer
   pub only : (later : List Entry) (a : Answer) → IsStamped (list ++ later) → IsAnswer schema (read_at now q) (list ++ later) a ↔ (a ≡ answer)
 
+-- what comes after the list in the longer one is stamped above the instant
+abbrev pub ComesAbove : ℕ → List Entry → List Entry → Type 0
+ComesAbove t list later = (i : ℕ) (e : Entry) → length list < i → nth (list ++ later) i ≡ Some e → t < e.stamp
+
+-- the query is closed at this closed time, and it has an answer in the list, which is the only one there and in every longer
+-- list in which what comes after is stamped above that time
+pub record HasAnswerAt (schema : Schema) (q : Select) (list : List Entry) (time : Option ℕ) : Type 0 where
+  pub now : ℕ
+  pub answer : Answer
+  pub at : time ≡ Some now
+  pub is : IsAnswer schema (read_at now q) list answer
+  pub only : (later : List Entry) (a : Answer) → ComesAbove now list later → IsAnswer schema (read_at now q) (list ++ later) a ↔ (a ≡ answer)
+
 -- a query that is closed in a log of well formed texts has an answer
 abbrev pub ClosedAnswer : Type 0
-ClosedAnswer = (schema : Schema) (q : Select) (list : List Entry) → IsStamped list → AllFine schema list → IsClosed q list → HasAnswer schema q list
+ClosedAnswer = (schema : Schema) (q : Select) (list : List Entry) → IsStamped list → AllFine schema list → IsClosed q (closed list) → HasAnswer schema q list
+
+-- and so has one that is closed at any closed time, also at one above the last stamp
+abbrev pub SealedAnswer : Type 0
+SealedAnswer = (schema : Schema) (q : Select) (list : List Entry) (time : Option ℕ) → IsStamped list → AllFine schema list → IsClosed q time → HasAnswerAt schema q list time

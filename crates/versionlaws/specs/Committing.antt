@@ -65,6 +65,12 @@ abbrev pub Lasts : Type 0
 Lasts = (schema : Schema) (list : List Entry) (n t w : ℕ) (row : Row) → IsStamped list → AllFine schema list →
     w ≤ t → row.system_start ≤ w → IsRow (state_at schema list t n) row → IsRow (state_at schema list w n) row
 
+-- what is held of a log's table is kept up to each instant, also to one after the last stamp
+abbrev pub KeptLater : Type 0
+KeptLater = (schema : Schema) (n : ℕ) (list : List Entry) (versions : List Version) (now : ℕ) → IsStamped list →
+    Holds versions (λ u. state_at schema list u n) (least_stamp list) (state_after schema (reverse list) n) →
+    Keeps versions (λ u. state_at schema list u n) now
+
 -- the versions that a log leaves hold what its tables are
 abbrev pub HoldsAfter : Type 0
 HoldsAfter = (schema : Schema) (list : List Entry) (n : ℕ) → IsStamped list → AllFine schema list →

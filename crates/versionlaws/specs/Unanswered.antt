@@ -7,7 +7,7 @@ use Rattle.model.specs.declared.value.Value.TheVariants.{Number}
 use Rattle.model.specs.declared.entry.Entry.{Entry}
 use Rattle.model.specs.Tables.{Period}
 use Rattle.model.specs.Transactions.{Schema, Insert}
-use Rattle.model.specs.Logs.{IsStamped}
+use Rattle.model.specs.Logs.{IsStamped, closed}
 use Rattle.model.specs.Answers.{Select, Answer, IsAnswer, IsClosed, read_at}
 
 abbrev pub key : List Value
@@ -38,4 +38,4 @@ question = record { table = 0; time = Some (record { first = 1; last = 2 }); pas
 
 -- the question is closed, and nothing is its answer
 abbrev pub NoAnswer : Type 0
-NoAnswer = IsStamped log × IsClosed question log × ((a : Answer) → IsAnswer schema (read_at 2 question) log a → ⊥)
+NoAnswer = IsStamped log × IsClosed question (closed log) × ((a : Answer) → IsAnswer schema (read_at 2 question) log a → ⊥)

@@ -6,8 +6,8 @@
 
 ghost use Rattle.versionlaws.specs.Versions.{NoVersions, HeldBefore, HeldOn, HeldKept};
 ghost use Rattle.versionlaws.specs.ByKey.{HeldByKey, FewVersions};
-ghost use Rattle.versionlaws.specs.Committing.{Commit, CommitEntry, EntryStays, Lasts, HoldsAfter, KeepsAfter};
-ghost use Rattle.versionlaws.specs.Answering.{VersionsRows, VersionsEnds, VersionsGive, VersionsAnswer, SomeAnswer, ClosedAnswer};
+ghost use Rattle.versionlaws.specs.Committing.{Commit, CommitEntry, EntryStays, Lasts, KeptLater, HoldsAfter, KeepsAfter};
+ghost use Rattle.versionlaws.specs.Answering.{VersionsRows, VersionsEnds, VersionsGive, VersionsAnswer, SomeAnswer, ClosedAnswer, SealedAnswer};
 ghost use Rattle.versionlaws.specs.Unanswered.{NoAnswer};
 ghost use Rattle.versionlaws.specs.WorkedRows.{DeletedVersion, CutVersion, MovedVersions};
 
@@ -58,6 +58,13 @@ pub fn commit_entry()
 /// Where an entry of a log leaves a table as it was, the same versions hold on.
 pub fn entry_stays()
     ensures { EntryStays }
+{
+    safety::state_up_to();
+}
+
+/// What is held of a log's table is kept up to each instant: also to one after the last stamp, since the rows stay.
+pub fn kept_later()
+    ensures { KeptLater }
 {
     safety::state_up_to();
 }
@@ -130,6 +137,16 @@ pub fn closed_answer()
     ensures { ClosedAnswer }
 {
     safety::however_late();
+    safety::one_answer();
+    some_answer();
+}
+
+/// Sealed answer: so has a query that is closed at any closed time, also at one above the last stamp of the log. It is the
+/// only answer in that log and in every longer one in which what comes after is stamped above that time.
+pub fn sealed_answer()
+    ensures { SealedAnswer }
+{
+    safety::however_sealed();
     safety::one_answer();
     some_answer();
 }

@@ -1,13 +1,17 @@
 -- Taking in the items of a list, one after another.
-use Rattle.std.proofs.Common.{◌≡◌, ℕ, zero, suc, ◌+◌, ◌≤◌, List, [], ◌∷◌, ◌++◌, length, take, slice_get, Some, ap, sym, ◌∙◌, subst, add-one, arith}
-use Rattle.std.proofs.lemmas.List.{take-append-le}
+use Rattle.std.proofs.Common.{◌≡◌, ℕ, zero, suc, ◌+◌, ◌≤◌, Option, Some, None, List, [], ◌∷◌, ◌++◌, length, take, slice_get, ap, sym, ◌∙◌, subst, add-one, arith}
+use Rattle.std.proofs.lemmas.List.{append-nil, take-append-le}
+use Rattle.std.proofs.lemmas.List.Elements.{filter_map-append}
+use Rattle.std.proofs.lemmas.List.Sums.{fold-append}
 use mathlib.Core.List.{IsPrefix}
 use Rattle.model.specs.declared.entry.Entry.{Entry}
+use Rattle.model.specs.Stamps.{greater}
 use Rattle.sqlchecks.specs.Columns as columns
 use Rattle.apply.specs.declared.tables.Tables.{Tables}
 use Rattle.apply.specs.View.{AreTables}
 use Rattle.history.specs.declared.item.Item.{Item}
-use Rattle.history.specs.Items.{entry_of, entries_of}
+use Rattle.history.specs.declared.item.Item.TheVariants.{Applied, Sealed}
+use Rattle.history.specs.Items.{entry_of, entries_in, greater_sealed, sealed_in}
 
 -- a longer list begins with the same items
 pub same_first : {A : Type 0} (n : ℕ) (xs ys : List A) → IsPrefix xs ys → n ≤ length xs → take n xs ≡ take n ys
@@ -19,23 +23,55 @@ some_within [] n x h = absurd cc
 some_within (y ∷ xs) zero x h = omega arith
 some_within (y ∷ xs) (suc n) x h = omega (arith, some_within xs n x h)
 
--- the entries of one item more
-entries_more : (items : List Item) (n : ℕ) (item : Item) → slice_get items n ≡ Some item → entries_of (take (suc n) items) ≡ entries_of (take n items) ++ entry_of item ∷ []
-entries_more [] n item h = absurd cc
-entries_more (x ∷ items) zero item h = let same : x ≡ item = cc h in ap (λ i. entry_of i ∷ []) same
-entries_more (x ∷ items) (suc n) item h = ap (λ es. entry_of x ∷ es) (entries_more items n item h)
+taken_next : (items : List Item) (n : ℕ) (item : Item) → slice_get items n ≡ Some item → take (suc n) items ≡ take n items ++ item ∷ []
+taken_next [] n item h = absurd cc
+taken_next (x ∷ items) zero item h = let same : x ≡ item = cc h in ap (λ i. i ∷ []) same
+taken_next (x ∷ items) (suc n) item h = ap (λ xs. x ∷ xs) (taken_next items n item h)
 
--- the tables of one item more
-pub tables_more : (schema : columns.Tables) (items : List Item) (n : ℕ) (item : Item) (entry : Entry) (old new : Tables) → slice_get items n ≡ Some item → entry ≡ entry_of item
-    → AreTables schema (entries_of (take n items)) old
+-- one item more
+taken_more : (items : List Item) (n : ℕ) (item : Item) → slice_get items n ≡ Some item → take (n + 1) items ≡ take n items ++ item ∷ []
+taken_more items n item h = ap (λ k. take k items) (add-one n) ∙ taken_next items n item h
+
+-- the tables of one entry more
+pub tables_more : (schema : columns.Tables) (items : List Item) (n mark : ℕ) (entry : Entry) (old new : Tables) → slice_get items n ≡ Some (Applied mark entry)
+    → AreTables schema (entries_in (take n items)) old
     → ((tables : columns.Tables) (list : List Entry) → AreTables tables list old → AreTables tables (list ++ entry ∷ []) new)
-    → AreTables schema (entries_of (take (n + 1) items)) new
-tables_more schema items n item entry old new here is are kept =
-    let more : entries_of (take n items) ++ entry ∷ [] ≡ entries_of (take (n + 1) items) =
-    ap (λ e. entries_of (take n items) ++ e ∷ []) is ∙ (sym (entries_more items n item here) ∙ ap (λ k. entries_of (take k items)) (sym (add-one n))) in
-    subst (λ list. AreTables schema list new) more (kept schema (entries_of (take n items)) are)
+    → AreTables schema (entries_in (take (n + 1) items)) new
+tables_more schema items n mark entry old new here are kept =
+    let more : entries_in (take (n + 1) items) ≡ entries_in (take n items) ++ entry ∷ [] =
+    ap entries_in (taken_more items n (Applied mark entry) here) ∙ filter_map-append entry_of (take n items) (Applied mark entry ∷ []) in
+    subst (λ list. AreTables schema list new) (sym more) (kept schema (entries_in (take n items)) are)
+
+-- the same tables, where the item more is no entry
+pub tables_stay : (schema : columns.Tables) (items : List Item) (n mark time : ℕ) (tables : Tables) → slice_get items n ≡ Some (Sealed mark time)
+    → AreTables schema (entries_in (take n items)) tables → AreTables schema (entries_in (take (n + 1) items)) tables
+tables_stay schema items n mark time tables here are =
+    let same : entries_in (take (n + 1) items) ≡ entries_in (take n items) =
+    ap entries_in (taken_more items n (Sealed mark time) here) ∙ (filter_map-append entry_of (take n items) (Sealed mark time ∷ []) ∙ append-nil (entries_in (take n items))) in
+    subst (λ list. AreTables schema list tables) (sym same) are
+
+-- what is sealed in one item more
+pub sealed_more : (items : List Item) (n : ℕ) (item : Item) (sealed : Option ℕ) → slice_get items n ≡ Some item → sealed ≡ sealed_in (take n items) → greater_sealed sealed item ≡ sealed_in (take (n + 1) items)
+sealed_more items n item sealed here is =
+    ap (λ s. greater_sealed s item) is ∙ sym (ap sealed_in (taken_more items n item here) ∙ fold-append greater_sealed None (take n items) (item ∷ []))
 
 -- the same items of a longer list
 pub tables_same : (schema : columns.Tables) (xs ys : List Item) (n : ℕ) (tables : Tables) → IsPrefix xs ys → n ≤ length xs
-    → AreTables schema (entries_of (take n xs)) tables → AreTables schema (entries_of (take n ys)) tables
-tables_same schema xs ys n tables p le are = subst (λ list. AreTables schema (entries_of list) tables) (same_first n xs ys p le) are
+    → AreTables schema (entries_in (take n xs)) tables → AreTables schema (entries_in (take n ys)) tables
+tables_same schema xs ys n tables p le are = subst (λ list. AreTables schema (entries_in list) tables) (same_first n xs ys p le) are
+
+pub tables_next : (schema : columns.Tables) (items : List Item) (n mark : ℕ) (item : Item) (entry : Entry) (old new : Tables) → slice_get items n ≡ Some item → item ≡ Applied mark entry
+    → AreTables schema (entries_in (take n items)) old
+    → ((tables : columns.Tables) (list : List Entry) → AreTables tables list old → AreTables tables (list ++ entry ∷ []) new)
+    → AreTables schema (entries_in (take (n + 1) items)) new
+tables_next schema items n mark item entry old new here is are kept = tables_more schema items n mark entry old new (here ∙ ap Some is) are kept
+
+pub tables_sealed : (schema : columns.Tables) (items : List Item) (n mark time : ℕ) (item : Item) (tables : Tables) → slice_get items n ≡ Some item → item ≡ Sealed mark time
+    → AreTables schema (entries_in (take n items)) tables → AreTables schema (entries_in (take (n + 1) items)) tables
+tables_sealed schema items n mark time item tables here is are = tables_stay schema items n mark time tables (here ∙ ap Some is) are
+
+pub sealed_stays : (items : List Item) (n mark : ℕ) (item : Item) (entry : Entry) (sealed : Option ℕ) → slice_get items n ≡ Some item → item ≡ Applied mark entry → sealed ≡ sealed_in (take n items) → sealed ≡ sealed_in (take (n + 1) items)
+sealed_stays items n mark item entry sealed here is was = sym (ap (λ i. greater_sealed sealed i) is) ∙ sealed_more items n item sealed here was
+
+pub sealed_adds : (items : List Item) (n mark time : ℕ) (item : Item) (sealed new : Option ℕ) → slice_get items n ≡ Some item → item ≡ Sealed mark time → new ≡ greater sealed (Some time) → sealed ≡ sealed_in (take n items) → new ≡ sealed_in (take (n + 1) items)
+sealed_adds items n mark time item sealed new here is more was = more ∙ (sym (ap (λ i. greater_sealed sealed i) is) ∙ sealed_more items n item sealed here was)

@@ -10,7 +10,7 @@ use Rattle.answer.specs.declared.Answer.{Answer}
 use Rattle.apply.specs.View.{IsAskedOf}
 use Rattle.logbook.specs.Pages.{Book}
 use Rattle.history.specs.declared.item.Item.{Item}
-use Rattle.history.specs.Items.{entries_of}
+use Rattle.history.specs.Items.{entries_in, closed_in}
 use Rattle.view.specs.declared.told.Name.{Name}
 use Rattle.view.specs.declared.told.Told.{Told}
 use Rattle.view.specs.declared.view.View.{View}
@@ -59,10 +59,10 @@ answer_in (Ok a) = Ok a.answer
 answer_in (Err refusal) = Err refusal
 
 -- what comes of a question, by what was seen before it and after it: the answer in the entries seen, or 33 where it is not
--- closed there, wherever stamps rise in them; or there was no memory or no reading, and nothing more is seen
+-- closed at the closed time of the items seen, wherever stamps rise in the entries; or there was no memory or no reading, and nothing more is seen
 abbrev pub Answers : Schema → QueryShape → List Item → List Item → Result Answer Refusal → Type 0
-Answers schema q before after (Ok a) = IsStamped (entries_of after) → IsAskedOf schema q (entries_of after) (Ok a)
-Answers schema q before after (Err (NotClosed closed)) = IsStamped (entries_of after) → IsAskedOf schema q (entries_of after) (Err (NotClosed closed))
+Answers schema q before after (Ok a) = IsStamped (entries_in after) → IsAskedOf schema q (entries_in after) (closed_in after) (Ok a)
+Answers schema q before after (Err (NotClosed closed)) = IsStamped (entries_in after) → IsAskedOf schema q (entries_in after) (closed_in after) (Err (NotClosed closed))
 Answers schema q before after (Err NoMemory) = after ≡ before
 Answers schema q before after (Err NoView) = after ≡ before
 Answers schema q before after (Err refusal) = ⊥

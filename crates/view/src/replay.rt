@@ -8,14 +8,16 @@ ghost use Rattle.sqlread.specs.Shapes.{query_of};
 ghost use Rattle.answer.specs.Answers.{columns_in};
 ghost use Rattle.apply.specs.Once.{tables_prop};
 ghost use Rattle.apply.specs.View.{AreTables, IsAskedOf, is_failed};
-ghost use Rattle.history.specs.Items.{entries_of};
+ghost use Rattle.history.specs.Items.{entries_in, sealed_in, closed_in};
 ghost use Rattle.view.specs.Replies.{said, HasColumns};
 
 use crate::published::Published;
 use answer::Answer;
 use apply::Tables;
+use closedtime::greater;
 use fault::{Refusal, Text};
 use history::{Front, Item};
+use model::stamp::Stamp;
 use schema::Schema;
 use sqlread::query::Query;
 use std::alloc::{AllocError, Global};
@@ -23,12 +25,12 @@ use std::alloc::{AllocError, Global};
 /// What comes of a question, unless there is no memory.
 pub(crate) enum Reply {
     Answered(Answer),
-    /// It is not closed in the list. The closed time, if there is one.
+    /// It is not closed at the list's closed time, which this is, if there is one.
     NotClosed(Option<Text>),
 }
 
-/// The tables that the first entries of the list read last leave. After a want of memory they have failed, and are made
-/// anew when the list is read again.
+/// The tables that the entries among the first items of the list read last leave, and what is sealed in these. After a
+/// want of memory the tables have failed, and are made anew when the list is read again.
 #[derive(Drop)]
 pub(crate) struct Replay {
     alloc: Global,
@@ -38,8 +40,11 @@ pub(crate) struct Replay {
     pub(crate) front: Front,
     /// How many of its items the tables have taken in.
     applied: usize,
+    /// The greatest sealed time in these, if there is one.
+    sealed: Option<Stamp>,
     ghost within: { applied ≤ length front.seen.log },
-    ghost current: { is_failed tables ≡ false → AreTables schema (entries_of (take applied front.seen.log)) tables } by { →_prop (tables_prop _ _ _) },
+    ghost current: { is_failed tables ≡ false → AreTables schema (entries_in (take applied front.seen.log)) tables } by { →_prop (tables_prop _ _ _) },
+    ghost closing: { sealed ≡ sealed_in (take applied front.seen.log) },
 }
 
 impl Replay {
@@ -54,6 +59,7 @@ impl Replay {
             tables,
             front,
             applied: 0,
+            sealed: None,
         })
     }
 
@@ -65,6 +71,7 @@ impl Replay {
         if self.tables.has_failed() {
             self.tables = Tables::new(self.alloc, &self.schema)?;
             self.applied = 0;
+            self.sealed = None;
         }
         Ok(())
     }
@@ -78,10 +85,18 @@ impl Replay {
         ensures up { OnOk result (is_failed self.new.tables ≡ false) }
         ensures applied { OnOk result (self.new.applied ≡ self.old.applied + 1) }
     {
-        let entry = item.entry();
-        self.tables.apply(entry)?;
-        self.applied += 1;
-        Ok(())
+        match item {
+            Item::Applied { entry, .. } => {
+                self.tables.apply(entry)?;
+                self.applied += 1;
+                Ok(())
+            }
+            Item::Sealed { time, .. } => {
+                self.sealed = greater(self.sealed, Some(*time));
+                self.applied += 1;
+                Ok(())
+            }
+        }
     }
 
     /// Reads a list that begins with the one read last, and takes in all that is new in it. The error is want of memory.
@@ -100,14 +115,24 @@ impl Replay {
         Ok(())
     }
 
-    /// Answers a question from the list that was read last, all of which has been taken in. The error is want of memory.
+    // The closed time of the list that was read last, all of which has been taken in.
+    fn closed(&self) -> Option<Stamp>
+        requires up { is_failed self.now.tables ≡ false }
+        requires whole { take self.now.applied self.now.front.seen.log ≡ self.now.front.seen.log }
+        ensures { result ≡ closed_in self.now.front.seen.log }
+    {
+        greater(self.tables.closed(), self.sealed)
+    }
+
+    /// Answers a question from the list that was read last, all of which has been taken in, at its closed time. The error
+    /// is want of memory.
     pub(crate) fn ask(&self, query: &Query) -> Result<Reply, AllocError>
         requires up { is_failed self.now.tables ≡ false }
         requires whole { take self.now.applied self.now.front.seen.log ≡ self.now.front.seen.log }
-        ensures asked { IfOk result (λ reply. IsStamped (entries_of self.now.front.seen.log) → IsAskedOf (schema_of self.now.schema) (query_of query.now) (entries_of self.now.front.seen.log) (said reply)) }
+        ensures asked { IfOk result (λ reply. IsStamped (entries_in self.now.front.seen.log) → IsAskedOf (schema_of self.now.schema) (query_of query.now) (entries_in self.now.front.seen.log) (closed_in self.now.front.seen.log) (said reply)) }
         ensures columns { IfOk result (λ reply. HasColumns (columns_in self.now.schema query.now.table) reply) }
     {
-        match self.tables.ask(query) {
+        match self.tables.ask(query, self.closed()) {
             Ok(answer) => Ok(Reply::Answered(answer)),
             Err(Refusal::NotClosed(closed)) => Ok(Reply::NotClosed(closed)),
             Err(_) => Err(AllocError),

@@ -141,9 +141,10 @@ impl View {
     }
 
     /// Answers a question from what is published now, which is at least what was seen before, and has then seen that; one
-    /// without system time is AS OF the closed time, the stamp of the last entry seen.
+    /// without system time is AS OF the closed time of what is then seen: the greater of the last entry's stamp and the
+    /// greatest sealed time.
     ///
-    /// 33 with the closed time where the question is not closed in what is then seen; 43 for want of memory, and 45 where
+    /// 33 with that closed time where the question is not closed at it; 43 for want of memory, and 45 where
     /// there is no reading, as once the life has ended: these change nothing. It waits for nobody.
     #[tactic(auto, using(crate::proofs::Seeing::same_grows, crate::proofs::Seeing::refused))]
     pub fn ask(&mut self, query: &Query) -> Result<Marked, Refusal>

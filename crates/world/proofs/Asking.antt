@@ -1,11 +1,10 @@
 -- What a member answers, and what an Ask gives.
 use Rattle.std.proofs.Common.{◌≡◌, ◌∙◌, ℕ, ⊎_elim, Bool, true, false, Option, Some, None, Ok, Err, List, [], ◌∷◌, sym, ap, subst, option_map}
-use Rattle.model.specs.Logs.{closed, IsStamped}
+use Rattle.model.specs.Logs.{IsStamped}
 use Rattle.model.specs.Texts.{instant_text}
 use Rattle.model.specs.Answers.{Query, closed_query}
-use Rattle.model.specs.Members.{Node, applied}
+use Rattle.model.specs.Members.{Node, applied, closed_time}
 use Rattle.model.specs.Transactions.{Schema as TheSchema}
-use Rattle.model.specs.declared.entry.Entry.{Entry}
 use Rattle.model.specs.Worlds.{Output, IsGivenIn, IsGivenAt, IsGivenBy}
 use Rattle.model.specs.Worlds.Output.{Answered, Refused}
 use Rattle.fault.specs.declared.refusal.Refusal.{Refusal}
@@ -17,22 +16,22 @@ use Rattle.sqlread.specs.Meaning.{select_of}
 use Rattle.node.specs.View.{IsAskedOf}
 use Rattle.world.specs.View.{IsAskedAt}
 
-answered_in : (schema : TheSchema) (m : ℕ) (q : QueryShape) (list : List Entry) (a : Answer) (out : List Output) → IsAskedOf schema q list (Ok a) → out ≡ Answered m (answer_of a) ∷ [] → IsGivenIn schema m list (closed_query (select_of q) (closed list)) out
-answered_in schema m q list a out h is =
-    let P : Option Query → Type 0 = λ o. IsGivenIn schema m list o out in
+answered_in : (schema : TheSchema) (m : ℕ) (q : QueryShape) (x : Node) (a : Answer) (out : List Output) → IsAskedOf schema q (applied x) (closed_time x) (Ok a) → out ≡ Answered m (answer_of a) ∷ [] → IsGivenIn schema m x (closed_query (select_of q) (closed_time x)) out
+answered_in schema m q x a out h is =
+    let P : Option Query → Type 0 = λ o. IsGivenIn schema m x o out in
     subst P (sym h.2) (answer_of a, h.3, is)
 
-refused_in : (schema : TheSchema) (m : ℕ) (q : QueryShape) (list : List Entry) (refusal : Refusal) (out : List Output) → IsAskedOf schema q list (Err refusal) → (refusal ≡ NoMemory → ⊥) → out ≡ Refused m refusal ∷ [] → IsGivenIn schema m list (closed_query (select_of q) (closed list)) out
-refused_in schema m q list refusal out h other is =
-    let P : Option Query → Type 0 = λ o. IsGivenIn schema m list o out in
-    ⊎_elim (λ (e : refusal ≡ NoMemory). absurd (other e)) (λ (p : (closed_query (select_of q) (closed list) ≡ None) × (refusal ≡ NotClosed (option_map instant_text (closed list)))). subst P (sym p.0) (is ∙ ap (λ r. Refused m r ∷ []) p.1)) h
+refused_in : (schema : TheSchema) (m : ℕ) (q : QueryShape) (x : Node) (refusal : Refusal) (out : List Output) → IsAskedOf schema q (applied x) (closed_time x) (Err refusal) → (refusal ≡ NoMemory → ⊥) → out ≡ Refused m refusal ∷ [] → IsGivenIn schema m x (closed_query (select_of q) (closed_time x)) out
+refused_in schema m q x refusal out h other is =
+    let P : Option Query → Type 0 = λ o. IsGivenIn schema m x o out in
+    ⊎_elim (λ (e : refusal ≡ NoMemory). absurd (other e)) (λ (p : (closed_query (select_of q) (closed_time x) ≡ None) × (refusal ≡ NotClosed (option_map instant_text (closed_time x)))). subst P (sym p.0) (is ∙ ap (λ r. Refused m r ∷ []) p.1)) h
 
 answered_by : (schema : TheSchema) (m : ℕ) (q : QueryShape) (x : Node) (up : Bool) (a : Answer) (out : List Output) → IsAskedAt schema q x up (Ok a) → IsStamped (applied x) → out ≡ Answered m (answer_of a) ∷ [] → IsGivenBy schema m (select_of q) x up out
-answered_by schema m q x true a out h stamped is = answered_in schema m q (applied x) a out (h stamped) is
+answered_by schema m q x true a out h stamped is = answered_in schema m q x a out (h stamped) is
 answered_by schema m q x false a out h stamped is = absurd (cc h)
 
 refused_by : (schema : TheSchema) (m : ℕ) (q : QueryShape) (x : Node) (up : Bool) (refusal : Refusal) (out : List Output) → IsAskedAt schema q x up (Err refusal) → IsStamped (applied x) → (refusal ≡ NoMemory → ⊥) → out ≡ Refused m refusal ∷ [] → IsGivenBy schema m (select_of q) x up out
-refused_by schema m q x true refusal out h stamped other is = refused_in schema m q (applied x) refusal out (h stamped) other is
+refused_by schema m q x true refusal out h stamped other is = refused_in schema m q x refusal out (h stamped) other is
 refused_by schema m q x false refusal out h stamped other is = cc
 
 given : (schema : TheSchema) (m : ℕ) (q : QueryShape) (x : Node) (o : Option Node) (out : List Output) → o ≡ Some x → IsGivenBy schema m (select_of q) x x.up out → IsGivenAt schema m (select_of q) o out

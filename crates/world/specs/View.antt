@@ -10,7 +10,7 @@ use Rattle.model.specs.declared.entry.Entry.{Entry}
 use Rattle.model.specs.Lists.{nth}
 use Rattle.model.specs.Logs.{IsStamped}
 use Rattle.model.specs.Transactions.{Schema as TheSchema}
-use Rattle.model.specs.Members.{Node, applied}
+use Rattle.model.specs.Members.{Node, applied, closed_time}
 use Rattle.model.specs.Steps.{Effect, Refuses}
 use Rattle.model.specs.Worlds as model
 use Rattle.model.specs.Worlds.{World, Event, Output, done, effect_gives, fresh, new_world, run, stopped, tells}
@@ -93,7 +93,7 @@ EachShowsColumns tables events outs = (k : ℕ) (e : Given) (out : Vec Out Globa
 
 -- a member that is down, with this stored
 abbrev pub at_rest : Durable → Node
-at_rest d = stopped (record (fresh d.hard.term d.hard.vote) { log = d.log })
+at_rest d = stopped (record (fresh d.hard.term d.hard.vote) { floor = d.hard.floor; log = d.log })
 
 abbrev pub node_in : Seat → Node
 node_in (Up x) = member_of x
@@ -155,9 +155,9 @@ entry_in i member = option_and_then (λ x. nth x.log i) (if_up member)
 abbrev pub commit_in : Option Node → Option ℕ
 commit_in member = option_map (λ x. x.commit) (if_up member)
 
--- what it answers, by whether it is up
+-- what it answers at its closed time, by whether it is up
 abbrev pub IsAskedAt : TheSchema → QueryShape → Node → Bool → Result Answer Refusal → Type 0
-IsAskedAt schema q x true r = IsStamped (applied x) → IsAskedOf schema q (applied x) r
+IsAskedAt schema q x true r = IsStamped (applied x) → IsAskedOf schema q (applied x) (closed_time x) r
 IsAskedAt schema q x false r = r ≡ Err NodeDown
 
 -- ---- a group

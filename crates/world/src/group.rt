@@ -59,6 +59,7 @@ impl Group {
             mut messages,
             applied: _,
             told,
+            sealed: _,
         } = out;
         let mut outs = announce(self.alloc, self.sent.len(), &messages)?;
         apply_all(&mut outs, member, told)?;

@@ -28,8 +28,8 @@ impl World {
     ghost use Rattle.world.specs.Run.{schema_in, tables_in, members_in, opening_of, events_of, now_of, member_of, AddsBeginning};
     ghost use Rattle.world.specs.View.{EachShowsColumns, ShowsColumns};
 
-    /// A group of 3 to 7 members in one program, with tables of this schema: all up, as followers in term 0 with no vote and empty
-    /// logs. Nothing has happened yet.
+    /// A group of 3 to 7 members in one program, with tables of this schema: all up, as followers in term 0 with no vote, no floor
+    /// and empty logs. Nothing has happened yet.
     ///
     /// The one error is want of memory.
     pub fn new(alloc: Global, members: usize, schema: Schema) -> Result<World, AllocError>
@@ -130,7 +130,9 @@ impl World {
     /// All members agree about all that happened so far: the State Machine Safety Property of "In
     /// Search of an Understandable Consensus Algorithm", and what it comes to for answers.
     ///
-    /// An answer has the columns of the table that was asked, in declared order.
+    /// A question is closed up to the member's closed time: the last stamp that it has applied, or the
+    /// greatest floor that it has sealed, whichever is greater. The answer is that in what it has applied,
+    /// with the columns of the table that was asked, in declared order.
     ///
     /// The one error is want of memory, never of a list of no events. The world is spent then: each
     /// later call gives it too, and changes nothing. Kept are the earlier events, and then those of
@@ -160,8 +162,8 @@ impl World {
         }
     }
 
-    /// What a member has stored: its term, its vote, and the length of its log. None for a member that
-    /// is down or not there. An error exactly where the world is spent.
+    /// What a member has stored: its term, its vote, its floor, and the length of its log. None for a
+    /// member that is down or not there. An error exactly where the world is spent.
     pub fn durable(&mut self, member: Member) -> Result<Option<Stored>, AllocError>
         ensures ok { IfOk result (λ found. found ≡ durable_in (member_of self.old member)) }
         ensures same { self.new ≡ self.old }

@@ -11,7 +11,7 @@ use node::node::Node;
 use schema::Schema;
 use std::alloc::{AllocError, Global};
 
-/// A member that has seen nothing: a follower in term 0 with no vote and an empty log.
+/// A member that has seen nothing: a follower in term 0 with no vote, no floor and an empty log.
 fn start_member(
     alloc: Global,
     schema: Schema,
@@ -30,7 +30,7 @@ fn start_member(
     }
 }
 
-/// All members up, in term 0, with no vote and empty logs.
+/// All members up, in term 0, with no vote, no floor and empty logs.
 pub(crate) fn open_group(alloc: Global, members: usize, schema: Schema) -> Result<Group, AllocError>
     requires { members ≤ 7 }
     ensures group { IfOk result (λ g. IsGroup g.schema g.members g.seats.items) }

@@ -142,7 +142,7 @@ impl Seat {
         }
     }
 
-    /// What the member answers.
+    /// What the member answers at its closed time.
     pub(crate) fn ask(&self, query: &Query) -> Result<Answer, Refusal>
         ensures asked { (t : Tables) (n m : ℕ) → IsSeat t n m self.now → IsAskedAt (schema_of t) (query_of query.now) (node_in self.now) (node_in self.now).up result }
         ensures columns { IfOk result (λ a. (t : Tables) (n m : ℕ) → IsSeat t n m self.now → a.columns.items ≡ columns_in t query.now.table) }

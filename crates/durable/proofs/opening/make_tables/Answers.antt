@@ -6,6 +6,5 @@ use Rattle.durable.proofs.opening.make_tables.Goals as goal
 
 pub returns-clause-ok : goal.returns-clause-ok
 returns-clause-ok g c clean =
-    let late : HasCleanDisk (state g.S.Store c.run-2.new.tx.conn.now) = omega (arith, c.run-3.ensures.survives.clean) in
-    let mid : HasCleanDisk (state g.S.Store c.run.new.tx.conn.now) = omega (arith, c.run-2.ensures.survives.clean) in
-    all_made _ _ _ _ (c.in_ok-run.ensures.ok mid) (c.in_ok-run-2.ensures.ok late) (c.in_ok-run-3.ensures.ok clean)
+    let mid : HasCleanDisk (state g.S.Store c.begin_tables.new.tx.conn.now) = omega (arith, c.add_floor.ensures.survives.clean) in
+    all_made _ _ _ (c.in_ok-begin_tables.ensures.ok mid) (c.in_ok-add_floor.ensures.ok clean)

@@ -25,3 +25,19 @@ returns-clause-nothing_two c = refl
 pub returns-clause-outcome : goal.returns-clause-outcome
 unfolding digits
 returns-clause-outcome c = λ rest. refl
+
+pub returns-clause-nothing_three : goal.returns-clause-nothing_three
+unfolding digits
+returns-clause-nothing_three c = refl
+
+pub returns-clause-vote_three : goal.returns-clause-vote_three
+unfolding digits
+returns-clause-vote_three c = λ rest. refl
+
+pub returns-clause-floor : goal.returns-clause-floor
+unfolding digits
+returns-clause-floor c = λ rest. refl
+
+pub returns-clause-seek : goal.returns-clause-seek
+unfolding digits
+returns-clause-seek c = λ rest. refl

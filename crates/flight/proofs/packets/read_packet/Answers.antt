@@ -15,12 +15,12 @@ from_delivery reading v = Delivered v.0 reading v.1
 
 pub returns-in_err-mark-clause-err : goal.returns-in_err-mark-clause-err
 returns-in_err-mark-clause-err c =
-    let unread = case_unread (codes "from ") (from_delivery c.args.reading) (IsDelivery c.args.node) delivery_text (IsPacket c.args.node c.args.reading) packet_text (delivery_of c.args.node c.args.reading)
+    let unread = case_unread (codes "from ") (from_delivery c.args.reading) (IsDelivery c.args.version c.args.node) (delivery_text c.args.version) (IsPacket c.args.version c.args.node c.args.reading) (packet_text c.args.version) (delivery_of c.args.version c.args.node c.args.reading)
     c.args.text.now c.in_ok-rest.rest.now c.in_ok-rest.ensures.ok.0 c.in_err-mark.field-0.0 c.in_err-mark.ensures.err in
     search (rules, unread)
 
 pub returns-clause-only : goal.returns-clause-only
 returns-clause-only c =
-    let only = case_only (codes "from ") (from_delivery c.args.reading) (IsDelivery c.args.node) delivery_text (IsPacket c.args.node c.args.reading) packet_text (delivery_of c.args.node c.args.reading)
+    let only = case_only (codes "from ") (from_delivery c.args.reading) (IsDelivery c.args.version c.args.node) (delivery_text c.args.version) (IsPacket c.args.version c.args.node c.args.reading) (packet_text c.args.version) (delivery_of c.args.version c.args.node c.args.reading)
     c.args.text.now c.in_ok-rest.rest.now c.in_ok-rest.ensures.ok.0 (c.in_ok-mark.mark, c.in_ok-mark.message) c.in_ok-mark.rest.now c.in_ok-mark.ensures.only in
     search (rules, only)

@@ -8,6 +8,7 @@ returns-in_default-clause-none c =
       timeout = search rules;
       beat = search rules;
       close = search rules;
+      floor = search rules;
       stop = search rules;
       start = search rules;
       deliver = search rules;

@@ -1,5 +1,5 @@
 use Rattle.std.proofs.Common.{◌≡◌, ◌∙◌, ◌<◌, ◌++◌, ◌∷◌, [], length, sym, ap, rules, arith}
-use Rattle.flight.specs.Telling.{outcome_of, outcomes_of}
+use Rattle.flight.specs.Telling.{outcome_of}
 use Rattle.flight.proofs.Adding.{seen_more}
 use Rattle.flight.proofs.outcome.Outcomes.of.Goals as goal
 

@@ -11,3 +11,9 @@ ghost-on_append g a = g.stored
 
 abbrev pub ghost-on_reply : goal.ghost-on_reply
 ghost-on_reply g a = g.stored
+
+abbrev pub ghost-on_seek : goal.ghost-on_seek
+ghost-on_seek g a = g.stored
+
+abbrev pub ghost-on_stored : goal.ghost-on_stored
+ghost-on_stored g a = g.stored

@@ -5,3 +5,6 @@ ghost-time_out g a = g.stored
 
 abbrev pub ghost-append_own : goal.ghost-append_own
 ghost-append_own g a = g.stored
+
+abbrev pub ghost-ask_floor : goal.ghost-ask_floor
+ghost-ask_floor g a = g.stored

@@ -5,3 +5,6 @@ ghost-become_leader g a = g.stored
 
 abbrev pub ghost-open : goal.ghost-open
 ghost-open g a = g.stored
+
+abbrev pub ghost-count : goal.ghost-count
+ghost-count g a = g.stored

@@ -67,4 +67,4 @@ returns-clause-forms g c = λ honest.
     let f = mid_forms old mid g.stored c.args.work c.in-Done.sending e c.has_ranges_in.ensures log in
     let lower : new.log.shelved ≤ old.log.shelved = omega (arith, ap (λ l. l.shelved) sent.log, c.in_ok-refusal.ensures.lower) in
     let reach : Reaches new g.stored = omega (arith, lower, c.requires.1.1.0) in
-    new_log old mid new g.stored (sent.seat.schema ∙ c.in_ok-refusal.ensures.seat.schema) sent.log sent.hard.0 reach f
+    new_log old mid new g.stored (sent.seat.schema ∙ c.in_ok-refusal.ensures.seat.schema) sent.log sent.hard.0 c.is_instant.ensures reach f
