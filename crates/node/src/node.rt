@@ -377,9 +377,9 @@ impl<K: Keeper> Node<K> {
         self.core.hard_state()
     }
 
-    /// A copy of its log, read from the keeper an entry at a time, each once. `NodeDown` where the node is down, with nothing
-    /// changed; after another error it is down: `StoreFault` where the store fails, `NoMemory` where memory is refused, or
-    /// `BadStore` where the store was not honest.
+    /// A copy of its log; those entries that the core no longer has are read from the keeper, one at a time. `NodeDown` where
+    /// the node is down, with nothing changed; after another error it is down: `StoreFault` where the store fails, `NoMemory`
+    /// where memory is refused, or `BadStore` where the store was not honest.
     pub fn entries(&mut self) -> Result<Vec<Entry>, StoreError>
         ensures ok { IfOk result (λ entries. K.is_honest self.new.keeper → entries.items ≡ (member_of self.old).log) }
         ensures up { OnOk result ((self.old.is_up ≡ true) × (self.new.is_up ≡ true)) }

@@ -41,8 +41,8 @@ pub(crate) fn read_state<K: Keeper>(
     Ok(state)
 }
 
-/// The whole log, each entry of which is asked for once. `BadStore` where it has fewer entries than the member knows of, as
-/// may be with a store that is not honest.
+/// The whole log, for which no more entries are asked for than the member knows of. `BadStore` where it has fewer, as may be
+/// with a store that is not honest.
 pub(crate) fn all_entries<S: Shelf>(
     alloc: Global,
     core: &Core,
