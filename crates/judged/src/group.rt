@@ -63,7 +63,7 @@ impl Group {
             schema,
             player,
             known: Known::new(alloc, members),
-            seals: Seals::new(alloc, members)?,
+            seals: Seals::new(alloc),
             applied: vec![in alloc; 0; members]?,
             told: Vec::new(alloc),
             asked: Vec::new(alloc),

@@ -57,15 +57,22 @@ fn read_letter(line: &str) -> Option<Letter> {
     })
 }
 
+/// Notes the message that a line tells of, and sees who sent entries.
+fn hear_line(known: &mut Known, line: &str) -> Result<(), AllocError> {
+    let Some(letter) = read_letter(line) else {
+        return Ok(());
+    };
+    if line.contains(" append ") {
+        known.leader = letter.sender;
+    }
+    known.letters.push(letter)?;
+    Ok(())
+}
+
 /// Notes the messages that were sent, and sees who sent entries.
 pub(crate) fn hear(known: &mut Known, printed: &str) -> Result<(), AllocError> {
     for line in printed.lines() {
-        if let Some(letter) = read_letter(line) {
-            if line.contains(" append ") {
-                known.leader = letter.sender;
-            }
-            known.letters.push(letter)?;
-        }
+        hear_line(known, line)?;
     }
     Ok(())
 }

@@ -3,6 +3,9 @@ use model::member::SealedFloor;
 use model::stamp::Stamp;
 use std::alloc::{AllocError, Global};
 
+/// How many members a group has at most.
+const MEMBERS_MOST: usize = 7;
+
 /// What one member knows.
 #[derive(Clone, Copy, Default)]
 struct Knows {
@@ -11,10 +14,11 @@ struct Knows {
     waiting: Option<SealedFloor>,
 }
 
-/// What all members know, in their order.
+/// What all members know.
 #[derive(Drop)]
 pub(crate) struct Seals {
-    members: Vec<Knows>,
+    /// In the order of the members.
+    members: [Knows; MEMBERS_MOST],
     /// Each seal that raised what a member has sealed, with the member.
     pub counted: Vec<(usize, SealedFloor)>,
 }
@@ -25,11 +29,12 @@ fn is_above(floor: Stamp, other: Option<Stamp>) -> bool {
 }
 
 impl Seals {
-    pub(crate) fn new(alloc: Global, members: usize) -> Result<Seals, AllocError> {
-        Ok(Seals {
-            members: vec![in alloc; Knows::default(); members]?,
+    /// Nobody knows of any seal.
+    pub(crate) fn new(alloc: Global) -> Seals {
+        Seals {
+            members: [Knows::default(); MEMBERS_MOST],
             counted: Vec::new(alloc),
-        })
+        }
     }
 
     fn of(&self, node: usize) -> Knows {
