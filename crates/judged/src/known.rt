@@ -85,6 +85,23 @@ impl Known {
         }
     }
 
+    /// A message was sent, which is neither delivered nor lost yet.
+    pub(crate) fn send(
+        &mut self,
+        sender: usize,
+        addressee: usize,
+        news: News,
+    ) -> Result<(), AllocError> {
+        self.letters.push(Letter {
+            sender,
+            addressee,
+            news,
+            is_left: true,
+            is_heard: false,
+        })?;
+        Ok(())
+    }
+
     /// The message in this place is delivered or lost.
     pub(crate) fn take_away(&mut self, place: usize) {
         if let Some(letter) = self.letters.get_mut(place) {

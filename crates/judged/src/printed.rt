@@ -1,5 +1,5 @@
 //! What a line prints, taken apart.
-use crate::known::{Known, Letter};
+use crate::known::Known;
 use crate::news::read_news;
 use lines::number::read_number;
 use std::alloc::{AllocError, Global};
@@ -45,28 +45,15 @@ fn split_sent(line: &str) -> Option<(usize, usize, &str)> {
     Some((number(sender)?, number(addressee)?, body))
 }
 
-/// The message that a line tells of.
-fn read_letter(line: &str) -> Option<Letter> {
-    let (sender, addressee, body) = split_sent(line)?;
-    Some(Letter {
-        sender,
-        addressee,
-        news: read_news(body),
-        is_left: true,
-        is_heard: false,
-    })
-}
-
 /// Notes the message that a line tells of, and sees who sent entries.
 fn hear_line(known: &mut Known, line: &str) -> Result<(), AllocError> {
-    let Some(letter) = read_letter(line) else {
+    let Some((sender, addressee, body)) = split_sent(line) else {
         return Ok(());
     };
-    if line.contains(" append ") {
-        known.leader = letter.sender;
+    if body.starts_with("append ") {
+        known.leader = sender;
     }
-    known.letters.push(letter)?;
-    Ok(())
+    known.send(sender, addressee, read_news(body))
 }
 
 /// Notes the messages that were sent, and sees who sent entries.
