@@ -1,8 +1,8 @@
 //! A cell for several threads to feed under a lock, and the shares of those that feed it.
 ghost use Rattle.std.specs.Prelude.{◌≡◌, ◌≤◌, ◌<◌, ◌+◌, ◌⊎◌, [], ◌∷◌, length, true, Some, Err, IfOk, IfErr, OnOk, OnErr, MatchOption, MatchResult, slice_range};
 ghost use Rattle.sqlread.specs.Meaning.{schema_of};
-ghost use Rattle.node.specs.View.{Gave, LeavesUp, told_between};
-ghost use Rattle.node.specs.Member.{effect_at, me_of, member_of, tables_of};
+ghost use Rattle.node.specs.View.{Gave, LeavesUp, risen, told_between};
+ghost use Rattle.node.specs.Member.{effect_at, me_of, member_of, tables_of, IsSameSeat};
 ghost use Rattle.fault.specs.declared.refusal.Refusal.TheVariants.{NoMemory, NoView};
 ghost use Rattle.view.specs.Publishing.{published, book_of, given_of};
 ghost use Rattle.view.specs.Viewing.{seen_by, name_seen, book_seen, book_told, IsTold};
@@ -78,10 +78,12 @@ impl<K: Keeper, L: Naming> LockedNode<K, L> {
             × MatchOption (mark_for self.old.cell.life packet) ⊥ (λ m. IsRecorded self.old.cell.life self.new.cell.life (step_of m packet) result)
             × (K.is_honest self.new.cell.node.keeper → Gave (member_of self.old.cell.node) (member_of self.new.cell.node) (effect_at self.old.cell.node (work_of packet)) (node_gave result))) }
         ensures applied { IfOk result (λ out. K.is_honest self.new.cell.node.keeper → out.given.applied.items ≡ slice_range (member_of self.new.cell.node).log (member_of self.old.cell.node).commit (member_of self.new.cell.node).commit) }
+        ensures sealed { IfOk result (λ out. K.is_honest self.new.cell.node.keeper → out.given.sealed ≡ risen (member_of self.old.cell.node).sealed (member_of self.new.cell.node).sealed) }
         ensures told { IfOk result (λ out. K.is_honest self.new.cell.node.keeper → out.given.told.items ≡ told_between (schema_of (tables_of self.old.cell.node)) (member_of self.new.cell.node).log (member_of self.old.cell.node).commit (member_of self.new.cell.node).commit) }
         ensures published { (published self.new.cell.publisher ≡ published self.old.cell.publisher) ⊎ (K.is_honest self.new.cell.node.keeper → published self.new.cell.publisher ≡ items_of self.new.cell.node self.new.cell.life) }
         ensures leaves { IfErr result (LeavesUp self.old.cell.node.is_up self.new.cell.node.is_up) }
         ensures honest { K.is_honest self.new.cell.node.keeper → K.is_honest self.old.cell.node.keeper }
+        ensures group { IsSameSeat self.old.cell.node self.new.cell.node }
         ensures counted { share.new.amount + length (all_steps self.old.cell.life) ≡ share.old.amount + length (all_steps self.new.cell.life) }
         ensures parts { share.new.parts ≡ share.old.parts }
     {

@@ -11,12 +11,11 @@ use Rattle.std.proofs.lemmas.Grind.{flat_map-append}
 use Rattle.model.specs.Lists.{nth}
 use Rattle.model.specs.Transactions.{Schema}
 use Rattle.model.specs.Steps.{Effect, Moves, Refuses, Nothing}
-use Rattle.model.specs.Members.{Node, applied}
+use Rattle.model.specs.Members.{Node, closed_time}
 use Rattle.model.specs.declared.message.Message.{Message}
-use Rattle.model.specs.declared.entry.Entry.{Entry}
 use Rattle.model.specs.declared.entry.Told.{Told}
 use Rattle.model.specs.Answers.{Query, Select, closed_query}
-use Rattle.model.specs.Logs.{told_at, closed}
+use Rattle.model.specs.Logs.{told_at}
 use Rattle.std.specs.List.{filter_map, range_with_len}
 use Rattle.fault.specs.declared.refusal.Refusal.{Refusal}
 use Rattle.fault.specs.declared.refusal.Refusal.TheVariants.{NodeDown, NoMemory}
@@ -124,13 +123,13 @@ tears_sent : (s : Schema) (n : ℕ) (w : World) (m : ℕ) (job : model.Job) (lef
 tears_sent s n w m job left None = refl
 tears_sent s n w m job left (Some x) = kept_if w m (model.stopped (model.node_left left x (effect s n w m job x))) (x.up && model.is_for w m job)
 
-given_in : (s : Schema) (m : ℕ) (list : List Entry) (q : Option Query) (out : List Output) → IsGivenIn s m list q out → sent_in out ≡ []
-given_in s m list None out h = ap sent_in h
-given_in s m list (Some q) out h = ap sent_in h.2
+given_in : (s : Schema) (m : ℕ) (x : Node) (q : Option Query) (out : List Output) → IsGivenIn s m x q out → sent_in out ≡ []
+given_in s m x None out h = ap sent_in h
+given_in s m x (Some q) out h = ap sent_in h.2
 
 given_by : (s : Schema) (m : ℕ) (q : Select) (x : Node) (up : Bool) (out : List Output) → IsGivenBy s m q x up out → sent_in out ≡ []
 given_by s m q x false out h = ap sent_in h
-given_by s m q x true out h = given_in s m (applied x) (closed_query q (closed (applied x))) out h
+given_by s m q x true out h = given_in s m x (closed_query q (closed_time x)) out h
 
 given_at : (s : Schema) (m : ℕ) (q : Select) (o : Option Node) (out : List Output) → IsGivenAt s m q o out → sent_in out ≡ []
 given_at s m q None out h = ap sent_in h

@@ -6,7 +6,7 @@ use Rattle.std.specs.declared.vec.Vec.{Vec}
 use Rattle.std.specs.declared.alloc.Global.{Global}
 use Rattle.answertext.specs.Appending.{appends-nothing, appends-more}
 use Rattle.flight.specs.declared.flight.Recorded.{Recorded}
-use Rattle.flight.specs.declared.flight.Version.TheVariants.{Two}
+use Rattle.flight.specs.declared.flight.Version.TheVariants.{Three}
 use Rattle.flight.specs.declared.life.Life.{Life}
 use Rattle.lines.specs.declared.line.Line.{Line}
 use Rattle.lines.specs.Script.{HasLines}
@@ -25,7 +25,7 @@ grows-more a b c (x, p) (y, q) = (x ++ y, appends-more a b c x y p q)
 module _ (known : Option (List ℕ)) (text : List ℕ) (is : IfSome known (λ bytes. text ≡ bytes)) (nodes : ℕ) (tables : Tables) (lines : List Line) (has : HasLines text nodes tables lines)
     (lives : List (Vec Life Global)) (answers : List (Vec Recorded Global)) (a b c : Option (List ℕ)) where
   pub said_after : {E : Type 0} (r : Result ℕ E) → Grows a b
-      → IfOk r (λ status. (line : List ℕ) × IsSaid (records_of Two tables lives answers) status line × Appends b c line)
+      → IfOk r (λ status. (line : List ℕ) × IsSaid (records_of Three tables lives answers) status line × Appends b c line)
       → IfOk r (λ status. IsOfText known (EndsRun nodes status a c))
   said_after (Ok status) (x, p) (line, said, q) = (text, is, (tables, lines, has, (lives, answers, (x, line, said, appends-more a b c x line p q))))
   said_after (Err e) grown said = said

@@ -35,7 +35,7 @@ fn write_one<R: Files>(rt: &R, alloc: Global, dir: &str, flight: &Flight) -> Res
     }
 }
 
-/// Writes the flight of each node, in version 2, into a file of the folder: `node1.flight`, `node2.flight` and so on. 40 where one can't
+/// Writes the flight of each node, in version 3, into a file of the folder: `node1.flight`, `node2.flight` and so on. 40 where one can't
 /// be made or written, 43 for want of memory.
 pub fn write_flights<R: Files>(
     rt: &R,
@@ -50,7 +50,7 @@ pub fn write_flights<R: Files>(
     for (lives, answers) in lives.into_iter().zip(answers) {
         node = node.saturating_add(1);
         let flight = Flight {
-            version: Version::Two,
+            version: Version::Three,
             node,
             members,
             schema: schema.clone()?,

@@ -1,7 +1,7 @@
 //! The command `live`.
 ghost use Rattle.std.specs.Prelude.{◌≡◌, ◌≤◌, ℕ, List, IfOk, OnOk, vec_len};
 ghost use Rattle.std.specs.Io.KnownBytes.{Appends};
-ghost use Rattle.flight.specs.declared.flight.Version.TheVariants.{Two};
+ghost use Rattle.flight.specs.declared.flight.Version.TheVariants.{Three};
 ghost use Rattle.shell.specs.Audit.{Grows, IsSaid, records_of};
 ghost use Rattle.shell.specs.Live.{EndsRun};
 ghost use Rattle.shell.specs.Sim.{IsOfText};
@@ -141,10 +141,10 @@ fn end_run<R: AllocGlobal + Files, W: io::Write>(
     flown: Flown,
     writer: &mut W,
 ) -> Result<u8, RunFault>
-    ensures said { IfOk result (λ status. (line : List ℕ) × IsSaid (records_of Two script.now.schema flown.lives.items flown.answers.items) status line × Appends (W.contents writer.old) (W.contents writer.new) line) }
+    ensures said { IfOk result (λ status. (line : List ℕ) × IsSaid (records_of Three script.now.schema flown.lives.items flown.answers.items) status line × Appends (W.contents writer.old) (W.contents writer.new) line) }
 {
     let alloc: Global = rt.alloc();
-    let (status, line) = audit_line(alloc, Version::Two, &script.schema, &flown)?;
+    let (status, line) = audit_line(alloc, Version::Three, &script.schema, &flown)?;
     if let Some(dir) = dir {
         write_flights(rt, alloc, dir, &script.schema_text, flown)?;
     }

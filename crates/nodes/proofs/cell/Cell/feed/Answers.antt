@@ -1,10 +1,12 @@
-use Rattle.std.proofs.Common.{◌≡◌, ◌∙◌, List, [], ◌++◌, ◌∷◌, refl, sym, ap, subst}
+use Rattle.std.proofs.Common.{◌≡◌, ◌∙◌, ℕ, Option, List, [], ◌++◌, ◌∷◌, refl, sym, ap, subst}
+use Rattle.std.specs.List.{slice_range}
 use Rattle.node.specs.Member.{me_of, member_of, members_of, tables_of}
+use Rattle.model.specs.declared.entry.Entry.{Entry}
 use Rattle.history.specs.declared.item.Item.{Item}
 use Rattle.view.specs.Publishing.{published, pending}
 use Rattle.flight.specs.Lives.{step_of, with_outcomes}
 use Rattle.flight.specs.declared.life.Step.{Step}
-use Rattle.nodes.specs.Publishing.{marked, items_by}
+use Rattle.nodes.specs.Publishing.{marked, marked_seal, items_by}
 use Rattle.nodes.proofs.Rising.{rises_whole, rises_torn, made_for, made_of}
 use Rattle.nodes.proofs.Replays.{seated, stepped_given, stepped_refused, replayed_given, replayed_refused, torn_left}
 use Rattle.nodes.proofs.Items.{items_in, one_more, OneMore, same_grows, all_listed, still_listed, are_first, whole_left, items_still, listed_still, named_still}
@@ -40,7 +42,19 @@ invariant_of-self-in-Ok-step-clause-listed g c = λ honest.
     let items = c.push_reserved.ensures.items ∙ ap (λ xs. xs ++ s ∷ []) c.reserve.ensures.items in
     let seat = c.step.ensures.group in
     let is = stepped_given (tables_of old.node) (members_of old.node) (me_of old.node) (member_of old.node) s c.in-Ok.work (member_of c.step.new.self) c.in-Ok-step.given (made_of s c.in-Some.mark c.args.packet c.in-Ok.work c.in-Ok-note.outcomes made c.in-Ok.ensures) (c.in-Ok-step.ensures.done up honest) in
-    (one_more (seated old.node) (seated c.step.new.self) old.life.opening old.life.steps.items c.push_reserved.new.self.items s seat.0 seat.1 seat.2 items ((old.replayed up).0 before) is (c.in-Ok-step.ensures.grows honest) (old.listed before)).entries
+    (one_more (seated old.node) (seated c.step.new.self) old.life.opening old.life.steps.items c.push_reserved.new.self.items s seat.0 seat.1 seat.2 items ((old.replayed up).0 before) is (c.in-Ok-step.ensures.grows honest) (record { entries = old.listed before; sealed = old.sealed before })).listed.entries
+
+pub invariant_of-self-in-Ok-step-clause-sealed : goal.invariant_of-self-in-Ok-step-clause-sealed
+invariant_of-self-in-Ok-step-clause-sealed g c = λ honest.
+    let old = c.args.self.now in
+    let up = c.in-Ok-step.ensures.up.0 in
+    let before = c.step.ensures.honest honest in
+    let s : Step = c.with_outcomes.result in
+    let made : s ≡ with_outcomes c.in-Ok-note.outcomes (step_of c.in-Some.mark c.args.packet) = c.with_outcomes.ensures ∙ ap (λ (x : Step). with_outcomes c.in-Ok-note.outcomes x) c.new-step.ensures in
+    let items = c.push_reserved.ensures.items ∙ ap (λ xs. xs ++ s ∷ []) c.reserve.ensures.items in
+    let seat = c.step.ensures.group in
+    let is = stepped_given (tables_of old.node) (members_of old.node) (me_of old.node) (member_of old.node) s c.in-Ok.work (member_of c.step.new.self) c.in-Ok-step.given (made_of s c.in-Some.mark c.args.packet c.in-Ok.work c.in-Ok-note.outcomes made c.in-Ok.ensures) (c.in-Ok-step.ensures.done up honest) in
+    (one_more (seated old.node) (seated c.step.new.self) old.life.opening old.life.steps.items c.push_reserved.new.self.items s seat.0 seat.1 seat.2 items ((old.replayed up).0 before) is (c.in-Ok-step.ensures.grows honest) (record { entries = old.listed before; sealed = old.sealed before })).listed.sealed
 
 pub invariant_of-self-in-Ok-step-clause-whole : goal.invariant_of-self-in-Ok-step-clause-whole
 invariant_of-self-in-Ok-step-clause-whole g c = λ now honest.
@@ -53,10 +67,14 @@ invariant_of-self-in-Ok-step-clause-whole g c = λ now honest.
     let items = c.push_reserved.ensures.items ∙ ap (λ xs. xs ++ s ∷ []) c.reserve.ensures.items in
     let seat = c.step.ensures.group in
     let is = stepped_given (tables_of old.node) (members_of old.node) (me_of old.node) (member_of old.node) s c.in-Ok.work (member_of new) c.in-Ok-step.given (made_of s c.in-Some.mark c.args.packet c.in-Ok.work c.in-Ok-note.outcomes made c.in-Ok.ensures) (c.in-Ok-step.ensures.done up honest) in
-    let more : OneMore (seated old.node) (seated new) old.life.opening old.life.steps.items c.push_reserved.new.self.items s = one_more (seated old.node) (seated new) old.life.opening old.life.steps.items c.push_reserved.new.self.items s seat.0 seat.1 seat.2 items ((old.replayed up).0 before) is (c.in-Ok-step.ensures.grows honest) (old.listed before) in
-    let entries = c.in-Ok-step.ensures.applied honest in
+    let more : OneMore (seated old.node) (seated new) old.life.opening old.life.steps.items c.push_reserved.new.self.items s = one_more (seated old.node) (seated new) old.life.opening old.life.steps.items c.push_reserved.new.self.items s seat.0 seat.1 seat.2 items ((old.replayed up).0 before) is (c.in-Ok-step.ensures.grows honest) (record { entries = old.listed before; sealed = old.sealed before }) in
     let by : List Item = items_by s.mark (member_of old.node) (member_of new) in
-    let waits : pending c.note.new.publisher ≡ pending old.publisher ++ by = c.in-Ok-note.ensures.pending ∙ ap (λ es. pending old.publisher ++ marked c.in-Some.mark es) entries ∙ ap (λ (x : Step). pending old.publisher ++ items_by x.mark (member_of old.node) (member_of new)) (sym made) in
+    let given = c.in-Ok-step.given in
+    let waits : pending c.note.new.publisher ≡ pending old.publisher ++ by =
+    c.in-Ok-note.ensures.pending
+    ∙ ap (λ (es : List Entry). pending old.publisher ++ (marked c.in-Some.mark es ++ marked_seal c.in-Some.mark given.sealed)) (c.in-Ok-step.ensures.applied honest)
+    ∙ ap (λ (t : Option ℕ). pending old.publisher ++ (marked c.in-Some.mark (slice_range (member_of new).log (member_of old.node).commit (member_of new).commit) ++ marked_seal c.in-Some.mark t)) (c.in-Ok-step.ensures.sealed honest)
+    ∙ ap (λ (x : Step). pending old.publisher ++ items_by x.mark (member_of old.node) (member_of new)) (sym made) in
     let all : published c.publish_all.new.publisher ++ pending c.publish_all.new.publisher ≡ published old.publisher ++ pending c.note.new.publisher = c.publish_all.ensures.all ∙ ap (λ (xs : List Item). xs ++ pending c.note.new.publisher) c.note.ensures.same.2 in
     all_listed (items_in (seated old.node) old.life.opening old.life.steps.items) (published old.publisher) (pending old.publisher) (items_in (seated new) old.life.opening c.push_reserved.new.self.items) by (pending c.note.new.publisher) _ (old.whole up before) waits more.items all
 
@@ -98,7 +116,20 @@ invariant_of-self-in-Err-Kept-clause-listed g c = λ honest.
     let items = c.push_reserved-in-Err-Kept.ensures.items ∙ ap (λ xs. xs ++ s ∷ []) c.reserve.ensures.items in
     let seat = c.step.ensures.group in
     let is = stepped_refused (tables_of old.node) (members_of old.node) (me_of old.node) (member_of old.node) s c.in-Ok.work (member_of new) _ (made_of s c.in-Some.mark c.args.packet c.in-Ok.work [] c.new-step.ensures c.in-Ok.ensures) (step.done up honest) (step.same honest) in
-    (one_more (seated old.node) (seated new) old.life.opening old.life.steps.items c.push_reserved-in-Err-Kept.new.self.items s seat.0 seat.1 seat.2 items ((old.replayed up).0 before) is (same_grows (member_of old.node) (member_of new) (step.same honest)) (old.listed before)).entries
+    (one_more (seated old.node) (seated new) old.life.opening old.life.steps.items c.push_reserved-in-Err-Kept.new.self.items s seat.0 seat.1 seat.2 items ((old.replayed up).0 before) is (same_grows (member_of old.node) (member_of new) (step.same honest)) (record { entries = old.listed before; sealed = old.sealed before })).listed.entries
+
+pub invariant_of-self-in-Err-Kept-clause-sealed : goal.invariant_of-self-in-Err-Kept-clause-sealed
+invariant_of-self-in-Err-Kept-clause-sealed g c = λ honest.
+    let old = c.args.self.now in
+    let new = c.step.new.self in
+    let step = rw c.in-Err-Kept.field-0-is at c.in-Err-Kept.ensures in
+    let up = c.if-not-self.false in
+    let before = c.step.ensures.honest honest in
+    let s : Step = c.new-step.result in
+    let items = c.push_reserved-in-Err-Kept.ensures.items ∙ ap (λ xs. xs ++ s ∷ []) c.reserve.ensures.items in
+    let seat = c.step.ensures.group in
+    let is = stepped_refused (tables_of old.node) (members_of old.node) (me_of old.node) (member_of old.node) s c.in-Ok.work (member_of new) _ (made_of s c.in-Some.mark c.args.packet c.in-Ok.work [] c.new-step.ensures c.in-Ok.ensures) (step.done up honest) (step.same honest) in
+    (one_more (seated old.node) (seated new) old.life.opening old.life.steps.items c.push_reserved-in-Err-Kept.new.self.items s seat.0 seat.1 seat.2 items ((old.replayed up).0 before) is (same_grows (member_of old.node) (member_of new) (step.same honest)) (record { entries = old.listed before; sealed = old.sealed before })).listed.sealed
 
 pub invariant_of-self-in-Err-Kept-clause-whole : goal.invariant_of-self-in-Err-Kept-clause-whole
 invariant_of-self-in-Err-Kept-clause-whole g c = λ now honest.
@@ -111,7 +142,7 @@ invariant_of-self-in-Err-Kept-clause-whole g c = λ now honest.
     let items = c.push_reserved-in-Err-Kept.ensures.items ∙ ap (λ xs. xs ++ s ∷ []) c.reserve.ensures.items in
     let seat = c.step.ensures.group in
     let is = stepped_refused (tables_of old.node) (members_of old.node) (me_of old.node) (member_of old.node) s c.in-Ok.work (member_of new) _ (made_of s c.in-Some.mark c.args.packet c.in-Ok.work [] c.new-step.ensures c.in-Ok.ensures) (step.done up honest) (step.same honest) in
-    let more : OneMore (seated old.node) (seated new) old.life.opening old.life.steps.items c.push_reserved-in-Err-Kept.new.self.items s = one_more (seated old.node) (seated new) old.life.opening old.life.steps.items c.push_reserved-in-Err-Kept.new.self.items s seat.0 seat.1 seat.2 items ((old.replayed up).0 before) is (same_grows (member_of old.node) (member_of new) (step.same honest)) (old.listed before) in
+    let more : OneMore (seated old.node) (seated new) old.life.opening old.life.steps.items c.push_reserved-in-Err-Kept.new.self.items s = one_more (seated old.node) (seated new) old.life.opening old.life.steps.items c.push_reserved-in-Err-Kept.new.self.items s seat.0 seat.1 seat.2 items ((old.replayed up).0 before) is (same_grows (member_of old.node) (member_of new) (step.same honest)) (record { entries = old.listed before; sealed = old.sealed before }) in
     still_listed s.mark (member_of old.node) (member_of new) (items_in (seated old.node) old.life.opening old.life.steps.items) (items_in (seated new) old.life.opening c.push_reserved-in-Err-Kept.new.self.items) (published old.publisher ++ pending old.publisher) (step.same honest) (old.whole up before) more.items
 
 pub invariant_of-self-in-Err-Kept-clause-named : goal.invariant_of-self-in-Err-Kept-clause-named
@@ -143,7 +174,13 @@ pub invariant_of-self-in-Err-Down-clause-listed : goal.invariant_of-self-in-Err-
 invariant_of-self-in-Err-Down-clause-listed g c = λ honest.
     let old = c.args.self.now in
     let seat = c.step.ensures.group in
-    listed_still (seated old.node) (seated c.step.new.self) old.life.opening old.life.steps.items c.reserve.new.self.items seat.0 seat.1 seat.2 c.reserve.ensures.items (old.listed (c.step.ensures.honest honest))
+    (listed_still (seated old.node) (seated c.step.new.self) old.life.opening old.life.steps.items c.reserve.new.self.items seat.0 seat.1 seat.2 c.reserve.ensures.items (record { entries = old.listed (c.step.ensures.honest honest); sealed = old.sealed (c.step.ensures.honest honest) })).entries
+
+pub invariant_of-self-in-Err-Down-clause-sealed : goal.invariant_of-self-in-Err-Down-clause-sealed
+invariant_of-self-in-Err-Down-clause-sealed g c = λ honest.
+    let old = c.args.self.now in
+    let seat = c.step.ensures.group in
+    (listed_still (seated old.node) (seated c.step.new.self) old.life.opening old.life.steps.items c.reserve.new.self.items seat.0 seat.1 seat.2 c.reserve.ensures.items (record { entries = old.listed (c.step.ensures.honest honest); sealed = old.sealed (c.step.ensures.honest honest) })).sealed
 
 pub invariant_of-self-in-Err-Down-clause-shown : goal.invariant_of-self-in-Err-Down-clause-shown
 invariant_of-self-in-Err-Down-clause-shown g c = λ down honest.
@@ -185,7 +222,15 @@ invariant_of-self-in_default-note-clause-listed g c = λ honest.
     let before = c.step.ensures.honest (subst (λ (k : g.row.K.Denot). g.K.Shelf.is_honest k) c.take_down.ensures.keeper honest) in
     let same = c.take_down.ensures.group in
     let seat = c.step.ensures.group in
-    listed_still (seated old.node) (seated c.take_down.new.self) old.life.opening old.life.steps.items c.reserve.new.self.items (same.0 ∙ seat.0) (same.1 ∙ seat.1) (same.2 ∙ seat.2) c.reserve.ensures.items (old.listed before)
+    (listed_still (seated old.node) (seated c.take_down.new.self) old.life.opening old.life.steps.items c.reserve.new.self.items (same.0 ∙ seat.0) (same.1 ∙ seat.1) (same.2 ∙ seat.2) c.reserve.ensures.items (record { entries = old.listed before; sealed = old.sealed before })).entries
+
+pub invariant_of-self-in_default-note-clause-sealed : goal.invariant_of-self-in_default-note-clause-sealed
+invariant_of-self-in_default-note-clause-sealed g c = λ honest.
+    let old = c.args.self.now in
+    let before = c.step.ensures.honest (subst (λ (k : g.row.K.Denot). g.K.Shelf.is_honest k) c.take_down.ensures.keeper honest) in
+    let same = c.take_down.ensures.group in
+    let seat = c.step.ensures.group in
+    (listed_still (seated old.node) (seated c.take_down.new.self) old.life.opening old.life.steps.items c.reserve.new.self.items (same.0 ∙ seat.0) (same.1 ∙ seat.1) (same.2 ∙ seat.2) c.reserve.ensures.items (record { entries = old.listed before; sealed = old.sealed before })).sealed
 
 pub invariant_of-self-in_default-note-clause-shown : goal.invariant_of-self-in_default-note-clause-shown
 invariant_of-self-in_default-note-clause-shown g c = λ down honest.

@@ -1,4 +1,4 @@
-use Rattle.std.proofs.Common.{◌≡◌, ◌∙◌, ap}
+use Rattle.std.proofs.Common.{◌∙◌, ap}
 use Rattle.node.specs.View.{durable_of}
 use Rattle.nodes.proofs.cell.Cell.leave.Goals as goal
 

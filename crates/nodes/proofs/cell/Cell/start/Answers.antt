@@ -19,7 +19,12 @@ invariant_of-result-clause-rising g c = rw c.new.ensures.items refl
 pub invariant_of-result-clause-listed : goal.invariant_of-result-clause-listed
 invariant_of-result-clause-listed g c = λ honest.
     let o : Opening = record { mark = c.in-Some.mark; hard = c.hard_state.result; entries = c.in-Ok-entries.entries } in
-    listed_none (seated c.entries.new.self) o c.new.result.items c.new.ensures.items
+    (listed_none (seated c.entries.new.self) o c.new.result.items c.new.ensures.items).entries
+
+pub invariant_of-result-clause-sealed : goal.invariant_of-result-clause-sealed
+invariant_of-result-clause-sealed g c = λ honest.
+    let o : Opening = record { mark = c.in-Some.mark; hard = c.hard_state.result; entries = c.in-Ok-entries.entries } in
+    (listed_none (seated c.entries.new.self) o c.new.result.items c.new.ensures.items).sealed
 
 pub invariant_of-result-clause-whole : goal.invariant_of-result-clause-whole
 invariant_of-result-clause-whole g c = λ up honest.

@@ -1,4 +1,4 @@
-use Rattle.std.proofs.Common.{rules, ◌≡◌, ap, refl, subst, Err}
+use Rattle.std.proofs.Common.{◌≡◌, ap, refl, subst, Err}
 use Rattle.model.specs.Steps.{Refuses}
 use Rattle.node.specs.View.{Gave, IsSame}
 use Rattle.node.specs.declared.node.Fault.{Fault}
