@@ -1,6 +1,6 @@
 -- What a step that is taken tells.
-use Rattle.std.proofs.Common.{◌≡◌, ◌∙◌, ℕ, ℤ, ◌<◌, ◌+◌, List, [], ◌∷◌, ◌++◌, Option, Some, None, take, length, refl, sym, ap, subst, append_assoc, inl, inr}
-use Rattle.std.specs.Prelude.{if◌then◌else◌, map, slice_index_or}
+use Rattle.std.proofs.Common.{◌≡◌, ◌∙◌, ℕ, ℤ, ◌<◌, ◌+◌, List, [], ◌∷◌, ◌++◌, Option, Some, None, take, length, refl, sym, ap, subst, inl, inr}
+use Rattle.std.specs.Prelude.{if◌then◌else◌, slice_index_or}
 use Rattle.std.proofs.lemmas.List.{take_more, map-append}
 use Rattle.fault.specs.declared.refusal.Refusal.TheVariants.{NodeDown}
 use Rattle.model.specs.Lists.{nth}
@@ -18,11 +18,10 @@ use Rattle.sqlchecks.specs.Columns.{Tables}
 use Rattle.sqlread.specs.Meaning.{schema_of}
 use Rattle.world.specs.declared.output.Output.{Output as Out}
 use Rattle.world.specs.View.{output_of, outputs_of}
-use Rattle.auditor.specs.declared.recorded.AuditFault.{AuditFault}
 use Rattle.auditor.specs.declared.recorded.AuditFault.TheVariants.{Unsent, Wrong}
 use Rattle.auditor.specs.Past.{Past}
 use Rattle.auditor.specs.Behind.{job_event, outcomes_in, AreTold, IsJob, IsTaken}
-use Rattle.auditor.specs.Faults.{IsStepFault, Lacks, NoneAre}
+use Rattle.auditor.specs.Faults.{IsStepFault, Lacks}
 use Rattle.auditor.proofs.Alike.{same_sent}
 
 -- ---- what is told among outputs

@@ -10,6 +10,9 @@ use std::time::Instant;
 // How many members a group has.
 const MEMBERS: usize = 3;
 
+// How many floors are measured, one after the other.
+const FLOORS: usize = 100;
+
 // What a piece of a script printed, and how long it took.
 #[derive(Drop)]
 struct Played {
@@ -63,6 +66,17 @@ pub(crate) fn tell_restarts<R: Print + Clock>(
     Ok(())
 }
 
+/// Prints how long a floor takes, from the leader's question until each member knows that it is sealed, where so many
+/// requests are decided.
+pub(crate) fn tell_floors<R: Print + Clock>(rt: &R, alloc: Global, schema: &Schema) -> Result<()> {
+    for count in [1_000, 20_000] {
+        let (_decided, sealed) = time_group(rt, alloc, schema, Work::Floors, count)?;
+        let micros = sealed / FLOORS as u128 / 1_000;
+        println!(rt; "{count} requests decided: then a floor takes {micros} microseconds")?;
+    }
+    Ok(())
+}
+
 /// Plays a little of each, and prints how much was as it should be.
 pub(crate) fn tell_checks<R: Print + Clock>(rt: &R, alloc: Global, schema: &Schema) -> Result<()> {
     let count = 20;
@@ -73,6 +87,8 @@ pub(crate) fn tell_checks<R: Print + Clock>(rt: &R, alloc: Global, schema: &Sche
     println!(rt; "{count} elections: a new leader each")?;
     let _ = time_group(rt, alloc, schema, Work::Restarts, count)?;
     println!(rt; "{count} entries: at a member that was down")?;
+    let _ = time_group(rt, alloc, schema, Work::Floors, count)?;
+    println!(rt; "{FLOORS} floors: sealed at each node")?;
     Ok(())
 }
 
@@ -85,6 +101,8 @@ enum Work {
     Elections,
     // Decides entries while a member is down, which then gets them.
     Restarts,
+    // Decides requests, and then seals floors.
+    Floors,
 }
 
 // The nanoseconds of the work of a new group, and of what it then does.
@@ -118,6 +136,10 @@ fn time_work<R: Clock>(
         Work::Restarts => {
             let closed = close_without(rt, alloc, player, count)?;
             Ok((closed, catch_up(rt, alloc, player, count)?))
+        }
+        Work::Floors => {
+            let decided = decide_all(rt, alloc, player, count)?;
+            Ok((decided, seal_all(rt, alloc, player, count)?))
         }
     }
 }
@@ -290,7 +312,7 @@ fn close_without<R: Clock>(
         nanos = nanos.saturating_add(played.nanos);
     }
     ensure!(
-        has_applied(rt, alloc, player, 1, count)?,
+        is_closed_to(rt, alloc, player, 1, count)?,
         "{count} entries are not decided"
     );
     Ok(nanos)
@@ -302,15 +324,15 @@ fn catch_up<R: Clock>(rt: &R, alloc: Global, player: &mut Player, last: usize) -
     for _ in 0..last {
         let played = play(rt, alloc, player, "beat 1\nsettle\n")?;
         nanos = nanos.saturating_add(played.nanos);
-        if has_applied(rt, alloc, player, 3, last)? {
+        if is_closed_to(rt, alloc, player, 3, last)? {
             return Ok(nanos);
         }
     }
     bail!("member 3 does not get {last} entries")
 }
 
-// Whether the last entry that a member has applied bears this stamp: a question without system time names it.
-fn has_applied<R: Clock>(
+// Whether time is closed up to this instant at a member, and no further: a question without system time names it.
+fn is_closed_to<R: Clock>(
     rt: &R,
     alloc: Global,
     player: &mut Player,
@@ -321,4 +343,37 @@ fn has_applied<R: Clock>(
     let played = play(rt, alloc, player, script.as_str())?;
     let last = format!(in alloc; "last 1970-01-01 00:00:00.{stamp:06}")?;
     Ok(has_line(played.printed.as_str(), last.as_str()))
+}
+
+// The nanoseconds of some floors, one after the other, each a microsecond above what is closed after so many requests.
+fn seal_all<R: Clock>(rt: &R, alloc: Global, player: &mut Player, count: usize) -> Result<u128> {
+    let mut nanos = 0u128;
+    for past in 1..=FLOORS {
+        let floor = count.saturating_add(past);
+        nanos = nanos.saturating_add(seal(rt, alloc, player, count, floor)?);
+    }
+    Ok(nanos)
+}
+
+// Lets the leader ask for a floor after so many requests. It is to be sealed, and time to be closed up to it at each
+// member.
+fn seal<R: Clock>(
+    rt: &R,
+    alloc: Global,
+    player: &mut Player,
+    count: usize,
+    floor: usize,
+) -> Result<u128> {
+    let clock = format!(in alloc; "clock 1 {floor}\n")?;
+    let _ = play(rt, alloc, player, clock.as_str())?;
+    let index = count.saturating_add(1);
+    let sealed = format!(in alloc; " 1->{MEMBERS} seal term 1 index {index} floor {floor}\n")?;
+    let nanos = play_for(rt, alloc, player, "floor 1\nsettle\n", sealed.as_str())?;
+    for node in 1..=MEMBERS {
+        ensure!(
+            is_closed_to(rt, alloc, player, node, floor)?,
+            "{floor} is not closed at node {node}"
+        );
+    }
+    Ok(nanos)
 }

@@ -7,6 +7,7 @@
 //! - `requests`: how many requests a group of three decides in a second, and how many questions by key it then answers;
 //! - `elections`: how many elections it holds in a second;
 //! - `restarts`: how long it takes until a member that was down has what was decided without it;
+//! - `floors`: how long a floor takes in a group, until each member knows that it is sealed;
 //! - `views`: how many questions views answer in a second, each on a thread of its own, and what they cost the writer.
 #![tactic(auto)]
 
@@ -63,6 +64,7 @@ fn tell<R: Print + Clock + Wait + Threads + Sync>(
         Asked::Requests => groups::tell_requests(rt, alloc, schema),
         Asked::Elections => groups::tell_elections(rt, alloc, schema),
         Asked::Restarts => groups::tell_restarts(rt, alloc, schema),
+        Asked::Floors => groups::tell_floors(rt, alloc, schema),
         Asked::Views => views::tell(rt, alloc, schema),
     }
 }
@@ -81,6 +83,8 @@ enum Asked {
     Elections,
     /// How long a member that was down takes to catch up.
     Restarts,
+    /// How long a floor takes.
+    Floors,
     /// How fast views answer, and what they cost the writer.
     Views,
 }
@@ -97,6 +101,7 @@ fn words_given<R: AllocGlobal + Env>(rt: &R) -> Result<Asked> {
         "requests" => Asked::Requests,
         "elections" => Asked::Elections,
         "restarts" => Asked::Restarts,
+        "floors" => Asked::Floors,
         "views" => Asked::Views,
         _ => Asked::Checks,
     })

@@ -373,7 +373,7 @@ impl Book {
     fn ask<R: Clock>(&self, rt: &R, text: &str) -> Result<u128> {
         let query = read_query(self.alloc, &self.schema, text)?;
         let start = Instant::now(rt)?;
-        let answer = self.tables.ask(&query)?;
+        let answer = self.tables.ask(&query, self.tables.closed())?;
         let nanos = start.elapsed(rt)?.as_nanos();
         ensure!(!answer.rows.is_empty(), "no row: {text}");
         Ok(nanos)

@@ -26,6 +26,7 @@ use std::test::Fail;
 const NOTHING_STORED: HardState = HardState {
     term: 0,
     vote: None,
+    floor: None,
 };
 
 // A life of a member of three.
@@ -66,7 +67,10 @@ pub(crate) fn vote(mark: Mark) -> Packet {
             sender: 2,
             addressee: 1,
             term: 1,
-            body: Body::Vote { given: true },
+            body: Body::Vote {
+                given: true,
+                floor: None,
+            },
         },
     }
 }
@@ -157,6 +161,7 @@ fn goes_down_with_its_store(rt: HostRuntime) -> Result<(), Fail> {
             HardState {
                 term: 1,
                 vote: Some(1),
+                floor: None,
             }
         } else {
             NOTHING_STORED

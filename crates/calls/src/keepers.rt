@@ -19,12 +19,14 @@ use std::test::Fail;
 const HARD_BEFORE: HardState = HardState {
     term: 1,
     vote: Some(2),
+    floor: None,
 };
 
 // What is stored then.
 const HARD_AFTER: HardState = HardState {
     term: 2,
     vote: None,
+    floor: None,
 };
 
 // Term 2 without a vote, and one entry of it.

@@ -307,7 +307,7 @@ fn judge(
     for node in lives {
         assert!(rt; steps_in(node) >= PACKETS);
     }
-    assert!(rt; audit(alloc, Version::Two, schema, lives, answers).is_ok());
+    assert!(rt; audit(alloc, Version::Three, schema, lives, answers).is_ok());
 }
 
 #[test]

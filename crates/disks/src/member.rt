@@ -2,7 +2,7 @@
 ghost use Rattle.sqlread.specs.Meaning.{schema_of};
 
 use crate::found::number_of;
-use crate::states::{LINES, Line, STEPS};
+use crate::states::{FLOOR, LINES, Line, STEPS};
 use fault::Text;
 use keep::{Keeper, Shelf};
 use model::entry::{Entries, Entry, Request};
@@ -113,14 +113,24 @@ fn append(
     Ok(delivered(leader, term, body))
 }
 
-// What is brought to the member after so many steps: a vote is asked for, one entry, two, and another in place of the
-// last of these.
+// The second leader asks for a floor.
+fn ask_for_floor() -> Work {
+    let body = Body::Seek {
+        index: 3,
+        floor: Stamp::new(FLOOR),
+    };
+    delivered(3, 2, body)
+}
+
+// What is brought to the member after so many steps: a vote is asked for, one entry, two, another in place of the last of
+// these, and a floor is asked for.
 fn work_after(alloc: Global, steps: usize) -> Result<Work, AllocError> {
     match steps {
         0 => Ok(ask_for_vote()),
         1 => append(alloc, 1, 1, 0, &LINES[0..1]),
         2 => append(alloc, 1, 1, 1, &LINES[1..3]),
-        _ => append(alloc, 3, 2, 2, &LINES[3..4]),
+        3 => append(alloc, 3, 2, 2, &LINES[3..4]),
+        _ => Ok(ask_for_floor()),
     }
 }
 

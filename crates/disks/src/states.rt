@@ -1,6 +1,7 @@
-//! What the member of the tests stores: nothing at first, and then what each of four steps makes of it.
+//! What the member of the tests stores: nothing at first, and then what each of five steps makes of it.
 use keep::{HardState, State};
 use model::entry::Entry;
+use model::stamp::Stamp;
 use schema::Schema;
 use sqlread::transaction::misreading;
 use std::alloc::{AllocError, Global};
@@ -13,7 +14,10 @@ pub(crate) const SCHEMA: &str =
     PRIMARY KEY (DNo, DPeriod WITHOUT OVERLAPS)) WITH SYSTEM VERSIONING;";
 
 /// How many steps there are, each of which is one save.
-pub(crate) const STEPS: usize = 4;
+pub(crate) const STEPS: usize = 5;
+
+// After how many the second leader's entry has replaced the third.
+const REPLACED: usize = 4;
 
 /// An entry of a log. A Close has client 0, number 0 and no text.
 #[derive(Clone, Copy)]
@@ -57,6 +61,9 @@ pub(crate) const LINES: [Line; 4] = [
     },
 ];
 
+/// The floor that the second leader asks for, in microseconds.
+pub(crate) const FLOOR: u64 = 500;
+
 // The hard state after so many steps, and how many entries the log has then.
 fn wanted(steps: usize) -> (HardState, usize) {
     let (term, vote, length) = match steps {
@@ -66,7 +73,12 @@ fn wanted(steps: usize) -> (HardState, usize) {
         3 => (1, Some(1), 3),
         _ => (2, None, 3),
     };
-    (HardState { term, vote }, length)
+    let floor = if steps < STEPS {
+        None
+    } else {
+        Some(Stamp::new(FLOOR))
+    };
+    (HardState { term, vote, floor }, length)
 }
 
 // Whether an entry is as it is written here.
@@ -86,7 +98,7 @@ fn is_line(entry: &Entry, line: &Line) -> bool {
 // Whether a log is the one after so many steps, if it is as long.
 fn are_lines(log: &[Entry], steps: usize) -> bool {
     for (at, entry) in log.iter().enumerate() {
-        let at = if steps == STEPS && at == 2 { 3 } else { at };
+        let at = if steps >= REPLACED && at == 2 { 3 } else { at };
         match LINES.get(at) {
             Some(line) if is_line(entry, line) => {}
             _ => return false,

@@ -1,5 +1,5 @@
 //! A group of three, the messages between its members, and a client that asks until it is told.
-use crate::packets::{beat, submit, timeout};
+use crate::packets::{beat, floor, submit, timeout};
 use crate::seats::{Failing, Seat};
 use answertext::Lines;
 use fault::Refusal;
@@ -25,10 +25,12 @@ const REQUESTS: [&str; 2] = [
     "UPDATE Emp FOR PORTION OF EPeriod FROM DATE '2011-02-03' TO DATE '2011-09-10' SET EDept = 4 WHERE ENo = 22217;",
 ];
 
-// What every member is asked again and again; the last of these once all is done.
-const QUESTIONS: [&str; 3] = [
+// What every member is asked again and again; the last of these once all is done. The third is about an instant that no
+// request is stamped at, nor later.
+const QUESTIONS: [&str; 4] = [
     "SELECT * FROM Emp FOR SYSTEM_TIME AS OF TIMESTAMP '1970-01-01 00:00:00.000101';",
     "SELECT * FROM Dept FOR SYSTEM_TIME BETWEEN TIMESTAMP '1970-01-01 00:00:00.000100' AND TIMESTAMP '1970-01-01 00:00:00.000102';",
+    "SELECT * FROM Dept FOR SYSTEM_TIME AS OF TIMESTAMP '1970-01-01 00:00:00.000150';",
     "SELECT * FROM Emp FOR SYSTEM_TIME AS OF TIMESTAMP '1970-01-01 00:00:00.000102';",
 ];
 
@@ -221,10 +223,13 @@ impl Group {
             .all(|question| question.is_answered_by(&self.seats))
     }
 
-    // Member 1 beats until each member answers each question; where that is not enough, it stands for election.
+    // Member 1 beats and asks for a floor until each member answers each question; where that is not enough, it stands for
+    // election.
     fn end(&mut self, rt: &(impl Wait + Abort)) -> Result<(), AllocError> {
         for _ in 0..5 {
             self.hand(rt, 1, beat())?;
+            self.start_all(rt)?;
+            self.hand(rt, 1, floor())?;
             self.start_all(rt)?;
             if self.all_answer() {
                 return Ok(());
@@ -239,7 +244,7 @@ impl Group {
         panic!(rt; "members do not answer")
     }
 
-    /// An election, two requests, a stop and a start of member 2, and a beat, with questions after each. A member that
+    /// An election, two requests, a stop and a start of member 2, a beat and a floor, with questions after each. A member that
     /// goes down is started again. At the end each member gives the same answers; the last of them is this.
     pub(crate) fn play(&mut self, rt: &(impl Wait + Abort)) -> Result<String, AllocError> {
         self.start_all(rt)?;

@@ -14,6 +14,11 @@ pub(crate) fn beat() -> Packet {
     Packet::Local(Input::Beat)
 }
 
+/// Asks for a floor above the stamps of all requests.
+pub(crate) fn floor() -> Packet {
+    Packet::Local(Input::Floor { reading: 150 })
+}
+
 /// A request of client 7.
 pub(crate) fn submit(alloc: Global, number: u64, text: &str) -> Result<Packet, AllocError> {
     let (Some(client), Some(number)) = (Client::new(7), RequestNumber::new(number)) else {

@@ -2,6 +2,7 @@
 ghost use Rattle.std.specs.Prelude.{◌≤◌};
 
 use crate::known::{Known, Letter, is_same};
+use crate::news::check_seal;
 use crate::printed::{Told, hear, read_told};
 use crate::seals::Seals;
 use crate::staff::STAFF;
@@ -47,7 +48,7 @@ pub(crate) struct Group {
 
 /// Who made the seal that a message tells of, and the seal.
 fn made(letter: Letter) -> Option<(usize, SealedFloor)> {
-    Some((letter.sender, letter.seal?))
+    Some((letter.sender, letter.seal()?))
 }
 
 impl Group {
@@ -208,15 +209,18 @@ impl Group {
             _ => self.delivered(line),
         }?;
         self.known.take_away(place);
+        let letter = self.known.letters.get(place).copied()?;
         match line {
-            Line::Lose { .. } => None,
-            _ => self.known.letters.get(place).copied(),
+            Line::Lose { .. } => return None,
+            _ if self.is_up(letter.addressee) => self.known.hear(place),
+            _ => {}
         }
+        Some(letter)
     }
 
     /// A member that is still up learns the seal of a message that it was brought.
     fn learn_brought(&mut self, letter: Letter) -> Result<()> {
-        match letter.seal {
+        match letter.seal() {
             Some(seal) if self.is_up(letter.addressee) => self.learn(letter.addressee, seal),
             _ => Ok(()),
         }
@@ -227,6 +231,12 @@ impl Group {
         for place in from..self.known.letters.len() {
             let letter = self.known.letters.get(place).copied();
             if let Some((node, seal)) = letter.and_then(made) {
+                check_seal(
+                    self.known.members,
+                    self.known.letters.as_slice(),
+                    node,
+                    seal,
+                )?;
                 return self.learn(node, seal);
             }
         }
@@ -258,17 +268,19 @@ impl Group {
         Ok(printed)
     }
 
-    /// Delivers the message in this place as a round does.
+    /// Delivers the message in this place as a round does: of one to a member that is down nothing is told.
     fn deliver(&mut self, place: usize) -> Result<String> {
+        let nothing = String::new(self.alloc);
         let Some(letter) = self.known.letters.get(place).copied() else {
-            return Ok(String::new(self.alloc));
+            return Ok(nothing);
         };
-        if letter.is_left && self.is_up(letter.addressee) {
-            let message = u64::try_from(place)?.wrapping_add(1);
-            return self.bring(&Line::Deliver { message });
+        if !letter.is_left {
+            return Ok(nothing);
         }
-        self.known.take_away(place);
-        Ok(String::new(self.alloc))
+        let is_up = self.is_up(letter.addressee);
+        let message = u64::try_from(place)?.wrapping_add(1);
+        let printed = self.bring(&Line::Deliver { message })?;
+        Ok(if is_up { printed } else { nothing })
     }
 
     /// Plays a round: message by message where a seal can be learnt, since it matters which comes first, a seal or its

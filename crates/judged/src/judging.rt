@@ -1,5 +1,6 @@
 //! What a group told and answered, against what `plain` makes of the decided entries.
 use crate::group::{Asked, Group};
+use crate::news::check_votes;
 use crate::shown::answer_text;
 use crate::staff::all_days;
 use crate::tally::Tally;
@@ -145,6 +146,7 @@ pub(crate) fn check(group: &Group, tally: &mut Tally) -> Result<()> {
     let mut judge = Judge::new(alloc, all_days()?);
     let texts = outcomes(alloc, &group.schema, &mut judge, decided, tally)?;
     check_outcomes(group, texts.as_slice())?;
+    check_votes(group.known.letters.as_slice())?;
     check_seals(group)?;
     check_answers(group, &judge, tally)?;
     let requests = group.known.requests(alloc, 0, decided.len())?;

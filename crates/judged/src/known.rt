@@ -1,4 +1,5 @@
 //! What is known of a group from outside: what was sent, what was decided, and who leads.
+use crate::news::News;
 use model::entry::{Entry, Request};
 use model::member::SealedFloor;
 use std::alloc::{AllocError, Global};
@@ -8,11 +9,30 @@ use std::alloc::{AllocError, Global};
 pub(crate) struct Letter {
     pub sender: usize,
     pub addressee: usize,
-    /// Whether it asks for a floor, or tells that one is stored or sealed.
-    pub is_about_floors: bool,
-    pub seal: Option<SealedFloor>,
+    /// What it tells of floors.
+    pub news: News,
     /// Whether it is neither delivered nor lost.
     pub is_left: bool,
+    /// Whether it was delivered to a member that is up.
+    pub is_heard: bool,
+}
+
+impl Letter {
+    /// The seal that it tells of.
+    pub(crate) fn seal(self) -> Option<SealedFloor> {
+        match self.news {
+            News::Sealed(seal) => Some(seal),
+            _ => None,
+        }
+    }
+
+    /// Whether it asks for a floor, or tells that one is stored or sealed.
+    fn is_about_floors(self) -> bool {
+        matches!(
+            self.news,
+            News::Sought(_) | News::Stored(_) | News::Sealed(_)
+        )
+    }
 }
 
 /// What is known of a group.
@@ -72,6 +92,13 @@ impl Known {
         }
     }
 
+    /// The message in this place was delivered to a member that is up.
+    pub(crate) fn hear(&mut self, place: usize) {
+        if let Some(letter) = self.letters.get_mut(place) {
+            letter.is_heard = true;
+        }
+    }
+
     /// All of the first so many messages are delivered or lost.
     pub(crate) fn take_all(&mut self, count: usize) {
         for letter in self.letters.iter_mut().take(count) {
@@ -88,14 +115,14 @@ impl Known {
     pub(crate) fn is_floor_left(&self) -> bool {
         self.letters
             .iter()
-            .any(|letter| letter.is_left && letter.is_about_floors)
+            .any(|letter| letter.is_left && letter.is_about_floors())
     }
 
     /// The greatest floor that was sealed, in microseconds, or 0.
     pub(crate) fn floor(&self) -> u64 {
         let mut most = 0;
         for letter in self.letters.iter() {
-            if let Some(seal) = letter.seal {
+            if let Some(seal) = letter.seal() {
                 most = most.max(seal.floor.micros());
             }
         }

@@ -8,6 +8,7 @@ mod entries;
 mod group;
 mod judging;
 mod known;
+mod news;
 mod printed;
 mod questions;
 mod random_lines;

@@ -1,8 +1,7 @@
 //! What a line prints, taken apart.
 use crate::known::{Known, Letter};
+use crate::news::read_news;
 use lines::number::read_number;
-use model::member::SealedFloor;
-use model::stamp::{LAST_MICROS, Stamp};
 use std::alloc::{AllocError, Global};
 
 /// What a member told of a request.
@@ -46,30 +45,15 @@ fn split_sent(line: &str) -> Option<(usize, usize, &str)> {
     Some((number(sender)?, number(addressee)?, body))
 }
 
-/// The seal of a message of the form `seal term T index I floor F`.
-fn read_seal(body: &str) -> Option<SealedFloor> {
-    let (term, rest) = body.strip_prefix("seal term ")?.split_once(" index ")?;
-    let (index, floor) = rest.split_once(" floor ")?;
-    let micros = read_number(floor)?;
-    if micros > LAST_MICROS {
-        return None;
-    }
-    Some(SealedFloor {
-        term: read_number(term)?,
-        index: number(index)?,
-        floor: Stamp::new(micros),
-    })
-}
-
 /// The message that a line tells of.
 fn read_letter(line: &str) -> Option<Letter> {
     let (sender, addressee, body) = split_sent(line)?;
     Some(Letter {
         sender,
         addressee,
-        is_about_floors: !body.contains("vote") && body.contains(" floor "),
-        seal: read_seal(body),
+        news: read_news(body),
         is_left: true,
+        is_heard: false,
     })
 }
 

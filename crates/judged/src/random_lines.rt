@@ -156,8 +156,28 @@ impl Draws {
             .saturating_add(u64::from(self.below(50)))
     }
 
-    /// A floor, mostly at the leader, whose clock mostly went on. All messages are brought on, or some, and now and then
-    /// another member stands for election then.
+    /// What comes before a floor now and then: an entry that the leader alone has, or that another member has applied
+    /// nothing yet.
+    fn unapplied(&mut self, known: &Known, leader: usize) -> Result<String, AllocError> {
+        let other = self.one_of(known.members);
+        match self.below(5) {
+            0 => format!(in self.alloc; "close {leader}\nlose all\n"),
+            1 => format!(in self.alloc; "stop {other}\nstart {other}\n"),
+            _ => Ok(String::new(self.alloc)),
+        }
+    }
+
+    /// How far time is closed at a member, now and then.
+    fn closing(&mut self, known: &Known) -> Result<String, AllocError> {
+        let node = self.one_of(known.members);
+        if self.chance(60) {
+            return format!(in self.alloc; "ask {node} SELECT * FROM Dept;\n");
+        }
+        Ok(String::new(self.alloc))
+    }
+
+    /// A floor, mostly at the leader, whose clock mostly went on. All messages are brought on, or some. Then now and then a
+    /// member is asked how far time is closed, and another one stands for election.
     fn floor(&mut self, known: &Known) -> Result<String, AllocError> {
         let node = if self.chance(90) {
             known.leader
@@ -177,12 +197,14 @@ impl Draws {
             _ => "settle\n",
         };
         let other = self.one_of(known.members);
+        let unapplied = self.unapplied(known, node)?;
+        let (one, two) = (self.closing(known)?, self.closing(known)?);
         let rival = match self.below(5) {
             0 => format!(in self.alloc; "timeout {other}\nsettle\n")?,
             1 => format!(in self.alloc; "stop {node}\ntimeout {other}\nsettle\n")?,
             _ => String::new(self.alloc),
         };
-        format!(in self.alloc; "{clock}floor {node}\n{after}{rival}")
+        format!(in self.alloc; "{unapplied}{clock}floor {node}\n{after}{one}{two}{rival}")
     }
 
     /// A line with one number, or with none.

@@ -6,13 +6,18 @@ use crate::logs::close;
 use model::entry::{Entries, Entry};
 use model::member::Member;
 use model::message::{Body, Input, Message};
+use model::stamp::Stamp;
 use node::Work;
 use std::alloc::{AllocError, Global};
+
+// What the leader's clock shows as it asks for a floor.
+const FLOOR: u32 = 9000;
 
 /// What a member takes that starts with the long log.
 #[derive(Clone, Copy)]
 pub(crate) enum Play {
-    /// Member 1 is elected in term 2, hears that member 3 has one entry alone, closes, and hears that member 2 has all.
+    /// Member 1 is elected in term 2, hears that member 3 has one entry alone, closes, hears that member 2 has all, asks for
+    /// a floor, and hears that member 2 has stored it.
     Leader,
     /// Member 2 takes one more entry, and that all before it is committed.
     Follower,
@@ -66,11 +71,31 @@ pub(crate) fn delivered(sender: Member, addressee: Member, term: u64, body: Body
 fn leader_takes(steps: usize) -> Option<Work> {
     match steps {
         0 => Some(Work::Local(Input::Timeout)),
-        1 => Some(delivered(2, 1, 2, Body::Vote { given: true })),
+        1 => Some(delivered(
+            2,
+            1,
+            2,
+            Body::Vote {
+                given: true,
+                floor: None,
+            },
+        )),
         2 => Some(delivered(3, 1, 2, reply(1))),
         3 => Some(Work::Local(Input::Close { reading: READING })),
         4 => Some(delivered(2, 1, 2, reply(1503))),
+        5 => Some(Work::Local(Input::Floor {
+            reading: FLOOR.into(),
+        })),
+        6 => Some(delivered(2, 1, 2, stored())),
         _ => None,
+    }
+}
+
+// A member has stored the floor.
+fn stored() -> Body {
+    Body::Stored {
+        index: 1503,
+        floor: Stamp::new(FLOOR.into()),
     }
 }
 

@@ -1,7 +1,7 @@
 //! What databases of a member hold, and why they are refused.
 use anyhow::{Result, bail};
 use durable::SqlKeeper;
-use keep::{Keeper, Shelf};
+use keep::{HardState, Keeper, Shelf};
 use model::entry::Entry;
 use schemaread::schemas::read_schema;
 use sqlite::{Connection, MemStore};
@@ -28,13 +28,23 @@ pub fn tell_database(alloc: Global, schema: &str, statements: &str) -> Result<St
 // The hard state and the log that a keeper holds.
 fn tell_stored(alloc: Global, keeper: &mut SqlKeeper<MemStore>) -> Result<String> {
     let state = keeper.state(alloc)?;
-    let (term, length) = (state.hard.term, state.length);
-    let mut told = match state.hard.vote {
-        Some(member) => format!(in alloc; "term {term} vote {member} length {length}\n")?,
-        None => format!(in alloc; "term {term} no vote length {length}\n")?,
-    };
+    let mut told = tell_hard(alloc, state.hard)?;
+    write!(told, " length {}\n", state.length)?;
     for entry in &state.tail {
         told.push_str(tell_entry(alloc, entry)?.as_str())?;
+    }
+    Ok(told)
+}
+
+fn tell_hard(alloc: Global, hard: HardState) -> Result<String, AllocError> {
+    let mut told = format!(in alloc; "term {}", hard.term)?;
+    match hard.vote {
+        Some(member) => write!(told, " vote {member}")?,
+        None => told.push_str(" no vote")?,
+    }
+    match hard.floor {
+        Some(floor) => write!(told, " floor {}", floor.micros())?,
+        None => told.push_str(" no floor")?,
     }
     Ok(told)
 }

@@ -69,7 +69,7 @@ fn renamed(alloc: Global, text: &str, node: usize) -> Result<String> {
     let Some((_, rest)) = text.split_once(" of 3\n") else {
         bail!("the flights are of three nodes");
     };
-    Ok(format!(in alloc; "bitable flight 2\nnode {node} of 3\n{rest}")?)
+    Ok(format!(in alloc; "bitable flight 3\nnode {node} of 3\n{rest}")?)
 }
 
 /// Tries each file with each of its bytes changed to each other one. A yes is right where the byte is free.
