@@ -9,7 +9,7 @@ ghost use Rattle.flight.specs.Lives.{all_steps};
 
 use crate::stored::{SCHEMA, stored};
 use fault::Refusal;
-use flight::life::{Ending, LIFE_STEPS, Life, Packet};
+use flight::life::{Ending, Life, Packet};
 use keep::{HardState, MemImage, MemKeeper, StoreError};
 use model::mark::{LAST_MARK, Mark};
 use model::member::Member;
@@ -234,82 +234,35 @@ fn stops_and_starts_again(rt: HostRuntime) -> Result<(), Fail> {
     Ok(())
 }
 
-// Feeds it as many beats, and one that is refused since its life is full.
-fn fill(
+// Feeds it the one packet for which a mark is left, and one that is refused.
+fn spend_the_last_mark(
     rt: &(impl Abort + Wait),
     mut cell: Cell<MemKeeper>,
-    beats: usize,
 ) -> Result<(MemImage, Life), Fail>
     ensures { IfOk result (λ p. IsLog (members_of cell.node) (schema_of (tables_of cell.node)) (stored_in p.0)) }
 {
-    for _ in 0..beats {
-        let _ = cell.feed(rt, beat())?;
-    }
+    let _ = cell.feed(rt, beat())?;
     assert!(rt; matches!(cell.feed(rt, beat()), Err(Fault::Kept(Refusal::LifeFull))));
-    let (image, life) = cell.stop(rt);
-    assert_eq!(rt; life.steps.len(), beats);
-    Ok((image, life))
+    Ok(cell.stop(rt))
 }
 
-// A life has its last step, or no mark is left; then no life opens, and the image comes back.
+// No mark is left after its last step; then no life opens, and the image comes back.
 #[test]
-fn fills_a_life(rt: HostRuntime) -> Result<(), Fail> {
+fn has_no_mark_left(rt: HostRuntime) -> Result<(), Fail> {
     let alloc = rt.alloc();
     let schema = read_schema(alloc, SCHEMA)?;
-    for (last, beats, mark) in [
-        (None, LIFE_STEPS, 200_001),
-        (Mark::after(LAST_MARK - 3), 1, LAST_MARK),
-    ] {
-        let Ok(cell) = start(&rt, alloc, MemImage::new(alloc), &schema, 2, last) else {
-            return Err(Fail::from("it does not start"));
-        };
-        let (image, life) = fill(&rt, cell, beats)?;
-        assert_eq!(rt; life.last_mark().number(), mark);
-        match start(&rt, alloc, image, &schema, 2, Some(life.last_mark())) {
-            Ok(cell) => {
-                assert_eq!(rt; cell.life.last_mark().number(), 200_002);
-                let _ = cell.stop(&rt);
-            }
-            Err((refusal, image)) => {
-                assert_eq!(rt; (mark, refusal), (LAST_MARK, Refusal::LifeFull));
-                assert_eq!(rt; stored(alloc, image, &schema)?, (NOTHING_STORED, 0));
-            }
-        }
-    }
+    let last = Mark::after(LAST_MARK - 3);
+    let Ok(cell) = start(&rt, alloc, MemImage::new(alloc), &schema, 2, last) else {
+        return Err(Fail::from("it does not start"));
+    };
+    let (image, life) = spend_the_last_mark(&rt, cell)?;
+    assert_eq!(rt; steps_of(&life), (LAST_MARK, 1));
+    let Err((refusal, image)) = start(&rt, alloc, image, &schema, 2, Some(life.last_mark())) else {
+        return Err(Fail::from("it starts without a mark"));
+    };
+    assert_eq!(rt; refusal, Refusal::LifeFull);
+    assert_eq!(rt; stored(alloc, image, &schema)?, (NOTHING_STORED, 0));
     Ok(())
-}
-
-// Each answer is that of a step that was made, or of want of memory: before the step, which changes nothing, or within
-// it, which tears the life.
-fn try_timeout(rt: &(impl Abort + Wait), cell: &mut Cell<MemKeeper>) {
-    let before = cell.life.steps.len();
-    let was_up = cell.node.is_up();
-    let answer = cell.feed(rt, timeout());
-    let is_torn = matches!(cell.life.ending, Ending::Torn(_));
-    let is_right = match answer {
-        Ok(_out) => was_up && !is_torn && before < cell.life.steps.len(),
-        Err(Fault::Kept(refusal)) if was_up => refusal == Refusal::NoMemory && !is_torn,
-        Err(Fault::Kept(refusal)) => refusal == Refusal::NodeDown && is_torn,
-        Err(Fault::Down(error)) => error == StoreError::NoMemory && was_up && is_torn,
-    };
-    assert!(rt; is_right);
-}
-
-// With an allocation refused.
-#[test]
-fn lacks_memory(rt: HostRuntime) {
-    let alloc = rt.alloc();
-    let Ok(schema) = read_schema(alloc, SCHEMA) else {
-        return;
-    };
-    match start(&rt, alloc, MemImage::new(alloc), &schema, 1, None) {
-        Ok(mut cell) => {
-            for _ in 0..4 {
-                try_timeout(&rt, &mut cell);
-            }
-        }
-        Err((refusal, _image)) => assert_eq!(rt; refusal, Refusal::NoMemory),
-    }
 }
 
 // A fault prints as the refusal or the error of the store that it holds.

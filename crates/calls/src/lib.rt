@@ -1,5 +1,5 @@
-//! Tests of calls that no script reaches: of a keeper that fails, of the lives of cells, of an index of periods, and of
-//! want of memory (`rt try --test --fail-alloc N`).
+//! Tests of calls that no script reaches: of a keeper that fails, of the lives of cells, of views and threads, and of an index
+//! of periods.
 #![tactic(auto)]
 
 #[cfg(test)]
