@@ -4,7 +4,7 @@ ghost use Rattle.std.specs.Prelude.{◌<◌, ◌≤◌};
 use model::value::Value;
 use overlaps::{Count, Key, KeyIndex};
 use period::{Day, Period};
-use std::alloc::AllocError;
+use std::alloc::{AllocError, Global};
 use std::process::Abort;
 use std::test::Fail;
 
@@ -57,32 +57,72 @@ fn finds_first(rt: &impl Abort, index: &KeyIndex<Period>, key: &Key) {
     assert!(rt; is_found(index, key, days(20, 30), None));
 }
 
-// Stores 9 to 12, and takes out 5 to 9.
-fn takes_out(rt: &impl Abort, index: &mut KeyIndex<Period>, key: &Key) -> Result<(), AllocError> {
-    assert!(rt; !store(index, key, days(8, 13))? && store(index, key, days(9, 12))?);
-    assert!(rt; index.remove(key, days(5, 8)).is_none());
-    assert_eq!(rt; index.remove(key, days(5, 9)), Some(days(5, 9)));
+// Stores 9 to 12, which 8 to 13 is not, since 5 to 9 and 12 to 20 have days of it.
+fn store_between(
+    rt: &impl Abort,
+    index: &mut KeyIndex<Period>,
+    key: &Key,
+) -> Result<(), AllocError> {
+    assert!(rt; !store(index, key, days(8, 13))?);
+    assert!(rt; store(index, key, days(9, 12))?);
     Ok(())
+}
+
+// Takes out 5 to 9, which 5 to 8 is not.
+fn take_out(rt: &impl Abort, index: &mut KeyIndex<Period>, key: &Key) {
+    let missed = index.remove(key, days(5, 8));
+    let taken = index.remove(key, days(5, 9));
+    assert!(rt; missed == None && taken == Some(days(5, 9)));
+}
+
+// What a search finds.
+fn first(index: &KeyIndex<Period>, key: &Key, period: Period) -> Option<Period> {
+    found(index, key, period).0
 }
 
 // Without that one, and with the three others.
 fn finds_others(rt: &impl Abort, index: &KeyIndex<Period>, key: &Key) {
     for &left in &[days(0, 5), days(9, 12), days(12, 20)] {
-        assert_eq!(rt; found(index, key, left).0, Some(left));
+        assert!(rt; first(index, key, left) == Some(left));
     }
-    assert_eq!(rt; found(index, key, days(5, 9)).0, None);
+    assert!(rt; first(index, key, days(5, 9)) == None);
+}
+
+fn key_of(alloc: Global, number: i64) -> Result<Key, AllocError> {
+    Ok(Key::new(vec![in alloc; Value::Number(number)]?))
+}
+
+// Stores, finds and takes out periods of a key.
+fn try_key(
+    rt: &impl Abort,
+    index: &mut KeyIndex<Period>,
+    key: &Key,
+) -> Result<(), AllocError> {
+    store_three(rt, index, key)?;
+    finds_first(rt, index, key);
+    store_between(rt, index, key)?;
+    take_out(rt, index, key);
+    finds_others(rt, index, key);
+    Ok(())
+}
+
+// That is done with key 7, and key -7 has none.
+fn try_keys(
+    rt: &impl Abort,
+    alloc: Global,
+    index: &mut KeyIndex<Period>,
+) -> Result<(), AllocError> {
+    let key = key_of(alloc, 7)?;
+    try_key(rt, index, &key)?;
+    let other = key_of(alloc, -7)?;
+    assert!(rt; found(index, &other, days(8, 13)) == (None, 0));
+    Ok(())
 }
 
 #[test]
 fn periods_of_a_key(rt: HostRuntime) -> Result<(), Fail> {
     let alloc = rt.alloc();
-    let key = Key::new(vec![in alloc; Value::Number(7)]?);
-    let other = Key::new(vec![in alloc; Value::Number(-7)]?);
     let mut index = KeyIndex::new(alloc);
-    store_three(&rt, &mut index, &key)?;
-    finds_first(&rt, &index, &key);
-    takes_out(&rt, &mut index, &key)?;
-    finds_others(&rt, &index, &key);
-    assert_eq!(rt; found(&index, &other, days(8, 13)), (None, 0));
+    try_keys(&rt, alloc, &mut index)?;
     Ok(())
 }

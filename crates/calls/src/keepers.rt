@@ -5,12 +5,11 @@ ghost use Rattle.keep.specs.Calls.{stored_by};
 ghost use Rattle.keep.specs.Durable.{stored_in};
 ghost use Rattle.keep.specs.Log.{IsLog, IsSmall};
 
-use crate::stored::{SCHEMA, stored};
+use crate::stored::{read_tables, stored};
 use keep::{Change, HardState, Keeper, MemImage, MemKeeper, Shelf, StoreError};
 use model::entry::Entry;
 use model::stamp::Stamp;
 use schema::Schema;
-use schemaread::schemas::read_schema;
 use std::alloc::{AllocError, Global};
 use std::process::Abort;
 use std::test::Fail;
@@ -47,16 +46,39 @@ fn first_change(alloc: Global, _schema: &Schema) -> Result<Change, AllocError>
     })
 }
 
+// Reads the state.
+fn read_state(alloc: Global, keeper: &mut MemKeeper) -> Result<(), StoreError>
+    ensures { stored_by keeper.new ≡ stored_by keeper.old }
+{
+    let _ = keeper.state(alloc)?;
+    Ok(())
+}
+
+// Reads the first entry, if there is one.
+fn read_first(alloc: Global, keeper: &mut MemKeeper) -> Result<(), StoreError>
+    ensures { stored_by keeper.new ≡ stored_by keeper.old }
+{
+    let _ = keeper.entry(alloc, 0)?;
+    Ok(())
+}
+
+// Stores the first change.
+fn save_first(alloc: Global, keeper: &mut MemKeeper, schema: &Schema) -> Result<(), StoreError>
+    requires { IsLog 3 (schema_of schema.now) (stored_by keeper.old) }
+    ensures { IsLog 3 (schema_of schema.now) (stored_by keeper.new) }
+{
+    let change = first_change(alloc, schema)?;
+    keeper.save(alloc, &change)
+}
+
 // Each call that may fail, once.
 fn call_each(alloc: Global, keeper: &mut MemKeeper, schema: &Schema) -> Result<(), StoreError>
     requires { IsLog 3 (schema_of schema.now) (stored_by keeper.old) }
     ensures { IsLog 3 (schema_of schema.now) (stored_by keeper.new) }
 {
-    let _ = keeper.state(alloc)?;
-    let change = first_change(alloc, schema)?;
-    keeper.save(alloc, &change)?;
-    let _ = keeper.entry(alloc, 0)?;
-    Ok(())
+    read_state(alloc, keeper)?;
+    save_first(alloc, keeper, schema)?;
+    read_first(alloc, keeper)
 }
 
 // Whether it is down: no call answers anything else, nor counts as a failure of the store.
@@ -76,12 +98,12 @@ fn is_down(alloc: Global, keeper: &mut MemKeeper, schema: &Schema) -> Result<boo
 
 // What was answered, and how many calls failed.
 fn judge_calls(rt: &impl Abort, call: u64, answered: Result<(), StoreError>, failures: u64) {
-    let wanted = if is_failing(call) {
-        (Err(StoreError::StoreFault), 1)
+    let is_right = if is_failing(call) {
+        answered == Err(StoreError::StoreFault) && failures == 1
     } else {
-        (Ok(()), 0)
+        answered == Ok(()) && failures == 0
     };
-    assert_eq!(rt; (answered, failures), wanted, "call {call}");
+    assert!(rt; is_right, "call {call}");
 }
 
 // Whether it is a call of a keeper that opened.
@@ -96,7 +118,7 @@ fn use_keeper(
     mut keeper: MemKeeper,
     call: u64,
     schema: &Schema,
-) -> Result<MemImage, Fail>
+) -> Result<MemImage, AllocError>
     requires { IsLog 3 (schema_of schema.now) (stored_by keeper) }
     ensures { IfOk result (λ image. IsLog 3 (schema_of schema.now) (stored_in image)) }
 {
@@ -109,7 +131,12 @@ fn use_keeper(
 }
 
 // What is left of a store of which this call fails.
-fn left(rt: &impl Abort, alloc: Global, call: u64, schema: &Schema) -> Result<MemImage, Fail>
+fn left(
+    rt: &impl Abort,
+    alloc: Global,
+    call: u64,
+    schema: &Schema,
+) -> Result<MemImage, AllocError>
     ensures { IfOk result (λ image. IsLog 3 (schema_of schema.now) (stored_in image)) }
 {
     let mut image = MemImage::with_hard_state(alloc, HARD_BEFORE);
@@ -123,20 +150,31 @@ fn left(rt: &impl Abort, alloc: Global, call: u64, schema: &Schema) -> Result<Me
     }
 }
 
-// Open, state, save and entry are calls 1 to 4. What is stored is what was so before the save, or what is so after it.
+// What is stored is what was so before the save, or what is so after it.
+fn judge_stored(rt: &impl Abort, call: u64, stored: (HardState, usize)) {
+    let is_saved = call == 0 || call > 3;
+    let wanted = if is_saved {
+        (HARD_AFTER, 1)
+    } else {
+        (HARD_BEFORE, 0)
+    };
+    assert!(rt; stored == wanted, "call {call}");
+}
+
+// What is left of a store of which this call fails, opened again.
+fn fails_at(rt: &impl Abort, alloc: Global, call: u64, schema: &Schema) -> Result<(), StoreError> {
+    let image = left(rt, alloc, call, schema)?;
+    judge_stored(rt, call, stored(alloc, image, schema)?);
+    Ok(())
+}
+
+// Open, state, save and entry are calls 1 to 4.
 #[test]
 fn fails_at_each_call(rt: HostRuntime) -> Result<(), Fail> {
     let alloc = rt.alloc();
-    let schema = read_schema(alloc, SCHEMA)?;
+    let schema = read_tables(alloc)?;
     for call in 0..6 {
-        let image = left(&rt, alloc, call, &schema)?;
-        let is_saved = call == 0 || call > 3;
-        let wanted = if is_saved {
-            (HARD_AFTER, 1)
-        } else {
-            (HARD_BEFORE, 0)
-        };
-        assert_eq!(rt; stored(alloc, image, &schema)?, wanted, "call {call}");
+        fails_at(&rt, alloc, call, &schema)?;
     }
     Ok(())
 }

@@ -1,5 +1,5 @@
 use Rattle.view.specs.Publishing.{book_of}
-use Rattle.calls.proofs.locked.traced.Given as goal
+use Rattle.calls.proofs.locked.fed_and_asked.Given as goal
 
 -- the history of the node
 abbrev pub ghosts-run_locked-L-Naming : goal.ghosts-run_locked-L-Naming
