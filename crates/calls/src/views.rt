@@ -141,7 +141,7 @@ fn is_refused(
 }
 
 // Whether a view answers that nothing is closed.
-fn is_early(view: &mut View, query: &Query) -> bool
+pub(crate) fn is_early(view: &mut View, query: &Query) -> bool
     ensures { IsSameView view.old view.new }
 {
     matches!(view.ask(query), Err(Refusal::NotClosed(None)))
