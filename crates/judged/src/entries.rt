@@ -1,19 +1,19 @@
 //! Requests, one after another, taken as entries by tables and by `plain`, and questions about them.
-use crate::draws::Draws;
-use crate::questions::whole_history;
-use crate::staff::{DEPT, EMP, STAFF, all_days};
 use crate::tally::Tally;
 use answer::{Answer, Shown};
 use anyhow::{Result, bail, ensure};
 use apply::Tables;
+use drawn::draws::Draws;
+use drawn::questions::whole_history;
+use drawn::staff::{DEPT, EMP, STAFF, all_days};
 use fault::Text;
 use model::entry::{Entry, Request};
 use model::request::{Client, RequestNumber};
-use model::stamp::Stamp;
+use model::stamp::{LAST_MICROS, Stamp};
 use plain::Judge;
 use schema::Schema;
 use schemaread::schemas::read_schema;
-use sqlread::query::read_query;
+use sqlread::query::{Query, read_query};
 use sqlread::transaction::read_transaction;
 use std::alloc::{AllocError, Global};
 
@@ -106,21 +106,25 @@ impl Both {
         Ok(())
     }
 
-    /// Asks both the same.
-    fn ask(&mut self, question: &str, tally: &mut Tally) -> Result<()> {
+    /// Asks both the same, where time is closed so many microseconds past the last entry.
+    fn ask(&mut self, question: &str, quiet: u32, tally: &mut Tally) -> Result<()> {
         self.note(question)?;
-        let query = match read_query(self.alloc, &self.schema, question) {
-            Ok(query) => query,
+        match read_query(self.alloc, &self.schema, question) {
+            Ok(query) => self.compare_answers(&query, quiet, tally),
             Err(refusal) => {
                 tally.not_answered(&refusal);
-                return Ok(());
+                Ok(())
             }
-        };
-        let given = self.tables.ask(&query, self.tables.closed());
-        let wanted = self.judge.ask(&self.schema, &query, self.tables.closed());
+        }
+    }
+
+    /// Compares what both answer to a question, where time is closed so many microseconds past the last entry.
+    fn compare_answers(&self, query: &Query, quiet: u32, tally: &mut Tally) -> Result<()> {
+        let given = self.tables.ask(query, self.closed(quiet));
+        let wanted = self.judge.ask(&self.schema, query, self.closed(quiet));
         match (given, wanted) {
             (Ok(given), Ok(wanted)) => {
-                tally.answer(&wanted);
+                tally.answer(&wanted, self.last_micros());
                 ensure!(is_same_answer(&given, &wanted), "wanted {wanted:?}");
                 Ok(())
             }
@@ -134,6 +138,17 @@ impl Both {
         }
     }
 
+    /// The last entry's stamp, in microseconds since 1970; none where there is no entry.
+    fn last_micros(&self) -> Option<u64> {
+        Some(self.tables.closed()?.micros())
+    }
+
+    /// So many microseconds past the last entry; none where there is no entry.
+    fn closed(&self, quiet: u32) -> Option<Stamp> {
+        let micros = self.last_micros()?.saturating_add(u64::from(quiet));
+        Some(Stamp::new(micros.min(LAST_MICROS)))
+    }
+
     /// Asks both some random questions.
     fn ask_some(&mut self, draws: &mut Draws, tally: &mut Tally) -> Result<()> {
         for _ in 0..8 {
@@ -141,7 +156,8 @@ impl Both {
             let one = u64::from(draws.below(bound));
             let other = u64::from(draws.below(bound));
             let question = draws.question(one, other)?;
-            self.ask(question.as_str(), tally)?;
+            let quiet = draws.few();
+            self.ask(question.as_str(), quiet, tally)?;
         }
         Ok(())
     }
@@ -151,7 +167,7 @@ impl Both {
         for names in [DEPT, EMP] {
             let last = Stamp::new(u64::from(self.last)).instant();
             let question = whole_history(self.alloc, names, last)?;
-            self.ask(question.as_str(), tally)?;
+            self.ask(question.as_str(), 0, tally)?;
         }
         Ok(())
     }

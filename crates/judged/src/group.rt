@@ -1,15 +1,21 @@
 //! A group that plays lines, and all that it told and answered.
 ghost use Rattle.std.specs.Prelude.{◌≤◌};
 
-use crate::known::{Known, is_same};
-use crate::printed::{Told, hear, read_told};
-use crate::staff::STAFF;
+use crate::floors::check_seal;
 use anyhow::{Result, bail, ensure};
-use lines::line::{Line, read_line};
+use drawn::known::{Known, Letter, is_same};
+use drawn::news::Floor;
+use drawn::printed::{Told, hear, read_told};
+use drawn::seals::Seals;
+use drawn::staff::STAFF;
+use lines::line::{Job, Line, read_line};
 use schema::Schema;
 use schemaread::schemas::read_schema;
 use script::player::Player;
 use std::alloc::Global;
+
+/// How many rounds a `settle` has that names none.
+const ROUNDS_MOST: u8 = 100;
 
 /// A question, and what was printed of it.
 #[derive(Drop)]
@@ -18,6 +24,8 @@ pub(crate) struct Asked {
     pub question: String,
     /// How many entries the member had applied then, none where it was down.
     pub applied: Option<usize>,
+    /// The greatest floor that it knew to be sealed then, in microseconds since 1970.
+    pub sealed: Option<u64>,
     pub printed: String,
 }
 
@@ -28,6 +36,7 @@ pub(crate) struct Group {
     pub schema: Schema,
     player: Player,
     pub known: Known,
+    pub seals: Seals,
     /// How many entries each member has applied, in their order; 0 of one that is down.
     applied: Vec<usize>,
     pub told: Vec<Told>,
@@ -48,6 +57,7 @@ impl Group {
             schema,
             player,
             known: Known::new(alloc, members),
+            seals: Seals::new(alloc),
             applied: vec![in alloc; 0; members]?,
             told: Vec::new(alloc),
             asked: Vec::new(alloc),
@@ -124,12 +134,182 @@ impl Group {
 }
 
 impl Group {
+    fn is_up(&self, node: usize) -> bool {
+        self.player.commit(node).is_some()
+    }
+
+    /// Whether a member has applied the entry of a seal.
+    fn is_applied(&mut self, node: usize, seal: Floor) -> Result<bool> {
+        if self.player.commit(node).unwrap_or(0) < seal.index {
+            return Ok(false);
+        }
+        match self.player.entry(node, seal.index)? {
+            Some(entry) => Ok(entry.term == seal.term),
+            None => Ok(false),
+        }
+    }
+
+    /// A member learns a seal.
+    fn learn(&mut self, node: usize, seal: Floor) -> Result<()> {
+        if self.is_applied(node, seal)? {
+            self.seals.count(node, seal)?;
+        } else {
+            self.seals.wait(node, seal);
+        }
+        Ok(())
+    }
+
+    /// Sees what became of the seal that waits at a member, after each step of the group.
+    fn see_waiting(&mut self, node: usize) -> Result<()> {
+        if !self.is_up(node) {
+            self.seals.forget(node);
+        }
+        let Some(seal) = self.seals.waiting(node) else {
+            return Ok(());
+        };
+        if self.is_applied(node, seal)? {
+            self.seals.count_waiting(node)?;
+        }
+        Ok(())
+    }
+
+    /// The place of the message that a line delivers, if there is one.
+    fn delivered(&self, line: &Line) -> Option<usize> {
+        match line {
+            Line::Deliver { message } => self.known.place_of(*message),
+            Line::Torn {
+                node,
+                job: Job::Deliver { message },
+                ..
+            } => {
+                let place = self.known.place_of(*message)?;
+                let addressee = self.known.letters.get(place)?.addressee;
+                if addressee == *node && self.is_up(*node) {
+                    Some(place)
+                } else {
+                    None
+                }
+            }
+            _ => None,
+        }
+    }
+
+    /// Takes away what a line loses.
+    fn lose(&mut self, line: &Line) {
+        let sent = self.known.letters.len();
+        match line {
+            Line::Lose { message } => self.known.lose(*message),
+            Line::LoseAll => self.known.take_all(sent),
+            _ => {}
+        }
+    }
+
+    /// Takes away the message that a line delivers, and gives it.
+    fn take_letter(&mut self, line: &Line) -> Option<Letter> {
+        let place = self.delivered(line)?;
+        let letter = self.known.letters.get(place).copied()?;
+        self.known.take_away(place);
+        if self.is_up(letter.addressee) {
+            self.known.hear(place);
+        }
+        Some(letter)
+    }
+
+    /// A member that is still up learns the seal of a message that it was brought.
+    fn learn_brought(&mut self, letter: Letter) -> Result<()> {
+        match letter.seal() {
+            Some(seal) if self.is_up(letter.addressee) => self.learn(letter.addressee, seal),
+            _ => Ok(()),
+        }
+    }
+
+    /// The member that made a seal learns it: the one that sent it, if one of the messages from this place on is a seal.
+    fn learn_made(&mut self, from: usize) -> Result<()> {
+        let Some((node, seal)) = self.known.seal_made(from) else {
+            return Ok(());
+        };
+        let letters = self.known.letters.as_slice();
+        check_seal(self.known.members, letters, node, seal)?;
+        self.learn(node, seal)
+    }
+
+    /// Plays a line in which one member makes a step at most, and sees what seals are learnt by it.
+    fn bring(&mut self, line: &Line) -> Result<String> {
+        self.lose(line);
+        let brought = self.take_letter(line);
+        let sent = self.known.letters.len();
+        let printed = self.print(line)?;
+        hear(&mut self.known, printed.as_str())?;
+        for place in 0..self.known.members {
+            self.see_waiting(place.wrapping_add(1))?;
+        }
+        if let Some(letter) = brought {
+            self.learn_brought(letter)?;
+        }
+        self.learn_made(sent)?;
+        Ok(printed)
+    }
+
+    /// Plays a round in which no seal can be learnt.
+    fn whole_round(&mut self) -> Result<String> {
+        let sent = self.known.letters.len();
+        let printed = self.print(&Line::Settle { rounds: Some(1) })?;
+        self.known.take_all(sent);
+        hear(&mut self.known, printed.as_str())?;
+        Ok(printed)
+    }
+
+    /// Delivers the message in this place as a round does: of one to a member that is down nothing is told.
+    fn deliver(&mut self, place: usize) -> Result<String> {
+        let nothing = String::new(self.alloc);
+        let Some(letter) = self.known.letters.get(place).copied() else {
+            return Ok(nothing);
+        };
+        if !letter.is_left {
+            return Ok(nothing);
+        }
+        let is_up = self.is_up(letter.addressee);
+        let message = u64::try_from(place)?.wrapping_add(1);
+        let printed = self.bring(&Line::Deliver { message })?;
+        Ok(if is_up { printed } else { nothing })
+    }
+
+    /// Plays a round: message by message where a seal can be learnt, since it matters which comes first, a seal or its
+    /// entry.
+    fn play_round(&mut self) -> Result<String> {
+        if !self.known.is_floor_left() && !self.seals.does_one_wait() {
+            return self.whole_round();
+        }
+        let mut printed = String::new(self.alloc);
+        for place in 0..self.known.letters.len() {
+            let more = self.deliver(place)?;
+            printed.push_str(more.as_str())?;
+        }
+        Ok(printed)
+    }
+
+    /// Plays so many rounds, or fewer, until no message is left.
+    fn settle(&mut self, most: u8) -> Result<String> {
+        let mut printed = String::new(self.alloc);
+        for _ in 0..most {
+            if !self.known.is_one_left() {
+                return Ok(printed);
+            }
+            let more = self.play_round()?;
+            printed.push_str(more.as_str())?;
+        }
+        Ok(printed)
+    }
+}
+
+impl Group {
     /// Notes a question and what was printed of it.
     fn note_asked(&mut self, node: usize, question: &str, printed: String) -> Result<()> {
         self.asked.push(Asked {
             node,
             question: String::from_str(self.alloc, question)?,
             applied: self.player.commit(node),
+            sealed: self.seals.sealed(node),
             printed,
         })?;
         Ok(())
@@ -137,8 +317,10 @@ impl Group {
 
     /// Plays a line, looks at each member after it, and notes what was told or answered.
     fn play_line(&mut self, line: &Line) -> Result<()> {
-        let printed = self.print(line)?;
-        hear(&mut self.known, printed.as_str());
+        let printed = match line {
+            Line::Settle { rounds } => self.settle(rounds.unwrap_or(ROUNDS_MOST))?,
+            _ => self.bring(line)?,
+        };
         let mut told = read_told(self.alloc, printed.as_str())?;
         for place in 0..self.known.members {
             self.look(told.as_slice(), place)?;

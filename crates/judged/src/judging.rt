@@ -1,17 +1,18 @@
 //! What a group told and answered, against what `plain` makes of the decided entries.
+use crate::floors::check_votes;
 use crate::group::{Asked, Group};
 use crate::shown::answer_text;
-use crate::staff::all_days;
 use crate::tally::Tally;
-use anyhow::{Result, ensure};
-use fault::{Refusal, Text};
+use anyhow::{Result, bail, ensure};
+use drawn::staff::all_days;
+use fault::Refusal;
 use model::entry::Entry;
-use model::stamp::Stamp;
+use model::stamp::{LAST_MICROS, Stamp};
 use plain::{Answer, Judge};
 use schema::Schema;
-use sqlread::query::{Query, SystemTime, read_query};
+use sqlread::query::read_query;
 use sqlread::transaction::read_transaction;
-use std::alloc::{AllocError, Global};
+use std::alloc::Global;
 
 /// What is told of an entry: of its request and the outcome, or nothing.
 fn outcome_text(
@@ -52,68 +53,47 @@ fn outcomes(
     Ok(texts)
 }
 
-/// 33 with what is closed.
-fn not_closed(alloc: Global, closed: Stamp) -> Result<Refusal, AllocError> {
-    let at = closed.instant();
-    let text = format!(in alloc; "{at}")?;
-    let text = Text::from_string(text)?;
-    Ok(Refusal::NotClosed(Some(text)))
-}
-
-/// The question as a member answers it that has applied entries up to this stamp, or why it refuses it.
-fn closed_query(
-    alloc: Global,
-    query: Query,
-    closed: Option<Stamp>,
-) -> Result<Result<Query, Refusal>, AllocError> {
-    let Some(closed) = closed else {
-        return Ok(Err(Refusal::NotClosed(None)));
-    };
-    let time = query.time.unwrap_or(SystemTime::as_of(closed));
-    if time.last.micros() > closed.micros() {
-        return Ok(Err(not_closed(alloc, closed)?));
-    }
-    Ok(Ok(Query {
-        table: query.table,
-        time: Some(time),
-        terms: query.terms,
-    }))
-}
-
-/// The stamp of the last of the entries that a member had applied.
-fn closed_at(decided: &[Entry], applied: usize) -> Option<Stamp> {
+/// The stamp of the last of the entries that a member had applied, in microseconds since 1970.
+fn last_micros(decided: &[Entry], applied: usize) -> Option<u64> {
     let place = applied.checked_sub(1)?;
-    Some(decided.get(place)?.stamp)
+    Some(decided.get(place)?.stamp.micros())
 }
 
-/// The question that a member had to answer, or why it had to refuse it.
-fn judged_query(
-    alloc: Global,
-    schema: &Schema,
-    decided: &[Entry],
+/// Up to when time is closed at a member with this last stamp and this greatest sealed floor, both in microseconds since
+/// 1970.
+fn closed(last: Option<u64>, sealed: Option<u64>) -> Option<Stamp> {
+    let micros = match (last, sealed) {
+        (Some(last), Some(sealed)) => last.max(sealed),
+        (Some(last), None) => last,
+        (None, sealed) => sealed?,
+    };
+    Some(Stamp::new(micros.min(LAST_MICROS)))
+}
+
+/// The answer that a member had to give, about which table, or why it had to refuse the question.
+fn judged_answer(
+    group: &Group,
+    judge: &Judge,
     asked: &Asked,
-) -> Result<Result<Query, Refusal>, AllocError> {
-    match read_query(alloc, schema, asked.question.as_str()) {
-        Err(refusal) => Ok(Err(refusal)),
-        Ok(query) => match asked.applied {
-            Some(applied) => closed_query(alloc, query, closed_at(decided, applied)),
-            None => Ok(Err(Refusal::NodeDown)),
-        },
-    }
+    tally: &mut Tally,
+) -> Result<(usize, Answer), Refusal> {
+    let query = read_query(group.alloc, &group.schema, asked.question.as_str())?;
+    let Some(applied) = asked.applied else {
+        return Err(Refusal::NodeDown);
+    };
+    let last = last_micros(group.known.decided.as_slice(), applied);
+    let answer = judge.ask(&group.schema, &query, closed(last, asked.sealed))?;
+    tally.answer(&answer, last);
+    Ok((query.table, answer))
 }
 
 /// What had to be printed of a question.
 fn wanted(group: &Group, judge: &Judge, asked: &Asked, tally: &mut Tally) -> Result<String> {
     let alloc = group.alloc;
     let node = asked.node;
-    match judged_query(alloc, &group.schema, group.known.decided.as_slice(), asked)? {
-        Ok(query) => {
-            let decided = group.known.decided.as_slice();
-            let closed = closed_at(decided, decided.len());
-            let answer: Answer = judge.ask(&group.schema, &query, closed)?;
-            tally.answer(&answer);
-            Ok(answer_text(alloc, node, query.table, &answer)?)
-        }
+    match judged_answer(group, judge, asked, tally) {
+        Ok((table, answer)) => Ok(answer_text(alloc, node, table, &answer)?),
+        Err(Refusal::NoMemory) => bail!("no memory"),
         Err(refusal) => {
             tally.not_answered(&refusal);
             Ok(format!(in alloc; "node {node} refused {refusal}\n")?)
@@ -147,6 +127,20 @@ fn check_outcomes(group: &Group, texts: &[String]) -> Result<()> {
     Ok(())
 }
 
+/// Checks that each entry after that of a seal which a member counted is stamped above its floor.
+fn check_seals(group: &Group) -> Result<()> {
+    for (node, seal) in group.seals.counted.iter() {
+        if let Some(entry) = group.known.decided.get(seal.index) {
+            let stamp = entry.stamp.micros();
+            ensure!(
+                seal.micros < stamp,
+                "node {node} counted {seal:?}, and the next stamp is {stamp}"
+            );
+        }
+    }
+    Ok(())
+}
+
 /// Checks all that a group told and answered.
 pub(crate) fn check(group: &Group, tally: &mut Tally) -> Result<()> {
     let alloc = group.alloc;
@@ -154,9 +148,12 @@ pub(crate) fn check(group: &Group, tally: &mut Tally) -> Result<()> {
     let mut judge = Judge::new(alloc, all_days()?);
     let texts = outcomes(alloc, &group.schema, &mut judge, decided, tally)?;
     check_outcomes(group, texts.as_slice())?;
+    check_votes(group.known.letters.as_slice())?;
+    check_seals(group)?;
     check_answers(group, &judge, tally)?;
     let requests = group.known.requests(alloc, 0, decided.len())?;
     tally.script(requests.len(), group.known.terms(), group.told.len());
+    tally.sealed = tally.sealed.saturating_add(group.seals.counted.len());
     tally.overruled = tally.overruled.saturating_add(group.known.overruled());
     Ok(())
 }

@@ -3,21 +3,15 @@
 //! and each one of which they make something else.
 #![tactic(auto)]
 
-mod draws;
 mod entries;
+mod floors;
 mod group;
 mod judging;
-mod known;
-mod printed;
-mod questions;
-mod random_lines;
 mod scripts;
 mod shown;
-mod staff;
 mod statements;
 mod tally;
 mod touching;
-mod transactions;
 
 use crate::tally::Tally;
 use anyhow::Result;

@@ -1,12 +1,12 @@
 //! Scripts over whole groups.
-use crate::draws::Draws;
 use crate::group::Group;
 use crate::judging::check;
-use crate::questions::whole_history;
-use crate::random_lines::round;
-use crate::staff::{DEPT, EMP};
 use crate::tally::Tally;
 use anyhow::Result;
+use drawn::draws::Draws;
+use drawn::questions::whole_history;
+use drawn::random_lines::{self, round};
+use drawn::staff::{DEPT, EMP};
 use model::stamp::Stamp;
 use std::alloc::Global;
 
@@ -29,7 +29,7 @@ fn ask_all(group: &mut Group, question: &str) -> Result<()> {
 
 /// All members come up, and all are asked about all that was ever believed, and one more question.
 fn end(draws: &mut Draws, group: &mut Group) -> Result<()> {
-    let lines = draws.end(&group.known)?;
+    let lines = random_lines::end(group.alloc, group.known.members)?;
     group.play(lines.as_str())?;
     let last = group.known.decided.last();
     let last = last.map_or(Stamp::new(0), |entry| entry.stamp).instant();

@@ -1,5 +1,5 @@
 //! Answers of `plain`, as the product prints them.
-use crate::staff::columns;
+use drawn::staff::columns;
 use model::value::Value;
 use period::{Day, Instant};
 use plain::{Answer, Shown};

@@ -1,10 +1,10 @@
 //! Statements, one after another, run on current rows and by `plain`.
-use crate::draws::Draws;
-use crate::staff::{DEPT, EMP, STAFF, all_days};
 use crate::tally::Tally;
 use crate::touching::{are_same, delete_all, is_touched};
 use anyhow::{Result, bail, ensure};
 use current::{Current, Touched};
+use drawn::draws::Draws;
+use drawn::staff::{DEPT, EMP, STAFF, all_days};
 use model::stamp::Stamp;
 use plain::Tables;
 use schema::Schema;

@@ -18,6 +18,8 @@ pub(crate) struct Tally {
     pub answers: u32,
     pub shown: u32,
     pub ended: u32,
+    /// Answers up to an instant past the last entry that the member had applied.
+    pub quiet: u32,
     /// Questions that were refused by 33, by 41, and for their text.
     pub open: u32,
     pub down: u32,
@@ -29,6 +31,8 @@ pub(crate) struct Tally {
     pub overruled: usize,
     /// Outcomes that members told.
     pub told: usize,
+    /// Times that a seal raised what a member has sealed.
+    pub sealed: usize,
 }
 
 fn add_one(counter: &mut u32) {
@@ -68,9 +72,12 @@ impl Tally {
         }
     }
 
-    /// Counts an answer.
-    pub(crate) fn answer(&mut self, answer: &Answer) {
+    /// Counts an answer of a member that had applied entries up to this stamp, in microseconds since 1970.
+    pub(crate) fn answer(&mut self, answer: &Answer, last: Option<u64>) {
         add_one(&mut self.answers);
+        if last.is_none_or(|last| last < answer.last) {
+            add_one(&mut self.quiet);
+        }
         for shown in answer.rows.iter() {
             add_one(&mut self.shown);
             if shown.end.is_some() {

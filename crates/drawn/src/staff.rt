@@ -3,7 +3,7 @@ use fault::Refusal;
 use period::{Day, Period};
 
 /// Departments, and employees by their skills, who refer to them.
-pub(crate) const STAFF: &str = "
+pub const STAFF: &str = "
 CREATE TABLE Dept (DNo INTEGER, DStart DATE, DEnd DATE, DSize INTEGER, DPay INTEGER,
  SysStart TIMESTAMP(6) GENERATED ALWAYS AS ROW START,
  SysEnd TIMESTAMP(6) GENERATED ALWAYS AS ROW END,
@@ -22,7 +22,7 @@ CREATE TABLE Emp (ENo INTEGER, Skill VARCHAR(4), EStart DATE, EEnd DATE, EDept I
 
 /// What a table and its columns are called.
 #[derive(Clone, Copy)]
-pub(crate) struct Names {
+pub struct Names {
     /// The table's place in the schema.
     pub place: usize,
     pub table: &'static str,
@@ -36,7 +36,7 @@ pub(crate) struct Names {
     pub has_skill: bool,
 }
 
-pub(crate) const DEPT: Names = Names {
+pub const DEPT: Names = Names {
     place: 0,
     table: "Dept",
     period: "DPeriod",
@@ -46,7 +46,7 @@ pub(crate) const DEPT: Names = Names {
     has_skill: false,
 };
 
-pub(crate) const EMP: Names = Names {
+pub const EMP: Names = Names {
     place: 1,
     table: "Emp",
     period: "EPeriod",
@@ -57,7 +57,7 @@ pub(crate) const EMP: Names = Names {
 };
 
 /// The columns of a table, by its place, as an answer names them.
-pub(crate) fn columns(table: usize) -> &'static str {
+pub fn columns(table: usize) -> &'static str {
     match table {
         0 => "DNo,DStart,DEnd,DSize,DPay,SysStart,SysEnd",
         _ => "ENo,Skill,EStart,EEnd,EDept,Pay,SysStart,SysEnd",
@@ -68,7 +68,7 @@ pub(crate) fn columns(table: usize) -> &'static str {
 const DAY_10: u32 = 737_433;
 
 /// All days that a row may have: from the 10th of January 2020 to the 29th.
-pub(crate) fn all_days() -> Result<Period, Refusal> {
+pub fn all_days() -> Result<Period, Refusal> {
     let start = Day { number: DAY_10 };
     let end = Day {
         number: DAY_10 + 20,
