@@ -51,8 +51,8 @@ fn tell(rt: &(impl Print + AllocGlobal), kind: Kind, seeds: u64, name: &str) -> 
 }
 
 fn main(rt: HostRuntime) -> Result<()> {
-    tell(&rt, Kind::Statements, 100, "20 statements")?;
-    tell(&rt, Kind::Transactions, 4, "30 transactions")?;
-    tell(&rt, Kind::Requests, 1, "200 requests")?;
-    tell(&rt, Kind::Scripts, 200, "a script")
+    tell(&rt, Kind::Statements, 500, "20 statements")?;
+    tell(&rt, Kind::Transactions, 20, "30 transactions")?;
+    tell(&rt, Kind::Requests, 5, "200 requests")?;
+    tell(&rt, Kind::Scripts, 1000, "a script")
 }
