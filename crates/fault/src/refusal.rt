@@ -44,7 +44,7 @@ pub enum Refusal {
     RowLimit,
     /// 23: SET would give a number outside 64 bits signed.
     NumberRange,
-    /// 30: the number lies below that of the client's last executed request.
+    /// 30: the number lies below those of the client's latest eight that were executed.
     Old,
     /// 31: the number lies above the client's next one.
     Gap,
@@ -52,7 +52,7 @@ pub enum Refusal {
     NotLeader(Option<usize>),
     /// 33: the query asks about an instant that is not closed. The instant that is, if any.
     NotClosed(Option<Text>),
-    /// 35: the last entry bears the last instant, so that no stamp is left.
+    /// 35: no stamp is left: the last entry bears the last instant, or the member's floor is the last instant.
     TimeFull,
     /// 36: the log has all the entries that it may have.
     LogFull,
@@ -66,7 +66,7 @@ pub enum Refusal {
     LifeFull,
     /// 43: no memory was found.
     NoMemory,
-    /// 44: what the store holds is no term, vote and log.
+    /// 44: what the store holds is no term, vote, floor and log.
     BadStore,
     /// 45: no view can be had, or the token is of another view.
     NoView,
@@ -78,7 +78,7 @@ pub enum Refusal {
     Unsent { node: usize, mark: u64 },
     /// 53: the marks do not rise at this node, at this mark.
     StampOrder { node: usize, mark: u64 },
-    /// 54: this node's answer at this mark is not the one that the replay gives.
+    /// 54: this node's answer at this mark, or what it told of requests there, is not what the replay gives.
     WrongAnswer { node: usize, mark: u64 },
     /// 60: the script's line that is at fault, or 0 for a script that cannot be read.
     BadScript(usize),

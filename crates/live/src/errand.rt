@@ -8,7 +8,6 @@ use fault::{Refusal, Text};
 use model::entry::{Request, Told};
 use model::member::Member;
 use model::message::Input;
-use model::request::{Client, RequestNumber};
 use model::stamp::Stamp;
 use std::alloc::AllocError;
 
@@ -63,16 +62,6 @@ impl Errand {
             waited: 0,
             outcome: None,
         }
-    }
-
-    /// Who asks.
-    pub fn client(&self) -> Client {
-        self.request.client
-    }
-
-    /// The request's number.
-    pub fn number(&self) -> RequestNumber {
-        self.request.number
     }
 
     /// What the node is handed at this reading of its clock. The error is want of memory.

@@ -47,7 +47,7 @@ impl Count {
     }
 }
 
-/// A list whose items are read by `at`, `at_mut` and `all` alone, which count. A contract sees the list.
+/// A list whose items are read by `at`, `all`, `range` and `at_mut` alone, which count. A contract sees the list.
 #[derive(Debug, Drop)]
 pub struct Counted<T> {
     items: Vec<T>,

@@ -144,7 +144,7 @@ pub struct Core {
     pub(crate) sealed: Option<Stamp>,
     /// A seal whose entry is not applied yet.
     pub(crate) waiting: Option<SealedFloor>,
-    /// Memory was refused within a step, so that no further step is taken.
+    /// A step failed, for want of memory or by its store, so that no further step is taken.
     pub is_spent: bool,
     ghost one_of_few: { members ≤ 7 },
     ghost is_member: { (1 ≤ me) × (me ≤ members) },

@@ -50,13 +50,6 @@ impl World {
         })
     }
 
-    /// How many members there are.
-    pub fn members(&self) -> usize
-        ensures { result ≡ members_in self.now }
-    {
-        self.group.members
-    }
-
     /// The tables of its members.
     pub fn schema(&self) -> &Schema
         ensures { result.now ≡ tables_in self.now }
