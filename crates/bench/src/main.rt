@@ -1,17 +1,12 @@
-//! Measures how fast texts are read, how long transactions, questions and whole groups take, and how fast views answer.
-//! Without words it reads each text once and plays a little of each group, and tells what it found. With a word it
-//! prints times:
+//! Measures how fast texts are read, how long transactions and questions take, and how fast views answer. Without words
+//! it reads each text once, does a little of each kind of transaction and question, and tells what it found. With a word
+//! it prints times:
 //! - `rates`: how many bytes of a text are read in a second;
 //! - `tables`: the microseconds of transactions and of questions, over tables of several sizes whose rows have a key
 //!   each or all one;
-//! - `requests`: how many requests a group of three decides in a second, and how many questions by key it then answers;
-//! - `elections`: how many elections it holds in a second;
-//! - `restarts`: how long it takes until a member that was down has what was decided without it;
-//! - `floors`: how long a floor takes in a group, until each member knows that it is sealed;
 //! - `views`: how many questions views answer in a second, each on a thread of its own, and what they cost the writer.
 #![tactic(auto)]
 
-mod groups;
 mod tables;
 mod views;
 
@@ -61,30 +56,18 @@ fn tell<R: Print + Clock + Wait + Threads + Sync>(
         Asked::Checks => tell_checks(rt, alloc, schema),
         Asked::Rates => tell_rates(rt, alloc, schema),
         Asked::Tables => tables::tell(rt, alloc, schema),
-        Asked::Requests => groups::tell_requests(rt, alloc, schema),
-        Asked::Elections => groups::tell_elections(rt, alloc, schema),
-        Asked::Restarts => groups::tell_restarts(rt, alloc, schema),
-        Asked::Floors => groups::tell_floors(rt, alloc, schema),
         Asked::Views => views::tell(rt, alloc, schema),
     }
 }
 
 // What is to be measured.
 enum Asked {
-    /// Nothing: each text is read once, and a little of each group is played.
+    /// Nothing: each text is read once, and a little of each kind is done.
     Checks,
     /// How fast texts are read.
     Rates,
     /// How long transactions and questions take.
     Tables,
-    /// How many requests are decided, and how many questions answered.
-    Requests,
-    /// How many elections are held.
-    Elections,
-    /// How long a member that was down takes to catch up.
-    Restarts,
-    /// How long a floor takes.
-    Floors,
     /// How fast views answer, and what they cost the writer.
     Views,
 }
@@ -98,10 +81,6 @@ fn words_given<R: AllocGlobal + Env>(rt: &R) -> Result<Asked> {
     Ok(match word.as_str() {
         "rates" => Asked::Rates,
         "tables" => Asked::Tables,
-        "requests" => Asked::Requests,
-        "elections" => Asked::Elections,
-        "restarts" => Asked::Restarts,
-        "floors" => Asked::Floors,
         "views" => Asked::Views,
         _ => Asked::Checks,
     })
@@ -109,7 +88,7 @@ fn words_given<R: AllocGlobal + Env>(rt: &R) -> Result<Asked> {
 
 fn tell_checks<R: Print + Clock>(rt: &R, alloc: Global, schema: &Schema) -> Result<()> {
     tell_texts(rt, alloc, schema)?;
-    groups::tell_checks(rt, alloc, schema)
+    tables::tell_checks(rt, alloc, schema)
 }
 
 fn tell_texts<R: Print>(rt: &R, alloc: Global, schema: &Schema) -> Result<()> {

@@ -15,6 +15,9 @@ use std::time::Instant;
 // How many transactions or questions of a kind are measured, one after the other.
 const MEASURED: usize = 100;
 
+// How many rows a table has where nothing is measured.
+const SMALL: usize = 200;
+
 // Whether each row has a key of its own, or all have one.
 #[derive(Clone, Copy)]
 enum Keys {
@@ -108,6 +111,32 @@ pub(crate) fn tell<R: Print + Clock>(rt: &R, alloc: Global, schema: &Schema) -> 
     tell_head(rt, "all rows have one key")?;
     for rows in [200, 1_000, 5_000, 20_000] {
         tell_rows(rt, alloc, schema, Keys::One, rows)?;
+    }
+    Ok(())
+}
+
+/// Does each kind over small tables, and prints how much was as it should be.
+pub(crate) fn tell_checks<R: Print + Clock>(rt: &R, alloc: Global, schema: &Schema) -> Result<()> {
+    for keys in [Keys::Many, Keys::One] {
+        let mut book = Book::new(alloc, schema)?;
+        measure_kinds(rt, &mut book, keys)?;
+    }
+    let kinds = KINDS.len();
+    println!(rt;
+        "{SMALL} rows, of as many keys and of one: {kinds} kinds of transactions and questions, each accepted or answered"
+    )?;
+    Ok(())
+}
+
+// Each kind, one after the other, over small tables.
+fn measure_kinds<R: Clock>(rt: &R, book: &mut Book, keys: Keys) -> Result<()> {
+    for kind in KINDS {
+        let load = Load {
+            kind,
+            keys,
+            rows: SMALL,
+        };
+        let _ = book.measure(rt, load)?;
     }
     Ok(())
 }

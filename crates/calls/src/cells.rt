@@ -8,6 +8,7 @@ ghost use Rattle.view.specs.Publishing.{IsSameLife};
 ghost use Rattle.flight.specs.Lives.{all_steps};
 
 use crate::stored::{SCHEMA, stored};
+use crate::views::started;
 use fault::Refusal;
 use flight::life::{Ending, Life, Packet};
 use keep::{HardState, MemImage, MemKeeper, StoreError};
@@ -26,6 +27,12 @@ use std::test::Fail;
 const NOTHING_STORED: HardState = HardState {
     term: 0,
     vote: None,
+    floor: None,
+};
+
+const VOTE_STORED: HardState = HardState {
+    term: 1,
+    vote: Some(1),
     floor: None,
 };
 
@@ -90,19 +97,39 @@ pub(crate) fn lead<R: Wait>(rt: &R, cell: &mut Cell<MemKeeper>) -> Result<(), Fa
     Ok(())
 }
 
-// The first life of member 1, of whose store this call fails, a save. How it goes down, and what it leaves.
+// The refusal of a packet after which the node is as it was, if there is one.
+fn refusal_of<R: Wait>(rt: &R, cell: &mut Cell<MemKeeper>, packet: Packet) -> Option<Refusal>
+    ensures { (members_of cell.new.node ≡ members_of cell.old.node) × (tables_of cell.new.node ≡ tables_of cell.old.node) }
+{
+    match cell.feed(rt, packet) {
+        Err(Fault::Kept(refusal)) => Some(refusal),
+        _ => None,
+    }
+}
+
+// Stands for election, and goes down by a save that fails. What comes then is refused.
+fn go_down(rt: &(impl Abort + Wait), cell: &mut Cell<MemKeeper>)
+    ensures { (members_of cell.new.node ≡ members_of cell.old.node) × (tables_of cell.new.node ≡ tables_of cell.old.node) }
+{
+    let down = lead(rt, cell);
+    assert!(rt; matches!(down, Err(Fault::Down(StoreError::StoreFault))));
+    let late = refusal_of(rt, cell, beat());
+    assert!(rt; late == Some(Refusal::NodeDown) && cell.node.commit() == None);
+}
+
+// A life that went down by this call of its store.
+fn judge_torn(rt: &impl Abort, life: &Life, call: u64) {
+    let wanted = if call == 3 { (2, 0) } else { (6, 1) };
+    assert!(rt; matches!(life.ending, Ending::Torn(_)) && steps_of(life) == wanted);
+}
+
+// The first life of member 1, of whose store this call fails, a save. What it leaves.
 fn first_life(rt: &(impl Abort + Wait), mut cell: Cell<MemKeeper>, call: u64) -> (MemImage, Life)
     ensures { IsLog (members_of cell.node) (schema_of (tables_of cell.node)) (stored_in result.0) }
 {
-    let down = lead(rt, &mut cell);
-    let late = cell.feed(rt, beat());
-    assert!(rt; matches!(late, Err(Fault::Kept(Refusal::NodeDown))));
-    assert!(rt; matches!(down, Err(Fault::Down(StoreError::StoreFault))));
-    assert_eq!(rt; cell.node.commit(), None);
+    go_down(rt, &mut cell);
     let (image, life) = cell.stop(rt);
-    assert!(rt; matches!(life.ending, Ending::Torn(_)));
-    let wanted = if call == 3 { (2, 0) } else { (6, 1) };
-    assert_eq!(rt; steps_of(&life), wanted);
+    judge_torn(rt, &life, call);
     (image, life)
 }
 
@@ -149,6 +176,23 @@ fn lives(
     }
 }
 
+// What those lives leave: the term and the vote, where the save of the entry failed, and nothing where an earlier call did.
+fn judge_lives(
+    rt: &(impl Abort + Wait),
+    alloc: Global,
+    schema: &Schema,
+    call: u64,
+) -> Result<(), Fail> {
+    let image = lives(rt, alloc, schema, call)?;
+    let wanted = if call == 4 {
+        VOTE_STORED
+    } else {
+        NOTHING_STORED
+    };
+    assert!(rt; stored(alloc, image, schema)? == (wanted, 0));
+    Ok(())
+}
+
 // Open and state are the first two calls of the store, the saves of the timeout and of the first entry are the third
 // and the fourth. A later life goes on after the torn step's mark.
 #[test]
@@ -156,31 +200,33 @@ fn goes_down_with_its_store(rt: HostRuntime) -> Result<(), Fail> {
     let alloc = rt.alloc();
     let schema = read_schema(alloc, SCHEMA)?;
     for call in 1..5 {
-        let image = lives(&rt, alloc, &schema, call)?;
-        let hard = if call == 4 {
-            HardState {
-                term: 1,
-                vote: Some(1),
-                floor: None,
-            }
-        } else {
-            NOTHING_STORED
-        };
-        assert_eq!(rt; stored(alloc, image, &schema)?, (hard, 0), "call {call}");
+        judge_lives(&rt, alloc, &schema, call)?;
     }
     Ok(())
 }
 
 // It follows, with the term, the vote and the log that it had. What it refuses, and what has no effect, is recorded.
 fn second_life(rt: &(impl Abort + Wait), mut cell: Cell<MemKeeper>) -> Life {
-    let refused = cell.feed(rt, Packet::Local(Input::Close { reading: 200 }));
-    assert!(rt; matches!(refused, Err(Fault::Kept(Refusal::NotLeader(None)))));
-    let Ok(ignored) = cell.feed(rt, beat()) else {
-        panic!(rt; "a beat is refused");
-    };
-    assert!(rt; ignored.given.messages.is_empty() && ignored.given.told.is_empty());
+    follow(rt, &mut cell);
     let (_image, life) = cell.stop(rt);
     life
+}
+
+// Whether it takes a packet and tells nothing.
+fn is_idle<R: Wait>(rt: &R, cell: &mut Cell<MemKeeper>, packet: Packet) -> bool
+    ensures { (members_of cell.new.node ≡ members_of cell.old.node) × (tables_of cell.new.node ≡ tables_of cell.old.node) }
+{
+    match cell.feed(rt, packet) {
+        Ok(out) => out.given.messages.is_empty() && out.given.told.is_empty(),
+        Err(_) => false,
+    }
+}
+
+// As a follower does, that knows no leader.
+fn follow(rt: &(impl Abort + Wait), cell: &mut Cell<MemKeeper>) {
+    let close = Packet::Local(Input::Close { reading: 200 });
+    assert!(rt; refusal_of(rt, cell, close) == Some(Refusal::NotLeader(None)));
+    assert!(rt; is_idle(rt, cell, beat()));
 }
 
 // Member 1 is elected in its first life, which then stops.
@@ -191,12 +237,25 @@ fn led_life(
 ) -> Result<(MemImage, Life), Fail>
     ensures { IfOk result (λ p. IsLog 3 (schema_of schema.now) (stored_in p.0)) }
 {
-    let Ok(mut cell) = start(rt, alloc, MemImage::new(alloc), schema, 1, None) else {
-        return Err(Fail::from("it does not start"));
-    };
-    assert_eq!(rt; steps_of(&cell.life), (1, 0));
+    let mut cell = started(rt, alloc, schema, 1)?;
     lead(rt, &mut cell)?;
     Ok(cell.stop(rt))
+}
+
+// The life after one with this last mark.
+fn later_life(
+    rt: &(impl Abort + Wait),
+    alloc: Global,
+    image: MemImage,
+    schema: &Schema,
+    last: Mark,
+) -> Result<Life, Fail>
+    requires { IsLog 3 (schema_of schema.now) (stored_in image) }
+{
+    match start(rt, alloc, image, schema, 1, Some(last)) {
+        Ok(cell) => Ok(second_life(rt, cell)),
+        Err(_) => Err(Fail::from("it does not start again")),
+    }
 }
 
 // Marks are one more than the greater of the last mark and the packet's.
@@ -210,14 +269,9 @@ fn judge_led(rt: &impl Abort, life: &Life) {
 // The life after it opens with what it stored, and its marks go on.
 fn judge_next(rt: &impl Abort, life: &Life) {
     let opening = &life.opening;
-    assert_eq!(rt;
-        (opening.mark.number(), opening.hard.term, opening.hard.vote),
-        (7, 1, Some(1))
-    );
-    assert_eq!(rt; opening.entries.len(), 1);
-    let stamp = opening.entries.first().map(|entry| entry.stamp.micros());
-    assert_eq!(rt; stamp, Some(100));
-    assert_eq!(rt; steps_of(life), (9, 2));
+    assert!(rt; opening.mark.number() == 7 && opening.hard == VOTE_STORED);
+    assert!(rt; matches!(opening.entries.as_slice(), [entry] if entry.stamp.micros() == 100));
+    assert!(rt; steps_of(life) == (9, 2));
 }
 
 #[test]
@@ -226,24 +280,50 @@ fn stops_and_starts_again(rt: HostRuntime) -> Result<(), Fail> {
     let schema = read_schema(alloc, SCHEMA)?;
     let (image, life) = led_life(&rt, alloc, &schema)?;
     judge_led(&rt, &life);
-    let Ok(cell) = start(&rt, alloc, image, &schema, 1, Some(life.last_mark())) else {
-        return Err(Fail::from("it does not start again"));
-    };
-    let life = second_life(&rt, cell);
-    judge_next(&rt, &life);
+    let next = later_life(&rt, alloc, image, &schema, life.last_mark())?;
+    judge_next(&rt, &next);
     Ok(())
 }
 
 // Feeds it the one packet for which a mark is left, and one that is refused.
-fn spend_the_last_mark(
-    rt: &(impl Abort + Wait),
-    mut cell: Cell<MemKeeper>,
-) -> Result<(MemImage, Life), Fail>
-    ensures { IfOk result (λ p. IsLog (members_of cell.node) (schema_of (tables_of cell.node)) (stored_in p.0)) }
+fn spend_the_last_mark(rt: &(impl Abort + Wait), mut cell: Cell<MemKeeper>) -> (MemImage, Life)
+    ensures { IsLog (members_of cell.node) (schema_of (tables_of cell.node)) (stored_in result.0) }
 {
-    let _ = cell.feed(rt, beat())?;
-    assert!(rt; matches!(cell.feed(rt, beat()), Err(Fault::Kept(Refusal::LifeFull))));
-    Ok(cell.stop(rt))
+    assert!(rt; is_idle(rt, &mut cell, beat()));
+    assert!(rt; refusal_of(rt, &mut cell, beat()) == Some(Refusal::LifeFull));
+    cell.stop(rt)
+}
+
+// The life of member 2 for which one mark is left, and what it leaves.
+fn last_life(
+    rt: &(impl Abort + Wait),
+    alloc: Global,
+    schema: &Schema,
+) -> Result<(MemImage, Life), Fail>
+    ensures { IfOk result (λ p. IsLog 3 (schema_of schema.now) (stored_in p.0)) }
+{
+    let last = Mark::after(LAST_MARK - 3);
+    match start(rt, alloc, MemImage::new(alloc), schema, 2, last) {
+        Ok(cell) => Ok(spend_the_last_mark(rt, cell)),
+        Err(_) => Err(Fail::from("it does not start")),
+    }
+}
+
+// Why no life opens after one with this last mark, and the image that comes back.
+fn refused_start(
+    rt: &(impl Abort + Wait),
+    alloc: Global,
+    image: MemImage,
+    schema: &Schema,
+    last: Mark,
+) -> Result<(Refusal, MemImage), Fail>
+    requires { IsLog 3 (schema_of schema.now) (stored_in image) }
+    ensures { IfOk result (λ p. IsLog 3 (schema_of schema.now) (stored_in p.1)) }
+{
+    match start(rt, alloc, image, schema, 2, Some(last)) {
+        Ok(_cell) => Err(Fail::from("it starts without a mark")),
+        Err(refused) => Ok(refused),
+    }
 }
 
 // No mark is left after its last step; then no life opens, and the image comes back.
@@ -251,17 +331,11 @@ fn spend_the_last_mark(
 fn has_no_mark_left(rt: HostRuntime) -> Result<(), Fail> {
     let alloc = rt.alloc();
     let schema = read_schema(alloc, SCHEMA)?;
-    let last = Mark::after(LAST_MARK - 3);
-    let Ok(cell) = start(&rt, alloc, MemImage::new(alloc), &schema, 2, last) else {
-        return Err(Fail::from("it does not start"));
-    };
-    let (image, life) = spend_the_last_mark(&rt, cell)?;
-    assert_eq!(rt; steps_of(&life), (LAST_MARK, 1));
-    let Err((refusal, image)) = start(&rt, alloc, image, &schema, 2, Some(life.last_mark())) else {
-        return Err(Fail::from("it starts without a mark"));
-    };
-    assert_eq!(rt; refusal, Refusal::LifeFull);
-    assert_eq!(rt; stored(alloc, image, &schema)?, (NOTHING_STORED, 0));
+    let (image, life) = last_life(&rt, alloc, &schema)?;
+    assert!(rt; steps_of(&life) == (LAST_MARK, 1));
+    let (refusal, image) = refused_start(&rt, alloc, image, &schema, life.last_mark())?;
+    assert!(rt; refusal == Refusal::LifeFull);
+    assert!(rt; stored(alloc, image, &schema)? == (NOTHING_STORED, 0));
     Ok(())
 }
 

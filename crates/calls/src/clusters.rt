@@ -6,73 +6,117 @@ ghost use Rattle.keep.specs.Log.{IsLog};
 
 use crate::cells::{beat, timeout};
 use crate::held::{Door, HeldImage, HeldKeeper};
-use crate::stored::SCHEMA;
+use crate::stored::read_tables;
+use crate::views::is_early;
 use fault::Refusal;
-use flight::life::{Ending, Life};
+use flight::life::{Ending, Life, Packet};
 use keep::{MemImage, MemKeeper};
+use model::member::Member;
 use nodes::cluster::{Cluster, Config};
 use schema::Schema;
-use schemaread::schemas::read_schema;
 use sqlread::query::{Query, read_query};
 use std::alloc::{AllocError, Global};
 use std::process::Abort;
 use std::sync::{Arc, Wait};
 use std::test::Fail;
 use std::thread::Threads;
+use view::View;
 
 const QUESTION: &str =
     "SELECT * FROM Dept FOR SYSTEM_TIME AS OF TIMESTAMP '1970-01-01 00:00:00.000100';";
+
+// Sends node 2 what it is held in. Whether it comes to the door.
+fn hold<R: Wait>(rt: &R, cluster: &Cluster, door: &Door) -> Result<bool, Refusal> {
+    cluster.send(rt, 2, timeout())?;
+    Ok(door.is_reached())
+}
+
+// Whether the next feed of a node was made.
+fn is_fed<R: Wait>(rt: &R, cluster: &Cluster, node: Member) -> Result<bool, Refusal> {
+    let report = cluster.report(rt, node)?;
+    Ok(report.is_ok())
+}
+
+// Whether node 1 feeds.
+fn feeds<R: Wait>(rt: &R, cluster: &Cluster, packet: Packet) -> Result<bool, Refusal> {
+    cluster.send(rt, 1, packet)?;
+    is_fed(rt, cluster, 1)
+}
+
+// Whether node 2 is let go, which did not go by itself.
+fn let_go<R: Wait>(rt: &R, cluster: &Cluster, door: &Door) -> Result<bool, Refusal> {
+    let gave_up = door.gave_up();
+    door.open();
+    Ok(is_fed(rt, cluster, 2)? && !gave_up)
+}
 
 // While node 2 is held in a feed, node 1 feeds, and a view of node 2 answers.
 fn while_held<R: Wait + Abort>(
     rt: &R,
     cluster: &Cluster,
     door: &Door,
+    seen: &mut View,
     query: &Query,
-) -> Result<(), Fail> {
+) -> Result<(), Refusal> {
+    assert!(rt; hold(rt, cluster, door)?);
+    let goes_on = feeds(rt, cluster, timeout())?;
+    let is_early = is_early(seen, query);
+    let is_let_go = let_go(rt, cluster, door)?;
+    assert!(rt; goes_on && is_early && is_let_go);
+    Ok(())
+}
+
+// With a view of it.
+fn held<R: Wait + Abort>(
+    rt: &R,
+    cluster: &Cluster,
+    door: &Door,
+    query: &Query,
+) -> Result<(), Refusal> {
     let mut seen = cluster.view(rt, 2)?;
-    cluster.send(rt, 2, timeout())?;
-    let is_held = door.is_reached();
-    cluster.send(rt, 1, timeout())?;
-    let first = cluster.report(rt, 1)?;
-    let asked = seen.ask(query);
-    let gave_up = door.gave_up();
-    door.open();
-    let second = cluster.report(rt, 2)?;
-    assert!(rt; is_held && first.is_ok() && second.is_ok() && !gave_up);
-    assert!(rt; matches!(asked, Err(Refusal::NotClosed(None))));
-    Ok(())
+    while_held(rt, cluster, door, &mut seen, query)
 }
 
-// Node 1 is stopped, which sends it no packet any more, and starts again.
-fn stops_and_starts<R: Wait + Abort>(rt: &R, cluster: &mut Cluster) -> Result<(), Fail> {
+// Node 1 is stopped, which sends it no packet any more.
+fn stops<R: Wait + Abort>(rt: &R, cluster: &mut Cluster) -> Result<(), Refusal> {
     cluster.stop_node(rt, 1)?;
-    assert_eq!(rt; cluster.send(rt, 1, beat()), Err(Refusal::NodeDown));
-    assert_eq!(rt; cluster.stop_node(rt, 1), Err(Refusal::NodeDown));
-    cluster.start_node(rt, 1)?;
-    cluster.start_node(rt, 1)?;
-    cluster.send(rt, 1, beat())?;
-    assert!(rt; cluster.report(rt, 1)?.is_ok());
+    let sent = cluster.send(rt, 1, beat());
+    let stopped = cluster.stop_node(rt, 1);
+    assert!(rt; sent == Err(Refusal::NodeDown) && stopped == Err(Refusal::NodeDown));
     Ok(())
 }
 
-// The one and then the other.
+// It starts again.
+fn starts<R: Wait + Abort>(rt: &R, cluster: &mut Cluster) -> Result<(), Refusal> {
+    cluster.start_node(rt, 1)?;
+    cluster.start_node(rt, 1)?;
+    assert!(rt; feeds(rt, cluster, beat())?);
+    Ok(())
+}
+
+// The one and then the others.
 fn held_and_restarted<R: Wait + Abort>(
     rt: &R,
     cluster: &mut Cluster,
     door: &Door,
     query: &Query,
-) -> Result<(), Fail> {
-    while_held(rt, cluster, door, query)?;
-    stops_and_starts(rt, cluster)
+) -> Result<(), Refusal> {
+    held(rt, cluster, door, query)?;
+    stops(rt, cluster)?;
+    starts(rt, cluster)
 }
 
-// The opening's mark of each life, how many steps it has, and whether it was stopped.
-fn told_of(alloc: Global, lives: &[Life]) -> Result<Vec<(u64, usize, bool)>, Fail> {
+// The opening's mark of a life, how many steps it has, and whether it was stopped.
+fn told_of_life(life: &Life) -> (u64, usize, bool) {
+    let is_stopped = matches!(life.ending, Ending::Stopped);
+    (life.opening.mark.number(), life.steps.len(), is_stopped)
+}
+
+// The same of each.
+fn told_of(alloc: Global, lives: &[Life]) -> Result<Vec<(u64, usize, bool)>, AllocError> {
     let mut told = Vec::new(alloc);
     for life in lives {
-        let is_stopped = matches!(life.ending, Ending::Stopped);
-        told.push((life.opening.mark.number(), life.steps.len(), is_stopped))?;
+        told.push(told_of_life(life))?;
     }
     Ok(told)
 }
@@ -90,43 +134,91 @@ fn new_images(alloc: Global, door: Arc<Door>) -> Result<Vec<HeldImage<MemImage>>
     Ok(images)
 }
 
-// Three members on threads of their own, held at a gate and within saves, and a question to them.
+// Three members on threads of their own, held at a gate and within saves.
 fn open<R: Wait + Threads + Copy + Send + Drop + 'static>(
     rt: &R,
     alloc: Global,
+    schema: Schema,
     gate: Arc<Door>,
     save: Arc<Door>,
-) -> Result<(Cluster, Query), Fail> {
-    let schema = read_schema(alloc, SCHEMA)?;
-    let query = read_query(alloc, &schema, QUESTION)?;
+) -> Result<Cluster, Refusal> {
     let images = new_images(alloc, save)?;
     let config = Config { schema, images };
-    let cluster = Cluster::start::<HeldKeeper<MemKeeper>, Door, R>(rt, alloc, config, gate)?;
-    Ok((cluster, query))
+    Cluster::start::<HeldKeeper<MemKeeper>, Door, R>(rt, alloc, config, gate)
 }
 
-// What is told of the lives of each node, as text.
-fn text_of(alloc: Global, nodes: &[Vec<Life>]) -> Result<String, Fail> {
+// What is told of the lives of each node.
+fn told_of_all(
+    alloc: Global,
+    nodes: &[Vec<Life>],
+) -> Result<Vec<Vec<(u64, usize, bool)>>, AllocError> {
     let mut told = Vec::new(alloc);
     for lives in nodes {
         told.push(told_of(alloc, lives)?)?;
     }
-    Ok(format!(in alloc; "{told:?}")?)
+    Ok(told)
 }
 
-// Holds node 2 at the closed one of the two doors, stops and starts node 1, and tells of the lives.
-fn lead_all<R: Wait + Abort + Threads + Copy + Send + Drop + 'static>(
+// That as text.
+fn text_of(alloc: Global, nodes: &[Vec<Life>]) -> Result<String, AllocError> {
+    let told = told_of_all(alloc, nodes)?;
+    format!(in alloc; "{told:?}")
+}
+
+// Holds node 2 at the closed door, stops and starts node 1, and ends all nodes. Their lives.
+fn lead_all<R: Wait + Abort + Threads>(
+    rt: &R,
+    mut cluster: Cluster,
+    closed: &Door,
+    query: &Query,
+) -> Result<Vec<Vec<Life>>, Refusal> {
+    let tried = held_and_restarted(rt, &mut cluster, closed, query);
+    let lives = cluster.stop(rt);
+    match tried {
+        Ok(()) => Ok(lives),
+        Err(refusal) => Err(refusal),
+    }
+}
+
+// The gate before feeds and the door within saves, of which this one is closed and the other is open.
+fn doors(
+    alloc: Global,
+    closed: &Arc<Door>,
+    in_save: bool,
+) -> Result<(Arc<Door>, Arc<Door>), AllocError> {
+    let open = Arc::new(alloc, Door::new(true))?;
+    let closed = Arc::try_clone(closed)?;
+    if in_save {
+        Ok((open, closed))
+    } else {
+        Ok((closed, open))
+    }
+}
+
+// The lives of three members, with a closed door before each feed or within each save.
+fn lives<R: Wait + Abort + Threads + Copy + Send + Drop + 'static>(
     rt: &R,
     alloc: Global,
-    closed: &Door,
-    gate: Arc<Door>,
-    save: Arc<Door>,
-) -> Result<String, Fail> {
-    let (mut cluster, query) = open(rt, alloc, gate, save)?;
-    let tried = held_and_restarted(rt, &mut cluster, closed, &query);
-    let lives = cluster.stop(rt);
-    tried?;
-    text_of(alloc, &lives)
+    schema: &Schema,
+    query: &Query,
+    in_save: bool,
+) -> Result<Vec<Vec<Life>>, Refusal> {
+    let closed = Arc::new(alloc, Door::new(false))?;
+    let (gate, save) = doors(alloc, &closed, in_save)?;
+    let cluster = open(rt, alloc, schema.clone()?, gate, save)?;
+    lead_all(rt, cluster, &closed, query)
+}
+
+// What is told of them.
+fn told<R: Wait + Abort + Threads + Copy + Send + Drop + 'static>(
+    rt: &R,
+    alloc: Global,
+    in_save: bool,
+) -> Result<String, Refusal> {
+    let schema = read_tables(alloc)?;
+    let query = read_query(alloc, &schema, QUESTION)?;
+    let lives = lives(rt, alloc, &schema, &query, in_save)?;
+    Ok(text_of(alloc, &lives)?)
 }
 
 // Before each feed, and within each save.
@@ -134,15 +226,7 @@ fn lead_all<R: Wait + Abort + Threads + Copy + Send + Drop + 'static>(
 fn two_at_once(rt: HostRuntime) -> Result<(), Fail> {
     let alloc = rt.alloc();
     for in_save in [false, true] {
-        let closed = Arc::new(alloc, Door::new(false))?;
-        let open = Arc::new(alloc, Door::new(true))?;
-        let theirs = Arc::try_clone(&closed)?;
-        let (gate, save) = if in_save {
-            (open, theirs)
-        } else {
-            (theirs, open)
-        };
-        let told = lead_all(&rt, alloc, &closed, gate, save)?;
+        let told = told(&rt, alloc, in_save)?;
         assert_eq!(rt;
             told.as_str(),
             "[[(1, 1, true), (3, 1, false)], [(1, 1, false)], [(1, 0, false)]]"

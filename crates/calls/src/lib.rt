@@ -1,5 +1,4 @@
-//! Tests of calls that no script reaches: of a keeper that fails, of the lives of cells, of views and threads, and of an index
-//! of periods.
+//! Tests of calls that no script reaches: of the lives of cells, and of views and threads.
 #![tactic(auto)]
 
 #[cfg(test)]
@@ -9,13 +8,7 @@ mod clusters;
 #[cfg(test)]
 mod held;
 #[cfg(test)]
-mod indexes;
-#[cfg(test)]
-mod keepers;
-#[cfg(test)]
 mod locked;
-#[cfg(test)]
-mod questions;
 #[cfg(test)]
 mod scripts;
 #[cfg(test)]

@@ -4,24 +4,24 @@ ghost use Rattle.view.specs.Publishing.{book_of};
 ghost use Rattle.view.specs.Viewing.{book_seen};
 ghost use Rattle.flight.specs.Lives.{all_steps};
 
-use crate::cells::{start, timeout};
-use crate::stored::SCHEMA;
-use crate::views::text_of;
+use crate::cells::timeout;
+use crate::stored::read_tables;
+use crate::views::{finish, learnt, started, take_view};
 use fault::Refusal;
 use flight::life::{Life, Packet};
-use keep::{MemImage, MemKeeper};
+use keep::MemKeeper;
 use model::mark::Mark;
 use model::member::Member;
 use model::message::Message;
-use node::Out as Given;
+use node::{Fault, Out as Given};
 use nodes::cell::{Cell, Out};
 use nodes::locked::{LockedNode, Naming};
 use schema::Schema;
-use schemaread::schemas::read_schema;
 use sqlread::query::{Query, read_query};
 use std::alloc::{AllocError, Global};
 use std::collections::VecDeque;
 use std::marker::Brand;
+use std::process::Abort;
 use std::sync::ledger::{Blank, Share};
 use std::sync::{Mutex, Wait};
 use std::test::Fail;
@@ -51,15 +51,35 @@ struct Group {
     letters: VecDeque<(Mark, Message)>,
 }
 
+// Keeps what came of a packet as text.
+fn note(
+    alloc: Global,
+    outcomes: &mut Vec<String>,
+    answer: &Result<Out, Fault>,
+) -> Result<(), AllocError> {
+    outcomes.push(format!(in alloc; "{answer:?}")?)?;
+    Ok(())
+}
+
+impl Fed {
+    // Feeds it, and keeps what came of it.
+    fn feed<R: Wait>(&mut self, rt: &R, alloc: Global, packet: Packet) -> Result<Out, Fail> {
+        let answer = self.cell.feed(rt, packet);
+        note(alloc, &mut self.outcomes, &answer)?;
+        Ok(answer?)
+    }
+
+    // The trace of its life.
+    fn stop<R: Wait>(self, rt: &R, alloc: Global) -> Result<Trace, AllocError> {
+        let Fed { cell, outcomes } = self;
+        trace_of(alloc, finish(rt, cell), outcomes)
+    }
+}
+
 impl Group {
-    // Feeds a node, and sends its messages on their way.
-    fn feed<R: Wait>(&mut self, rt: &R, node: Member, packet: Packet) -> Result<(), Fail> {
-        let Some(fed) = self.nodes.get_mut(node.saturating_sub(1)) else {
-            return Err(Fail::from("no such node"));
-        };
-        let answer = fed.cell.feed(rt, packet);
-        fed.outcomes.push(format!(in self.alloc; "{answer:?}")?)?;
-        let Out { mark, given } = answer?;
+    // Sends the messages of a step on their way.
+    fn send(&mut self, out: Out) -> Result<(), AllocError> {
+        let Out { mark, given } = out;
         let Given { messages, .. } = given;
         for message in messages {
             self.letters.push_back((mark, message))?;
@@ -67,21 +87,48 @@ impl Group {
         Ok(())
     }
 
+    // Feeds a node, and sends its messages on their way.
+    fn feed<R: Wait>(&mut self, rt: &R, node: Member, packet: Packet) -> Result<(), Fail> {
+        let alloc = self.alloc;
+        let Some(fed) = self.nodes.get_mut(node.saturating_sub(1)) else {
+            return Err(Fail::from("no such node"));
+        };
+        let out = fed.feed(rt, alloc, packet)?;
+        self.send(out)?;
+        Ok(())
+    }
+
+    // Delivers the message that was sent first.
+    fn deliver<R: Wait>(&mut self, rt: &R) -> Result<(), Fail> {
+        let Some((mark, message)) = self.letters.pop_front() else {
+            return Err(Fail::from("no message is left"));
+        };
+        let node = message.addressee;
+        let packet = Packet::Delivered {
+            mark,
+            reading: 100,
+            message,
+        };
+        self.feed(rt, node, packet)
+    }
+
     // Delivers the twelve messages of an election and of its first entry.
     fn deliver_all<R: Wait>(&mut self, rt: &R) -> Result<(), Fail> {
         for _ in 0..12 {
-            let Some((mark, message)) = self.letters.pop_front() else {
-                return Err(Fail::from("no message is left"));
-            };
-            let node = message.addressee;
-            let packet = Packet::Delivered {
-                mark,
-                reading: 100,
-                message,
-            };
-            self.feed(rt, node, packet)?;
+            self.deliver(rt)?;
         }
         Ok(())
+    }
+
+    // The first node stands for election.
+    fn elect<R: Wait>(&mut self, rt: &R) -> Result<(), Fail> {
+        self.feed(rt, 1, timeout())?;
+        self.deliver_all(rt)?;
+        if self.letters.is_empty() {
+            Ok(())
+        } else {
+            Err(Fail::from("messages are left"))
+        }
     }
 }
 
@@ -103,10 +150,7 @@ fn new_node(cell: Cell<MemKeeper>) -> NewNode
 fn three<R: Wait>(rt: &R, alloc: Global, schema: &Schema) -> Result<Vec<NewNode>, Refusal> {
     let mut nodes = Vec::new(alloc);
     for me in 1..4 {
-        match start(rt, alloc, MemImage::new(alloc), schema, me, None) {
-            Ok(cell) => nodes.push(new_node(cell))?,
-            Err((refusal, _image)) => return Err(refusal),
-        }
+        nodes.push(new_node(started(rt, alloc, schema, me)?))?;
     }
     Ok(nodes)
 }
@@ -119,13 +163,24 @@ struct Trace {
     life: String,
 }
 
-// The trace of a cell's life.
-fn trace_of(alloc: Global, life: Life, outcomes: Vec<String>) -> Result<Trace, AllocError> {
-    let text = format!(in alloc; "{life:?}")?;
+// A life as text.
+fn life_text(alloc: Global, life: &Life) -> Result<String, AllocError> {
+    format!(in alloc; "{life:?}")
+}
+
+// What a node took in its life.
+fn packets_of(alloc: Global, life: Life) -> Result<Vec<Packet>, AllocError> {
     let mut packets = Vec::new(alloc);
     for step in life.steps {
         packets.push(step.packet)?;
     }
+    Ok(packets)
+}
+
+// The trace of a cell's life.
+fn trace_of(alloc: Global, life: Life, outcomes: Vec<String>) -> Result<Trace, AllocError> {
+    let text = life_text(alloc, &life)?;
+    let packets = packets_of(alloc, life)?;
     Ok(Trace {
         packets,
         outcomes,
@@ -133,34 +188,34 @@ fn trace_of(alloc: Global, life: Life, outcomes: Vec<String>) -> Result<Trace, A
     })
 }
 
-// Three cells, of which the first stands for election.
-fn elected<R: Wait>(rt: &R, alloc: Global, schema: &Schema) -> Result<Group, Fail> {
-    let mut group = Group {
-        alloc,
-        nodes: Vec::new(alloc),
-        letters: VecDeque::new(alloc),
-    };
+// Three nodes that took nothing yet.
+fn new_nodes<R: Wait>(rt: &R, alloc: Global, schema: &Schema) -> Result<Vec<Fed>, Refusal> {
+    let mut nodes = Vec::new(alloc);
     for NewNode { cell } in three(rt, alloc, schema)? {
-        group.nodes.push(Fed {
+        nodes.push(Fed {
             cell,
             outcomes: Vec::new(alloc),
         })?;
     }
-    group.feed(rt, 1, timeout())?;
-    group.deliver_all(rt)?;
-    Ok(group)
+    Ok(nodes)
+}
+
+// Three cells, of which the first stood for election.
+fn elected<R: Wait>(rt: &R, alloc: Global, nodes: Vec<Fed>) -> Result<Vec<Fed>, Fail> {
+    let mut group = Group {
+        alloc,
+        nodes,
+        letters: VecDeque::new(alloc),
+    };
+    group.elect(rt)?;
+    Ok(group.nodes)
 }
 
 // The traces of three cells, after an election and its first entry.
-fn traces<R: Wait>(rt: &R, alloc: Global, schema: &Schema) -> Result<Vec<Trace>, Fail> {
-    let group = elected(rt, alloc, schema)?;
-    if !group.letters.is_empty() {
-        return Err(Fail::from("messages are left"));
-    }
+fn traces<R: Wait>(rt: &R, alloc: Global, nodes: Vec<Fed>) -> Result<Vec<Trace>, Fail> {
     let mut traces = Vec::new(alloc);
-    for fed in group.nodes {
-        let (_image, life) = fed.cell.stop(rt);
-        traces.push(trace_of(alloc, life, fed.outcomes)?)?;
+    for fed in elected(rt, alloc, nodes)? {
+        traces.push(fed.stop(rt, alloc)?)?;
     }
     Ok(traces)
 }
@@ -170,6 +225,19 @@ fn traces<R: Wait>(rt: &R, alloc: Global, schema: &Schema) -> Result<Vec<Trace>,
 struct Task {
     node: NewNode,
     trace: Trace,
+}
+
+// Feeds it a packet.
+pub(crate) fn feed_locked<L: Naming, R: Wait>(
+    rt: &R,
+    node: &Mutex<LockedNode<MemKeeper, L>>,
+    share: &mut Share<L>,
+    packet: Packet,
+) -> Result<Out, Fault>
+    requires { 0 < share.old.parts }
+    ensures { share.new.parts ≡ share.old.parts }
+{
+    node.lock(rt).feed(rt, share, packet)
 }
 
 // Feeds it each packet.
@@ -185,8 +253,8 @@ fn feed_all<L: Naming, R: Wait>(
 {
     let mut outcomes = Vec::new(alloc);
     for packet in packets {
-        let answer = node.lock(rt).feed(rt, share, packet);
-        outcomes.push(format!(in alloc; "{answer:?}")?)?;
+        let answer = feed_locked(rt, node, share, packet);
+        note(alloc, &mut outcomes, &answer)?;
     }
     Ok(outcomes)
 }
@@ -225,43 +293,69 @@ fn run_locked<L: Naming, R: Wait>(
     })
 }
 
-// What a view answers that is told of the node.
-fn answered(
+impl Run {
+    // Whether the shares are the steps, and the node leaves the outcomes and the life of a cell.
+    fn is_as<R: Wait>(
+        self,
+        rt: &R,
+        alloc: Global,
+        outcomes: &[String],
+        life: &str,
+    ) -> Result<bool, AllocError> {
+        let Run {
+            cell,
+            outcomes: own,
+            steps,
+        } = self;
+        let text = life_text(alloc, &finish(rt, cell))?;
+        Ok(steps == own.len() && own.as_slice() == outcomes && text.as_str() == life)
+    }
+}
+
+// Whether a view answers from the first entry that is told of the node.
+fn answers(
     alloc: Global,
     cell: &Cell<MemKeeper>,
     view: &mut View,
     query: &Query,
-) -> Result<String, Refusal>
+) -> Result<bool, Refusal>
     requires { book_seen view.old ≡ book_of cell.now.publisher }
 {
-    view.learn(&cell.told())?;
-    let asked = view.ask(query)?;
-    Ok(text_of(alloc, &asked)?)
+    let answer = learnt(alloc, &cell.told(), view, query)?;
+    Ok(answer.as_str() == FIRST_ANSWER)
 }
 
-// Feeds a node under a lock, and a view that is told of it. Its trace and the answer; none where the shares are not the
-// steps.
-fn traced<R: Wait>(
+// Feeds a node under a lock, and a view of it that is told of it. What the node left, and whether the view answers.
+fn run_and_ask<L: Naming, R: Wait>(
+    rt: &R,
+    alloc: Global,
+    query: &Query,
+    cell: Cell<MemKeeper>,
+    view: &mut View,
+    packets: Vec<Packet>,
+    blank: Blank,
+) -> Result<(Run, bool), Refusal>
+    requires name { blank.name ≡ L.name }
+    requires parts { (blank.parts ≡ L.parts) × (blank.parts ≡ 1) }
+    requires cell { (book_of cell.publisher ≡ L.history) × (all_steps cell.life ≡ []) }
+    requires view { book_seen view.old ≡ L.history }
+{
+    let run = run_locked::<L, R>(rt, alloc, cell, packets, blank)?;
+    let has_answered = answers(alloc, &run.cell, view, query)?;
+    Ok((run, has_answered))
+}
+
+// The same of a node that took nothing yet.
+fn fed_and_asked<R: Wait>(
     rt: &R,
     alloc: Global,
     query: &Query,
     node: NewNode,
     packets: Vec<Packet>,
-) -> Result<Option<(Trace, String)>, Refusal> {
+) -> Result<(Run, bool), Refusal> {
     let NewNode { mut cell } = node;
-    let mut view = cell.take_view()?;
-    let run = run_locked::<Brand, _>(rt, alloc, cell, packets, Blank::new(1))?;
-    let answer = answered(alloc, &run.cell, &mut view, query)?;
-    let Run {
-        cell,
-        outcomes,
-        steps,
-    } = run;
-    let (_image, life) = cell.stop(rt);
-    if steps != outcomes.len() {
-        return Ok(None);
-    }
-    Ok(Some((trace_of(alloc, life, outcomes)?, answer)))
+    let mut view = take_view(&mut cell)?;
+    run_and_ask::<Brand, _>(rt, alloc, query, cell, &mut view, packets, Blank::new(1))
 }
 
 impl Task {
@@ -273,10 +367,9 @@ impl Task {
             outcomes,
             life,
         } = trace;
-        let Some((left, answer)) = traced(rt, alloc, query, node, packets)? else {
-            return Ok(false);
-        };
-        Ok(left.outcomes == outcomes && left.life == life && answer.as_str() == FIRST_ANSWER)
+        let (run, has_answered) = fed_and_asked(rt, alloc, query, node, packets)?;
+        let is_same = run.is_as(rt, alloc, &outcomes, life.as_str())?;
+        Ok(has_answered && is_same)
     }
 }
 
@@ -290,18 +383,34 @@ fn run_all<R: Threads + Wait + Sync>(
     thread::map_vec(rt, tasks, &|task: Task| task.run(rt, alloc, query))
 }
 
+// For each of three new nodes what a cell took.
+fn tasks(alloc: Global, nodes: Vec<NewNode>, traces: Vec<Trace>) -> Result<Vec<Task>, AllocError> {
+    let mut tasks = Vec::new(alloc);
+    for (node, trace) in nodes.into_iter().zip(traces) {
+        tasks.push(Task { node, trace })?;
+    }
+    Ok(tasks)
+}
+
+// The tasks of three nodes.
+fn three_tasks<R: Wait>(rt: &R, alloc: Global, schema: &Schema) -> Result<Vec<Task>, Fail> {
+    let traces = traces(rt, alloc, new_nodes(rt, alloc, schema)?)?;
+    Ok(tasks(alloc, three(rt, alloc, schema)?, traces)?)
+}
+
+// All of them are run, and none differs.
+fn judge(rt: &impl Abort, all: &[Result<bool, Refusal>]) {
+    for done in all {
+        assert!(rt; *done == Ok(true));
+    }
+}
+
 #[test]
 fn locked_as_cell(rt: HostRuntime) -> Result<(), Fail> {
     let alloc = rt.alloc();
-    let schema = read_schema(alloc, SCHEMA)?;
+    let schema = read_tables(alloc)?;
     let query = read_query(alloc, &schema, QUESTION)?;
-    let mut tasks = Vec::new(alloc);
-    let traces = traces(&rt, alloc, &schema)?;
-    for (node, trace) in three(&rt, alloc, &schema)?.into_iter().zip(traces) {
-        tasks.push(Task { node, trace })?;
-    }
-    for done in run_all(&rt, alloc, &query, tasks)? {
-        assert_eq!(rt; done, Ok(true));
-    }
+    let tasks = three_tasks(&rt, alloc, &schema)?;
+    judge(&rt, &run_all(&rt, alloc, &query, tasks)?);
     Ok(())
 }

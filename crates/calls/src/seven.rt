@@ -28,6 +28,7 @@ use std::test::Fail;
 use std::thread;
 use std::thread::Threads;
 use std::time::{Clock, Duration};
+use view::View;
 
 const SEED: u64 = 1;
 
@@ -98,19 +99,37 @@ impl Asker {
     }
 }
 
+// An asker with this view of a node.
+fn asker_with(alloc: Global, node: Member, view: View, question: Text) -> Asker {
+    let mut station = Station::new(alloc, 0);
+    station.view = Some(view);
+    Asker {
+        node,
+        station,
+        question,
+    }
+}
+
+// An asker of a node.
+fn asker_of<R: Wait>(
+    rt: &R,
+    alloc: Global,
+    cluster: &Cluster,
+    node: Member,
+    question: &str,
+) -> Result<Asker, Refusal> {
+    let question = Text::new(alloc, question)?;
+    let view = cluster.view(rt, node)?;
+    Ok(asker_with(alloc, node, view, question))
+}
+
 // Askers of the first four nodes.
 fn askers<R: Wait>(rt: &R, alloc: Global, cluster: &Cluster) -> Result<Vec<Asker>, Refusal> {
     let mut askers = Vec::new(alloc);
     let mut node: Member = 0;
     for question in QUESTIONS {
         node = node.saturating_add(1);
-        let mut station = Station::new(alloc, 0);
-        station.view = Some(cluster.view(rt, node)?);
-        askers.push(Asker {
-            node,
-            station,
-            question: Text::new(alloc, question)?,
-        })?;
+        askers.push(asker_of(rt, alloc, cluster, node, question)?)?;
     }
     Ok(askers)
 }
@@ -179,19 +198,40 @@ fn play_and_ask<R: Threads + Wait + Clock + Sync>(
     (played, asked)
 }
 
+// An answer of this node.
+fn recorded_at(node: Member, answered: Answered) -> Recorded {
+    Recorded {
+        node,
+        mark: answered.mark,
+        query: answered.query,
+        answer: answered.answer,
+    }
+}
+
+// Adds answers of this node.
+fn add_answers(
+    node: Member,
+    answers: Vec<Answered>,
+    recorded: &mut Vec<Recorded>,
+) -> Result<(), AllocError> {
+    for answered in answers {
+        recorded.push(recorded_at(node, answered))?;
+    }
+    Ok(())
+}
+
+// Which node an asker asked, and what it was answered.
+fn answers_of(asker: Asker) -> (Member, Vec<Answered>) {
+    let Asker { node, station, .. } = asker;
+    (node, station.answers)
+}
+
 // What the askers were answered, each at its node.
 fn recorded(alloc: Global, asked: Vec<Result<Asker, Refusal>>) -> Result<Vec<Recorded>, Refusal> {
     let mut recorded = Vec::new(alloc);
     for asker in asked {
-        let Asker { node, station, .. } = asker?;
-        for answer in station.answers {
-            recorded.push(Recorded {
-                node,
-                mark: answer.mark,
-                query: answer.query,
-                answer: answer.answer,
-            })?;
-        }
+        let (node, answers) = answers_of(asker?);
+        add_answers(node, answers, &mut recorded)?;
     }
     Ok(recorded)
 }

@@ -1,23 +1,25 @@
 //! What cells publish, and cells under a lock.
-ghost use Rattle.std.specs.Prelude.{◌≡◌, ◌<◌, []};
-ghost use Rattle.node.specs.Member.{me_of};
+ghost use Rattle.std.specs.Prelude.{◌≡◌, ◌<◌, ◌≤◌, [], IfOk};
+ghost use Rattle.node.specs.Member.{me_of, members_of, tables_of};
 ghost use Rattle.view.specs.Publishing.{book_of};
-ghost use Rattle.view.specs.Viewing.{name_told, IsOwn};
+ghost use Rattle.view.specs.Viewing.{book_seen, name_seen, name_told, IsOwn, IsSameView};
 ghost use Rattle.flight.specs.Lives.{all_steps};
 
 use crate::cells::{beat, lead, start};
-use crate::stored::SCHEMA;
+use crate::locked::feed_locked;
+use crate::stored::read_tables;
 use answertext::Lines;
 use fault::{Refusal, Text};
-use flight::life::Packet;
+use flight::life::{Life, Packet};
 use keep::{MemImage, MemKeeper};
 use model::entry::Request;
 use model::mark::Mark;
+use model::member::Member;
 use model::message::{Body, Input, Message};
 use model::request::{Client, RequestNumber};
 use nodes::cell::Cell;
 use nodes::locked::{LockedNode, Naming};
-use schemaread::schemas::read_schema;
+use schema::Schema;
 use sqlread::query::{Query, read_query};
 use std::alloc::{AllocError, Global};
 use std::marker::Brand;
@@ -63,9 +65,63 @@ fn insert(alloc: Global) -> Result<Packet, Fail> {
 const QUESTION: &str =
     "SELECT * FROM Dept FOR SYSTEM_TIME AS OF TIMESTAMP '1970-01-01 00:00:00.000101';";
 
+// A new life of a member of three.
+pub(crate) fn started<R: Wait>(
+    rt: &R,
+    alloc: Global,
+    schema: &Schema,
+    me: Member,
+) -> Result<Cell<MemKeeper>, Refusal>
+    requires { (1 ≤ me) × (me ≤ 3) }
+    ensures group { IfOk result (λ c. (members_of c.node ≡ 3) × (tables_of c.node ≡ schema.now)) }
+    ensures seat { IfOk result (λ c. me_of c.node ≡ me) }
+    ensures none { IfOk result (λ c. all_steps c.life ≡ []) }
+{
+    match start(rt, alloc, MemImage::new(alloc), schema, me, None) {
+        Ok(cell) => Ok(cell),
+        Err((refusal, _image)) => Err(refusal),
+    }
+}
+
+// Stops a cell. Its life.
+pub(crate) fn finish<R: Wait>(rt: &R, cell: Cell<MemKeeper>) -> Life {
+    let (_image, life) = cell.stop(rt);
+    life
+}
+
 // The text of an answer.
-pub(crate) fn text_of(alloc: Global, asked: &Marked) -> Result<String, AllocError> {
+fn text_of(alloc: Global, asked: &Marked) -> Result<String, AllocError> {
     format!(in alloc; "{}", Lines(&asked.answer))
+}
+
+// What a view answers, as text.
+fn answer_of(alloc: Global, view: &mut View, query: &Query) -> Result<String, Refusal>
+    ensures { IsSameView view.old view.new }
+{
+    let asked = view.ask(query)?;
+    Ok(text_of(alloc, &asked)?)
+}
+
+// What a view answers that was told of this.
+fn told_and_asked(told: &Told, view: &mut View, query: &Query) -> Result<Marked, Refusal>
+    requires { IsOwn told.now view.old }
+    ensures { IsSameView view.old view.new }
+{
+    view.learn(told)?;
+    view.ask(query)
+}
+
+// The same as text.
+pub(crate) fn learnt(
+    alloc: Global,
+    told: &Told,
+    view: &mut View,
+    query: &Query,
+) -> Result<String, Refusal>
+    requires { IsOwn told.now view.old }
+{
+    let asked = told_and_asked(told, view, query)?;
+    Ok(text_of(alloc, &asked)?)
 }
 
 // A view of another node is refused this token, and answers as before.
@@ -75,61 +131,164 @@ fn is_refused(
     view: &mut View,
     query: &Query,
     told: &Told,
-) -> Result<(), Fail>
+) -> Result<(), Refusal>
     requires { IsOwn told.now view.old }
 {
-    let before = text_of(alloc, &view.ask(query)?)?;
-    assert!(rt; matches!(view.learn(told), Err(Refusal::NoView)));
-    assert_eq!(rt; text_of(alloc, &view.ask(query)?)?, before);
+    let before = answer_of(alloc, view, query)?;
+    let learnt = view.learn(told);
+    let after = answer_of(alloc, view, query)?;
+    assert!(rt; learnt == Err(Refusal::NoView) && before == after);
     Ok(())
 }
 
-// A leader publishes its first entry and one of a request. Views that were told of it give one answer, which names the
-// mark of the step that applied the request; a token of another node is refused. A view of it is the last but seven.
+// Whether a view answers that nothing is closed.
+pub(crate) fn is_early(view: &mut View, query: &Query) -> bool
+    ensures { IsSameView view.old view.new }
+{
+    matches!(view.ask(query), Err(Refusal::NotClosed(None)))
+}
+
+// A request is submitted to the leader, and member 2 has it.
+fn submit<R: Wait>(rt: &R, alloc: Global, cell: &mut Cell<MemKeeper>) -> Result<(), Fail>
+    ensures { book_of cell.new.publisher ≡ book_of cell.old.publisher }
+{
+    let _ = cell.feed(rt, insert(alloc)?)?;
+    let _ = cell.feed(rt, reply(Mark::new(20), 2))?;
+    Ok(())
+}
+
+// Before the request, the first entry is not closed.
+fn lead_and_submit(
+    rt: &(impl Abort + Wait),
+    alloc: Global,
+    cell: &mut Cell<MemKeeper>,
+    view: &mut View,
+    query: &Query,
+) -> Result<(), Fail>
+    ensures book { book_of cell.new.publisher ≡ book_of cell.old.publisher }
+    ensures seen { IsSameView view.old view.new }
+{
+    lead(rt, cell)?;
+    assert!(rt; is_early(view, query));
+    submit(rt, alloc, cell)
+}
+
+// One answer, which names the mark of the step that applied the request.
+fn judge(rt: &impl Abort, alloc: Global, one: &Marked, two: &Marked) -> Result<(), AllocError> {
+    assert_eq!(rt; (one.mark.number(), one.answer.rows.len()), (21, 1));
+    let (one, two) = (text_of(alloc, one)?, text_of(alloc, two)?);
+    assert_eq!(rt; one.as_str(), two.as_str());
+    Ok(())
+}
+
+// Views that were told of it give one answer.
+fn answer_alike(
+    rt: &impl Abort,
+    alloc: Global,
+    told: &Told,
+    first: &mut View,
+    second: &mut View,
+    query: &Query,
+) -> Result<(), Refusal>
+    requires one { IsOwn told.now first.old }
+    requires other { IsOwn told.now second.old }
+    ensures { IsSameView first.old first.new }
+{
+    let one = told_and_asked(told, first, query)?;
+    let two = told_and_asked(told, second, query)?;
+    Ok(judge(rt, alloc, &one, &two)?)
+}
+
+// A view of a cell.
+pub(crate) fn take_view(cell: &mut Cell<MemKeeper>) -> Result<View, Refusal>
+    ensures life { cell.new.life ≡ cell.old.life }
+    ensures same { (me_of cell.new.node ≡ me_of cell.old.node) × (book_of cell.new.publisher ≡ book_of cell.old.publisher) }
+    ensures name { IfOk result (λ v. (name_seen v).node ≡ me_of cell.old.node) }
+    ensures book { IfOk result (λ v. book_seen v ≡ book_of cell.old.publisher) }
+{
+    cell.take_view()
+}
+
+// A leader publishes its first entry and one of a request, and two views are told of it; a token of another node is
+// refused.
+fn published_to(
+    rt: &(impl Abort + Wait),
+    alloc: Global,
+    cell: &mut Cell<MemKeeper>,
+    first: &mut View,
+    second: &mut View,
+    query: &Query,
+    other: &Told,
+) -> Result<(), Fail>
+    requires seat { (name_seen first.old).node ≡ 1 }
+    requires another { (name_told other.now).node ≡ 2 }
+    requires book { book_seen first.old ≡ book_of cell.old.publisher }
+    requires same_book { book_seen second.old ≡ book_of cell.old.publisher }
+{
+    lead_and_submit(rt, alloc, cell, first, query)?;
+    answer_alike(rt, alloc, &cell.told(), first, second, query)?;
+    is_refused(rt, alloc, first, query, other)?;
+    Ok(())
+}
+
+// That is done with two views of it.
 fn published(
     rt: &(impl Abort + Wait),
     alloc: Global,
     cell: &mut Cell<MemKeeper>,
+    query: &Query,
     other: &Told,
 ) -> Result<(), Fail>
-    requires me { me_of cell.old.node ≡ 1 }
-    requires other { (name_told other.now).node ≡ 2 }
+    requires one { me_of cell.old.node ≡ 1 }
+    requires another { (name_told other.now).node ≡ 2 }
 {
-    let query = read_query(alloc, cell.node.schema(), QUESTION)?;
-    let mut first = cell.take_view()?;
-    let mut second = cell.take_view()?;
-    lead(rt, cell)?;
-    let early = first.ask(&query);
-    assert!(rt; matches!(early, Err(Refusal::NotClosed(None))));
-    let _ = cell.feed(rt, insert(alloc)?)?;
-    let _ = cell.feed(rt, reply(Mark::new(20), 2))?;
-    let told = cell.told();
-    first.learn(&told)?;
-    second.learn(&told)?;
-    let (one, two) = (first.ask(&query)?, second.ask(&query)?);
-    assert_eq!(rt; (one.mark.number(), one.answer.rows.len()), (21, 1));
-    assert_eq!(rt; text_of(alloc, &one)?, text_of(alloc, &two)?);
-    is_refused(rt, alloc, &mut first, &query, other)?;
+    let mut first = take_view(cell)?;
+    let mut second = take_view(cell)?;
+    published_to(rt, alloc, cell, &mut first, &mut second, query, other)
+}
+
+// That is done beside a life of member 2.
+fn published_beside(
+    rt: &(impl Abort + Wait),
+    alloc: Global,
+    schema: &Schema,
+    cell: &mut Cell<MemKeeper>,
+) -> Result<(), Fail>
+    requires { me_of cell.old.node ≡ 1 }
+{
+    let query = read_query(alloc, schema, QUESTION)?;
+    let other = started(rt, alloc, schema, 2)?;
+    let done = published(rt, alloc, cell, &query, &other.told());
+    let _ = finish(rt, other);
+    done
+}
+
+// Why there is no further view, if there is none.
+fn no_view(cell: &mut Cell<MemKeeper>) -> Option<Refusal> {
+    cell.take_view().err()
+}
+
+// After two views, the next but six is the last.
+fn take_rest(rt: &impl Abort, cell: &mut Cell<MemKeeper>) {
     for _ in 2..8 {
-        let _ = cell.take_view()?;
+        assert!(rt; no_view(cell) == None);
     }
-    assert!(rt; matches!(cell.take_view(), Err(Refusal::NoView)));
-    Ok(())
+    assert!(rt; no_view(cell) == Some(Refusal::NoView));
+}
+
+// The life of a member that did all this.
+fn published_life(rt: &(impl Abort + Wait), alloc: Global, schema: &Schema) -> Result<Life, Fail> {
+    let mut cell = started(rt, alloc, schema, 1)?;
+    published_beside(rt, alloc, schema, &mut cell)?;
+    take_rest(rt, &mut cell);
+    Ok(finish(rt, cell))
 }
 
 #[test]
 fn read_back(rt: HostRuntime) -> Result<(), Fail> {
     let alloc = rt.alloc();
-    let schema = read_schema(alloc, SCHEMA)?;
-    let Ok(mut cell) = start(&rt, alloc, MemImage::new(alloc), &schema, 1, None) else {
-        return Err(Fail::from("it does not start"));
-    };
-    let Ok(other) = start(&rt, alloc, MemImage::new(alloc), &schema, 2, None) else {
-        return Err(Fail::from("another does not start"));
-    };
-    published(&rt, alloc, &mut cell, &other.told())?;
-    let _ = other.stop(&rt);
-    let (_image, life) = cell.stop(&rt);
+    let schema = read_tables(alloc)?;
+    let life = published_life(&rt, alloc, &schema)?;
     assert_eq!(rt; life.steps.len(), 4);
     Ok(())
 }
@@ -144,17 +303,56 @@ fn feed_beats<L: Naming, R: Wait>(
     ensures { result.parts ≡ share.parts }
 {
     for _ in 0..50 {
-        let _ = node.lock(rt).feed(rt, &mut share, beat());
+        let _ = feed_locked(rt, node, &mut share, beat());
     }
     share
 }
 
-// Two threads feed a node. All shares together are the steps that it recorded.
-fn fed_by_two<L: Naming + Send + Sync, R: Threads + Wait + Abort + Sync>(
+// Two threads feed it. The share of both.
+fn feed_by_two<L: Naming + Send + Sync, R: Threads + Wait + Sync>(
+    rt: &R,
+    node: &Mutex<LockedNode<MemKeeper, L>>,
+    mine: Share<L>,
+    theirs: Share<L>,
+) -> Share<L>
+    requires one { mine.parts ≡ 1 }
+    requires other { theirs.parts ≡ 1 }
+    ensures { result.parts ≡ 2 }
+{
+    let (mut mine, theirs) = join(
+        rt,
+        || -> Share<L>
+            requires { mine.parts ≡ 1 }
+            ensures { result.parts ≡ 1 }
+        { feed_beats(rt, node, mine) },
+        || -> Share<L>
+            requires { theirs.parts ≡ 1 }
+            ensures { result.parts ≡ 1 }
+        { feed_beats(rt, node, theirs) },
+    );
+    mine.merge(theirs);
+    mine
+}
+
+// How many steps all shares are together, and how many the life has.
+fn counted<L: Naming, R: Wait>(
+    rt: &R,
+    mut node: LockedNode<MemKeeper, L>,
+    mut all: Share<L>,
+) -> (usize, usize)
+    requires { all.parts ≡ L.parts }
+{
+    let steps = node.all_recorded(&mut all);
+    let life = finish(rt, node.into_cell());
+    (steps, life.steps.len())
+}
+
+// Two threads feed a node. How many steps all shares are together, and how many it recorded.
+fn fed_by_two<L: Naming + Send + Sync, R: Threads + Wait + Sync>(
     rt: &R,
     cell: Cell<MemKeeper>,
     blank: Blank,
-) -> Result<(), Fail>
+) -> (usize, usize)
     requires name { blank.name ≡ L.name }
     requires parts { (blank.parts ≡ L.parts) × (blank.parts ≡ 2) }
     requires cell { (book_of cell.publisher ≡ L.history) × (all_steps cell.life ≡ []) }
@@ -162,31 +360,16 @@ fn fed_by_two<L: Naming + Send + Sync, R: Threads + Wait + Abort + Sync>(
     let (book, mut mine) = blank.open::<L>();
     let theirs = mine.split_off(1, 0);
     let node = Mutex::new(LockedNode::new(cell, book));
-    let (mut mine, theirs) = join(
-        rt,
-        || -> Share<L>
-            requires { mine.parts ≡ 1 }
-            ensures { result.parts ≡ 1 }
-        { feed_beats(rt, &node, mine) },
-        || -> Share<L>
-            requires { theirs.parts ≡ 1 }
-            ensures { result.parts ≡ 1 }
-        { feed_beats(rt, &node, theirs) },
-    );
-    mine.merge(theirs);
-    let mut node = node.into_inner();
-    let steps = node.all_recorded(&mut mine);
-    let (_image, life) = node.into_cell().stop(rt);
-    assert_eq!(rt; (steps, life.steps.len()), (100, 100));
-    Ok(())
+    let all = feed_by_two(rt, &node, mine, theirs);
+    counted(rt, node.into_inner(), all)
 }
 
 #[test]
 fn all_shares(rt: HostRuntime) -> Result<(), Fail> {
     let alloc = rt.alloc();
-    let schema = read_schema(alloc, SCHEMA)?;
-    let Ok(cell) = start(&rt, alloc, MemImage::new(alloc), &schema, 1, None) else {
-        return Err(Fail::from("it does not start"));
-    };
-    fed_by_two::<Brand, _>(&rt, cell, Blank::new(2))
+    let schema = read_tables(alloc)?;
+    let cell = started(&rt, alloc, &schema, 1)?;
+    let counts = fed_by_two::<Brand, _>(&rt, cell, Blank::new(2));
+    assert_eq!(rt; counts, (100, 100));
+    Ok(())
 }

@@ -6,11 +6,11 @@ use apply::Tables;
 use drawn::draws::Draws;
 use drawn::questions::whole_history;
 use drawn::staff::{DEPT, EMP, STAFF, all_days};
-use fault::Text;
+use fault::{Refusal, Text};
 use model::entry::{Entry, Request};
 use model::request::{Client, RequestNumber};
 use model::stamp::{LAST_MICROS, Stamp};
-use plain::Judge;
+use plain::{Judge, Outcome};
 use schema::Schema;
 use schemaread::schemas::read_schema;
 use sqlread::query::{Query, read_query};
@@ -73,12 +73,14 @@ fn entry_of(stamp: Stamp, client: u16, number: u64, text: String) -> Result<Entr
 
 impl Both {
     fn new(alloc: Global) -> Result<Both> {
+        let days = all_days()?;
         let schema = read_schema(alloc, STAFF)?;
+        let tables = Tables::new(alloc, &schema)?;
         Ok(Both {
             alloc,
-            tables: Tables::new(alloc, &schema)?,
-            judge: Judge::new(alloc, all_days()?),
             schema,
+            tables,
+            judge: Judge::new(alloc, days),
             last: 0,
             text: String::new(alloc),
         })
@@ -90,18 +92,33 @@ impl Both {
         Ok(())
     }
 
+    fn stamp(&self) -> Stamp {
+        Stamp::new(u64::from(self.last))
+    }
+
+    /// What the tables make of a request.
+    fn given(&mut self, client: u16, number: u64, text: String) -> Result<Option<Outcome>> {
+        let entry = entry_of(self.stamp(), client, number, text)?;
+        Ok(self.tables.apply(&entry)?)
+    }
+
+    /// What `plain` makes of a request.
+    fn wanted(&mut self, client: u16, number: u64, text: &str) -> Result<Outcome> {
+        let stamp = self.stamp();
+        let transaction = read_transaction(self.alloc, &self.schema, text)?;
+        let schema = &self.schema;
+        Ok(self.judge.take(schema, stamp, client, number, transaction)?)
+    }
+
     /// Takes a request by both.
     fn take(&mut self, client: u16, number: u64, text: String, tally: &mut Tally) -> Result<()> {
         self.note(text.as_str())?;
-        let stamp = Stamp::new(u64::from(self.last));
-        let transaction = read_transaction(self.alloc, &self.schema, text.as_str())?;
-        let entry = entry_of(stamp, client, number, text)?;
-        let given = self.tables.apply(&entry)?;
-        let wanted = self
-            .judge
-            .take(&self.schema, stamp, client, number, transaction)?;
+        let wanted = self.wanted(client, number, text.as_str())?;
         tally.decide(&wanted);
-        let is_right = given.is_some_and(|given| given == wanted);
+        let is_right = match self.given(client, number, text)? {
+            Some(given) => given == wanted,
+            None => false,
+        };
         ensure!(is_right, "request {client} {number}: wanted {wanted:?}");
         Ok(())
     }
@@ -110,7 +127,7 @@ impl Both {
     fn ask(&mut self, question: &str, quiet: u32, tally: &mut Tally) -> Result<()> {
         self.note(question)?;
         match read_query(self.alloc, &self.schema, question) {
-            Ok(query) => self.compare_answers(&query, quiet, tally),
+            Ok(query) => self.compare(&query, quiet, tally),
             Err(refusal) => {
                 tally.not_answered(&refusal);
                 Ok(())
@@ -119,22 +136,38 @@ impl Both {
     }
 
     /// Compares what both answer to a question, where time is closed so many microseconds past the last entry.
-    fn compare_answers(&self, query: &Query, quiet: u32, tally: &mut Tally) -> Result<()> {
-        let given = self.tables.ask(query, self.closed(quiet));
-        let wanted = self.judge.ask(&self.schema, query, self.closed(quiet));
-        match (given, wanted) {
-            (Ok(given), Ok(wanted)) => {
+    fn compare(&self, query: &Query, quiet: u32, tally: &mut Tally) -> Result<()> {
+        match self.judge.ask(&self.schema, query, self.closed(quiet)) {
+            Ok(wanted) => {
                 tally.answer(&wanted, self.last_micros());
-                ensure!(is_same_answer(&given, &wanted), "wanted {wanted:?}");
-                Ok(())
+                self.check_answer(query, quiet, &wanted)
             }
-            (Err(given), Err(wanted)) => {
+            Err(wanted) => {
                 tally.not_answered(&wanted);
-                ensure!(given == wanted, "refused by {given}, and not by {wanted}");
+                self.check_refusal(query, quiet, &wanted)
+            }
+        }
+    }
+
+    /// Checks that the tables give this answer.
+    fn check_answer(&self, query: &Query, quiet: u32, wanted: &plain::Answer) -> Result<()> {
+        match self.tables.ask(query, self.closed(quiet)) {
+            Ok(given) => {
+                ensure!(is_same_answer(&given, wanted), "wanted {wanted:?}");
                 Ok(())
             }
-            (Ok(_), Err(wanted)) => bail!("answered, and not refused by {wanted}"),
-            (Err(given), Ok(_)) => bail!("refused by {given}"),
+            Err(given) => bail!("refused by {given}"),
+        }
+    }
+
+    /// Checks that the tables refuse a question by this.
+    fn check_refusal(&self, query: &Query, quiet: u32, wanted: &Refusal) -> Result<()> {
+        match self.tables.ask(query, self.closed(quiet)) {
+            Ok(_given) => bail!("answered, and not refused by {wanted}"),
+            Err(given) => {
+                ensure!(given == *wanted, "refused by {given}, and not by {wanted}");
+                Ok(())
+            }
         }
     }
 

@@ -45,23 +45,34 @@ pub(crate) struct Group {
     pub script: String,
 }
 
+/// The player of a group of so many members.
+fn new_player(alloc: Global, members: usize) -> Result<Player>
+    requires least { 3 ≤ members }
+    requires most { members ≤ 7 }
+{
+    let schema = read_schema(alloc, STAFF)?;
+    Ok(Player::new(alloc, members, schema)?)
+}
+
 impl Group {
     pub(crate) fn new(alloc: Global, members: usize) -> Result<Group>
         requires least { 3 ≤ members }
         requires most { members ≤ 7 }
     {
+        let script = format!(in alloc; "members {members}\nschema{STAFF}end\n")?;
+        let applied = vec![in alloc; 0; members]?;
         let schema = read_schema(alloc, STAFF)?;
-        let player = Player::new(alloc, members, read_schema(alloc, STAFF)?)?;
+        let player = new_player(alloc, members)?;
         Ok(Group {
             alloc,
             schema,
             player,
             known: Known::new(alloc, members),
             seals: Seals::new(alloc),
-            applied: vec![in alloc; 0; members]?,
+            applied,
             told: Vec::new(alloc),
             asked: Vec::new(alloc),
-            script: format!(in alloc; "members {members}\nschema{STAFF}end\n")?,
+            script,
         })
     }
 

@@ -49,15 +49,20 @@ fn whole(draws: &mut Draws, group: &mut Group, tally: &mut Tally) -> Result<()> 
     check(group, tally)
 }
 
+/// Plays a script: its text and why, where the group does not do as `plain` says.
+fn story(draws: &mut Draws, group: &mut Group, tally: &mut Tally) -> Result<Option<String>> {
+    match whole(draws, group, tally) {
+        Ok(()) => Ok(None),
+        Err(error) => {
+            let script = group.script.as_str();
+            Ok(Some(format!(in group.alloc; "{error}, in\n{script}")?))
+        }
+    }
+}
+
 /// A random script: its text and why, where the group does not do as `plain` says.
 pub(crate) fn judge(alloc: Global, seed: u64, tally: &mut Tally) -> Result<Option<String>> {
     let mut draws = Draws::new(alloc, seed);
     let mut group = Group::new(alloc, draws.members())?;
-    match whole(&mut draws, &mut group, tally) {
-        Ok(()) => Ok(None),
-        Err(error) => {
-            let script = group.script.as_str();
-            Ok(Some(format!(in alloc; "{error}, in\n{script}")?))
-        }
-    }
+    story(&mut draws, &mut group, tally)
 }

@@ -5,6 +5,7 @@ use anyhow::{Result, bail, ensure};
 use current::{Current, Touched};
 use drawn::draws::Draws;
 use drawn::staff::{DEPT, EMP, STAFF, all_days};
+use fault::Refusal;
 use model::stamp::Stamp;
 use plain::Tables;
 use schema::Schema;
@@ -25,12 +26,14 @@ struct Both {
 
 impl Both {
     fn new(alloc: Global) -> Result<Both> {
+        let tables = Tables::empty(alloc, 2, all_days()?)?;
         let schema = read_schema(alloc, STAFF)?;
+        let current = Current::new(alloc, &schema)?;
         Ok(Both {
             alloc,
-            current: Current::new(alloc, &schema)?,
             schema,
-            tables: Tables::empty(alloc, 2, all_days()?)?,
+            current,
+            tables,
             text: String::new(alloc),
         })
     }
@@ -47,19 +50,34 @@ impl Both {
 
     /// Runs a statement by both.
     fn run(&mut self, statement: &Statement, t: Stamp, tally: &mut Tally) -> Result<()> {
-        let wanted = self.tables.run(self.alloc, statement, t.micros());
-        match (self.current.run(statement, t), wanted) {
-            (Ok(touched), Ok(next)) => {
+        match self.tables.run(self.alloc, statement, t.micros()) {
+            Ok(next) => {
                 tally.accept();
-                self.compare(next, &touched)
+                self.check_run(statement, t, next)
             }
-            (Err(given), Err(wanted)) => {
-                ensure!(given == wanted, "refused by {given}, and not by {wanted}");
+            Err(wanted) => {
                 tally.refuse(&wanted);
+                self.check_refusal(statement, t, &wanted)
+            }
+        }
+    }
+
+    /// Runs a statement of which `plain` makes these tables.
+    fn check_run(&mut self, statement: &Statement, t: Stamp, next: Tables) -> Result<()> {
+        match self.current.run(statement, t) {
+            Ok(touched) => self.compare(next, &touched),
+            Err(given) => bail!("refused by {given}"),
+        }
+    }
+
+    /// Runs a statement that `plain` refuses by this.
+    fn check_refusal(&mut self, statement: &Statement, t: Stamp, wanted: &Refusal) -> Result<()> {
+        match self.current.run(statement, t) {
+            Ok(_touched) => bail!("accepted, and not refused by {wanted}"),
+            Err(given) => {
+                ensure!(given == *wanted, "refused by {given}, and not by {wanted}");
                 Ok(())
             }
-            (Ok(_), Err(wanted)) => bail!("accepted, and not refused by {wanted}"),
-            (Err(given), Ok(_)) => bail!("refused by {given}"),
         }
     }
 
@@ -75,13 +93,18 @@ impl Both {
         Ok(())
     }
 
-    /// Takes all rows out, which shows what rows there were.
+    /// Takes all rows out of a table, which shows what rows there were.
+    fn has_same_rows(&mut self, table: usize) -> Result<bool> {
+        let all = delete_all(self.alloc, table);
+        let touched = self.current.run(&all, Stamp::new(1000))?;
+        let rows = self.tables.rows(self.alloc, table)?;
+        Ok(are_same(&rows, touched.removed(table)))
+    }
+
+    /// Compares the rows of both tables.
     fn compare_rows(&mut self) -> Result<()> {
         for names in [DEPT, EMP] {
-            let all = delete_all(self.alloc, names.place);
-            let touched = self.current.run(&all, Stamp::new(1000))?;
-            let rows = self.tables.rows(self.alloc, names.place)?;
-            let is_right = are_same(&rows, touched.removed(names.place));
+            let is_right = self.has_same_rows(names.place)?;
             ensure!(is_right, "other rows of {}", names.table);
         }
         Ok(())
@@ -94,17 +117,22 @@ impl Both {
         }
         self.compare_rows()
     }
+
+    /// Runs twenty random statements by both: their text and why, where both make something else of them.
+    fn story(&mut self, draws: &mut Draws, tally: &mut Tally) -> Result<Option<String>> {
+        match self.steps(draws, tally) {
+            Ok(()) => Ok(None),
+            Err(error) => {
+                let text = self.text.as_str();
+                Ok(Some(format!(in self.alloc; "{error}, after\n{text}")?))
+            }
+        }
+    }
 }
 
 /// Twenty random statements, from empty tables: their text and why, where both make something else of them.
 pub(crate) fn judge(alloc: Global, seed: u64, tally: &mut Tally) -> Result<Option<String>> {
     let mut draws = Draws::new(alloc, seed);
     let mut both = Both::new(alloc)?;
-    match both.steps(&mut draws, tally) {
-        Ok(()) => Ok(None),
-        Err(error) => {
-            let text = both.text.as_str();
-            Ok(Some(format!(in alloc; "{error}, after\n{text}")?))
-        }
-    }
+    both.story(&mut draws, tally)
 }
