@@ -10,7 +10,7 @@
 mod tables;
 mod views;
 
-use anyhow::Result;
+use anyhow::{Result, bail};
 use schema::Schema;
 use schemaread::schemas::read_schema;
 use sqlread::transaction::read_transaction;
@@ -78,12 +78,12 @@ fn words_given<R: AllocGlobal + Env>(rt: &R) -> Result<Asked> {
     let Some(word) = words.next() else {
         return Ok(Asked::Checks);
     };
-    Ok(match word.as_str() {
-        "rates" => Asked::Rates,
-        "tables" => Asked::Tables,
-        "views" => Asked::Views,
-        _ => Asked::Checks,
-    })
+    match word.as_str() {
+        "rates" => Ok(Asked::Rates),
+        "tables" => Ok(Asked::Tables),
+        "views" => Ok(Asked::Views),
+        other => bail!("{other} is none of rates, tables, views"),
+    }
 }
 
 fn tell_checks<R: Print + Clock>(rt: &R, alloc: Global, schema: &Schema) -> Result<()> {

@@ -118,14 +118,18 @@ pub(crate) fn tell<R: Print + Clock>(rt: &R, alloc: Global, schema: &Schema) -> 
 /// Does each kind over small tables, and prints how much was as it should be.
 pub(crate) fn tell_checks<R: Print + Clock>(rt: &R, alloc: Global, schema: &Schema) -> Result<()> {
     for keys in [Keys::Many, Keys::One] {
-        let mut book = Book::new(alloc, schema)?;
-        measure_kinds(rt, &mut book, keys)?;
+        check_kinds(rt, alloc, schema, keys)?;
     }
     let kinds = KINDS.len();
     println!(rt;
         "{SMALL} rows, of as many keys and of one: {kinds} kinds of transactions and questions, each accepted or answered"
     )?;
     Ok(())
+}
+
+fn check_kinds<R: Clock>(rt: &R, alloc: Global, schema: &Schema, keys: Keys) -> Result<()> {
+    let mut book = Book::new(alloc, schema)?;
+    measure_kinds(rt, &mut book, keys)
 }
 
 // Each kind, one after the other, over small tables.
@@ -157,13 +161,13 @@ fn tell_rows<R: Print + Clock>(
     keys: Keys,
     rows: usize,
 ) -> Result<()> {
-    print!(rt; "{rows:>6}")?;
     let mut book = Book::new(alloc, schema)?;
     tell_kinds(rt, &mut book, keys, rows)
 }
 
 // Prints what each kind takes, one after the other.
 fn tell_kinds<R: Print + Clock>(rt: &R, book: &mut Book, keys: Keys, rows: usize) -> Result<()> {
+    print!(rt; "{rows:>6}")?;
     for kind in KINDS {
         let nanos = book.measure(rt, Load { kind, keys, rows })?;
         if kind.is_told() {
@@ -370,11 +374,20 @@ impl Book {
     // The nanoseconds of a transaction, which is to be accepted.
     fn apply<R: Clock>(&mut self, rt: &R, text: &str) -> Result<u128> {
         let entry = self.next_entry(text)?;
-        let start = Instant::now(rt)?;
-        let outcome = self.tables.apply(&entry)?;
-        let nanos = start.elapsed(rt)?.as_nanos();
+        let (outcome, nanos) = self.apply_entry(rt, &entry)?;
         check_accepted(outcome, text)?;
         Ok(nanos)
+    }
+
+    // The outcome of an entry, and the nanoseconds until it is there.
+    fn apply_entry<R: Clock>(
+        &mut self,
+        rt: &R,
+        entry: &Entry,
+    ) -> Result<(Option<Result<Stamp, Refusal>>, u128)> {
+        let start = Instant::now(rt)?;
+        let outcome = self.tables.apply(entry)?;
+        Ok((outcome, start.elapsed(rt)?.as_nanos()))
     }
 
     // The entry of the next request, stamped with its number.
