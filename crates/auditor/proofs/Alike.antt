@@ -15,12 +15,12 @@ use Rattle.flight.specs.declared.life.Packet.{Packet}
 use Rattle.flight.specs.declared.life.Packet.TheVariants as packet
 use Rattle.sqlchecks.specs.Columns.{Tables}
 use Rattle.sqlread.specs.Meaning.{schema_of}
-use Rattle.auditor.specs.declared.moment.Deed.{Deed}
-use Rattle.auditor.specs.declared.moment.Deed.TheVariants.{Opens, Takes, Tears, Answers, Stops}
-use Rattle.auditor.specs.declared.moment.Moment.{Moment}
-use Rattle.auditor.specs.declared.recorded.Recorded.{Recorded}
-use Rattle.auditor.specs.Past.{Past, IsSent, grown, after}
-use Rattle.auditor.specs.Behind.{Records, life_at, step_at, job_event, IsJob, IsTaken, IsLeftBy, IsCut, IsAnswered, IsLifeBegun, IsLifeCut, IsBehindDeed, IsBehind}
+use Rattle.moments.specs.declared.moment.Deed.{Deed}
+use Rattle.moments.specs.declared.moment.Deed.TheVariants.{Opens, Takes, Tears, Answers, Stops}
+use Rattle.moments.specs.declared.moment.Moment.{Moment}
+use Rattle.moments.specs.declared.recorded.Recorded.{Recorded}
+use Rattle.moments.specs.Past.{Past, IsSent, grown, after}
+use Rattle.moments.specs.Behind.{Records, life_at, step_at, job_event, IsJob, IsTaken, IsLeftBy, IsCut, IsAnswered, IsLifeBegun, IsLifeCut, IsBehindDeed, IsBehind}
 
 -- ---- one message that was sent twice
 

@@ -3,14 +3,14 @@ use Rattle.std.proofs.Common.{◌≡◌, ◌∙◌, ℕ, List, [], ◌∷◌, �
 use Rattle.std.proofs.lemmas.List.Elements.{All-contains}
 use Rattle.model.specs.Worlds.{Event}
 use Rattle.sqlread.specs.Meaning.{schema_of}
-use Rattle.auditor.specs.declared.moment.Moment.{Moment}
-use Rattle.auditor.specs.declared.recorded.AuditFault.{AuditFault}
-use Rattle.auditor.specs.Rising.{IsMarked}
-use Rattle.auditor.specs.Moments.{listed, IsTimeline}
-use Rattle.auditor.specs.Past.{Past, beginning, after}
-use Rattle.auditor.specs.Behind.{Records, IsBehind}
-use Rattle.auditor.specs.Faults.{NoneAre}
-use Rattle.auditor.specs.Audited.{Leads, Explains, IsUnmarked, IsStuck, IsFirst}
+use Rattle.moments.specs.declared.moment.Moment.{Moment}
+use Rattle.moments.specs.declared.recorded.AuditFault.{AuditFault}
+use Rattle.moments.specs.Rising.{IsMarked, IsUnmarked}
+use Rattle.moments.specs.Moments.{listed, IsTimeline}
+use Rattle.moments.specs.Past.{Past, beginning, after}
+use Rattle.moments.specs.Behind.{Records, IsBehind}
+use Rattle.moments.specs.Faults.{NoneAre}
+use Rattle.auditor.specs.Audited.{Leads, Explains, IsStuck, IsFirst}
 use Rattle.auditor.proofs.Alike.{same_after}
 use Rattle.auditor.proofs.Sorting.{sorted_once}
 

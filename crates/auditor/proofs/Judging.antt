@@ -4,12 +4,13 @@ use Rattle.std.specs.Prelude.{IfErr}
 use Rattle.std.specs.declared.vec.Vec.{Vec}
 use Rattle.std.specs.declared.alloc.Global.{Global}
 use Rattle.flight.specs.declared.life.Life.{Life}
-use Rattle.auditor.specs.declared.recorded.AuditFault.{AuditFault}
-use Rattle.auditor.specs.declared.recorded.AuditFault.TheVariants.{NoMemory, OutOfOrder, Broken, Unsent, Wrong}
+use Rattle.moments.specs.declared.recorded.AuditFault.{AuditFault}
+use Rattle.moments.specs.declared.recorded.AuditFault.TheVariants.{NoMemory, OutOfOrder, Broken, Unsent, Wrong}
 use Rattle.auditor.specs.Audited.{Explains, IsFirst}
-use Rattle.auditor.specs.Behind.{Records}
-use Rattle.auditor.specs.Faults.{IsNo, NoneAre, OfRun}
-use Rattle.auditor.specs.Rising.{IsFallen, IsOrderFault, Rise}
+use Rattle.auditor.specs.Faults.{IsOrderFault, OfRun}
+use Rattle.moments.specs.Behind.{Records}
+use Rattle.moments.specs.Faults.{IsNo, NoneAre}
+use Rattle.moments.specs.Rising.{IsFallen, Rise}
 use Rattle.auditor.proofs.Alone.{unexplained}
 
 pub no_weaker : (P Q : AuditFault → Type 0) (f : AuditFault) → ((g : AuditFault) → P g → Q g) → IsNo P f → IsNo Q f

@@ -9,21 +9,22 @@ use Rattle.flight.specs.declared.life.Life.{Life}
 use Rattle.sqlchecks.specs.Columns.{Tables}
 use Rattle.sqlread.specs.Meaning.{schema_of}
 use Rattle.world.specs.Run.{tables_in, members_in, events_of}
-use Rattle.auditor.specs.declared.replay.Replay.{Replay}
-use Rattle.auditor.specs.declared.moment.Moment.{Moment}
-use Rattle.auditor.specs.declared.recorded.Recorded.{Recorded}
-use Rattle.auditor.specs.Past.{Past, after, beginning}
-use Rattle.auditor.specs.Behind.{Records, IsBehind}
+use Rattle.moments.specs.declared.replay.Replay.{Replay}
+use Rattle.moments.specs.declared.moment.Moment.{Moment}
+use Rattle.moments.specs.declared.recorded.Recorded.{Recorded}
+use Rattle.moments.specs.Past.{Past, after, beginning}
+use Rattle.moments.specs.Behind.{Records, IsBehind}
 use Rattle.auditor.specs.Audited.{Leads, IsFirst, IsStuck}
-use Rattle.auditor.specs.Faults.{IsFaultAt, IsNo, Lacks, NoneAre}
+use Rattle.moments.specs.Faults.{IsFaultAt, IsNo, Lacks, NoneAre}
 use Rattle.std.specs.List.{All}
-use Rattle.auditor.specs.Rising.{IsMarked}
-use Rattle.auditor.specs.Moments.{IsTimeline}
-use Rattle.auditor.specs.declared.recorded.AuditFault.{AuditFault}
+use Rattle.moments.specs.Rising.{IsMarked}
+use Rattle.moments.specs.Moments.{IsTimeline}
+use Rattle.moments.specs.declared.recorded.AuditFault.{AuditFault}
 use Rattle.auditor.proofs.Judging.{no_weaker}
 use Rattle.std.proofs.Math.Seq.{drop-cons}
 use Rattle.std.proofs.lemmas.List.{take-append-drop}
-use Rattle.auditor.specs.View.{past_of, Follows, IsLed}
+use Rattle.moments.specs.View.{past_of, Follows}
+use Rattle.auditor.specs.View.{IsLed}
 
 leads_more : (r : Records) (n : ℕ) (p q : Past) (ms : List Moment) (m : Moment) (es now : List Event) → Leads r n p ms es q → IsBehind r n q m now → Leads r n p (ms ++ m ∷ []) (es ++ now) (after (schema_of r.tables) n q m.mark now)
 leads_more r n p q [] m es now led behind =

@@ -1,15 +1,5 @@
-pub mod Adding
 pub mod Alike
 pub mod Alone
-pub mod Following
 pub mod Judging
 pub mod Leading
-pub mod Loops
-pub mod Ordering
-pub mod Posting
-pub mod Sending
 pub mod Sorting
-pub mod Storing
-pub mod Taking
-pub mod Telling
-pub mod Texts

@@ -1,20 +1,15 @@
 -- When a run explains what was recorded, and where none does.
 use Rattle.std.specs.Prelude.{◌≡◌, ℕ, List, [], ◌∷◌, ◌++◌, ◌⊎◌, length}
-use Rattle.std.specs.List.{All, Contains}
-use Rattle.std.specs.declared.vec.Vec.{Vec}
-use Rattle.std.specs.declared.alloc.Global.{Global}
+use Rattle.std.specs.List.{All}
 use Rattle.model.specs.Worlds.{Event}
 use Rattle.sqlread.specs.Meaning.{schema_of}
-use Rattle.flight.specs.declared.life.Life.{Life}
-use Rattle.auditor.specs.declared.moment.Moment.{Moment}
-use Rattle.auditor.specs.declared.recorded.Recorded.{Recorded}
-use Rattle.auditor.specs.declared.recorded.AuditFault.{AuditFault}
-use Rattle.auditor.specs.declared.recorded.AuditFault.TheVariants.{Wrong}
-use Rattle.auditor.specs.Rising.{IsMarked}
-use Rattle.auditor.specs.Moments.{IsTimeline}
-use Rattle.auditor.specs.Past.{Past, beginning, after}
-use Rattle.auditor.specs.Behind.{Records, IsBehind}
-use Rattle.auditor.specs.Faults.{NoneAre, IsFaultAt}
+use Rattle.moments.specs.declared.moment.Moment.{Moment}
+use Rattle.moments.specs.declared.recorded.AuditFault.{AuditFault}
+use Rattle.moments.specs.Rising.{IsMarked, IsUnmarked}
+use Rattle.moments.specs.Moments.{IsTimeline}
+use Rattle.moments.specs.Past.{Past, beginning, after}
+use Rattle.moments.specs.Behind.{Records, IsBehind}
+use Rattle.moments.specs.Faults.{NoneAre, IsFaultAt}
 
 -- moment by moment these events happened, from one past up to another
 abbrev pub Leads : Records → ℕ → Past → List Moment → List Event → Past → Type 0
@@ -29,10 +24,6 @@ pub record Explains (r : Records) (events : List Event) : Type 0 where
   pub timeline : IsTimeline r.lives r.answers moments
   pub end : Past
   pub leads : Leads r (length r.lives) (beginning (length r.lives)) moments events end
-
--- an answer rests on no mark of its node, and this is its fault
-abbrev pub IsUnmarked : List (Vec Life Global) → List Recorded → AuditFault → Type 0
-IsUnmarked lives answers fault = (a : Recorded) × Contains answers a × (IsMarked lives a → ⊥) × (fault ≡ Wrong a.node a.mark)
 
 -- the moments before one happened, from this past; it has no events then, and this is its fault
 pub record IsStuck (r : Records) (n : ℕ) (p : Past) (moments : List Moment) (fault : AuditFault) : Type 0 where

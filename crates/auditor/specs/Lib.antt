@@ -1,8 +1,3 @@
-pub mod Rising
-pub mod Moments
-pub mod Posts
-pub mod Past
-pub mod Behind
 pub mod Faults
 pub mod Audited
 pub mod View

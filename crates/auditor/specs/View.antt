@@ -1,41 +1,13 @@
--- The replay as the definitions see it.
-use Rattle.std.specs.Prelude.{◌≡◌, ℕ, false, List, ◌++◌, map}
+-- What a replay has followed.
+use Rattle.std.specs.Prelude.{◌≡◌, ℕ, List, ◌++◌}
 use Rattle.model.specs.Worlds.{Event}
-use Rattle.world.specs.Run.{tables_in, schema_in, members_in, events_of, now_of}
+use Rattle.world.specs.Run.{tables_in, members_in, events_of}
 pub use Rattle.world.specs.View.{event_of}
-use Rattle.auditor.specs.declared.replay.Replay.{Replay}
-use Rattle.auditor.specs.declared.moment.Moment.{Moment}
-use Rattle.auditor.specs.Past.{Past, after}
-use Rattle.auditor.specs.Behind.{Records}
+use Rattle.moments.specs.declared.replay.Replay.{Replay}
+use Rattle.moments.specs.declared.moment.Moment.{Moment}
+use Rattle.moments.specs.Behind.{Records}
+use Rattle.moments.specs.View.{past_of, IsLive}
 use Rattle.auditor.specs.Audited.{Leads}
-
-abbrev pub past_of : Replay → Past
-past_of x = record { world = now_of x.world; marks = map (λ p. p.mark) x.posts.items }
-
--- memory was never refused, and the messages that were sent are known
-pub record IsLive (x : Replay) : Type 0 where
-  pub live : x.world.is_spent ≡ false
-  pub posted : map (λ p. p.message) x.posts.items ≡ (now_of x.world).sent
-
--- these events happened at a mark, and nothing else
-pub record Happened (old new : Replay) (mark : ℕ) (events : List Event) : Type 0 where
-  pub kept : events_of new.world ≡ events_of old.world ++ events
-  pub past : past_of new ≡ after (schema_in old.world) (members_in old.world) (past_of old) mark events
-  pub tables : tables_in new.world ≡ tables_in old.world
-  pub members : members_in new.world ≡ members_in old.world
-  pub live : IsLive new
-
--- nothing happened
-pub record IsSameRun (old new : Replay) : Type 0 where
-  pub kept : events_of new.world ≡ events_of old.world
-  pub past : past_of new ≡ past_of old
-  pub tables : tables_in new.world ≡ tables_in old.world
-  pub members : members_in new.world ≡ members_in old.world
-  pub live : IsLive new
-
--- events that are behind a moment happened there
-abbrev pub Follows : (List Event → Type 0) → Replay → Replay → ℕ → Type 0
-Follows behind old new mark = (events : List Event) × behind events × Happened old new mark events
 
 -- all of these moments happened, by these events
 pub record IsLed (r : Records) (n : ℕ) (old new : Replay) (moments : List Moment) (events : List Event) : Type 0 where

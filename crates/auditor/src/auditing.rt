@@ -5,19 +5,18 @@ ghost use Rattle.model.specs.Worlds.{Event as ModelEvent, new_world};
 ghost use Rattle.sqlread.specs.Meaning.{schema_of};
 ghost use Rattle.world.specs.Run.{tables_in, members_in};
 ghost use Rattle.world.specs.View.{event_of};
+ghost use Rattle.moments.specs.Faults.{IsNo, NoneAre};
+ghost use Rattle.moments.specs.Rising.{Rise};
+ghost use Rattle.moments.specs.View.{past_of, IsLive};
 ghost use Rattle.auditor.specs.Audited.{Explains, IsFirst, IsStuck};
-ghost use Rattle.auditor.specs.Faults.{IsNo, NoneAre, OfRun};
-ghost use Rattle.auditor.specs.Rising.{IsOrderFault, Rise};
-ghost use Rattle.auditor.specs.View.{past_of, IsLed, IsLive};
+ghost use Rattle.auditor.specs.Faults.{IsOrderFault, OfRun};
+ghost use Rattle.auditor.specs.View.{IsLed};
 
-use crate::listing::timeline;
-use crate::moment::Moment;
-use crate::order::{check_marked, check_order};
-use crate::recorded::{AuditFault, Recorded};
-use crate::replay::Replay;
-use crate::running::events_in;
 use flight::flight::Version;
 use flight::life::Life;
+use moments::{
+    AuditFault, Moment, Recorded, Replay, check_marked, check_order, events_in, timeline,
+};
 use schema::Schema;
 use std::alloc::Global;
 use world::event::Event;

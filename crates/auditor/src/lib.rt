@@ -2,15 +2,6 @@
 #![tactic(auto)]
 
 mod auditing;
-mod listing;
-mod moment;
-mod order;
-mod posts;
-mod recorded;
-mod replay;
-mod running;
-mod same;
-mod told;
 
 pub use auditing::audit;
-pub use recorded::{AuditFault, Recorded};
+pub use moments::{AuditFault, Recorded};

@@ -4,8 +4,8 @@ ghost use Rattle.model.specs.Transactions.{Schema as Tables};
 ghost use Rattle.keep.specs.Durable.{stored_in};
 ghost use Rattle.keep.specs.Log.{IsLog};
 
-use crate::cells::{beat, timeout};
 use crate::held::{Door, HeldImage, HeldKeeper};
+use crate::lives::{beat, timeout};
 use crate::stored::read_tables;
 use crate::views::is_early;
 use fault::Refusal;

@@ -2,11 +2,11 @@
 #![tactic(auto)]
 
 #[cfg(test)]
-mod cells;
-#[cfg(test)]
 mod clusters;
 #[cfg(test)]
 mod held;
+#[cfg(test)]
+mod lives;
 #[cfg(test)]
 mod locked;
 #[cfg(test)]

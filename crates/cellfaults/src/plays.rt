@@ -3,8 +3,8 @@ use crate::effect::Notes;
 use crate::player::Player;
 use crate::record::Fed;
 use crate::turns::{TURNS, Turn};
+use cells::locked::Naming;
 use flight::life::LIFE_STEPS;
-use nodes::locked::Naming;
 use std::process::Abort;
 use std::sync::Wait;
 

@@ -1,8 +1,8 @@
 //! What a life has recorded, and what a packet came to.
+use cells::cell::{Cell, Out};
 use flight::life::Ending;
 use keep::{MemKeeper, StoreError};
 use node::Fault;
-use nodes::cell::{Cell, Out};
 use std::process::Abort;
 
 /// What a cell has recorded.

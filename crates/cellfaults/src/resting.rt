@@ -8,10 +8,10 @@ ghost use Rattle.sqlread.specs.Meaning.{schema_of};
 
 use crate::effect::{Effect, Notes};
 use crate::setting::Setting;
+use cells::cell::Cell;
 use fault::Refusal;
 use keep::{MemImage, MemKeeper};
 use model::mark::Mark;
-use nodes::cell::Cell;
 use std::process::Abort;
 use std::sync::Wait;
 

@@ -1,77 +1,20 @@
 -- What each call leaves stored.
-use Rattle.std.proofs.Common.{length-append, ◌≡◌, ◌⊎◌, inl, inr, ℕ, zero, suc, ◌+◌, ◌≤◌, Bool, true, false, true≢false, ◌&&◌, nat_lt, Option, Some, None, List, [], ◌∷◌, ◌++◌, length, take, IsTrue, refl, sym, ap, subst, ◌∙◌}
+use Rattle.std.proofs.Common.{◌≡◌, ◌+◌, ◌≤◌, ◌++◌, length, length-append, take, sym, ap, subst, ◌∙◌}
 use Rattle.std.proofs.lemmas.List.{take-map, map-append, length-map, length-take-le}
-use Rattle.std.specs.List.{list_all}
-use Rattle.sqlite.specs.Effect.{Database}
-use Rattle.sqlite.specs.State.{State, HasCleanDisk, IsUnchanged, KeepsCommit}
-use Rattle.model.specs.declared.entry.Entry.{Entry}
-use Rattle.model.specs.declared.entry.Request.{Request}
-use Rattle.model.specs.Transactions.{Schema as Tables}
+use Rattle.sqlite.specs.State.{State, IsUnchanged}
 use Rattle.keep.specs.declared.change.Change.{Change}
-use Rattle.keep.specs.Durable.{Durable, blank, after}
-use Rattle.keep.specs.Log.{IsLog, is_vote, is_numbered, is_entry}
-use Rattle.durable.specs.Contents.{Contents, none_yet, number_of_vote, client_of, number_of, body_of, item_of, items_of, contents_of, changed, vote_in, request_in, entry_in, entries_in, durable_in}
-use Rattle.durable.specs.Tables.{schema, old_schema, no_schema}
-use Rattle.durable.specs.Rows.{Holds, HoldsOld}
-use Rattle.durable.specs.Stored.{contents_in, stored_in, IsSettled, AreTexts, IsIn, Offers, IsBad, IsOpened, IsReady}
-use Rattle.durable.specs.Found.{read_back, is_stored, offers_stored}
-use Rattle.durable.specs.Steps.{IsSaved, IsKept, IsMade, IsBlank, IsRaised}
-use Rattle.durable.specs.Judging.{IsNoLog, IsFound}
-use Rattle.durable.proofs.Floors.{raised_back}
-
--- ---- what is read is what was written
-
-pub both : (a b : Bool) → (a && b) ≡ true → (a ≡ true) × (b ≡ true)
-both true b h = (refl, h)
-both false b h = absurd cc
-
-pub not_both : (b : Bool) → b ≡ true → b ≡ false → ⊥
-not_both b p q = true≢false (sym p ∙ q)
-
-some_back : (client number : ℕ) (text : List ℕ) → nat_lt 0 client ≡ true → ◌≡◌ {A = Option Request} (request_in client number text) (Some (record { client = client; number = number; text = text }))
-some_back zero number text h = absurd cc
-some_back (suc client) number text h = refl
-
-request_back : (r : Option Request) → is_numbered r ≡ true → request_in (client_of r) (number_of r) (body_of r) ≡ r
-request_back None h = refl
-request_back (Some r) h = some_back r.client r.number r.text (both _ _ h).0
-
-pub entry_numbered : (e : Entry) → is_numbered e.request ≡ true → entry_in (item_of e) ≡ e
-entry_numbered e h = ap (λ r. record { term = e.term; stamp = e.stamp; request = r }) (request_back e.request h)
-
-pub entry_back : (schema : Tables) (e : Entry) → is_entry schema e ≡ true → entry_in (item_of e) ≡ e
-entry_back tables e h = ap (λ r. record { term = e.term; stamp = e.stamp; request = r }) (request_back e.request (both _ _ (both _ _ h).1).0)
-
-pub log_back : (schema : Tables) (es : List Entry) → list_all (is_entry schema) es ≡ true → entries_in (items_of es) ≡ es
-log_back tables [] h = refl
-log_back tables (e ∷ es) h =
-    let two = both _ _ h in
-    ap (λ x. x ∷ entries_in (items_of es)) (entry_back tables e two.0) ∙ ap (λ xs. e ∷ xs) (log_back tables es two.1)
-
-pub vote_back : (members : ℕ) (v : Option ℕ) → is_vote members v ≡ true → vote_in (number_of_vote v) ≡ v
-vote_back members None h = refl
-vote_back members (Some zero) h = absurd cc
-vote_back members (Some (suc v)) h = refl
-
-pub log_plain : (members : ℕ) (schema : Tables) (d : Durable) → IsLog members schema d → durable_in (contents_of d) ≡ d
-log_plain members tables d forms =
-    ap (λ v. record { hard = record { term = d.hard.term; vote = v; floor = d.hard.floor }; log = entries_in (items_of d.log) }) (vote_back members d.hard.vote forms.vote)
-    ∙ ap (λ l. record { hard = d.hard; log = l }) (log_back tables d.log forms.entries)
+use Rattle.keep.specs.Durable.{Durable, after}
+use Rattle.storetables.specs.Contents.{number_of_vote, item_of, items_of, contents_of, changed, entry_in, durable_in}
+use Rattle.storetables.specs.Rows.{Holds}
+use Rattle.storetables.specs.Stored.{contents_in, stored_in, IsSettled, Offers}
+use Rattle.storetables.specs.Found.{read_back, is_stored}
+use Rattle.storetables.specs.Steps.{IsKept}
+use Rattle.durable.specs.Saving.{IsSaved}
 
 -- a change of the tables is the change of what is stored
 pub changed_is : (c : Change) (d : Durable) → contents_of (after c d) ≡ changed c (contents_of d)
 changed_is c d =
     ap (λ l. record { term = c.hard.term; vote = number_of_vote c.hard.vote; floor = c.hard.floor; log = l }) (map-append item_of (take c.kept d.log) c.entries.items ∙ ap (λ l. l ++ items_of c.entries.items) (sym (take-map item_of c.kept d.log)))
-
-pub stored_length : (s : State) → IsSettled s → length (stored_in s.now).log ≡ length (contents_in s.now).log
-stored_length s set = length-map (contents_in s.now).log entry_in
-
--- where the three tables are, there are no others
-pub not_ours : (db : Database) (d : Durable) → db.schema ≡ schema → ((HoldsOld db (contents_of d) × (durable_in (contents_of d) ≡ d)) ⊎ ((db.schema ≡ no_schema) × (d ≡ blank))) → ⊥
-not_ours db d has it = elim it [
-  | inl old ↦ absurd (let e = ap (λ s. s.tables) (sym has ∙ old.0.tables) in cc)
-  | inr none ↦ absurd (let e = ap (λ s. s.tables) (sym has ∙ none.0) in cc)
-]
 
 -- ---- save
 
@@ -89,54 +32,6 @@ kept_offers old new d set it offer =
     let same = it.committed offer.is_open ∙ set.committed in
     is_stored new.committed (contents_in old.now) d (subst (λ db. Holds db (contents_in old.now)) (sym same) set.holds) offer.found ∙ ap stored_in same
 
--- ---- open
-
-pub made_settles : (old new : State) → old.now.schema ≡ no_schema → IsMade old new IsBlank → IsSettled new × (stored_in new.now ≡ blank)
-made_settles old new none it =
-    let has = it.made none in
-    let read = read_back new.now none_yet has in
-    let stored = ap durable_in read in
-    (record { is_open = it.is_open; committed = it.committed; holds = subst (Holds new.now) (sym read) has; plain = ap contents_of stored ∙ sym read }, stored)
-
--- an open of the tables that were made where there were none finds what was never written
-pub made_left : (old new : State) (d : Durable) → HasCleanDisk old → old.in_transaction ≡ false → (IsTrue old.is_open → old.now ≡ old.committed) → old.now.schema ≡ no_schema → IsMade old new IsBlank → Offers new d → Offers old d
-made_left old new d clean out settled none it offer =
-    let all = made_settles old new none it in
-    record {
-      clean = clean;
-      is_open = it.was_open;
-      autocommit = out;
-      texts = offer.texts;
-      found = inr (inr (ap (λ (b : Database). b.schema) (sym (settled it.was_open)) ∙ none, offers_stored new d all.0 offer ∙ all.1));
-    }
-
--- an open finds the same with and without the table for the floor, where that was made
-pub raised_left : (old new : State) (d : Durable) → HasCleanDisk old → old.in_transaction ≡ false → (IsTrue old.is_open → old.now ≡ old.committed) → old.now.schema ≡ old_schema → IsMade old new IsRaised → Offers new d → Offers old d
-raised_left old new d clean out settled has it offer =
-    let one = it.made has in
-    let tables : new.committed.schema ≡ schema = ap (λ (b : Database). b.schema) it.committed ∙ one.tables in
-    record {
-      clean = clean;
-      is_open = it.was_open;
-      autocommit = out;
-      texts = offer.texts;
-      found = elim offer.found [
-        | inl held ↦ inr (inl (subst (λ db. HoldsOld db (contents_of d)) (settled it.was_open) (raised_back old.now new.now (contents_of d) has one (subst (λ db. Holds db (contents_of d)) it.committed held.0)), held.1))
-        | inr rest ↦ absurd (not_ours new.committed d tables rest)
-      ];
-    }
-
-pub kept_back : (old new : State) (d : Durable) → HasCleanDisk old → old.in_transaction ≡ false → IsKept old new → Offers new d → Offers old d
-kept_back old new d clean out it offer =
-    let same = it.committed offer.is_open in
-    record {
-      clean = clean;
-      is_open = it.was_open offer.is_open;
-      autocommit = out;
-      texts = offer.texts;
-      found = subst (λ db. IsIn db d) same offer.found;
-    }
-
 -- ---- reading
 
 pub same_settles : (old new : State) → IsSettled old → IsUnchanged old new → IsSettled new × (stored_in new.now ≡ stored_in old.now)
@@ -150,67 +45,10 @@ same_settles old new set same = (
   ap stored_in same.0.now_is,
 )
 
-pub keeps_offers : (old new : State) (d : Durable) → HasCleanDisk old → old.in_transaction ≡ false → KeepsCommit old new → Offers new d → Offers old d
-keeps_offers old new d clean out it offer = record {
-  clean = clean;
-  is_open = it.was_open offer.is_open;
-  autocommit = out;
-  texts = offer.texts;
-  found = subst (λ db. IsIn db d) (it.committed offer.is_open) offer.found;
-}
+-- ---- how long the log is
 
--- ---- an open of tables that are there
-
-pub found_opens : (old new : State) (members : ℕ) (tables : Tables) (n : ℕ) → HasCleanDisk old → old.in_transaction ≡ false → IsReady old → IsUnchanged old new → IsFound old.now members tables n → IsOpened old new members tables n
-found_opens old new members tables n clean out ready same found =
-    let d = found.d in
-    let plain = log_plain members tables d found.forms in
-    let has = subst (λ db. Holds db (contents_of d)) (sym same.0.now_is) found.holds in
-    let read = read_back new.now (contents_of d) has in
-    let stored = ap durable_in read ∙ plain in
-    let was = ready.committed same.0.was_open in
-    record {
-      settled = record {
-        is_open = same.0.is_open;
-        committed = same.0.committed_is ∙ sym was ∙ sym same.0.now_is;
-        holds = subst (Holds new.now) (sym read) has;
-        plain = ap contents_of stored ∙ sym read;
-      };
-      offers = record {
-        clean = clean;
-        is_open = same.0.was_open;
-        autocommit = out;
-        texts = subst (λ x. AreTexts x.log) (sym stored) found.texts;
-        found = inl (subst (λ x. Holds old.committed (contents_of x) × (durable_in (contents_of x) ≡ x)) (sym stored) (subst (λ db. Holds db (contents_of d)) was found.holds, plain));
-      };
-      forms = subst (IsLog members tables) (sym stored) found.forms;
-      counted = found.counted ∙ sym (ap (λ (c : Contents). length c.log) read ∙ length-map d.log item_of);
-    }
-
-pub opened_from : (old mid new : State) (members : ℕ) (tables : Tables) (n : ℕ) → ((d : Durable) → Offers mid d → Offers old d) → IsOpened mid new members tables n → IsOpened old new members tables n
-opened_from old mid new members tables n left it = record { settled = it.settled; offers = left _ it.offers; forms = it.forms; counted = it.counted }
-
--- ---- where nothing is found
-
--- what is committed in a connection with another schema is no log
-pub other_schema : (s : State) (d : Durable) → (IsTrue s.is_open → s.now ≡ s.committed) → (s.now.schema ≡ schema → ⊥) → (s.now.schema ≡ old_schema → ⊥) → (s.now.schema ≡ no_schema → ⊥) → Offers s d → ⊥
-other_schema s d settled theirs older some offer =
-    let same = ap (λ (b : Database). b.schema) (settled offer.is_open) in
-    elim offer.found [
-      | inl has ↦ theirs (same ∙ has.0.tables)
-      | inr rest ↦ elim rest [
-        | inl old ↦ older (same ∙ old.0.tables)
-        | inr none ↦ some (same ∙ none.0)
-      ]
-    ]
-
-pub no_log_found : (old new : State) (members : ℕ) (tables : Tables) → IsReady old → IsUnchanged old new → IsNoLog old.now members tables → IsBad new members tables
-no_log_found old new members tables ready same none d offer forms =
-    let was : new.committed ≡ old.now = same.0.committed_is ∙ sym (ready.committed same.0.was_open) in
-    elim offer.found [
-      | inl held ↦ none d (subst (λ db. Holds db (contents_of d)) was held.0) forms offer.texts
-      | inr rest ↦ not_ours new.committed d (ap (λ (b : Database). b.schema) was ∙ ready.tables) rest
-    ]
+pub stored_length : (s : State) → IsSettled s → length (stored_in s.now).log ≡ length (contents_in s.now).log
+stored_length s set = length-map (contents_in s.now).log entry_in
 
 pub after_length : (c : Change) (d : Durable) → c.kept ≤ length d.log → length (after c d).log ≡ c.kept + length c.entries.items
 after_length c d low =

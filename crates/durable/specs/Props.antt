@@ -8,9 +8,9 @@ use Rattle.sqlite.specs.Schema.{Schema}
 use Rattle.sqlite_trees.specs.Props.{Trees-set, rows_set}
 use Rattle.sqlite.specs.Effect.{Database}
 use Rattle.sqlite.specs.State.{State}
-use Rattle.durable.specs.Contents.{Item, Contents}
-use Rattle.durable.specs.Rows.{Holds}
-use Rattle.durable.specs.Stored.{IsSettled, contents_in}
+use Rattle.storetables.specs.Contents.{Item, Contents}
+use Rattle.storetables.specs.Rows.{Holds}
+use Rattle.storetables.specs.Stored.{IsSettled, contents_in}
 
 pub Schema-set : IsSet Schema
 Schema-set = Coded-set schema_row.the_row.coded

@@ -4,13 +4,14 @@ ghost use Rattle.sqlite.specs.State.{HasCleanDisk, Survives};
 ghost use Rattle.sqlite.specs.Held.{state};
 ghost use Rattle.sqlite.specs.Tree.{Trees};
 ghost use Rattle.keep.specs.Log.{IsSmall};
-ghost use Rattle.durable.specs.Contents.{Contents, changed};
-ghost use Rattle.durable.specs.Steps.{IsSaved, IsKept, Leaves};
-ghost use Rattle.durable.specs.Rows.{Holds};
+ghost use Rattle.storetables.specs.Contents.{Contents, changed};
+ghost use Rattle.storetables.specs.Rows.{Holds};
+ghost use Rattle.storetables.specs.Steps.{IsKept};
+ghost use Rattle.durable.specs.Saving.{IsSaved, Leaves};
 
-use crate::steps::write_change;
 use keep::Change;
 use sqlite::{Alter, Connection, Error};
+use storetables::steps::write_change;
 
 /// Makes a change in one transaction.
 fn transact<S: Alter>(conn: &mut Connection<S>, change: &Change) -> Result<(), Error>

@@ -2,6 +2,7 @@
 use crate::packets::{beat, floor, submit, timeout};
 use crate::seats::{Failing, Seat};
 use answertext::Lines;
+use cells::cell::Out;
 use fault::Refusal;
 use flight::life::Packet;
 use keep::StoreError;
@@ -9,7 +10,6 @@ use model::mark::Mark;
 use model::member::Member;
 use model::message::Message;
 use node::{Fault, Out as Given};
-use nodes::cell::Out;
 use schema::Schema;
 use sqlread::query::{Query, read_query};
 use std::alloc::{AllocError, Global};

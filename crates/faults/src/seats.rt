@@ -7,13 +7,13 @@ ghost use Rattle.keep.specs.Log.{IsLog, log_prop};
 ghost use Rattle.node.specs.Member.{me_of, members_of, tables_of};
 
 use answer::Answer;
+use cells::cell::{Cell, Out};
 use fault::Refusal;
 use flight::life::Packet;
 use keep::{MemImage, MemKeeper};
 use model::mark::Mark;
 use model::member::Member;
 use node::Fault;
-use nodes::cell::{Cell, Out};
 use schema::Schema;
 use sqlread::query::Query;
 use std::alloc::Global;

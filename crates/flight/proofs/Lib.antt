@@ -8,4 +8,3 @@ pub mod Messages
 pub mod Numbers
 pub mod Stories
 pub mod Tellings
-pub mod Whole

@@ -2,8 +2,6 @@ pub mod Additions
 pub mod Bodies
 pub mod Contents
 pub mod Courses
-pub mod Files
-pub mod Heads
 pub mod Lives
 pub mod Packets
 pub mod Ranges

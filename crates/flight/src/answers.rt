@@ -50,8 +50,9 @@ fn read_answer<'a>(
     Ok((recorded, rest))
 }
 
-// The answers, and the line that ends the file.
-pub(crate) fn read_answers<'a>(
+/// The answers, each with its mark, its query, which has to read over the tables, and its lines; then the line that ends the
+/// file. What is none of these is refused 50; want of memory is 43.
+pub fn read_answers<'a>(
     alloc: Global,
     schema: &Schema,
     text: &'a str,

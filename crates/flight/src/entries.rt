@@ -75,8 +75,8 @@ fn read_each_entry(alloc: Global, count: u64, text: &str) -> Result<(Vec<Entry>,
     Ok((entries, rest))
 }
 
-// How many entries, and then these entries.
-pub(crate) fn read_entries(alloc: Global, text: &str) -> Result<(Vec<Entry>, &str), Refusal>
+/// How many entries, and then these entries. What is not so many is refused 50; want of memory is 43.
+pub fn read_entries(alloc: Global, text: &str) -> Result<(Vec<Entry>, &str), Refusal>
     ensures ok { IfOk result (λ p. Spells (All IsEntry) entries_text text.now p.0.items p.1.now) }
     ensures only { IfOk result (λ p. SpellsOnly (All IsEntry) entries_text text.now p.0.items p.1.now) }
     ensures err { IfErr result (IsUnread (All IsEntry) entries_text text.now) }

@@ -1,22 +1,19 @@
-//! Flights: what is recorded of each life of a node, and the one text that it is stored as.
+//! Flights: what is recorded of each life of a node, the one text that it is stored as, and the readers of the parts of that text.
 #![tactic(auto)]
 
-mod answers;
+pub mod answers;
 mod bodies;
-mod entries;
+pub mod entries;
 mod file;
 pub mod flight;
 pub mod laws;
 pub mod life;
-mod lives;
 pub mod outcome;
 mod packets;
-mod parts;
-mod reading;
-mod steps;
+pub mod parts;
+pub mod steps;
 mod writing;
 
 pub use file::{WriteFault, write_flight};
 pub use flight::{Flight, Recorded, Version};
-pub use reading::read_flight;
 pub use writing::text_of_flight;

@@ -23,8 +23,8 @@ pub(crate) fn after<'a>(text: &'a str, word: &str) -> Option<&'a str>
     text.strip_prefix(word)
 }
 
-// What follows this word, with which the text has to begin.
-pub(crate) fn past<'a>(text: &'a str, word: &str) -> Result<&'a str, Refusal>
+/// What follows this word, with which the text has to begin: else it is refused 50.
+pub fn past<'a>(text: &'a str, word: &str) -> Result<&'a str, Refusal>
     ensures ok { IfOk result (λ rest. IsAfter word.now text.now rest.now) }
     ensures err { IfErr result (λ r. (r ≡ BadFlight) × IsNotBegun word.now text.now) }
 {
@@ -34,8 +34,8 @@ pub(crate) fn past<'a>(text: &'a str, word: &str) -> Result<&'a str, Refusal>
     }
 }
 
-// Whether the text begins with this word.
-pub(crate) fn begins(text: &str, word: &str) -> bool
+/// Whether the text begins with this word.
+pub fn begins(text: &str, word: &str) -> bool
     ensures { MatchBool result ((rest : List ℕ) × (text.now ≡ word.now ++ rest)) (IsNotBegun word.now text.now) }
 {
     after(text, word).is_some()
@@ -51,8 +51,9 @@ fn split(text: &str, end: char) -> Option<(&str, &str)>
     text.split_once(end)
 }
 
-// A number, up to the character that ends it.
-pub(crate) fn read_number(text: &str, end: char) -> Result<(u64, &str), Refusal>
+/// A number below 2^64 in decimal without leading zeros, up to the character that ends it, which is below the digits. What is
+/// none is refused 50.
+pub fn read_number(text: &str, end: char) -> Result<(u64, &str), Refusal>
     requires { end < 48 }
     ensures ok { IfOk result (λ p. Spells IsNumber (number_text end) text.now p.0 p.1.now) }
     ensures only { IfOk result (λ p. SpellsOnly IsNumber (number_text end) text.now p.0 p.1.now) }
@@ -98,8 +99,8 @@ pub(crate) fn read_flag(text: &str, end: char) -> Result<(bool, &str), Refusal>
     }
 }
 
-// The first line, which names the version.
-pub(crate) fn read_version(text: &str) -> Result<(Version, &str), Refusal>
+/// The first line, which names the version, 1 to 3. Any other is refused 50.
+pub fn read_version(text: &str) -> Result<(Version, &str), Refusal>
     ensures ok { IfOk result (λ p. Spells (λ _. ⊤) version_text text.now p.0 p.1.now) }
     ensures only { IfOk result (λ p. SpellsOnly (λ _. ⊤) version_text text.now p.0 p.1.now) }
     ensures err { IfErr result (IsUnread (λ _. ⊤) version_text text.now) }
@@ -114,8 +115,9 @@ pub(crate) fn read_version(text: &str) -> Result<(Version, &str), Refusal>
     }
 }
 
-// The mark of an opening or a step, up to the character that ends it.
-pub(crate) fn read_mark(text: &str, end: char) -> Result<(Mark, &str), Refusal>
+/// The mark of an opening or a step, from 1 to `LAST_MARK`, up to the character that ends it, which is below the digits. What is
+/// none is refused 50.
+pub fn read_mark(text: &str, end: char) -> Result<(Mark, &str), Refusal>
     requires { end < 48 }
     ensures ok { IfOk result (λ p. Spells IsMark (number_text end) text.now p.0 p.1.now) }
     ensures only { IfOk result (λ p. SpellsOnly IsMark (number_text end) text.now p.0 p.1.now) }
@@ -172,8 +174,8 @@ pub(crate) fn read_request_number(text: &str, end: char) -> Result<(RequestNumbe
     Ok((number, rest))
 }
 
-// The member that a vote went to, or 0 for none, up to a space.
-pub(crate) fn read_vote(text: &str) -> Result<(Option<Member>, &str), Refusal>
+/// The member that a vote went to, or 0 for none, up to a space. What is neither is refused 50.
+pub fn read_vote(text: &str) -> Result<(Option<Member>, &str), Refusal>
     ensures ok { IfOk result (λ p. Spells IsVote vote_text text.now p.0 p.1.now) }
     ensures only { IfOk result (λ p. SpellsOnly IsVote vote_text text.now p.0 p.1.now) }
     ensures err { IfErr result (IsUnread IsVote vote_text text.now) }
@@ -202,11 +204,9 @@ pub(crate) fn read_floor(text: &str, end: char) -> Result<(Option<Stamp>, &str),
     Ok((Some(Stamp::new(number as u64)), rest))
 }
 
-// The floor of a life's opening, up to a space. Versions 1 and 2 leave it out, and there is none.
-pub(crate) fn read_opening_floor(
-    version: Version,
-    text: &str,
-) -> Result<(Option<Stamp>, &str), Refusal>
+/// The floor of a life's opening, an instant or -1 for none, up to a space. Versions 1 and 2 leave it out, and there is none.
+/// What is neither is refused 50.
+pub fn read_opening_floor(version: Version, text: &str) -> Result<(Option<Stamp>, &str), Refusal>
     ensures ok { IfOk result (λ p. Spells (IsFloorIn version) (opening_floor_text version) text.now p.0 p.1.now) }
     ensures only { IfOk result (λ p. SpellsOnly (IsFloorIn version) (opening_floor_text version) text.now p.0 p.1.now) }
     ensures err { IfErr result (IsUnread (IsFloorIn version) (opening_floor_text version) text.now) }
@@ -221,8 +221,9 @@ pub(crate) fn read_opening_floor(
     }
 }
 
-// The length of a block, and then the block.
-pub(crate) fn read_block(alloc: Global, text: &str) -> Result<(Text, &str), Refusal>
+/// The length of a block in bytes, in a line of its own, and then the block and the end of its line. It is refused 50 where the
+/// length is not the true one, and 43 for want of memory.
+pub fn read_block(alloc: Global, text: &str) -> Result<(Text, &str), Refusal>
     ensures ok { IfOk result (λ p. Spells (λ _. ⊤) block_text text.now p.0 p.1.now) }
     ensures only { IfOk result (λ p. SpellsOnly (λ _. ⊤) block_text text.now p.0 p.1.now) }
     ensures err { IfErr result (IsUnread (λ _. ⊤) block_text text.now) }

@@ -105,8 +105,9 @@ fn read_ending(
     Ok((Ending::Torn(step), rest))
 }
 
-// The steps of a life, and its ending.
-pub(crate) fn read_course(
+/// The steps of a life of this node, in this version of the file, and its ending. What is none of these is refused 50; want of
+/// memory is 43.
+pub fn read_course(
     alloc: Global,
     version: Version,
     node: Member,

@@ -2,11 +2,11 @@
 ghost use Rattle.std.specs.Prelude.{◌≡◌, ◌≤◌};
 
 use crate::driver::Driver;
+use cells::cell::Out;
 use fault::Refusal;
 use flight::life::Packet;
 use model::member::Member;
 use model::message::{Body, Input, Message};
-use nodes::cell::Out;
 use nodes::seat::Report;
 use nodes::{Fault, Given};
 use std::sync::Wait;

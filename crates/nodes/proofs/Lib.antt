@@ -1,4 +1,1 @@
-pub mod Replays
-pub mod Rising
-pub mod Items
 pub mod Carried

@@ -3,8 +3,8 @@ ghost use Rattle.std.specs.Prelude.{◌≡◌, ◌≤◌, IfOk, IfErr};
 ghost use Rattle.sqlread.specs.Meaning.{schema_of};
 ghost use Rattle.node.specs.Member.{members_of, tables_of};
 
-use crate::cell::{Cell, Out};
 use crate::gate::{Gate, Point};
+use cells::cell::{Cell, Out};
 use fault::Refusal;
 use flight::life::{Life, Packet};
 use keep::keeper::Keeper;

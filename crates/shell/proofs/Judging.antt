@@ -10,18 +10,18 @@ use Rattle.fault.specs.declared.refusal.Refusal.{Refusal}
 use Rattle.fault.specs.declared.refusal.Refusal.TheVariants.{NoMemory, BadFlight}
 use Rattle.flight.specs.Contents.{FlightContents, in_life}
 use Rattle.flight.specs.Ranges.{IsFlight}
-use Rattle.auditor.specs.declared.recorded.Recorded.{Recorded as Judged}
+use Rattle.moments.specs.declared.recorded.Recorded.{Recorded as Judged}
 use Rattle.flight.specs.declared.flight.Recorded.{Recorded}
 use Rattle.flight.specs.declared.flight.Version.{Version}
 use Rattle.flight.specs.declared.flight.Version.TheVariants.{Two}
 use Rattle.flight.specs.declared.life.Life.{Life}
 use Rattle.sqlchecks.specs.Columns.{Tables}
+use Rattle.moments.specs.Behind.{Records}
+use Rattle.moments.specs.Faults.{NoneAre}
+use Rattle.moments.specs.declared.recorded.AuditFault.{AuditFault}
+use Rattle.moments.specs.declared.recorded.AuditFault.TheVariants.{NoMemory as NoMemoryLeft}
 use Rattle.auditor.specs.Audited.{Explains, IsFirst}
-use Rattle.auditor.specs.Behind.{Records}
-use Rattle.auditor.specs.Faults.{NoneAre, OfRun}
-use Rattle.auditor.specs.Rising.{IsOrderFault}
-use Rattle.auditor.specs.declared.recorded.AuditFault.{AuditFault}
-use Rattle.auditor.specs.declared.recorded.AuditFault.TheVariants.{NoMemory as NoMemoryLeft}
+use Rattle.auditor.specs.Faults.{IsOrderFault, OfRun}
 use Rattle.shell.specs.Audit.{judged_of, judged_from, records_of, IsFaultOf, IsJudged, IsSaid}
 use Rattle.shell.specs.Group.{IsNoGroup, IsRunIn}
 

@@ -3,13 +3,14 @@ use Rattle.std.specs.Prelude.{◌≡◌, ◌≢◌, ◌++◌, ℕ, zero, suc, Li
 use Rattle.std.specs.Io.KnownBytes.{Appends}
 use Rattle.std.specs.declared.vec.Vec.{Vec}
 use Rattle.std.specs.declared.alloc.Global.{Global}
+use Rattle.moments.specs.Behind.{Records}
+use Rattle.moments.specs.Faults.{refusal_of, NoneAre}
+use Rattle.moments.specs.Rising.{Rise}
+use Rattle.moments.specs.declared.recorded.AuditFault.{AuditFault}
+use Rattle.moments.specs.declared.recorded.AuditFault.TheVariants.{NoMemory}
+use Rattle.moments.specs.declared.recorded.Recorded.{Recorded as Judged}
 use Rattle.auditor.specs.Audited.{Explains, IsFirst}
-use Rattle.auditor.specs.Behind.{Records}
-use Rattle.auditor.specs.Faults.{refusal_of, NoneAre, OfRun}
-use Rattle.auditor.specs.Rising.{Rise, IsOrderFault}
-use Rattle.auditor.specs.declared.recorded.AuditFault.{AuditFault}
-use Rattle.auditor.specs.declared.recorded.AuditFault.TheVariants.{NoMemory}
-use Rattle.auditor.specs.declared.recorded.Recorded.{Recorded as Judged}
+use Rattle.auditor.specs.Faults.{IsOrderFault, OfRun}
 use Rattle.fault.specs.Refusal.{shown}
 use Rattle.flight.specs.declared.flight.Recorded.{Recorded}
 use Rattle.flight.specs.declared.flight.Version.{Version}

@@ -1,7 +1,7 @@
 //! The command `audit`, and the audit at the end of `live`.
 ghost use Rattle.std.specs.Prelude.{◌≡◌, ◌≢◌, ◌≤◌, ◌++◌, ◌⊎◌, ℕ, List, length, map, string_bytes, Err, IfOk, IfErr, OnOk};
 ghost use Rattle.std.specs.Io.KnownBytes.{Appends};
-ghost use Rattle.auditor.specs.declared.recorded.AuditFault.TheVariants.{NoMemory as NoMemoryLeft};
+ghost use Rattle.moments.specs.declared.recorded.AuditFault.TheVariants.{NoMemory as NoMemoryLeft};
 ghost use Rattle.fault.specs.declared.refusal.Refusal.TheVariants.{NoMemory, BadFlight};
 ghost use Rattle.fault.specs.declared.refusal.Refusal.{Refusal as AnyRefusal};
 ghost use Rattle.shell.specs.Audit.{IsExplained, IsFaultOf, IsJudged, IsSaid, judged_of, judged_from, line_of, records_of};

@@ -12,7 +12,7 @@ ghost use Rattle.shell.specs.Reading.{AreRead, InOrder, LacksNode};
 use crate::flights::Flown;
 use fault::Refusal;
 use flight::flight::{Flight, Version};
-use flight::read_flight;
+use flightread::read_flight;
 use model::member::Member;
 use schema::Schema;
 use schemaread::laws::schema_says;

@@ -1,12 +1,13 @@
 use Rattle.std.proofs.Common.{rules, ◌≡◌, ◌∙◌, ◌+◌, ◌<◌, List, [], ◌∷◌, ◌++◌, take, length, ap, sym, subst, refl, append-nil}
 use Rattle.std.specs.Prelude.{IfErr}
-use Rattle.auditor.specs.Behind.{Records, IsBehind}
-use Rattle.auditor.specs.Faults.{IsFaultAt, IsNo, Lacks}
+use Rattle.moments.specs.Behind.{Records, IsBehind}
+use Rattle.moments.specs.Faults.{IsFaultAt, IsNo, Lacks}
 use Rattle.std.proofs.lemmas.List.{take_more}
 use Rattle.model.specs.Worlds.{Event}
 use Rattle.world.specs.Run.{tables_in, members_in, events_of}
-use Rattle.auditor.specs.declared.moment.Moment.{Moment}
-use Rattle.auditor.specs.View.{past_of, IsLed}
+use Rattle.moments.specs.declared.moment.Moment.{Moment}
+use Rattle.moments.specs.View.{past_of}
+use Rattle.auditor.specs.View.{IsLed}
 use Rattle.auditor.proofs.Leading.{led_more, stuck_if}
 use Rattle.auditor.proofs.auditing.follow_all.Goals as goal
 

@@ -4,8 +4,8 @@ use Rattle.sqlite.specs.Effect.{Database}
 use Rattle.sqlite.specs.declared.error.Error.{Error}
 use Rattle.sqlite.specs.State.{State, HasCleanDisk}
 use Rattle.sqlite.specs.Held.{state}
-use Rattle.durable.specs.Contents.{Contents}
-use Rattle.durable.specs.Steps.{IsSaved}
+use Rattle.storetables.specs.Contents.{Contents}
+use Rattle.durable.specs.Saving.{IsSaved}
 use Rattle.durable.proofs.saving.commit_change.Goals as goal
 
 lasting : (old new : State) (made : Contents → Contents) (result : Result (Unit {0}) Error) → OnOk result (IsSaved old new made) → (IsTrue new.is_open → (trees : Trees) → new.may_leave trees → trees ≡ new.committed.trees)

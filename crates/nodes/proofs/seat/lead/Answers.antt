@@ -3,8 +3,7 @@ use Rattle.std.specs.Vec.{vec_capacity}
 use Rattle.sqlchecks.specs.Columns.{Tables}
 use Rattle.sqlread.specs.Meaning.{schema_of}
 use Rattle.node.specs.Member.{members_of, tables_of}
-use Rattle.nodes.proofs.Items.{on_ok}
-use Rattle.nodes.proofs.Carried.{carried}
+use Rattle.nodes.proofs.Carried.{carried, on_ok}
 use Rattle.nodes.proofs.seat.lead.Goals as goal
 
 pub push_reserved-requires : goal.push_reserved-requires

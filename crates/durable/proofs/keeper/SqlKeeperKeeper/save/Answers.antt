@@ -4,9 +4,10 @@ use Rattle.sqlite.specs.Held.{state}
 use Rattle.keep.specs.Durable.{Durable}
 use Rattle.keep.specs.Log.{IsLog}
 use Rattle.std.proofs.Common.{subst}
-use Rattle.durable.specs.Stored.{stored_in, Offers}
-use Rattle.durable.specs.Found.{offers_stored}
-use Rattle.durable.proofs.Settling.{log_plain, saved_settles, kept_offers, stored_length, after_length}
+use Rattle.storetables.specs.Stored.{stored_in, Offers}
+use Rattle.storetables.specs.Found.{offers_stored}
+use Rattle.storetables.proofs.Settling.{log_plain}
+use Rattle.durable.proofs.Settling.{saved_settles, kept_offers, stored_length, after_length}
 use Rattle.durable.proofs.keeper.SqlKeeperKeeper.save.Goals as goal
 
 pub invariant_of-self : goal.invariant_of-self

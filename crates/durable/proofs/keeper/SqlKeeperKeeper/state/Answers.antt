@@ -3,8 +3,9 @@ use Rattle.sqlite.specs.State.{HasCleanDisk}
 use Rattle.sqlite.specs.Held.{state}
 use Rattle.sqlite.specs.Effect.{Database}
 use Rattle.keep.specs.Log.{IsLog}
-use Rattle.durable.specs.Stored.{contents_in, Offers}
-use Rattle.durable.proofs.Settling.{stored_length, same_settles, keeps_offers}
+use Rattle.storetables.specs.Stored.{contents_in, Offers}
+use Rattle.storetables.proofs.Settling.{keeps_offers}
+use Rattle.durable.proofs.Settling.{stored_length, same_settles}
 use Rattle.durable.proofs.keeper.SqlKeeperKeeper.state.Goals as goal
 
 pub invariant_of-self : goal.invariant_of-self

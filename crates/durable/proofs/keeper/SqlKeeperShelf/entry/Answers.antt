@@ -3,9 +3,10 @@ use Rattle.sqlite.specs.State.{HasCleanDisk}
 use Rattle.sqlite.specs.Held.{state}
 use Rattle.sqlite.specs.Effect.{Database}
 use Rattle.keep.specs.Log.{IsLog}
-use Rattle.durable.specs.Stored.{contents_in, Offers}
-use Rattle.durable.proofs.Settling.{same_settles, keeps_offers}
-use Rattle.durable.proofs.Tails.{found_in}
+use Rattle.storetables.specs.Stored.{contents_in, Offers}
+use Rattle.storetables.proofs.Settling.{keeps_offers}
+use Rattle.storetables.proofs.Tails.{found_in}
+use Rattle.durable.proofs.Settling.{same_settles}
 use Rattle.durable.proofs.keeper.SqlKeeperShelf.entry.Goals as goal
 
 pub invariant_of-self-in-Ok : goal.invariant_of-self-in-Ok

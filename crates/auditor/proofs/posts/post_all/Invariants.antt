@@ -1,6 +1,0 @@
-use Rattle.std.proofs.Common.{◌≡◌, ◌++◌, map, take}
-use Rattle.auditor.specs.Posts.{messages_in, posted}
-use Rattle.auditor.proofs.posts.post_all.Given as goal
-
-abbrev pub invariant-loop-output : goal.invariant-loop-output
-invariant-loop-output l = l.posts.items ≡ l.initial.posts.items ++ map (posted l.mark) (messages_in (take l.output-index l.outputs))

@@ -1,0 +1,250 @@
+use Rattle.std.proofs.Common.{◌≡◌, ◌∙◌, ℕ, Option, List, [], ◌++◌, ◌∷◌, refl, sym, ap, subst}
+use Rattle.std.specs.List.{slice_range}
+use Rattle.node.specs.Member.{me_of, member_of, members_of, tables_of}
+use Rattle.model.specs.declared.entry.Entry.{Entry}
+use Rattle.history.specs.declared.item.Item.{Item}
+use Rattle.view.specs.Publishing.{published, pending}
+use Rattle.flight.specs.Lives.{step_of, with_outcomes}
+use Rattle.flight.specs.declared.life.Step.{Step}
+use Rattle.cells.specs.Publishing.{marked, marked_seal, items_by}
+use Rattle.cells.proofs.Rising.{rises_whole, rises_torn, made_for, made_of}
+use Rattle.cells.proofs.Replays.{seated, stepped_given, stepped_refused, replayed_given, replayed_refused, torn_left}
+use Rattle.cells.proofs.Items.{items_in, one_more, OneMore, same_grows, all_listed, still_listed, are_first, whole_left, items_still, listed_still, named_still}
+use Rattle.cells.proofs.cell.Cell.feed.Goals as goal
+
+-- ---- a step that was made whole
+
+pub invariant_of-self-in-Ok-step-clause-replayed : goal.invariant_of-self-in-Ok-step-clause-replayed
+invariant_of-self-in-Ok-step-clause-replayed g c = λ up.
+    let old = c.args.self.now in
+    let was = old.replayed c.in-Ok-step.ensures.up.0 in
+    let s : Step = c.with_outcomes.result in
+    let made : s ≡ with_outcomes c.in-Ok-note.outcomes (step_of c.in-Some.mark c.args.packet) = c.with_outcomes.ensures ∙ ap (λ (x : Step). with_outcomes c.in-Ok-note.outcomes x) c.new-step.ensures in
+    let items = c.push_reserved.ensures.items ∙ ap (λ xs. xs ++ s ∷ []) c.reserve.ensures.items in
+    let seat = c.step.ensures.group in
+    (λ honest. replayed_given (seated old.node) (seated c.step.new.self) old.life.opening old.life.steps.items _ s _ c.in-Ok-step.given seat.0 seat.1 seat.2 items (made_of s c.in-Some.mark c.args.packet c.in-Ok.work c.in-Ok-note.outcomes made c.in-Ok.ensures) (was.0 (c.step.ensures.honest honest)) (c.in-Ok-step.ensures.done c.in-Ok-step.ensures.up.0 honest), was.1)
+
+pub invariant_of-self-in-Ok-step-clause-rising : goal.invariant_of-self-in-Ok-step-clause-rising
+invariant_of-self-in-Ok-step-clause-rising g c =
+    let old = c.args.self.now in
+    let s : Step = c.with_outcomes.result in
+    let made : s ≡ with_outcomes c.in-Ok-note.outcomes (step_of c.in-Some.mark c.args.packet) = c.with_outcomes.ensures ∙ ap (λ (x : Step). with_outcomes c.in-Ok-note.outcomes x) c.new-step.ensures in
+    let items = c.push_reserved.ensures.items ∙ ap (λ xs. xs ++ s ∷ []) c.reserve.ensures.items in
+    rises_whole old.life _ s (old.replayed c.if-not-self.false).1 old.rising (made_for old.life s c.in-Some.mark c.args.packet c.in-Ok-note.outcomes made (sym c.in-Some.is ∙ c.mark_for.ensures)) items
+
+pub invariant_of-self-in-Ok-step-clause-listed : goal.invariant_of-self-in-Ok-step-clause-listed
+invariant_of-self-in-Ok-step-clause-listed g c = λ honest.
+    let old = c.args.self.now in
+    let up = c.in-Ok-step.ensures.up.0 in
+    let before = c.step.ensures.honest honest in
+    let s : Step = c.with_outcomes.result in
+    let made : s ≡ with_outcomes c.in-Ok-note.outcomes (step_of c.in-Some.mark c.args.packet) = c.with_outcomes.ensures ∙ ap (λ (x : Step). with_outcomes c.in-Ok-note.outcomes x) c.new-step.ensures in
+    let items = c.push_reserved.ensures.items ∙ ap (λ xs. xs ++ s ∷ []) c.reserve.ensures.items in
+    let seat = c.step.ensures.group in
+    let is = stepped_given (tables_of old.node) (members_of old.node) (me_of old.node) (member_of old.node) s c.in-Ok.work (member_of c.step.new.self) c.in-Ok-step.given (made_of s c.in-Some.mark c.args.packet c.in-Ok.work c.in-Ok-note.outcomes made c.in-Ok.ensures) (c.in-Ok-step.ensures.done up honest) in
+    (one_more (seated old.node) (seated c.step.new.self) old.life.opening old.life.steps.items c.push_reserved.new.self.items s seat.0 seat.1 seat.2 items ((old.replayed up).0 before) is (c.in-Ok-step.ensures.grows honest) (record { entries = old.listed before; sealed = old.sealed before })).listed.entries
+
+pub invariant_of-self-in-Ok-step-clause-sealed : goal.invariant_of-self-in-Ok-step-clause-sealed
+invariant_of-self-in-Ok-step-clause-sealed g c = λ honest.
+    let old = c.args.self.now in
+    let up = c.in-Ok-step.ensures.up.0 in
+    let before = c.step.ensures.honest honest in
+    let s : Step = c.with_outcomes.result in
+    let made : s ≡ with_outcomes c.in-Ok-note.outcomes (step_of c.in-Some.mark c.args.packet) = c.with_outcomes.ensures ∙ ap (λ (x : Step). with_outcomes c.in-Ok-note.outcomes x) c.new-step.ensures in
+    let items = c.push_reserved.ensures.items ∙ ap (λ xs. xs ++ s ∷ []) c.reserve.ensures.items in
+    let seat = c.step.ensures.group in
+    let is = stepped_given (tables_of old.node) (members_of old.node) (me_of old.node) (member_of old.node) s c.in-Ok.work (member_of c.step.new.self) c.in-Ok-step.given (made_of s c.in-Some.mark c.args.packet c.in-Ok.work c.in-Ok-note.outcomes made c.in-Ok.ensures) (c.in-Ok-step.ensures.done up honest) in
+    (one_more (seated old.node) (seated c.step.new.self) old.life.opening old.life.steps.items c.push_reserved.new.self.items s seat.0 seat.1 seat.2 items ((old.replayed up).0 before) is (c.in-Ok-step.ensures.grows honest) (record { entries = old.listed before; sealed = old.sealed before })).listed.sealed
+
+pub invariant_of-self-in-Ok-step-clause-whole : goal.invariant_of-self-in-Ok-step-clause-whole
+invariant_of-self-in-Ok-step-clause-whole g c = λ now honest.
+    let old = c.args.self.now in
+    let new = c.step.new.self in
+    let up = c.in-Ok-step.ensures.up.0 in
+    let before = c.step.ensures.honest honest in
+    let s : Step = c.with_outcomes.result in
+    let made : s ≡ with_outcomes c.in-Ok-note.outcomes (step_of c.in-Some.mark c.args.packet) = c.with_outcomes.ensures ∙ ap (λ (x : Step). with_outcomes c.in-Ok-note.outcomes x) c.new-step.ensures in
+    let items = c.push_reserved.ensures.items ∙ ap (λ xs. xs ++ s ∷ []) c.reserve.ensures.items in
+    let seat = c.step.ensures.group in
+    let is = stepped_given (tables_of old.node) (members_of old.node) (me_of old.node) (member_of old.node) s c.in-Ok.work (member_of new) c.in-Ok-step.given (made_of s c.in-Some.mark c.args.packet c.in-Ok.work c.in-Ok-note.outcomes made c.in-Ok.ensures) (c.in-Ok-step.ensures.done up honest) in
+    let more : OneMore (seated old.node) (seated new) old.life.opening old.life.steps.items c.push_reserved.new.self.items s = one_more (seated old.node) (seated new) old.life.opening old.life.steps.items c.push_reserved.new.self.items s seat.0 seat.1 seat.2 items ((old.replayed up).0 before) is (c.in-Ok-step.ensures.grows honest) (record { entries = old.listed before; sealed = old.sealed before }) in
+    let by : List Item = items_by s.mark (member_of old.node) (member_of new) in
+    let given = c.in-Ok-step.given in
+    let waits : pending c.note.new.publisher ≡ pending old.publisher ++ by =
+    c.in-Ok-note.ensures.pending
+    ∙ ap (λ (es : List Entry). pending old.publisher ++ (marked c.in-Some.mark es ++ marked_seal c.in-Some.mark given.sealed)) (c.in-Ok-step.ensures.applied honest)
+    ∙ ap (λ (t : Option ℕ). pending old.publisher ++ (marked c.in-Some.mark (slice_range (member_of new).log (member_of old.node).commit (member_of new).commit) ++ marked_seal c.in-Some.mark t)) (c.in-Ok-step.ensures.sealed honest)
+    ∙ ap (λ (x : Step). pending old.publisher ++ items_by x.mark (member_of old.node) (member_of new)) (sym made) in
+    let all : published c.publish_all.new.publisher ++ pending c.publish_all.new.publisher ≡ published old.publisher ++ pending c.note.new.publisher = c.publish_all.ensures.all ∙ ap (λ (xs : List Item). xs ++ pending c.note.new.publisher) c.note.ensures.same.2 in
+    all_listed (items_in (seated old.node) old.life.opening old.life.steps.items) (published old.publisher) (pending old.publisher) (items_in (seated new) old.life.opening c.push_reserved.new.self.items) by (pending c.note.new.publisher) _ (old.whole up before) waits more.items all
+
+pub invariant_of-self-in-Ok-step-clause-named : goal.invariant_of-self-in-Ok-step-clause-named
+invariant_of-self-in-Ok-step-clause-named g c =
+    let old = c.args.self.now in
+    let node = old.node in
+    let seat = c.step.ensures.group in
+    let first = named_still (tables_of node) (tables_of node) (me_of node) (me_of node) old.life.opening.mark old.publisher c.note.new.publisher old.named c.note.ensures.same.0 refl refl in
+    named_still (tables_of node) (tables_of c.step.new.self) (me_of node) (me_of c.step.new.self) old.life.opening.mark c.note.new.publisher c.publish_all.new.publisher first c.publish_all.ensures.same.0 seat.0 seat.2
+
+-- ---- a step that was refused
+
+pub invariant_of-self-in-Err-Kept-clause-replayed : goal.invariant_of-self-in-Err-Kept-clause-replayed
+invariant_of-self-in-Err-Kept-clause-replayed g c = λ up.
+    let old = c.args.self.now in
+    let step = rw c.in-Err-Kept.field-0-is at c.in-Err-Kept.ensures in
+    let was = old.replayed c.if-not-self.false in
+    let s : Step = c.new-step.result in
+    let items = c.push_reserved-in-Err-Kept.ensures.items ∙ ap (λ xs. xs ++ s ∷ []) c.reserve.ensures.items in
+    let seat = c.step.ensures.group in
+    (λ honest. replayed_refused (seated old.node) (seated c.step.new.self) old.life.opening old.life.steps.items _ s _ _ seat.0 seat.1 seat.2 items (made_of s c.in-Some.mark c.args.packet c.in-Ok.work [] c.new-step.ensures c.in-Ok.ensures) (was.0 (c.step.ensures.honest honest)) (step.done c.if-not-self.false honest) (step.same honest), was.1)
+
+pub invariant_of-self-in-Err-Kept-clause-rising : goal.invariant_of-self-in-Err-Kept-clause-rising
+invariant_of-self-in-Err-Kept-clause-rising g c =
+    let old = c.args.self.now in
+    let s : Step = c.new-step.result in
+    let items = c.push_reserved-in-Err-Kept.ensures.items ∙ ap (λ xs. xs ++ s ∷ []) c.reserve.ensures.items in
+    rises_whole old.life _ s (old.replayed c.if-not-self.false).1 old.rising (made_for old.life s c.in-Some.mark c.args.packet [] c.new-step.ensures (sym c.in-Some.is ∙ c.mark_for.ensures)) items
+
+pub invariant_of-self-in-Err-Kept-clause-listed : goal.invariant_of-self-in-Err-Kept-clause-listed
+invariant_of-self-in-Err-Kept-clause-listed g c = λ honest.
+    let old = c.args.self.now in
+    let new = c.step.new.self in
+    let step = rw c.in-Err-Kept.field-0-is at c.in-Err-Kept.ensures in
+    let up = c.if-not-self.false in
+    let before = c.step.ensures.honest honest in
+    let s : Step = c.new-step.result in
+    let items = c.push_reserved-in-Err-Kept.ensures.items ∙ ap (λ xs. xs ++ s ∷ []) c.reserve.ensures.items in
+    let seat = c.step.ensures.group in
+    let is = stepped_refused (tables_of old.node) (members_of old.node) (me_of old.node) (member_of old.node) s c.in-Ok.work (member_of new) _ (made_of s c.in-Some.mark c.args.packet c.in-Ok.work [] c.new-step.ensures c.in-Ok.ensures) (step.done up honest) (step.same honest) in
+    (one_more (seated old.node) (seated new) old.life.opening old.life.steps.items c.push_reserved-in-Err-Kept.new.self.items s seat.0 seat.1 seat.2 items ((old.replayed up).0 before) is (same_grows (member_of old.node) (member_of new) (step.same honest)) (record { entries = old.listed before; sealed = old.sealed before })).listed.entries
+
+pub invariant_of-self-in-Err-Kept-clause-sealed : goal.invariant_of-self-in-Err-Kept-clause-sealed
+invariant_of-self-in-Err-Kept-clause-sealed g c = λ honest.
+    let old = c.args.self.now in
+    let new = c.step.new.self in
+    let step = rw c.in-Err-Kept.field-0-is at c.in-Err-Kept.ensures in
+    let up = c.if-not-self.false in
+    let before = c.step.ensures.honest honest in
+    let s : Step = c.new-step.result in
+    let items = c.push_reserved-in-Err-Kept.ensures.items ∙ ap (λ xs. xs ++ s ∷ []) c.reserve.ensures.items in
+    let seat = c.step.ensures.group in
+    let is = stepped_refused (tables_of old.node) (members_of old.node) (me_of old.node) (member_of old.node) s c.in-Ok.work (member_of new) _ (made_of s c.in-Some.mark c.args.packet c.in-Ok.work [] c.new-step.ensures c.in-Ok.ensures) (step.done up honest) (step.same honest) in
+    (one_more (seated old.node) (seated new) old.life.opening old.life.steps.items c.push_reserved-in-Err-Kept.new.self.items s seat.0 seat.1 seat.2 items ((old.replayed up).0 before) is (same_grows (member_of old.node) (member_of new) (step.same honest)) (record { entries = old.listed before; sealed = old.sealed before })).listed.sealed
+
+pub invariant_of-self-in-Err-Kept-clause-whole : goal.invariant_of-self-in-Err-Kept-clause-whole
+invariant_of-self-in-Err-Kept-clause-whole g c = λ now honest.
+    let old = c.args.self.now in
+    let new = c.step.new.self in
+    let step = rw c.in-Err-Kept.field-0-is at c.in-Err-Kept.ensures in
+    let up = c.if-not-self.false in
+    let before = c.step.ensures.honest honest in
+    let s : Step = c.new-step.result in
+    let items = c.push_reserved-in-Err-Kept.ensures.items ∙ ap (λ xs. xs ++ s ∷ []) c.reserve.ensures.items in
+    let seat = c.step.ensures.group in
+    let is = stepped_refused (tables_of old.node) (members_of old.node) (me_of old.node) (member_of old.node) s c.in-Ok.work (member_of new) _ (made_of s c.in-Some.mark c.args.packet c.in-Ok.work [] c.new-step.ensures c.in-Ok.ensures) (step.done up honest) (step.same honest) in
+    let more : OneMore (seated old.node) (seated new) old.life.opening old.life.steps.items c.push_reserved-in-Err-Kept.new.self.items s = one_more (seated old.node) (seated new) old.life.opening old.life.steps.items c.push_reserved-in-Err-Kept.new.self.items s seat.0 seat.1 seat.2 items ((old.replayed up).0 before) is (same_grows (member_of old.node) (member_of new) (step.same honest)) (record { entries = old.listed before; sealed = old.sealed before }) in
+    still_listed s.mark (member_of old.node) (member_of new) (items_in (seated old.node) old.life.opening old.life.steps.items) (items_in (seated new) old.life.opening c.push_reserved-in-Err-Kept.new.self.items) (published old.publisher ++ pending old.publisher) (step.same honest) (old.whole up before) more.items
+
+pub invariant_of-self-in-Err-Kept-clause-named : goal.invariant_of-self-in-Err-Kept-clause-named
+invariant_of-self-in-Err-Kept-clause-named g c =
+    let old = c.args.self.now in
+    let node = old.node in
+    let seat = c.step.ensures.group in
+    named_still (tables_of node) (tables_of c.step.new.self) (me_of node) (me_of c.step.new.self) old.life.opening.mark old.publisher old.publisher old.named (refl, refl, refl) seat.0 seat.2
+
+-- ---- a step that went down
+
+pub invariant_of-self-in-Err-Down-clause-rising : goal.invariant_of-self-in-Err-Down-clause-rising
+invariant_of-self-in-Err-Down-clause-rising g c =
+    let old = c.args.self.now in
+    let s : Step = c.new-step.result in
+    rises_torn old.life _ s (old.replayed c.if-not-self.false).1 old.rising (made_for old.life s c.in-Some.mark c.args.packet [] c.new-step.ensures (sym c.in-Some.is ∙ c.mark_for.ensures)) c.reserve.ensures.items
+
+pub invariant_of-self-in-Err-Down-clause-held : goal.invariant_of-self-in-Err-Down-clause-held
+invariant_of-self-in-Err-Down-clause-held g c = λ down d may.
+    let old = c.args.self.now in
+    let step = rw c.in-Err-Down.field-0-is at c.in-Err-Down.ensures in
+    let honest = g.met.K.Shelf.only_honest c.step.new.self.keeper d may in
+    let was = old.replayed c.if-not-self.false in
+    let s : Step = c.new-step.result in
+    let seat = c.step.ensures.group in
+    torn_left (seated old.node) (seated c.step.new.self) old.life.opening old.life.steps.items _ s _ d seat.0 seat.1 seat.2 c.reserve.ensures.items (made_of s c.in-Some.mark c.args.packet c.in-Ok.work [] c.new-step.ensures c.in-Ok.ensures) (was.0 (c.step.ensures.honest honest)) (step.torn d may)
+
+pub invariant_of-self-in-Err-Down-clause-listed : goal.invariant_of-self-in-Err-Down-clause-listed
+invariant_of-self-in-Err-Down-clause-listed g c = λ honest.
+    let old = c.args.self.now in
+    let seat = c.step.ensures.group in
+    (listed_still (seated old.node) (seated c.step.new.self) old.life.opening old.life.steps.items c.reserve.new.self.items seat.0 seat.1 seat.2 c.reserve.ensures.items (record { entries = old.listed (c.step.ensures.honest honest); sealed = old.sealed (c.step.ensures.honest honest) })).entries
+
+pub invariant_of-self-in-Err-Down-clause-sealed : goal.invariant_of-self-in-Err-Down-clause-sealed
+invariant_of-self-in-Err-Down-clause-sealed g c = λ honest.
+    let old = c.args.self.now in
+    let seat = c.step.ensures.group in
+    (listed_still (seated old.node) (seated c.step.new.self) old.life.opening old.life.steps.items c.reserve.new.self.items seat.0 seat.1 seat.2 c.reserve.ensures.items (record { entries = old.listed (c.step.ensures.honest honest); sealed = old.sealed (c.step.ensures.honest honest) })).sealed
+
+pub invariant_of-self-in-Err-Down-clause-shown : goal.invariant_of-self-in-Err-Down-clause-shown
+invariant_of-self-in-Err-Down-clause-shown g c = λ down honest.
+    let old = c.args.self.now in
+    let seat = c.step.ensures.group in
+    let items = items_still (seated old.node) (seated c.step.new.self) old.life.opening old.life.steps.items c.reserve.new.self.items seat.0 seat.1 seat.2 c.reserve.ensures.items in
+    are_first (published old.publisher) (pending old.publisher) (items_in (seated old.node) old.life.opening old.life.steps.items) (published old.publisher) _ (old.whole c.if-not-self.false (c.step.ensures.honest honest)) refl items
+
+pub invariant_of-self-in-Err-Down-clause-named : goal.invariant_of-self-in-Err-Down-clause-named
+invariant_of-self-in-Err-Down-clause-named g c =
+    let old = c.args.self.now in
+    let node = old.node in
+    let seat = c.step.ensures.group in
+    named_still (tables_of node) (tables_of c.step.new.self) (me_of node) (me_of c.step.new.self) old.life.opening.mark old.publisher old.publisher old.named (refl, refl, refl) seat.0 seat.2
+
+-- ---- a step whose entries, or whose outcomes, found no memory
+
+pub invariant_of-self-in_default-note-clause-rising : goal.invariant_of-self-in_default-note-clause-rising
+invariant_of-self-in_default-note-clause-rising g c =
+    let old = c.args.self.now in
+    let s : Step = c.new-step.result in
+    rises_torn old.life _ s (old.replayed c.if-not-self.false).1 old.rising (made_for old.life s c.in-Some.mark c.args.packet [] c.new-step.ensures (sym c.in-Some.is ∙ c.mark_for.ensures)) c.reserve.ensures.items
+
+pub invariant_of-self-in_default-note-clause-held : goal.invariant_of-self-in_default-note-clause-held
+invariant_of-self-in_default-note-clause-held g c = λ down d may.
+    let old = c.args.self.now in
+    let same = c.take_down.ensures.group in
+    let honest = subst (λ (k : g.row.K.Denot). g.K.Shelf.is_honest k) c.take_down.ensures.keeper (g.met.K.Shelf.only_honest c.take_down.new.self.keeper d may) in
+    let was = old.replayed c.if-not-self.false in
+    let s : Step = c.new-step.result in
+    let seat = c.step.ensures.group in
+    let is = c.take_down.ensures.held c.in-Ok-step.ensures.up.1 d may in
+    let left = whole_left (member_of old.node) (tables_of old.node) (members_of old.node) (me_of old.node) c.in-Ok.work (member_of c.step.new.self) c.in-Ok-step.given d (c.in-Ok-step.ensures.done c.in-Ok-step.ensures.up.0 honest) is in
+    torn_left (seated old.node) (seated c.take_down.new.self) old.life.opening old.life.steps.items _ s c.in-Ok.work d (same.0 ∙ seat.0) (same.1 ∙ seat.1) (same.2 ∙ seat.2) c.reserve.ensures.items (made_of s c.in-Some.mark c.args.packet c.in-Ok.work [] c.new-step.ensures c.in-Ok.ensures) (was.0 (c.step.ensures.honest honest)) left
+
+pub invariant_of-self-in_default-note-clause-listed : goal.invariant_of-self-in_default-note-clause-listed
+invariant_of-self-in_default-note-clause-listed g c = λ honest.
+    let old = c.args.self.now in
+    let before = c.step.ensures.honest (subst (λ (k : g.row.K.Denot). g.K.Shelf.is_honest k) c.take_down.ensures.keeper honest) in
+    let same = c.take_down.ensures.group in
+    let seat = c.step.ensures.group in
+    (listed_still (seated old.node) (seated c.take_down.new.self) old.life.opening old.life.steps.items c.reserve.new.self.items (same.0 ∙ seat.0) (same.1 ∙ seat.1) (same.2 ∙ seat.2) c.reserve.ensures.items (record { entries = old.listed before; sealed = old.sealed before })).entries
+
+pub invariant_of-self-in_default-note-clause-sealed : goal.invariant_of-self-in_default-note-clause-sealed
+invariant_of-self-in_default-note-clause-sealed g c = λ honest.
+    let old = c.args.self.now in
+    let before = c.step.ensures.honest (subst (λ (k : g.row.K.Denot). g.K.Shelf.is_honest k) c.take_down.ensures.keeper honest) in
+    let same = c.take_down.ensures.group in
+    let seat = c.step.ensures.group in
+    (listed_still (seated old.node) (seated c.take_down.new.self) old.life.opening old.life.steps.items c.reserve.new.self.items (same.0 ∙ seat.0) (same.1 ∙ seat.1) (same.2 ∙ seat.2) c.reserve.ensures.items (record { entries = old.listed before; sealed = old.sealed before })).sealed
+
+pub invariant_of-self-in_default-note-clause-shown : goal.invariant_of-self-in_default-note-clause-shown
+invariant_of-self-in_default-note-clause-shown g c = λ down honest.
+    let old = c.args.self.now in
+    let before = c.step.ensures.honest (subst (λ (k : g.row.K.Denot). g.K.Shelf.is_honest k) c.take_down.ensures.keeper honest) in
+    let same = c.take_down.ensures.group in
+    let seat = c.step.ensures.group in
+    let items = items_still (seated old.node) (seated c.take_down.new.self) old.life.opening old.life.steps.items c.reserve.new.self.items (same.0 ∙ seat.0) (same.1 ∙ seat.1) (same.2 ∙ seat.2) c.reserve.ensures.items in
+    are_first (published old.publisher) (pending old.publisher) (items_in (seated old.node) old.life.opening old.life.steps.items) (published c.note.new.publisher) _ (old.whole c.if-not-self.false before) c.note.ensures.same.2 items
+
+pub invariant_of-self-in_default-note-clause-named : goal.invariant_of-self-in_default-note-clause-named
+invariant_of-self-in_default-note-clause-named g c =
+    let old = c.args.self.now in
+    let node = old.node in
+    let same = c.take_down.ensures.group in
+    let seat = c.step.ensures.group in
+    named_still (tables_of node) (tables_of c.take_down.new.self) (me_of node) (me_of c.take_down.new.self) old.life.opening.mark old.publisher c.note.new.publisher old.named c.note.ensures.same.0 (same.0 ∙ seat.0) (same.2 ∙ seat.2)

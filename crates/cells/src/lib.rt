@@ -1,0 +1,7 @@
+//! A node with the record of its life.
+#![tactic(auto)]
+
+pub mod cell;
+pub mod copies;
+pub mod locked;
+mod publishing;

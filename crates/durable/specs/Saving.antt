@@ -1,0 +1,18 @@
+-- A save.
+use Rattle.std.specs.Prelude.{◌≡◌, IsTrue}
+use Rattle.sqlite.specs.State.{State}
+use Rattle.sqlite.specs.Tree.{Trees}
+use Rattle.storetables.specs.Contents.{Contents}
+use Rattle.storetables.specs.Tables.{schema}
+use Rattle.storetables.specs.Rows.{Holds}
+
+-- the change is made and committed
+pub record IsSaved (old new : State) (made : Contents → Contents) : Type 0 where
+  pub was_open : IsTrue old.is_open
+  pub is_open : IsTrue new.is_open
+  pub now : (d : Contents) → Holds old.now d → Holds new.now (made d)
+  pub committed : new.committed ≡ new.now
+
+-- what a commit in between leaves on the disk
+abbrev pub Leaves : State → (Contents → Contents) → Trees → Type 0
+Leaves old made trees = (d : Contents) → Holds old.now d → Holds (record { schema = schema; trees = trees }) (made d)

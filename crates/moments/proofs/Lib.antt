@@ -1,0 +1,10 @@
+pub mod Adding
+pub mod Following
+pub mod Loops
+pub mod Ordering
+pub mod Posting
+pub mod Sending
+pub mod Storing
+pub mod Taking
+pub mod Telling
+pub mod Texts

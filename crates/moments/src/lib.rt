@@ -1,0 +1,19 @@
+//! The moments of what nodes recorded: their order, and each of them played again on a `World`.
+#![tactic(auto)]
+
+mod listing;
+mod moment;
+mod order;
+mod posts;
+mod recorded;
+mod replay;
+mod running;
+mod same;
+mod told;
+
+pub use listing::timeline;
+pub use moment::{Deed, Moment};
+pub use order::{check_marked, check_order};
+pub use recorded::{AuditFault, Recorded};
+pub use replay::Replay;
+pub use running::events_in;

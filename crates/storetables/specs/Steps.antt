@@ -1,0 +1,67 @@
+-- A step inside a transaction.
+use Rattle.std.specs.Prelude.{◌≡◌, ℕ, None, List, [], ◌∷◌, Ok, IsTrue}
+use Rattle.sqlite.specs.State.{State, ExecutesInside}
+use Rattle.storetables.specs.Contents.{Contents, none_yet}
+use Rattle.storetables.specs.Rows.{Holds, HoldsOld, floor_row}
+use Rattle.storetables.specs.Tables.{schema, old_schema, no_schema}
+use Rattle.sqlite.specs.Effect.{Database}
+use Rattle.sqlite.specs.Tree.{Trees}
+
+-- it went well, nothing is committed, and it makes this of what the tables hold
+pub record Goes (old new : State) (made : Contents → Contents) : Type 0 where
+  pub was_open : IsTrue old.is_open
+  pub is_open : IsTrue new.is_open
+  pub was_in : IsTrue old.in_transaction
+  pub is_in : IsTrue new.in_transaction
+  pub committed : new.committed ≡ old.committed
+  pub holds : (d : Contents) → Holds old.now d → Holds new.now (made d)
+
+-- nothing is changed, unless the store was shut
+pub record IsKept (old new : State) : Type 0 where
+  pub was_open : IsTrue new.is_open → IsTrue old.is_open
+  pub now : IsTrue new.is_open → new.now ≡ old.committed
+  pub committed : IsTrue new.is_open → new.committed ≡ old.committed
+
+-- a statement went well inside a transaction
+pub record Ran (old new : State) (text : List ℕ) : Type 0 where
+  pub was_in : IsTrue old.in_transaction
+  pub count : ℕ
+  pub ran : ExecutesInside 0 text [] old new (Ok count)
+
+-- tables are made, by this rule, and nothing is committed yet
+pub record Makes (old new : State) (rule : Database → Database → Type 0) : Type 0 where
+  pub was_open : IsTrue old.is_open
+  pub is_open : IsTrue new.is_open
+  pub is_in : IsTrue new.in_transaction
+  pub committed : new.committed ≡ old.committed
+  pub made : rule old.now new.now
+
+-- the same, and it is committed
+pub record IsMade (old new : State) (rule : Database → Database → Type 0) : Type 0 where
+  pub was_open : IsTrue old.is_open
+  pub is_open : IsTrue new.is_open
+  pub made : rule old.now new.now
+  pub committed : new.committed ≡ new.now
+
+-- what a commit in between leaves on the disk
+abbrev pub LeavesMade : State → (Database → Database → Type 0) → Trees → Type 0
+LeavesMade old rule trees = rule old.now (record { schema = schema; trees = trees })
+
+-- meta and log are made where there were no tables
+abbrev pub IsBegun : Database → Database → Type 0
+IsBegun old new = old.schema ≡ no_schema → HoldsOld new none_yet
+
+-- all are made where there were none
+abbrev pub IsBlank : Database → Database → Type 0
+IsBlank old new = old.schema ≡ no_schema → Holds new none_yet
+
+-- the table floor and its row are there besides what meta and log hold
+pub record HasFloor (old new : Database) : Type 0 where
+  pub tables : new.schema ≡ schema
+  pub meta : new.trees 0 ≡ old.trees 0
+  pub log : new.trees 1 ≡ old.trees 1
+  pub floor : new.trees 2 ≡ floor_row None ∷ []
+
+-- the table floor is made where the other two were there
+abbrev pub IsRaised : Database → Database → Type 0
+IsRaised old new = old.schema ≡ old_schema → HasFloor old new

@@ -1,0 +1,172 @@
+//! The statements of one save, inside its transaction.
+ghost use Rattle.std.specs.Prelude.{◌≡◌, ◌+◌, ◌++◌, ◌<◌, ◌≤◌, ◌^◌, [], ◌∷◌, true, length, take, OnOk, IsTrue, nat_le};
+ghost use Rattle.std.specs.List.{list_all};
+ghost use Rattle.sqlite.specs.State.{HasCleanDisk, KeepsCommit, Survives};
+ghost use Rattle.sqlite.specs.Held.{state};
+ghost use Rattle.model.specs.Steps.{TERM_LAST};
+ghost use Rattle.keep.specs.Log.{IsSmall};
+ghost use Rattle.storetables.specs.Contents.{Contents, item_of, items_of, changed, number_of_vote, client_of, number_of, body_of};
+ghost use Rattle.storetables.specs.Steps.{Goes};
+ghost use Rattle.storetables.specs.Rows.{Holds};
+
+use crate::whole::{Floor, Whole};
+use keep::Change;
+use model::entry::{Entry, Request};
+use model::member::Member;
+use model::stamp::Stamp;
+use sqlite::{Alter, Error, Transaction, params};
+
+/// The number that stands for the client: 0 for a Close.
+fn client_of(request: &Option<Request>) -> Whole
+    ensures { result.value ≡ client_of request.now }
+{
+    match request {
+        None => Whole { value: 0 },
+        Some(request) => Whole {
+            value: request.client.get() as u64,
+        },
+    }
+}
+
+/// The number of the request: 0 for a Close.
+fn number_of(request: &Option<Request>) -> Whole
+    ensures { result.value ≡ number_of request.now }
+{
+    match request {
+        None => Whole { value: 0 },
+        Some(request) => Whole {
+            value: request.number.get(),
+        },
+    }
+}
+
+/// The text of the request: empty for a Close.
+fn body_of(request: &Option<Request>) -> &str
+    ensures { result.now ≡ body_of request.now }
+{
+    match request {
+        None => "",
+        Some(request) => request.text.as_str(),
+    }
+}
+
+/// The number that stands for the vote: 0 for none.
+fn number_of_vote(vote: Option<Member>) -> u64
+    ensures { result ≡ number_of_vote vote }
+{
+    match vote {
+        None => 0,
+        Some(member) => member as u64,
+    }
+}
+
+/// Appends one entry, whose number comes next.
+pub fn append_one<S: Alter>(
+    tx: &mut Transaction<'_, S>,
+    at: Whole,
+    entry: &Entry,
+) -> Result<(), Error>
+    requires small { entry.now.term < 2 ^ 63 }
+    requires next { HasCleanDisk (state S.Store tx.old.conn.now) → (d : Contents) × Holds (state S.Store tx.old.conn.now).now d × (at.value ≡ length d.log + 1) }
+    ensures same_reference { tx.new.conn.ghost_name ≡ tx.old.conn.ghost_name }
+    ensures ok { HasCleanDisk (state S.Store tx.new.conn.now) → OnOk result (Goes (state S.Store tx.old.conn.now) (state S.Store tx.new.conn.now) (λ d. record d { log = d.log ++ item_of entry.now ∷ [] })) }
+    ensures keeps { HasCleanDisk (state S.Store tx.new.conn.now) → KeepsCommit (state S.Store tx.old.conn.now) (state S.Store tx.new.conn.now) }
+    ensures survives { Survives (state S.Store tx.old.conn.now) (state S.Store tx.new.conn.now) (λ _. ⊥) }
+{
+    let term = Whole { value: entry.term };
+    let stamp = Whole {
+        value: entry.stamp.micros(),
+    };
+    let client = client_of(&entry.request);
+    let number = number_of(&entry.request);
+    let body = body_of(&entry.request);
+    tx.execute(
+        "INSERT INTO log VALUES (?1, ?2, ?3, ?4, ?5, ?6)",
+        params![at, term, stamp, client, number, body],
+    )?;
+    Ok(())
+}
+
+/// Sets the term and the vote.
+pub fn set_meta<S: Alter>(
+    tx: &mut Transaction<'_, S>,
+    term: Whole,
+    vote: Whole,
+) -> Result<(), Error>
+    ensures same_reference { tx.new.conn.ghost_name ≡ tx.old.conn.ghost_name }
+    ensures ok { HasCleanDisk (state S.Store tx.new.conn.now) → OnOk result (Goes (state S.Store tx.old.conn.now) (state S.Store tx.new.conn.now) (λ d. record d { term = term.value; vote = vote.value })) }
+    ensures keeps { HasCleanDisk (state S.Store tx.new.conn.now) → KeepsCommit (state S.Store tx.old.conn.now) (state S.Store tx.new.conn.now) }
+    ensures survives { Survives (state S.Store tx.old.conn.now) (state S.Store tx.new.conn.now) (λ _. ⊥) }
+{
+    tx.execute("UPDATE meta SET term = ?1, vote = ?2", params![term, vote])?;
+    Ok(())
+}
+
+/// Sets the floor.
+pub fn set_floor<S: Alter>(tx: &mut Transaction<'_, S>, floor: Option<Stamp>) -> Result<(), Error>
+    ensures same_reference { tx.new.conn.ghost_name ≡ tx.old.conn.ghost_name }
+    ensures ok { HasCleanDisk (state S.Store tx.new.conn.now) → OnOk result (Goes (state S.Store tx.old.conn.now) (state S.Store tx.new.conn.now) (λ d. record d { floor = floor })) }
+    ensures keeps { HasCleanDisk (state S.Store tx.new.conn.now) → KeepsCommit (state S.Store tx.old.conn.now) (state S.Store tx.new.conn.now) }
+    ensures survives { Survives (state S.Store tx.old.conn.now) (state S.Store tx.new.conn.now) (λ _. ⊥) }
+{
+    let floor = Floor { value: floor };
+    tx.execute("UPDATE floor SET t = ?1", params![floor])?;
+    Ok(())
+}
+
+/// Keeps the first entries of the log.
+pub fn cut_log<S: Alter>(tx: &mut Transaction<'_, S>, kept: Whole) -> Result<(), Error>
+    ensures same_reference { tx.new.conn.ghost_name ≡ tx.old.conn.ghost_name }
+    ensures ok { HasCleanDisk (state S.Store tx.new.conn.now) → OnOk result (Goes (state S.Store tx.old.conn.now) (state S.Store tx.new.conn.now) (λ d. record d { log = take kept.value d.log })) }
+    ensures keeps { HasCleanDisk (state S.Store tx.new.conn.now) → KeepsCommit (state S.Store tx.old.conn.now) (state S.Store tx.new.conn.now) }
+    ensures survives { Survives (state S.Store tx.old.conn.now) (state S.Store tx.new.conn.now) (λ _. ⊥) }
+{
+    tx.execute("DELETE FROM log WHERE idx > ?1", params![kept])?;
+    Ok(())
+}
+
+/// Appends entries, the first with this number.
+pub fn append_all<S: Alter>(
+    tx: &mut Transaction<'_, S>,
+    from: Whole,
+    entries: &[Entry],
+) -> Result<(), Error>
+    requires small { from.value + length entries.now < 2 ^ 63 }
+    requires terms { list_all (λ e. nat_le e.term TERM_LAST) entries.now ≡ true }
+    requires inside { HasCleanDisk (state S.Store tx.old.conn.now) → IsTrue (state S.Store tx.old.conn.now).is_open × IsTrue (state S.Store tx.old.conn.now).in_transaction }
+    requires next { HasCleanDisk (state S.Store tx.old.conn.now) → (d : Contents) × Holds (state S.Store tx.old.conn.now).now d × (from.value ≡ length d.log + 1) }
+    ensures same_reference { tx.new.conn.ghost_name ≡ tx.old.conn.ghost_name }
+    ensures ok { HasCleanDisk (state S.Store tx.new.conn.now) → OnOk result (Goes (state S.Store tx.old.conn.now) (state S.Store tx.new.conn.now) (λ d. record d { log = d.log ++ items_of entries.now })) }
+    ensures keeps { HasCleanDisk (state S.Store tx.new.conn.now) → KeepsCommit (state S.Store tx.old.conn.now) (state S.Store tx.new.conn.now) }
+    ensures survives { Survives (state S.Store tx.old.conn.now) (state S.Store tx.new.conn.now) (λ _. ⊥) }
+{
+    let mut at = from.value;
+    'each: for entry in entries {
+        append_one(tx, Whole { value: at }, entry)?;
+        at += 1;
+    }
+    Ok(())
+}
+
+/// Makes a change of what the tables hold.
+pub fn write_change<S: Alter>(tx: &mut Transaction<'_, S>, change: &Change) -> Result<(), Error>
+    requires small { IsSmall change.now }
+    requires held { HasCleanDisk (state S.Store tx.old.conn.now) → (d : Contents) × Holds (state S.Store tx.old.conn.now).now d × (change.now.kept ≤ length d.log) }
+    ensures same_reference { tx.new.conn.ghost_name ≡ tx.old.conn.ghost_name }
+    ensures ok { HasCleanDisk (state S.Store tx.new.conn.now) → OnOk result (Goes (state S.Store tx.old.conn.now) (state S.Store tx.new.conn.now) (changed change.now)) }
+    ensures keeps { HasCleanDisk (state S.Store tx.new.conn.now) → KeepsCommit (state S.Store tx.old.conn.now) (state S.Store tx.new.conn.now) }
+    ensures survives { Survives (state S.Store tx.old.conn.now) (state S.Store tx.new.conn.now) (λ _. ⊥) }
+{
+    let term = Whole {
+        value: change.hard.term,
+    };
+    let vote = Whole {
+        value: number_of_vote(change.hard.vote),
+    };
+    set_meta(tx, term, vote)?;
+    set_floor(tx, change.hard.floor)?;
+    let kept = change.kept as u64;
+    cut_log(tx, Whole { value: kept })?;
+    append_all(tx, Whole { value: kept + 1 }, &change.entries)?;
+    Ok(())
+}
