@@ -58,6 +58,7 @@ pub fn read_number(text: &str, end: char) -> Result<(u64, &str), Refusal>
     ensures ok { IfOk result (λ p. Spells IsNumber (number_text end) text.now p.0 p.1.now) }
     ensures only { IfOk result (λ p. SpellsOnly IsNumber (number_text end) text.now p.0 p.1.now) }
     ensures err { IfErr result (IsUnread IsNumber (number_text end) text.now) }
+    ensures fault { IfErr result (λ r. r ≡ BadFlight) }
 {
     let Some((word, rest)) = split(text, end) else {
         return Err(Refusal::BadFlight);
@@ -74,6 +75,7 @@ pub(crate) fn read_signed(text: &str, end: char) -> Result<(i64, &str), Refusal>
     ensures ok { IfOk result (λ p. Spells IsSigned (signed_text end) text.now p.0 p.1.now) }
     ensures only { IfOk result (λ p. SpellsOnly IsSigned (signed_text end) text.now p.0 p.1.now) }
     ensures err { IfErr result (IsUnread IsSigned (signed_text end) text.now) }
+    ensures fault { IfErr result (λ r. r ≡ BadFlight) }
 {
     let Some((word, rest)) = split(text, end) else {
         return Err(Refusal::BadFlight);
@@ -90,6 +92,7 @@ pub(crate) fn read_flag(text: &str, end: char) -> Result<(bool, &str), Refusal>
     ensures ok { IfOk result (λ p. Spells (λ _. ⊤) (flag_text end) text.now p.0 p.1.now) }
     ensures only { IfOk result (λ p. SpellsOnly (λ _. ⊤) (flag_text end) text.now p.0 p.1.now) }
     ensures err { IfErr result (IsUnread (λ _. ⊤) (flag_text end) text.now) }
+    ensures fault { IfErr result (λ r. r ≡ BadFlight) }
 {
     let (number, rest) = read_number(text, end)?;
     match number {
@@ -104,6 +107,7 @@ pub fn read_version(text: &str) -> Result<(Version, &str), Refusal>
     ensures ok { IfOk result (λ p. Spells (λ _. ⊤) version_text text.now p.0 p.1.now) }
     ensures only { IfOk result (λ p. SpellsOnly (λ _. ⊤) version_text text.now p.0 p.1.now) }
     ensures err { IfErr result (IsUnread (λ _. ⊤) version_text text.now) }
+    ensures fault { IfErr result (λ r. r ≡ BadFlight) }
 {
     let rest = past(text, "bitable flight ")?;
     let (number, rest) = read_number(rest, '\n')?;
@@ -122,6 +126,7 @@ pub fn read_mark(text: &str, end: char) -> Result<(Mark, &str), Refusal>
     ensures ok { IfOk result (λ p. Spells IsMark (number_text end) text.now p.0 p.1.now) }
     ensures only { IfOk result (λ p. SpellsOnly IsMark (number_text end) text.now p.0 p.1.now) }
     ensures err { IfErr result (IsUnread IsMark (number_text end) text.now) }
+    ensures fault { IfErr result (λ r. r ≡ BadFlight) }
 {
     let (number, rest) = read_number(text, end)?;
     if number == 0 || number > LAST_MARK {
@@ -136,6 +141,7 @@ pub(crate) fn read_stamp(text: &str, end: char) -> Result<(Stamp, &str), Refusal
     ensures ok { IfOk result (λ p. Spells IsStamp (number_text end) text.now p.0 p.1.now) }
     ensures only { IfOk result (λ p. SpellsOnly IsStamp (number_text end) text.now p.0 p.1.now) }
     ensures err { IfErr result (IsUnread IsStamp (number_text end) text.now) }
+    ensures fault { IfErr result (λ r. r ≡ BadFlight) }
 {
     let (number, rest) = read_number(text, end)?;
     if number > LAST_MICROS {
@@ -149,6 +155,7 @@ pub(crate) fn read_client(text: &str) -> Result<(Client, &str), Refusal>
     ensures ok { IfOk result (λ p. Spells IsClient (number_text 32) text.now p.0 p.1.now) }
     ensures only { IfOk result (λ p. SpellsOnly IsClient (number_text 32) text.now p.0 p.1.now) }
     ensures err { IfErr result (IsUnread IsClient (number_text 32) text.now) }
+    ensures fault { IfErr result (λ r. r ≡ BadFlight) }
 {
     let (number, rest) = read_number(text, ' ')?;
     if number > 65_535 {
@@ -166,6 +173,7 @@ pub(crate) fn read_request_number(text: &str, end: char) -> Result<(RequestNumbe
     ensures ok { IfOk result (λ p. Spells IsRequestNumber (number_text end) text.now p.0 p.1.now) }
     ensures only { IfOk result (λ p. SpellsOnly IsRequestNumber (number_text end) text.now p.0 p.1.now) }
     ensures err { IfErr result (IsUnread IsRequestNumber (number_text end) text.now) }
+    ensures fault { IfErr result (λ r. r ≡ BadFlight) }
 {
     let (number, rest) = read_number(text, end)?;
     let Some(number) = RequestNumber::new(number) else {
@@ -179,6 +187,7 @@ pub fn read_vote(text: &str) -> Result<(Option<Member>, &str), Refusal>
     ensures ok { IfOk result (λ p. Spells IsVote vote_text text.now p.0 p.1.now) }
     ensures only { IfOk result (λ p. SpellsOnly IsVote vote_text text.now p.0 p.1.now) }
     ensures err { IfErr result (IsUnread IsVote vote_text text.now) }
+    ensures fault { IfErr result (λ r. r ≡ BadFlight) }
 {
     let (number, rest) = read_number(text, ' ')?;
     if number == 0 {
@@ -193,6 +202,7 @@ pub(crate) fn read_floor(text: &str, end: char) -> Result<(Option<Stamp>, &str),
     ensures ok { IfOk result (λ p. Spells IsFloor (floor_text end) text.now p.0 p.1.now) }
     ensures only { IfOk result (λ p. SpellsOnly IsFloor (floor_text end) text.now p.0 p.1.now) }
     ensures err { IfErr result (IsUnread IsFloor (floor_text end) text.now) }
+    ensures fault { IfErr result (λ r. r ≡ BadFlight) }
 {
     let (number, rest) = read_signed(text, end)?;
     if number == -1 {
@@ -210,6 +220,7 @@ pub fn read_opening_floor(version: Version, text: &str) -> Result<(Option<Stamp>
     ensures ok { IfOk result (λ p. Spells (IsFloorIn version) (opening_floor_text version) text.now p.0 p.1.now) }
     ensures only { IfOk result (λ p. SpellsOnly (IsFloorIn version) (opening_floor_text version) text.now p.0 p.1.now) }
     ensures err { IfErr result (IsUnread (IsFloorIn version) (opening_floor_text version) text.now) }
+    ensures fault { IfErr result (λ r. r ≡ BadFlight) }
 {
     match version {
         Version::One => Ok((None, text)),

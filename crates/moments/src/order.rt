@@ -4,6 +4,7 @@ ghost use Rattle.std.specs.List.{All, list_any};
 ghost use Rattle.model.specs.Lists.{nth};
 ghost use Rattle.flight.specs.Lives.{all_steps, last_mark, sent_at};
 ghost use Rattle.moments.specs.Faults.{IsNo};
+ghost use Rattle.moments.specs.declared.recorded.AuditFault.TheVariants.{NoMemory};
 ghost use Rattle.moments.specs.Rising.{has_mark, is_torn_at, lives_rise, marks_rise, IsFallen, IsMarked, IsUnmarked, Rise};
 
 use crate::recorded::{AuditFault, Recorded};
@@ -142,10 +143,11 @@ fn is_marked(lives: &[Vec<Life>], answer: &Recorded) -> bool
 /// Whether each answer rests on an opening or a step of its node.
 ///
 /// The one fault is 54, of an answer that rests on none, with the answer's node and mark. An answer of a node that is not
-/// there rests on none.
+/// there rests on none. Takes no memory.
 pub fn check_marked(lives: &[Vec<Life>], answers: &[Recorded]) -> Result<(), AuditFault>
     ensures ok { OnOk result (All (IsMarked lives.now) answers.now) }
     ensures fault { IfErr result (IsNo (IsUnmarked lives.now answers.now)) }
+    ensures memory { IfErr result (λ f. f ≡ NoMemory → ⊥) }
 {
     for answer in answers {
         if !is_marked(lives, answer) {
