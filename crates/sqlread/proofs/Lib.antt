@@ -6,3 +6,4 @@ pub mod Days
 pub mod Periods
 pub mod Refusals
 pub mod Saying
+pub mod Reading

@@ -57,9 +57,12 @@ chosen {A = A} b x y e = ap (λ (t : Bool). cond t x y) e
 passed_over : {A : Type 0} (b : Bool) (x y : A) → b ≡ false → cond b x y ≡ y
 passed_over {A = A} b x y e = ap (λ (t : Bool). cond t x y) e
 
-pub transaction_says : IsTold statements → SaysTransaction
+pub transaction_short : (schema : Tables) (text : List ℕ) → length text ≤ 4096 → transaction_in schema text ≡ (parsed statements text >>= statements_in schema)
 unfolding transaction_in
-transaction_says told schema = says statements (statements_in schema) (transaction_in schema) told (statements_check schema) (λ text le. passed_over (nat_lt 4096 (length text)) (Err TooLarge) (parsed statements text >>= statements_in schema) (short 4096 text le))
+transaction_short schema text le = passed_over (nat_lt 4096 (length text)) (Err TooLarge) (parsed statements text >>= statements_in schema) (short 4096 text le)
+
+pub transaction_says : IsTold statements → SaysTransaction
+transaction_says told schema = says statements (statements_in schema) (transaction_in schema) told (statements_check schema) (transaction_short schema)
 
 pub transaction_bounded : (schema : Tables) → IsBounded (transaction_in schema)
 unfolding transaction_in

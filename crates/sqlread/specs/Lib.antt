@@ -5,3 +5,4 @@ pub mod Questions
 pub mod Meaning
 pub mod Texts
 pub mod Laws
+pub mod Reading

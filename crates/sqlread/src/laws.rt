@@ -3,6 +3,8 @@ ghost use Rattle.sqlchecks.specs.Columns.{Tables};
 ghost use Rattle.sqlread.specs.Calendar.{LiteralsInCalendar};
 ghost use Rattle.sqlread.specs.Laws.{SaysTransaction, SaysQuery, IsBounded};
 ghost use Rattle.sqlread.specs.Texts.{transaction_in, query_in};
+ghost use Rattle.sqlread.specs.Meaning.{schema_of};
+ghost use Rattle.sqlread.specs.Reading.{IsSchema};
 
 /// `read_transaction` answers by the grammar of transactions and the checks of statements.
 pub fn transaction_says()
@@ -18,6 +20,14 @@ pub fn query_says()
     ensures bounded { (schema : Tables) → IsBounded (query_in schema) }
 {
     sqlsyntax::laws::forms_told();
+}
+
+/// The schema of some tables reads each text as what it spells.
+pub fn schema_is_spelled()
+    ensures { (tables : Tables) → IsSchema tables (schema_of tables) }
+{
+    sqlsyntax::laws::forms_told();
+    sqlsyntax::laws::transactions_spelled();
 }
 
 /// What a literal is read as is a day of the calendar, where it is a day.

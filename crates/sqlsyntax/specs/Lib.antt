@@ -1,3 +1,4 @@
 pub mod Shared
 pub mod Queries
 pub mod Transactions
+pub mod Spelling

@@ -3,6 +3,7 @@ ghost use Rattle.std.specs.Prelude.{◌≡◌, ◌++◌, ◌∷◌, ◌≤◌, �
 ghost use Rattle.model.specs.Agreement.{Agree};
 ghost use Rattle.model.specs.Worlds.{Gives, GivesAll, new_world};
 ghost use Rattle.sqlread.specs.Meaning.{schema_of};
+ghost use Rattle.sqlread.specs.Reading.{IsSchema};
 ghost use Rattle.world.specs.View.{commit_in, durable_in, entry_in, event_of, if_up, outputs_of, world_of, IsRun};
 
 use crate::event::Event;
@@ -127,6 +128,8 @@ impl World {
     /// greatest floor that it has sealed, whichever is greater. The answer is that in what it has applied,
     /// with the columns of the table that was asked, in declared order.
     ///
+    /// What the text of a request says is what it spells, as its statements are checked over the tables.
+    ///
     /// The one error is want of memory, never of a list of no events. The world is spent then: each
     /// later call gives it too, and changes nothing. Kept are the earlier events, and then those of
     /// these that were done, from the first on.
@@ -136,6 +139,7 @@ impl World {
         ensures kept { OnOk result (events_of self.new ≡ events_of self.old ++ map event_of events.now) }
         ensures begun { OnErr result (AddsBeginning (events_of self.old) (events_of self.new) (map event_of events.now)) }
         ensures agree { Agree (schema_in self.new) (members_in self.new) (opening_of self.new) (events_of self.new) }
+        ensures language { IsSchema (tables_in self.new) (schema_in self.new) }
         ensures tables { tables_in self.new ≡ tables_in self.old }
         ensures same { (schema_in self.new ≡ schema_in self.old) × (members_in self.new ≡ members_in self.old) }
         ensures ok { OnOk result ((self.old.is_spent ≡ false) × (self.new.is_spent ≡ false)) }
@@ -145,6 +149,7 @@ impl World {
         ensures stays { self.old.is_spent ≡ true → self.new ≡ self.old }
     {
         safety::agreement();
+        sqlread::laws::schema_is_spelled();
         self.check_live()?;
         match self.run_all(events) {
             Ok(outs) => Ok(outs),
