@@ -3,13 +3,19 @@ use Rattle.std.proofs.Common.{◌≡◌, ◌∙◌, ℕ, ◌+◌, ◌<◌, ◌�
 use Rattle.std.proofs.lemmas.List.{append-nil, take_more, flat_map_more, take_all}
 use Rattle.std.proofs.lemmas.List.FromFn.{length-enumerate_from, get_or-enumerate_from}
 use Rattle.std.proofs.lemmas.Option.{get_or_from_slice_get, slice_get_within}
+use Rattle.std.specs.Prelude.{Option}
+use Rattle.std.specs.Option.{option_map_or}
 use Rattle.std.specs.List.{flat_map, enumerate_from, slice_get}
 use Rattle.schema.specs.Shape.{TableShape}
 use Rattle.schema.specs.declared.table.Kind.{Kind}
 use Rattle.schema.specs.declared.table.Kind.TheVariants.{Integer}
-use Rattle.answer.specs.Answers.{column_at, column_from, shows_at, table_columns}
+use Rattle.answer.specs.Answers.{column_at, shows_at, table_columns}
 use Rattle.answer.specs.declared.Column.{Column}
 use Rattle.answer.specs.declared.Shows.{Shows}
+
+-- a column of this name, if it shows something
+abbrev column_from : List ℕ → Option Shows → List Column
+column_from name shows = option_map_or (λ (s : Shows). record { name = name; shows = s } ∷ []) shows []
 
 -- the columns before this place
 abbrev pub columns_before : TableShape → ℕ → List Column

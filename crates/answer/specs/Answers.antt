@@ -1,6 +1,7 @@
 -- What a contract sees of an answer, and which columns it has.
-use Rattle.std.specs.Prelude.{ℕ, ◌==◌, List, [], ◌∷◌, map, flat_map, slice_get, Option, Some, None, option_map, if◌then◌else◌}
+use Rattle.std.specs.Prelude.{ℕ, ◌==◌, List, [], ◌∷◌, map, flat_map, slice_get, Option, Some, option_map, if◌then◌else◌}
 use Rattle.std.specs.List.{enumerate_from}
+use Rattle.std.specs.Option.{option_map_or}
 use Rattle.model.specs.Tables.{Row}
 use Rattle.model.specs.Periods.{period_of}
 use Rattle.model.specs.Answers.{Answer as ModelAnswer, Shown as ModelShown}
@@ -41,23 +42,14 @@ shows_at table c =
     else if c == table.system_end then Some SystemEnd
     else option_map shows_field (field_at table c)
 
--- a column of this name, if it shows something
-abbrev pub column_from : List ℕ → Option Shows → List Column
-column_from name None = []
-column_from name (Some shows) = record { name = name; shows = shows } ∷ []
-
--- the column of this name at this place of a table
+-- the column of this name at this place of a table, if it shows something
 abbrev pub column_at : TableShape → ℕ × (List ℕ × Kind) → List Column
-column_at table c = column_from c.1.0 (shows_at table c.0)
+column_at table c = option_map_or (λ shows. record { name = c.1.0; shows = shows } ∷ []) (shows_at table c.0) []
 
 -- the columns of a table in declared order
 unfoldable pub table_columns : TableShape → List Column
 table_columns table = flat_map (column_at table) (enumerate_from 0 table.columns)
 
-abbrev pub columns_at : Option (List ℕ × TableShape) → List Column
-columns_at None = []
-columns_at (Some table) = table_columns table.1
-
 -- those of the table at this place, none where there is no such table
 unfoldable pub columns_in : Tables → ℕ → List Column
-columns_in tables place = columns_at (slice_get tables place)
+columns_in tables place = option_map_or (λ t. table_columns t.1) (slice_get tables place) []

@@ -7,7 +7,7 @@ use Rattle.model.specs.declared.entry.Entry.{Entry}
 use Rattle.model.specs.Tables.{Table}
 use Rattle.sqlchecks.specs.Columns as columns
 use Rattle.model.specs.Logs.{IsStamped, state_at}
-use Rattle.model.specs.Answers.{last_instant, Query, time_or, read_at, closed_query}
+use Rattle.model.specs.Answers.{Query, read_at, closed_query}
 use Rattle.versionlaws.specs.Versions.{Version, Keeps}
 use Rattle.versionlaws.specs.Committing.{KeptLater}
 use Rattle.sqlread.specs.Shapes.{QueryShape}
@@ -30,7 +30,7 @@ asked_of later schema q list time tables are stamped (Ok a) ok err =
     let history : ℕ → Table = λ u. state_at (schema_of schema) list u q.table in
     let holds = are.held stamped q.table in
     let keeps : Keeps vs history t = later (schema_of schema) q.table list vs t stamped holds in
-    let query : closed_query (select_of q) time ≡ Some (read t q) = ap (closed_query (select_of q)) ok.1 ∙ rw (le-leb (last_instant (time_or t q.time)) t ok.2) refl in
+    let query : closed_query (select_of q) time ≡ Some (read t q) = ap (closed_query (select_of q)) ok.1 ∙ rw (le-leb (read t q).time.last t ok.2) refl in
     (t, ok.1, query, ok.3 history keeps holds.apart)
 asked_of later schema q list time tables are stamped (Err refusal) ok err = err
 

@@ -1,6 +1,8 @@
 -- What one more entry makes of tables that are those of a list.
+use Rattle.std.specs.Option.{option_map_or}
+use Rattle.std.specs.Result.{result_unwrap_or}
 use Rattle.std.proofs.Common.{◌≡◌, ℕ, zero, suc, ◌+◌, ◌<◌, ◌≤◌, inl, inr, Bool, true, false, cond, List, [], ◌∷◌, ◌++◌, length, take, reverse, Option, Some, None, option_map, Err, refl, sym, ap, ◌∙◌, subst, arith}
-use Rattle.std.specs.Prelude.{◌-◌, ◌==◌, nat_lt, slice_get, unwrap_or}
+use Rattle.std.specs.Prelude.{◌-◌, ◌==◌, nat_lt, slice_get, unwrap_or, ◌&&◌}
 use Rattle.std.proofs.lemmas.Bool.{cases_Bool, eq-eqb, eqb-true}
 use Rattle.std.proofs.lemmas.List.{reverse-append}
 use Rattle.fault.specs.declared.refusal.Refusal.TheVariants as refusals
@@ -10,7 +12,7 @@ use Rattle.model.specs.declared.entry.Entry.{Entry}
 use Rattle.model.specs.Stamps.{above}
 use Rattle.model.specs.Tables.{Row, IsRow, empty_table}
 use Rattle.model.specs.Transactions.{State, Schema, executed_text}
-use Rattle.model.specs.Logs.{IsStamped, last_entry, closed, least_stamp, Outcome, is_request, executed, next_state, after_request, state_after, state_at, first_outcome, outcomes_with, first_outcomes, kept, outcome}
+use Rattle.model.specs.Logs.{IsStamped, last_entry, closed, least_stamp, Outcome, executed, state_after, state_at, first_outcome, first_outcomes, kept, outcome, is_first}
 use Rattle.rowlaws.specs.Rows.{Lists}
 use Rattle.rowlaws.specs.Touching.{IsTouched}
 use Rattle.rowlaws.specs.Statements.{AllListed}
@@ -128,9 +130,18 @@ module _ (tables : columns.Tables) (list : List Entry) (e : Entry) where
   more = reverse-append list (e ∷ [])
 
   -- what becomes of the state, and of a client's requests
-  state_is : (o : Option Request) → e.request ≡ o → state_after schema (reverse all) ≡ after_request schema e.stamp o before (state_after schema before)
+  abbrev after_request : ℕ → Option Request → List Entry → State → State
+  after_request t o es state = option_map_or (λ (r : Request). cond (is_first r es) (result_unwrap_or (executed_text schema t r.text state) state) state) o state
+
+  abbrev is_request : ℕ → ℕ → Option Request → Bool
+  is_request client number o = option_map_or (λ (r : Request). r.client == client && r.number == number) o false
+
+  abbrev outcomes_with : ℕ → ℕ → Option Request → List Entry → List Outcome → List Outcome
+  outcomes_with client t o es earlier = option_map_or (λ (r : Request). cond (r.client == client && is_first r es) (first_outcome schema t r es ∷ earlier) earlier) o earlier
+
+  state_is : (o : Option Request) → e.request ≡ o → state_after schema (reverse all) ≡ after_request e.stamp o before (state_after schema before)
   unfolding state_after
-  state_is o h = ap (state_after schema) more ∙ ap (λ r. after_request schema e.stamp r before (state_after schema before)) h
+  state_is o h = ap (state_after schema) more ∙ ap (λ r. after_request e.stamp r before (state_after schema before)) h
 
   executed_is : (o : Option Request) (client : ℕ) → e.request ≡ o → executed client (reverse all) ≡ cond (is_request client (executed client before + 1) o) (executed client before + 1) (executed client before)
   unfolding executed
@@ -138,7 +149,7 @@ module _ (tables : columns.Tables) (list : List Entry) (e : Entry) where
 
   -- the outcomes that are kept for a client after an entry of this request
   abbrev kept_after : Option Request → ℕ → List Outcome
-  kept_after o client = take 8 (outcomes_with schema client e.stamp o before (first_outcomes schema client before))
+  kept_after o client = take 8 (outcomes_with client e.stamp o before (first_outcomes schema client before))
 
   kept_is : (o : Option Request) (client : ℕ) → e.request ≡ o → kept schema client (reverse all) ≡ kept_after o client
   unfolding first_outcomes
@@ -183,7 +194,7 @@ module _ (tables : columns.Tables) (list : List Entry) (e : Entry) where
         | inr n ↦ rw n refl
       ]
 
-      state_same : after_request schema e.stamp (Some r) before (state_after schema before) ≡ state_after schema before
+      state_same : after_request e.stamp (Some r) before (state_after schema before) ≡ state_after schema before
       state_same = rw is_later refl
 
       pub asked_again : (new : Tables) → new.current ≡ old.current → new.versions ≡ old.versions → new.requests ≡ old.requests → new.last ≡ Some e.stamp → AreTables tables all new
@@ -202,9 +213,9 @@ module _ (tables : columns.Tables) (list : List Entry) (e : Entry) where
       is_next = subst (λ n. (r.number == n + 1) ≡ true) (are.numbers r.client) (new_number (number_of old.requests r.client) (outcomes_of old.requests r.client) r.number unknown)
 
       abbrev next : State
-      next = next_state (state_after schema before) (executed_text schema e.stamp r.text (state_after schema before))
+      next = result_unwrap_or (executed_text schema e.stamp r.text (state_after schema before)) (state_after schema before)
 
-      state_next : after_request schema e.stamp (Some r) before (state_after schema before) ≡ next
+      state_next : after_request e.stamp (Some r) before (state_after schema before) ≡ next
       state_next = rw is_next refl
 
       module _ (o : Outcome) (is : o ≡ first_outcome schema e.stamp r before) where

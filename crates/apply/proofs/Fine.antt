@@ -1,4 +1,5 @@
 -- What is read is well formed: a period that is inserted and a portion have a day, and none past the last.
+use Rattle.std.specs.Result.{result_unwrap_or}
 use Rattle.std.proofs.Common.{◌≡◌, ℕ, ◌<◌, ◌≤◌, Bool, true, false, not, cond, List, [], ◌∷◌, map, Option, Some, None, option_map, Result, Ok, Err, refl, sym, subst, arith, inl, inr}
 use Rattle.std.specs.Prelude.{find, nat_lt, unwrap_or, ◌==◌, zip}
 use Rattle.std.proofs.lemmas.Bool.{ltb-true, leb-true}
@@ -8,7 +9,6 @@ use Rattle.period.specs.declared.period.Period.{Period as Declared}
 use Rattle.model.specs.declared.value.Value.{Value as RowValue}
 use Rattle.model.specs.declared.value.Value.TheVariants as value
 use Rattle.model.specs.Tables.{days, Period}
-use Rattle.model.specs.Transactions.{read_statements}
 use Rattle.rowlaws.specs.Changes.{IsFine}
 use Rattle.rowlaws.specs.Statements.{AreFine}
 use Rattle.rowlaws.specs.Logs.{ReadsFine}
@@ -231,6 +231,6 @@ pub reads_fine : LiteralsInCalendar → (tables : Tables) → ReadsFine (schema_
 unfolding schema_of
 reads_fine calendar tables text = by (transaction_in tables text) refl
   where
-    by : (r : Result (List StatementShape) Refusal) → transaction_in tables text ≡ r → AreFine (read_statements (meanings r))
+    by : (r : Result (List StatementShape) Refusal) → transaction_in tables text ≡ r → AreFine (result_unwrap_or (meanings r) [])
     by (Ok ss) e = text_fine calendar tables text ss e
     by (Err refusal) e = tt

@@ -1,12 +1,13 @@
 -- A transaction, statement by statement.
+use Rattle.std.specs.Result.{result_unwrap_or}
 use Rattle.std.proofs.Common.{◌≡◌, ℕ, zero, suc, ◌<◌, ◌≤◌, ◌⊎◌, inl, inr, List, [], ◌∷◌, ◌++◌, map, filter, length, None, Result, Ok, Err, refl, sym, ap, ◌∙◌, subst, arith}
 use Rattle.std.specs.Prelude.{slice_get}
 use Rattle.std.specs.Option.{option_map_or}
 use Rattle.std.proofs.lemmas.Bool.{cases_lt}
 use Rattle.fault.specs.declared.refusal.Refusal.{Refusal}
 use Rattle.fault.specs.declared.refusal.Refusal.TheVariants as refusals
-use Rattle.model.specs.Transactions.{State, Statement, Schema, and_then, run_statement, run_statements, first_orphan, unless_orphan, transacted, read_statements, executed_text}
-use Rattle.model.specs.Logs.{outcome_at, next_state}
+use Rattle.model.specs.Transactions.{State, Statement, Schema, and_then, run_statement, run_statements, first_orphan, unless_orphan, transacted, executed_text}
+use Rattle.model.specs.Logs.{outcome_at}
 use Rattle.rowlaws.specs.Changes.{IsFine}
 use Rattle.rowlaws.specs.Touching.{removed_both, added_both}
 use Rattle.rowlaws.specs.Statements.{Rows, AllListed, AllFollow}
@@ -147,31 +148,31 @@ all_committed nothing t touched old new count few each n = elim (cases_lt n (tab
       λ key. ap (filter (is_of key)) (b ∙ sym e)
 ]
 
-text_is : (schema : Schema) (t : ℕ) (text : List ℕ) (ss : List Statement) (state : State) → ss ≡ read_statements (schema.reads text) → transacted schema t ss state ≡ executed_text schema t text state
+text_is : (schema : Schema) (t : ℕ) (text : List ℕ) (ss : List Statement) (state : State) → ss ≡ result_unwrap_or (schema.reads text) [] → transacted schema t ss state ≡ executed_text schema t text state
 unfolding executed_text
 text_is schema t text ss state e = ap (λ x. transacted schema t x state) e
 
-pub accepted : NothingBeyond → (schema : Schema) (t : ℕ) (text : List ℕ) (ss : List Statement) (rows more : Rows) (touched : Touched) (old new : Versions) (tables : ℕ) → ss ≡ read_statements (schema.reads text)
+pub accepted : NothingBeyond → (schema : Schema) (t : ℕ) (text : List ℕ) (ss : List Statement) (rows more : Rows) (touched : Touched) (old new : Versions) (tables : ℕ) → ss ≡ result_unwrap_or (schema.reads text) []
     → IsTransacted schema t ss rows more (removed_in touched) (added_in touched) → length touched.tables.items ≤ tables → table_count new ≡ table_count old
     → ((n : ℕ) → n < table_count old → SameByKey (versions_of new n) (committed t (removed_in touched n) (added_in touched n) (versions_of old n)))
     → (state : State) → AllListed rows state → table_count old ≡ tables → IsExecuted schema t text state more (versions_of old) (versions_of new) (Ok t)
 accepted nothing schema t text ss rows more touched old new tables e done few count each state listed same =
     let d = done state listed in
     let ok : executed_text schema t text state ≡ Ok d.0 = sym (text_is schema t text ss state e) ∙ d.1 in
-    let next : next_state state (executed_text schema t text state) ≡ d.0 = ap (next_state state) ok in
+    let next : result_unwrap_or (executed_text schema t text state) state ≡ d.0 = ap (λ o. result_unwrap_or o state) ok in
     record {
       is = ap (outcome_at t) (sym ok);
       rows = subst (λ (s : State). AllListed more s) (sym next) d.2;
       committed = λ n. inr (removed_in touched n, added_in touched n, subst (λ (s : State). IsTurned t (state n) (s n) (removed_in touched n) (added_in touched n)) (sym next) (d.3 n), all_committed nothing t touched old new count (omega arith) each n);
     }
 
-pub refused : (schema : Schema) (t : ℕ) (text : List ℕ) (ss : List Statement) (rows more : Rows) (old : Versions) (r : Refusal) → ss ≡ read_statements (schema.reads text)
+pub refused : (schema : Schema) (t : ℕ) (text : List ℕ) (ss : List Statement) (rows more : Rows) (old : Versions) (r : Refusal) → ss ≡ result_unwrap_or (schema.reads text) []
     → IsRefusedWhole schema t ss rows more r → (r ≡ refusals.NoMemory → ⊥) → (state : State) → AllListed rows state → IsExecuted schema t text state more (versions_of old) (versions_of old) (Err r)
 refused schema t text ss rows more old r e (inl h) n state listed = absurd (n h)
 refused schema t text ss rows more old r e (inr h) n state listed =
     let d = h state listed in
     let err : executed_text schema t text state ≡ Err r = sym (text_is schema t text ss state e) ∙ d.0 in
-    let next : next_state state (executed_text schema t text state) ≡ state = ap (next_state state) err in
+    let next : result_unwrap_or (executed_text schema t text state) state ≡ state = ap (λ o. result_unwrap_or o state) err in
     record {
       is = ap (outcome_at t) (sym err);
       rows = subst (λ (s : State). AllListed more s) (sym next) d.1;
@@ -180,11 +181,11 @@ refused schema t text ss rows more old r e (inr h) n state listed =
 
 -- ---- texts
 
-pub read_is : (tables : Tables) (text : List ℕ) (items : List Read) → transaction_in tables text ≡ Ok (map statement_of items) → map meaning (map statement_of items) ≡ read_statements ((schema_of tables).reads text)
+pub read_is : (tables : Tables) (text : List ℕ) (items : List Read) → transaction_in tables text ≡ Ok (map statement_of items) → map meaning (map statement_of items) ≡ result_unwrap_or ((schema_of tables).reads text) []
 unfolding schema_of
-read_is tables text items e = sym (ap (λ r. read_statements (meanings r)) e)
+read_is tables text items e = sym (ap (λ r. result_unwrap_or (meanings r) []) e)
 
-pub unread_is : (tables : Tables) (text : List ℕ) (items : List Read) (r : Refusal) → items ≡ [] → (r ≡ refusals.NoMemory → ⊥) → (r ≡ refusals.NoMemory) ⊎ (transaction_in tables text ≡ Err r) → map meaning (map statement_of items) ≡ read_statements ((schema_of tables).reads text)
+pub unread_is : (tables : Tables) (text : List ℕ) (items : List Read) (r : Refusal) → items ≡ [] → (r ≡ refusals.NoMemory → ⊥) → (r ≡ refusals.NoMemory) ⊎ (transaction_in tables text ≡ Err r) → map meaning (map statement_of items) ≡ result_unwrap_or ((schema_of tables).reads text) []
 unfolding schema_of
 unread_is tables text items r none n (inl h) = absurd (n h)
-unread_is tables text items r none n (inr e) = ap (λ xs. map meaning (map statement_of xs)) none ∙ sym (ap (λ x. read_statements (meanings x)) e)
+unread_is tables text items r none n (inr e) = ap (λ xs. map meaning (map statement_of xs)) none ∙ sym (ap (λ x. result_unwrap_or (meanings x) []) e)

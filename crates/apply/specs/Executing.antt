@@ -1,10 +1,11 @@
 -- Transactions on the rows and versions of tables, against what they come to on days.
+use Rattle.std.specs.Result.{result_unwrap_or}
 use Rattle.std.specs.Prelude.{◌≡◌, ◌⊎◌, ℕ, Option, Some, None, List, Ok, Err}
 use Rattle.fault.specs.declared.refusal.Refusal.{Refusal}
 use Rattle.fault.specs.declared.refusal.Refusal.TheVariants as refusals
 use Rattle.model.specs.Tables.{Table, Row, IsRow}
 use Rattle.model.specs.Transactions.{State, Statement, Schema, transacted, executed_text}
-use Rattle.model.specs.Logs.{Outcome, outcome_at, next_state}
+use Rattle.model.specs.Logs.{Outcome, outcome_at}
 use Rattle.rowlaws.specs.Rows.{Has, Apart}
 use Rattle.rowlaws.specs.Statements.{Rows, AllListed}
 use Rattle.versionlaws.specs.Versions.{Version}
@@ -46,8 +47,8 @@ IsCommitted t old new versions more =
 -- the outcome of a text that is executed at t in a state, and the rows and versions after it
 pub record IsExecuted (schema : Schema) (t : ℕ) (text : List ℕ) (state : State) (more : Rows) (versions later : ℕ → List Version) (outcome : Outcome) : Type 0 where
   pub is : outcome ≡ outcome_at t (executed_text schema t text state)
-  pub rows : AllListed more (next_state state (executed_text schema t text state))
-  pub committed : (n : ℕ) → IsCommitted t (state n) (next_state state (executed_text schema t text state) n) (versions n) (later n)
+  pub rows : AllListed more (result_unwrap_or (executed_text schema t text state) state)
+  pub committed : (n : ℕ) → IsCommitted t (state n) (result_unwrap_or (executed_text schema t text state) state n) (versions n) (later n)
 
 -- the outcome of a request that is not executed
 abbrev pub unless_new : Verdict → Option Outcome

@@ -1,8 +1,8 @@
 //! Questions to the versions of tables.
-ghost use Rattle.std.specs.Prelude.{◌≡◌, ◌⊎◌, Some, IfOk, IfErr, option_map};
+ghost use Rattle.std.specs.Prelude.{◌≡◌, ◌⊎◌, Some, IfOk, IfErr, option_map, unwrap_or};
 ghost use Rattle.fault.specs.declared.refusal.Refusal.TheVariants.{NoMemory, NotClosed};
 ghost use Rattle.model.specs.Texts.{instant_text};
-ghost use Rattle.model.specs.Answers.{time_or};
+ghost use Rattle.model.specs.Answers.{as_of};
 ghost use Rattle.sqlread.specs.Shapes.{query_of, time_of};
 ghost use Rattle.answer.specs.Answers.{columns_in};
 ghost use Rattle.sysversion.specs.Versions.{versions_of, schema_in};
@@ -36,7 +36,7 @@ fn not_closed(alloc: Global, closed: Stamp) -> Refusal
 
 // The question's system time; AS OF the instant where it has none.
 fn time_or(query: &Query, at: Stamp) -> SystemTime
-    ensures { time_of result ≡ time_or at (option_map time_of query.now.time) }
+    ensures { time_of result ≡ unwrap_or (option_map time_of query.now.time) (as_of at) }
 {
     match query.time {
         Some(time) => time,

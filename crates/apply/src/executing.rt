@@ -1,7 +1,8 @@
 //! Transactions on the current rows and on the versions.
-ghost use Rattle.std.specs.Prelude.{◌≡◌, ◌≤◌, ◌⊎◌, ◌↔◌, ℕ, None, IsTrue, map, length, OnOk, OnErr, IfOk, IfErr};
+ghost use Rattle.std.specs.Prelude.{◌≡◌, ◌≤◌, ◌⊎◌, ◌↔◌, ℕ, None, IsTrue, map, length, OnOk, OnErr, IfOk, IfErr, []};
 ghost use Rattle.fault.specs.declared.refusal.Refusal.TheVariants.{NoMemory};
-ghost use Rattle.model.specs.Transactions.{State, read_statements, first_orphan};
+ghost use Rattle.std.specs.Result.{result_unwrap_or};
+ghost use Rattle.model.specs.Transactions.{State, first_orphan};
 ghost use Rattle.rowlaws.specs.Statements.{AllListed};
 ghost use Rattle.rowlaws.specs.Transactions.{TransactionsFollow};
 ghost use Rattle.rowlaws.specs.Whole.{ComesFromWhole, WholeItself, WholeThen};
@@ -79,7 +80,7 @@ fn transact(
 
 // The statements of a text, none of one that does not read.
 fn statements(alloc: Global, schema: &Schema, text: &str) -> Result<Vec<Statement>, AllocError>
-    ensures { IfOk result (λ all. map meaning (map statement_of all.items) ≡ read_statements ((schema_of schema.now).reads text.now)) }
+    ensures { IfOk result (λ all. map meaning (map statement_of all.items) ≡ result_unwrap_or ((schema_of schema.now).reads text.now) []) }
 {
     match read_transaction(alloc, schema, text) {
         Ok(transaction) => Ok(transaction.statements),

@@ -5,7 +5,7 @@ use Rattle.sqlread.specs.declared.term.Term.{Term}
 use Rattle.sqlread.specs.Shapes.{term_of}
 use Rattle.sqlread.specs.Meaning.{term_passes}
 use Rattle.model.specs.Tables.{Table}
-use Rattle.model.specs.Answers.{SystemTime, last_instant, Query, Select, Shown, Answer, IsAnswerOver}
+use Rattle.model.specs.Answers.{SystemTime, Query, Select, Shown, Answer, IsAnswerOver}
 use Rattle.rowlaws.specs.Rows.{Apart}
 use Rattle.versionlaws.specs.Versions.{Version, Keeps}
 use Rattle.versionlaws.specs.Answering.{is_before, shown_end}
@@ -25,4 +25,4 @@ show_by last v = record { row = v.row; end = shown_end last v.end }
 -- where the versions, each once, say what a table was at each instant up to now, and the query asks about none that is
 -- later, this is the answer over those instants
 abbrev pub IsKept : Query → List Version → Answer → Type 0
-IsKept q versions a = (history : ℕ → Table) (now : ℕ) → Keeps versions history now → Apart versions → last_instant q.time ≤ now → IsAnswerOver history q a
+IsKept q versions a = (history : ℕ → Table) (now : ℕ) → Keeps versions history now → Apart versions → q.time.last ≤ now → IsAnswerOver history q a

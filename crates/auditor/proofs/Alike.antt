@@ -1,11 +1,17 @@
 -- Two lists of events that are behind one moment leave one world.
-use Rattle.std.proofs.Common.{◌≡◌, ◌∙◌, ℕ, ℤ, zero, suc, ◌+◌, List, Option, Some, None, refl, sym, ap}
+use Rattle.model.specs.Steps.{on_message, Nothing}
+use Rattle.std.specs.Option.{option_map_or}
+use Rattle.std.proofs.Common.{◌≡◌, ◌∙◌, ℕ, ℤ, zero, suc, ◌+◌, List, Option, Some, None, refl, sym, ap, ◌==◌, false, []}
 use Rattle.std.specs.Prelude.{if◌then◌else◌, ◌&&◌, slice_get}
 use Rattle.model.specs.Lists.{nth}
 use Rattle.model.specs.Transactions.{Schema}
 use Rattle.model.specs.Members.{Node}
 use Rattle.model.specs.declared.message.Message.{Message}
-use Rattle.model.specs.Worlds.{World, Event, Job, Left, Delivery, Deliver, Torn, Old, New, happens, run, does, done, delivers, deliver, tears, torn, node_left, is_addressed}
+use Rattle.model.specs.Worlds.{World, Event, Deliver, Torn, happens, run, done, node_left, with_node, stopped, does, delivers, tears}
+use Rattle.model.specs.declared.event.Job.{Job}
+use Rattle.model.specs.declared.event.Job.TheVariants.{Delivery}
+use Rattle.model.specs.declared.event.Left.{Left}
+use Rattle.model.specs.declared.event.Left.TheVariants.{Old, New}
 use Rattle.flight.specs.declared.flight.Version.{Version}
 use Rattle.flight.specs.declared.life.Life.{Life}
 use Rattle.flight.specs.declared.life.Step.{Step}
@@ -26,7 +32,7 @@ use Rattle.moments.specs.Behind.{Records, life_at, step_at, job_event, IsJob, Is
 
 does_alike : (s : Schema) (n : ℕ) (w : World) (m k j : ℕ) (reading : ℤ) (x : Option Node) → nth w.sent k ≡ nth w.sent j → does s n w m (Delivery k reading) x ≡ does s n w m (Delivery j reading) x
 does_alike s n w m k j reading None same = refl
-does_alike s n w m k j reading (Some x) same = ap (λ (o : Option Message). if x.up then done w m (deliver s n m reading o x) else w) same
+does_alike s n w m k j reading (Some x) same = ap (λ (o : Option Message). if x.up then done w m (option_map_or (λ (p : Message). on_message s n m reading p x) o Nothing) else w) same
 
 delivers_alike : (s : Schema) (n : ℕ) (w : World) (k j : ℕ) (reading : ℤ) (o : Option Message) → nth w.sent k ≡ nth w.sent j → delivers s n w (Delivery k reading) o ≡ delivers s n w (Delivery j reading) o
 delivers_alike s n w k j reading None same = refl
@@ -37,7 +43,7 @@ delivered_alike s n w k j reading same = delivers_alike s n w k j reading (nth w
 
 tears_alike : (s : Schema) (n : ℕ) (w : World) (m k j : ℕ) (reading : ℤ) (left : Left) (x : Option Node) → nth w.sent k ≡ nth w.sent j → tears s n w m (Delivery k reading) left x ≡ tears s n w m (Delivery j reading) left x
 tears_alike s n w m k j reading left None same = refl
-tears_alike s n w m k j reading left (Some x) same = ap (λ (o : Option Message). if x.up && is_addressed m o then torn w m (node_left left x (deliver s n m reading o x)) else w) same
+tears_alike s n w m k j reading left (Some x) same = ap (λ (o : Option Message). if x.up && option_map_or (λ (message : Message). message.addressee == m) o false then with_node w m (stopped (node_left left x (option_map_or (λ (p : Message). on_message s n m reading p x) o Nothing))) [] else w) same
 
 pub same_sent : (p : Past) (at node : ℕ) (message : Message) (k j : ℕ) → IsSent p at node message k → IsSent p at node message j → nth p.world.sent k ≡ nth p.world.sent j
 same_sent p at node message k j one other = one.is ∙ sym other.is

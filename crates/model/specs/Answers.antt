@@ -1,7 +1,7 @@
 -- Queries and their answers: FOR SYSTEM_TIME AS OF, FROM .. TO and BETWEEN .. AND over the system-versioned tables of
 -- SQL:2011, instant by instant. Three choices are this product's own: a row's system end is shown only where it is not
 -- after the query's last instant, a query without system time is AS OF the closed time, and rows come in an order.
-use Rattle.std.specs.Prelude.{◌≡◌, ℕ, ◌<◌, ◌≤◌, ◌↔◌, Bool, nat_le, Option, Some, None, List, map, Contains, IsTrue, All, if◌then◌else◌}
+use Rattle.std.specs.Prelude.{◌≡◌, ℕ, ◌<◌, ◌≤◌, ◌↔◌, Bool, nat_le, Option, Some, None, unwrap_or, option_and_then, List, map, Contains, IsTrue, All, if◌then◌else◌}
 use Rattle.std.specs.List.Sorted.{IsStrictlySortedBy}
 use Rattle.std.specs.Ordering.{ordering_then, nat_cmp}
 use Rattle.std.specs.declared.cmp.Ordering.{Ordering}
@@ -21,10 +21,6 @@ pub record SystemTime : Type 0 where
 abbrev pub IsInstant : SystemTime → ℕ → Type 0
 IsInstant time u = (time.first ≤ u) × (u ≤ time.last)
 
--- the greatest of the query's instants
-abbrev pub last_instant : SystemTime → ℕ
-last_instant time = time.last
-
 -- one instant alone
 abbrev pub as_of : ℕ → SystemTime
 as_of t = record { first = t; last = t }
@@ -41,13 +37,9 @@ pub record Select : Type 0 where
   pub time : Option SystemTime
   pub passes : Row → Bool
 
-abbrev pub time_or : ℕ → Option SystemTime → SystemTime
-time_or t None = as_of t
-time_or t (Some time) = time
-
 -- a query without system time is read AS OF the instant
 abbrev pub read_at : ℕ → Select → Query
-read_at t q = record { table = q.table; time = time_or t q.time; passes = q.passes }
+read_at t q = record { table = q.table; time = unwrap_or q.time (as_of t); passes = q.passes }
 
 -- a row as an answer shows it: with its system end, or none where the highest value is shown
 pub record Shown : Type 0 where
@@ -76,10 +68,10 @@ IsShownEnd history last row None = (w : ℕ) → row.system_start < w → w ≤ 
 
 -- each row that is asked for, once, in order, with its shown end
 pub record IsAnswerOver (history : ℕ → Table) (q : Query) (a : Answer) : Type 0 where
-  pub last : a.last ≡ last_instant q.time
+  pub last : a.last ≡ q.time.last
   pub order : IsStrictlySortedBy row_cmp (map (λ s. s.row) a.rows)
   pub rows : (row : Row) → Contains (map (λ s. s.row) a.rows) row ↔ IsAsked history q row
-  pub ends : All (λ s. IsShownEnd history (last_instant q.time) s.row s.end) a.rows
+  pub ends : All (λ s. IsShownEnd history q.time.last s.row s.end) a.rows
 
 -- the answer to a query in a list of entries
 abbrev pub IsAnswer : Schema → Query → List Entry → Answer → Type 0
@@ -87,12 +79,8 @@ IsAnswer schema q list = IsAnswerOver (λ u. state_at schema list u q.table) q
 
 -- at this closed time no later entry can have an instant that the query asks about
 abbrev pub IsClosed : Select → Option ℕ → Type 0
-IsClosed q time = (t : ℕ) × (time ≡ Some t) × (last_instant (time_or t q.time) ≤ t)
-
-abbrev pub if_closed : Query → ℕ → Option Query
-if_closed q t = if nat_le (last_instant q.time) t then Some q else None
+IsClosed q time = (t : ℕ) × (time ≡ Some t) × ((read_at t q).time.last ≤ t)
 
 -- the query as it is answered where this is closed, if it is closed
 abbrev pub closed_query : Select → Option ℕ → Option Query
-closed_query q None = None
-closed_query q (Some t) = if_closed (read_at t q) t
+closed_query q time = option_and_then (λ t. if nat_le (read_at t q).time.last t then Some (read_at t q) else None) time

@@ -1,7 +1,9 @@
 -- What a log of entries means: its stamps and closed time, the outcomes of its requests, each executed once, and the
 -- state of the tables at each instant. (Numbered requests: client interaction in "In search of an understandable
 -- consensus algorithm"; the state at an instant: the system-versioned tables of SQL:2011.)
-use Rattle.std.specs.Prelude.{◌≡◌, ℕ, ◌+◌, ◌-◌, ◌<◌, ◌≤◌, ◌==◌, Bool, false, ◌&&◌, nat_lt, nat_le, Option, Some, None, option_map, unwrap_or, List, [], ◌∷◌, length, take, reverse, slice_get, if◌then◌else◌, Result, Ok, Err, filter}
+use Rattle.std.specs.Prelude.{◌≡◌, ℕ, ◌+◌, ◌-◌, ◌<◌, ◌≤◌, ◌==◌, Bool, false, ◌&&◌, nat_lt, nat_le, Option, Some, option_map, unwrap_or, List, [], ◌∷◌, length, take, reverse, slice_get, if◌then◌else◌, Result, Ok, Err, filter}
+use Rattle.std.specs.Option.{option_and_then, option_map_or}
+use Rattle.std.specs.Result.{result_unwrap_or}
 use Rattle.model.specs.Lists.{nth}
 use Rattle.model.specs.Tables.{empty_table}
 use Rattle.fault.specs.declared.refusal.Refusal.{Refusal}
@@ -41,53 +43,39 @@ least_over floor log = above (greater (closed log) floor)
 abbrev pub Outcome : Type 0
 Outcome = Result ℕ Refusal
 
--- the entry is the client's request of this number
-abbrev pub is_request : ℕ → ℕ → Option Request → Bool
-is_request client number None = false
-is_request client number (Some r) = r.client == client && r.number == number
-
 -- how many of the client's requests were executed: each has the number after the one before
 unfoldable pub executed : ℕ → List Entry → ℕ
 executed client [] = 0
 executed client (e ∷ before) =
     let n = executed client before in
-    if is_request client (n + 1) e.request then n + 1 else n
+    if option_map_or (λ r. r.client == client && r.number == n + 1) e.request false then n + 1 else n
 
 -- a first has the number after that of the client's last first, so it is executed
 abbrev pub is_first : Request → List Entry → Bool
 is_first r before = r.number == executed r.client before + 1
-
--- a refused transaction changes nothing
-abbrev pub next_state : State → Result State Refusal → State
-next_state state (Ok next) = next
-next_state state (Err refusal) = state
 
 -- accepted at its instant, or refused
 abbrev pub outcome_at : ℕ → Result State Refusal → Outcome
 outcome_at t (Ok next) = Ok t
 outcome_at t (Err refusal) = Err refusal
 
-abbrev pub after_request : Schema → ℕ → Option Request → List Entry → State → State
-after_request schema t None before state = state
-after_request schema t (Some r) before state = if is_first r before then next_state state (executed_text schema t r.text state) else state
-
--- what the first requests leave, one at a time, each once
+-- what the first requests leave, one at a time, each once; a refused transaction changes nothing
 unfoldable pub state_after : Schema → List Entry → State
 state_after schema [] = λ n. empty_table
-state_after schema (e ∷ before) = after_request schema e.stamp e.request before (state_after schema before)
+state_after schema (e ∷ before) =
+    let state = state_after schema before in
+    option_map_or (λ r. if is_first r before then result_unwrap_or (executed_text schema e.stamp r.text state) state else state) e.request state
 
 -- what a first request comes to
 abbrev pub first_outcome : Schema → ℕ → Request → List Entry → Outcome
 first_outcome schema t r before = outcome_at t (executed_text schema t r.text (state_after schema before))
 
-abbrev pub outcomes_with : Schema → ℕ → ℕ → Option Request → List Entry → List Outcome → List Outcome
-outcomes_with schema client t None before earlier = earlier
-outcomes_with schema client t (Some r) before earlier = if r.client == client && is_first r before then first_outcome schema t r before ∷ earlier else earlier
-
 -- the outcomes of the client's first requests, from the newest back
 unfoldable pub first_outcomes : Schema → ℕ → List Entry → List Outcome
 first_outcomes schema client [] = []
-first_outcomes schema client (e ∷ before) = outcomes_with schema client e.stamp e.request before (first_outcomes schema client before)
+first_outcomes schema client (e ∷ before) =
+    let earlier = first_outcomes schema client before in
+    option_map_or (λ r. if r.client == client && is_first r before then first_outcome schema e.stamp r before ∷ earlier else earlier) e.request earlier
 
 -- those of its latest eight firsts, or of all, if they are fewer: the newest has the number `executed`, the one before it 1 less, and so on
 abbrev pub kept : Schema → ℕ → List Entry → List Outcome
@@ -105,44 +93,12 @@ outcome schema t r before =
 abbrev pub before_index : List Entry → ℕ → List Entry
 before_index list i = reverse (take (i - 1) list)
 
-abbrev pub told_of : Schema → List Entry → ℕ → ℕ → Option Request → Option Told
-told_of schema list i t None = None
-told_of schema list i t (Some r) = Some (record { index = i; client = r.client; number = r.number; outcome = outcome schema t r (before_index list i) })
-
-abbrev pub told_entry : Schema → List Entry → ℕ → Option Entry → Option Told
-told_entry schema list i None = None
-told_entry schema list i (Some e) = told_of schema list i e.stamp e.request
-
 -- what is told of the entry at an index, if it is a request
 abbrev pub told_at : Schema → List Entry → ℕ → Option Told
-told_at schema list i = told_entry schema list i (nth list i)
+told_at schema list i = option_and_then (λ e. option_map (λ r. record { index = i; client = r.client; number = r.number; outcome = outcome schema e.stamp r (before_index list i) }) e.request) (nth list i)
 
 -- ---- the state at an instant
 
--- a transaction that was accepted
-pub record Transaction : Type 0 where
-  pub stamp : ℕ
-  pub text : List ℕ
-
-abbrev pub if_accepted : Transaction → List Transaction → Result State Refusal → List Transaction
-if_accepted x xs (Ok next) = x ∷ xs
-if_accepted x xs (Err refusal) = xs
-
-abbrev pub accepted_request : Schema → ℕ → Option Request → List Entry → List Transaction → List Transaction
-accepted_request schema t None before xs = xs
-accepted_request schema t (Some r) before xs =
-    if is_first r before then if_accepted (record { stamp = t; text = r.text }) xs (executed_text schema t r.text (state_after schema before)) else xs
-
--- the accepted transactions of a list of entries, both from the newest back
-unfoldable pub accepted : Schema → List Entry → List Transaction
-accepted schema [] = []
-accepted schema (e ∷ before) = accepted_request schema e.stamp e.request before (accepted schema before)
-
--- transactions from the newest back, run from the oldest on
-unfoldable pub run_all : Schema → List Transaction → State
-run_all schema [] = λ n. empty_table
-run_all schema (x ∷ xs) = next_state (run_all schema xs) (executed_text schema x.stamp x.text (run_all schema xs))
-
--- the accepted transactions of the list with a stamp of at most t, run in order from the empty state
+-- what the entries of the list leave that are stamped at most t
 unfoldable pub state_at : Schema → List Entry → ℕ → State
-state_at schema list t = run_all schema (filter (λ x. nat_le x.stamp t) (accepted schema (reverse list)))
+state_at schema list t = state_after schema (reverse (filter (λ e. nat_le e.stamp t) list))

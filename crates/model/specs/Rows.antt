@@ -19,7 +19,10 @@ use Rattle.model.specs.declared.message.Role.TheVariants.{Candidate, Leader}
 use Rattle.model.specs.declared.message.Body.TheVariants.{Vote, Append, Reply}
 use Rattle.model.specs.declared.message.Input.TheVariants.{Timeout, Beat, Close, Submit}
 use Rattle.model.specs.Steps.{Effect, Moves, Refuses, Nothing, time_out, on_message}
-use Rattle.model.specs.Worlds.{World, Event, Hand, Deliver, Stop, Start, Torn, Ask, Delivery, Left, Old, New, Sent, Applied, Refused, Answered, fresh, new_world, led_world, run, Gives, GivesAll}
+use Rattle.model.specs.Worlds.{World, Event, Hand, Deliver, Stop, Start, Torn, Ask, Sent, Applied, Refused, Answered, fresh, new_world, led_world, run, Gives, GivesAll}
+use Rattle.model.specs.declared.event.Job.TheVariants.{Delivery}
+use Rattle.model.specs.declared.event.Left.{Left}
+use Rattle.model.specs.declared.event.Left.TheVariants.{Old, New}
 use Rattle.model.specs.Agreement.{decided}
 
 -- Dept, where a text of one byte is an INSERT of key 3 with that byte for its name, over the days 5 and 6, and no other text spells

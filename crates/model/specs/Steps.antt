@@ -4,6 +4,7 @@
 -- honest member can send changes nothing, the term neither.
 use Rattle.std.specs.Prelude.{ℕ, zero, suc, ◌+◌, ◌-◌, ℤ, max, min, Bool, true, false, not, ◌&&◌, ◌||◌, ◌==◌, nat_lt, nat_le, if◌then◌else◌, Option, Some, None, option_map, unwrap_or, is_ok, List, [], ◌∷◌, ◌++◌, map, length, take, drop, replicate}
 use Rattle.std.specs.List.{list_all}
+use Rattle.std.specs.Option.{option_map_or}
 use Rattle.model.specs.Lists.{nth, nth_or, with_nth}
 use Rattle.fault.specs.declared.refusal.Refusal.{Refusal}
 use Rattle.fault.specs.declared.refusal.Refusal.TheVariants.{NotLeader, TimeFull, LogFull, TermFull}
@@ -16,7 +17,7 @@ use Rattle.model.specs.Stamps.{TIME_LAST, above, greater, stamp}
 use Rattle.model.specs.Logs.{last_entry, closed, least_over}
 use Rattle.model.specs.declared.message.Body.{Body}
 use Rattle.model.specs.declared.message.Message.{Message}
-use Rattle.model.specs.Members.{Node, applied, is_majority, is_in, others, is_leader, is_candidate, is_free_for, term_of, term_at, last_term, has_term, stands, is_up_to_date, agreed}
+use Rattle.model.specs.Members.{Node, applied, is_majority, is_in, others, is_leader, is_candidate, term_of, term_at, last_term, has_term, stands, is_up_to_date, agreed}
 use Rattle.model.specs.declared.message.Body.TheVariants.{RequestVote, Vote, Append, Reply, Seek, Stored, Seal}
 use Rattle.model.specs.declared.message.Role.TheVariants.{Follower, Candidate, Leader}
 use Rattle.model.specs.declared.message.Input.{Input}
@@ -75,18 +76,12 @@ hears term x = if nat_lt x.term term then in_term term x else x
 abbrev pub stands_up : ℕ → ℕ → Node → Node
 stands_up n me x = record x { term = x.term + 1; vote = Some me; role = Candidate; votes = with_nth (replicate n false) me true; told = None; next = []; matched = []; asked = None; stored = [] }
 
--- what a candidate asks of a member, with the index and the term of its last entry
-abbrev pub vote_request : Node → ℕ → ℕ → Message
-vote_request x me to = record { sender = me; addressee = to; term = x.term; body = RequestVote (length x.log) (last_term x.log) }
-
-abbrev pub vote_requests : ℕ → ℕ → Node → List Message
-vote_requests n me x = map (vote_request x me) (others n me)
-
+-- it asks the others for their votes, with the index and the term of its last entry
 unfoldable pub time_out : ℕ → ℕ → Node → Effect
 time_out n me x =
     if is_leader x.role then Nothing
     else if nat_le TERM_LAST x.term then Refuses TermFull
-    else Moves (record { node = stands_up n me x; sent = vote_requests n me (stands_up n me x) })
+    else Moves (record { node = stands_up n me x; sent = tell_all n (stands_up n me x) me (RequestVote (length x.log) (last_term x.log)) })
 
 -- ---- Close, Submit
 
@@ -139,7 +134,7 @@ on_input n me (Submit reading request) x = append_own n me reading (Some request
 
 -- of this very term, the vote still free, and the candidate's log at least as up to date
 abbrev pub grants : ℕ → ℕ → ℕ → ℕ → Node → Bool
-grants sender term last_index last_term_of x = (term == x.term) && is_free_for x.vote sender && is_up_to_date last_term_of last_index x.log
+grants sender term last_index last_term_of x = (term == x.term) && option_map_or (λ v. v == sender) x.vote true && is_up_to_date last_term_of last_index x.log
 
 unfoldable pub on_request_vote : ℕ → ℕ → ℕ → ℕ → ℕ → Node → After
 on_request_vote me sender term last_index last_term_of x =
@@ -307,8 +302,7 @@ on_seek me sender term index floor x =
 
 -- this is what a leader asks for
 abbrev pub asks_for : Option AskedFloor → ℕ → ℕ → Bool
-asks_for None index floor = false
-asks_for (Some a) index floor = (a.index == index) && (a.floor == floor)
+asks_for asked index floor = option_map_or (λ a. (a.index == index) && (a.floor == floor)) asked false
 
 -- one member more has stored it
 abbrev pub with_stored : ℕ → Node → Node
@@ -337,35 +331,25 @@ on_body n me reading sender term (Seal index floor) x = Moves (record { node = l
 
 abbrev pub entries_of : Body → List Entry
 entries_of (Append prev prev_term es commit) = es
-entries_of (RequestVote i t) = []
-entries_of (Vote given floor) = []
-entries_of (Reply ok matched) = []
-entries_of (Seek index floor) = []
-entries_of (Stored index floor) = []
-entries_of (Seal index floor) = []
+entries_of body = []
 
 -- an index that a log can have, and an instant
 abbrev pub can_be_asked : ℕ → ℕ → Bool
 can_be_asked index floor = nat_lt 0 index && nat_le index LOG_LIMIT && nat_le floor TIME_LAST
 
 abbrev pub is_floor : Option ℕ → Bool
-is_floor None = true
-is_floor (Some t) = nat_le t TIME_LAST
+is_floor floor = option_map_or (λ t. nat_le t TIME_LAST) floor true
 
 -- the floor that it tells is an instant, and the index can be that of an entry
 abbrev pub floor_fits : Body → Bool
-floor_fits (RequestVote i t) = true
 floor_fits (Vote given floor) = is_floor floor
-floor_fits (Append prev prev_term es commit) = true
-floor_fits (Reply ok matched) = true
 floor_fits (Seek index floor) = can_be_asked index floor
-floor_fits (Stored index floor) = true
 floor_fits (Seal index floor) = can_be_asked index floor
+floor_fits body = true
 
 -- the entry's text spells a transaction
 abbrev pub spells : Schema → Option Request → Bool
-spells schema None = true
-spells schema (Some r) = is_ok (schema.reads r.text)
+spells schema request = option_map_or (λ r. is_ok (schema.reads r.text)) request true
 
 -- what an honest member can send to this one, save where the table comes to more
 abbrev pub is_honest : Schema → ℕ → ℕ → Message → Bool

@@ -6,6 +6,7 @@ ghost use Rattle.model.specs.Rows.{FirstClose, FirstAnswer, TornVote, RepeatedAp
 ghost use Rattle.model.specs.FloorRows.{SealedQuietly, StampedAbove, VoteTellsFloor, FloorFromVotes, SealWaits, FloorIsKept, NoFloor, StrangeFloors, NoFloorAsked, SecondStoredSeals, CountedAnew, SealOfAnotherTerm, GreatestWaits, SeekFollows, RefusedVoteTells};
 
 pub mod entry;
+pub mod event;
 pub mod mark;
 pub mod member;
 pub mod message;

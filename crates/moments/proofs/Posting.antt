@@ -17,7 +17,7 @@ use Rattle.moments.specs.declared.posts.Post.{Post}
 use Rattle.moments.specs.declared.replay.Replay.{Replay}
 use Rattle.moments.specs.Posts.{messages_in, posted, IsPosted}
 use Rattle.moments.specs.Past.{Past, grown, after, IsSent}
-use Rattle.model.specs.Worlds.{Job as ModelJob}
+use Rattle.model.specs.declared.event.Job.{Job as ModelJob}
 use Rattle.flight.specs.declared.life.Packet.{Packet}
 use Rattle.flight.specs.declared.life.Packet.TheVariants.{Delivered}
 use Rattle.flight.specs.declared.life.Step.{Step}

@@ -15,8 +15,11 @@ use Rattle.model.specs.declared.entry.Told.{Told}
 use Rattle.model.specs.Answers.{Query, Select, closed_query}
 use Rattle.model.specs.Logs.{told_at}
 use Rattle.fault.specs.declared.refusal.Refusal.TheVariants.{NodeDown}
+use Rattle.model.specs.declared.event.Job.{Job}
+use Rattle.model.specs.declared.event.Job.TheVariants.{Delivery, Local}
+use Rattle.model.specs.declared.event.Left.{Left}
 use Rattle.model.specs.Worlds as model
-use Rattle.model.specs.Worlds.{World, Event, Output, happens, run, new_world, Gives, GivesAll, numbered, done, effect_gives, tells, effect, does, step_gives, delivers, delivery_gives, tears, stops, starts, IsGivenAt, IsGivenBy, IsGivenIn}
+use Rattle.model.specs.Worlds.{World, Event, Output, happens, run, new_world, Gives, GivesAll, numbered, done, effect_gives, tells, effect, IsGivenIn, does, step_gives, delivers, delivery_gives, tears, stops, starts, IsGivenAt, IsGivenBy}
 use Rattle.sqlchecks.specs.Columns.{Tables}
 use Rattle.world.specs.declared.history.World.{World as Whole}
 use Rattle.world.specs.declared.event.Event.{Event as Given}
@@ -95,11 +98,11 @@ done_sent_if : (s : Schema) (w : World) (m : ℕ) (x : Node) (e : Effect) (up : 
 done_sent_if s w m x e true = done_sent s w m x e
 done_sent_if s w m x e false = same_sent w (model.Refused m NodeDown ∷ []) refl
 
-does_sent : (s : Schema) (n : ℕ) (w : World) (m : ℕ) (job : model.Job) (o : Option Node) → (does s n w m job o).sent ≡ w.sent ++ sent_in (step_gives s n w m job o)
+does_sent : (s : Schema) (n : ℕ) (w : World) (m : ℕ) (job : Job) (o : Option Node) → (does s n w m job o).sent ≡ w.sent ++ sent_in (step_gives s n w m job o)
 does_sent s n w m job None = same_sent w [] refl
 does_sent s n w m job (Some x) = done_sent_if s w m x (effect s n w m job x) x.up
 
-delivers_sent : (s : Schema) (n : ℕ) (w : World) (job : model.Job) (o : Option Message) → (delivers s n w job o).sent ≡ w.sent ++ sent_in (delivery_gives s n w job o)
+delivers_sent : (s : Schema) (n : ℕ) (w : World) (job : Job) (o : Option Message) → (delivers s n w job o).sent ≡ w.sent ++ sent_in (delivery_gives s n w job o)
 delivers_sent s n w job None = same_sent w [] refl
 delivers_sent s n w job (Some message) = does_sent s n w message.addressee job (nth w.nodes message.addressee)
 
@@ -119,7 +122,7 @@ starts_sent : (w : World) (m : ℕ) (o : Option Node) → (starts w m o).sent �
 starts_sent w m None = refl
 starts_sent w m (Some x) = started_if w m (model.started x) x.up
 
-tears_sent : (s : Schema) (n : ℕ) (w : World) (m : ℕ) (job : model.Job) (left : model.Left) (o : Option Node) → (tears s n w m job left o).sent ≡ w.sent
+tears_sent : (s : Schema) (n : ℕ) (w : World) (m : ℕ) (job : Job) (left : Left) (o : Option Node) → (tears s n w m job left o).sent ≡ w.sent
 tears_sent s n w m job left None = refl
 tears_sent s n w m job left (Some x) = kept_if w m (model.stopped (model.node_left left x (effect s n w m job x))) (x.up && model.is_for w m job)
 
@@ -137,8 +140,8 @@ given_at s m q (Some x) out h = given_by s m q x x.up out h
 
 -- the messages that an event gives are those that it sent
 pub sent_by : (s : Schema) (n : ℕ) (w : World) (e : Event) (out : List Output) → Gives s n w e out → (happens s n w e).sent ≡ w.sent ++ sent_in out
-sent_by s n w (model.Hand m input) out h = does_sent s n w m (model.Local input) (nth w.nodes m) ∙ ap (λ o. w.sent ++ sent_in o) (sym h)
-sent_by s n w (model.Deliver k reading) out h = delivers_sent s n w (model.Delivery k reading) (nth w.sent k) ∙ ap (λ o. w.sent ++ sent_in o) (sym h)
+sent_by s n w (model.Hand m input) out h = does_sent s n w m (Local input) (nth w.nodes m) ∙ ap (λ o. w.sent ++ sent_in o) (sym h)
+sent_by s n w (model.Deliver k reading) out h = delivers_sent s n w (Delivery k reading) (nth w.sent k) ∙ ap (λ o. w.sent ++ sent_in o) (sym h)
 sent_by s n w (model.Stop m) out h = stops_sent w m (nth w.nodes m) ∙ same_sent w out (ap sent_in h)
 sent_by s n w (model.Start m) out h = starts_sent w m (nth w.nodes m) ∙ same_sent w out (ap sent_in h)
 sent_by s n w (model.Torn m job left) out h = tears_sent s n w m job left (nth w.nodes m) ∙ same_sent w out (ap sent_in h)

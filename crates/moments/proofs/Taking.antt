@@ -1,4 +1,6 @@
 -- What a step that is taken tells.
+use Rattle.std.specs.Option.{option_map_or}
+use Rattle.model.specs.Steps.{on_message, Nothing}
 use Rattle.std.proofs.Common.{◌≡◌, ◌∙◌, ℕ, ℤ, ◌<◌, ◌+◌, List, [], ◌∷◌, ◌++◌, Option, Some, None, take, length, refl, sym, ap, subst, inl, inr}
 use Rattle.std.specs.Prelude.{if◌then◌else◌, slice_index_or}
 use Rattle.std.proofs.lemmas.List.{take_more, map-append}
@@ -8,7 +10,9 @@ use Rattle.model.specs.Members.{Node}
 use Rattle.model.specs.Transactions.{Schema}
 use Rattle.model.specs.declared.message.Message.{Message}
 use Rattle.model.specs.Worlds as model
-use Rattle.model.specs.Worlds.{World, Event, Output, Job, Local, Delivery, Gives, effect_gives, step_gives, delivery_gives, deliver}
+use Rattle.model.specs.Worlds.{World, Event, Output, Gives, effect_gives, step_gives, delivery_gives}
+use Rattle.model.specs.declared.event.Job.{Job}
+use Rattle.model.specs.declared.event.Job.TheVariants.{Local, Delivery}
 use Rattle.flight.specs.declared.flight.Version.{Version}
 use Rattle.flight.specs.declared.life.Step.{Step}
 use Rattle.flight.specs.declared.life.Packet.{Packet}
@@ -43,7 +47,7 @@ told_more cur later outs i o so next lt is =
 
 steps_alike : (s : Schema) (n : ℕ) (w : World) (m k j : ℕ) (reading : ℤ) (x : Option Node) → nth w.sent k ≡ nth w.sent j → step_gives s n w m (Delivery k reading) x ≡ step_gives s n w m (Delivery j reading) x
 steps_alike s n w m k j reading None same = refl
-steps_alike s n w m k j reading (Some x) same = ap (λ (o : Option Message). if x.up then effect_gives s w m x (deliver s n m reading o x) else (model.Refused m NodeDown ∷ [])) same
+steps_alike s n w m k j reading (Some x) same = ap (λ (o : Option Message). if x.up then effect_gives s w m x (option_map_or (λ (p : Message). on_message s n m reading p x) o Nothing) else (model.Refused m NodeDown ∷ [])) same
 
 deliveries_alike : (s : Schema) (n : ℕ) (w : World) (k j : ℕ) (reading : ℤ) (o : Option Message) → nth w.sent k ≡ nth w.sent j → delivery_gives s n w (Delivery k reading) o ≡ delivery_gives s n w (Delivery j reading) o
 deliveries_alike s n w k j reading None same = refl

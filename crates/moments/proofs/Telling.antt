@@ -7,7 +7,7 @@ use Rattle.model.specs.Lists.{nth}
 use Rattle.model.specs.Transactions.{Schema}
 use Rattle.model.specs.Members.{Node, applied, closed_time}
 use Rattle.model.specs.Answers.{Query, Select, closed_query}
-use Rattle.model.specs.Worlds.{Output, Ask, Answered, Gives, IsGivenAt, IsGivenBy, IsGivenIn}
+use Rattle.model.specs.Worlds.{Output, Ask, Answered, Gives, IsGivenIn, IsGivenAt, IsGivenBy}
 use Rattle.safety.specs.Answers.{OneAnswer}
 use Rattle.moments.specs.Faults.{NoneAre}
 use Rattle.moments.proofs.Texts.{same_text}

@@ -9,10 +9,12 @@ use Rattle.model.specs.Lists.{nth}
 use Rattle.model.specs.declared.entry.Entry.{Entry}
 use Rattle.model.specs.Members.{Node}
 use Rattle.model.specs.Transactions.{Schema}
-use Rattle.model.specs.Worlds.{World, Event, Output, Job, Left, Gives, happens}
+use Rattle.model.specs.Worlds.{World, Event, Output, Gives, happens}
+use Rattle.model.specs.declared.event.Job.{Job}
+use Rattle.model.specs.declared.event.Left.{Left}
 use Rattle.model.specs.Worlds.Event.{Hand, Deliver, Stop, Start, Torn, Ask}
-use Rattle.model.specs.Worlds.Job.{Local, Delivery}
-use Rattle.model.specs.Worlds.Left.{Old, New}
+use Rattle.model.specs.declared.event.Job.TheVariants.{Local, Delivery}
+use Rattle.model.specs.declared.event.Left.TheVariants.{Old, New}
 use Rattle.model.specs.Worlds.Output.{Sent, Applied, Answered, Refused}
 use Rattle.keep.specs.Durable.{Durable, blank}
 use Rattle.flight.specs.Telling.{outcome_of}

@@ -2,11 +2,12 @@
 ghost use Rattle.std.specs.Prelude.{◌≡◌, ◌∷◌, ◌↔◌, ◌≤◌, [], ℕ, None, Some, IsTrue, IfOk, IfErr, OnOk, MatchOption, length, slice_get, ◌<◌, ◌+◌, ◌^◌};
 ghost use Rattle.std.specs.List.{All};
 ghost use Rattle.std.specs.Option.{option_copied};
-ghost use Rattle.model.specs.Worlds.{Gives, Job as ModelJob};
+ghost use Rattle.model.specs.Worlds.{Gives};
+ghost use Rattle.model.specs.declared.event.Job.{Job as ModelJob};
 ghost use Rattle.model.specs.Worlds.Event.{Stop};
 ghost use Rattle.sqlchecks.specs.Columns.{Tables};
 ghost use Rattle.world.specs.Run.{tables_in, schema_in, members_in, events_of, now_of, member_of};
-ghost use Rattle.world.specs.View.{durable_in, event_of, job_of, left_of, output_of, outputs_of, HasColumns, ShowsColumns};
+ghost use Rattle.world.specs.View.{durable_in, event_of, output_of, outputs_of, HasColumns, ShowsColumns};
 ghost use Rattle.moments.specs.Past.{beginning};
 ghost use Rattle.keep.specs.Durable.{blank};
 ghost use Rattle.moments.specs.Behind.{job_event, life_at, log_in, opened_with, HasStored, IsJob, IsTaken, IsCut, IsOpened, IsAnswered, IsLeftBy, IsText, IsBehind};
@@ -135,7 +136,7 @@ impl Replay {
     // The job that a packet is to a node, none where it is a message that was not sent to it then.
     fn job(&self, node: Member, packet: &Packet) -> Result<Option<Job>, AllocError>
         requires live { IsLive self.now }
-        ensures { IfOk result (λ found. MatchOption found ((job : ModelJob) → IsJob (past_of self.now) node packet.now job → ⊥) (λ job. IsJob (past_of self.now) node packet.now (job_of job))) }
+        ensures { IfOk result (λ found. MatchOption found ((job : ModelJob) → IsJob (past_of self.now) node packet.now job → ⊥) (λ job. IsJob (past_of self.now) node packet.now job)) }
     {
         match packet {
             Packet::Local(input) => Ok(Some(Job::Local(input.clone()?))),
@@ -274,7 +275,7 @@ impl Replay {
     // What a step that is cut short leaves: what was stored before it where the next life begins with that.
     fn left_by(&mut self, node: Member, next: Option<&Life>) -> Result<Left, AllocError>
         requires live { IsLive self.old }
-        ensures left { IfOk result (λ left. IsLeftBy (option_copied next.entry) (member_of self.old.world node) (left_of left)) }
+        ensures left { IfOk result (λ left. IsLeftBy (option_copied next.entry) (member_of self.old.world node) left) }
         ensures same { OnOk result (IsSameRun self.old self.new) }
     {
         match next {

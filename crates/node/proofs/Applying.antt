@@ -1,4 +1,5 @@
 -- What one more applied entry makes of the tables, and what is told of it.
+use Rattle.std.specs.Option.{option_and_then}
 use Rattle.std.proofs.Common.{◌≡◌, ◌∙◌, ℕ, zero, suc, ◌+◌, ◌-◌, ◌≤◌, Option, Some, None, option_map, List, [], ◌∷◌, ◌++◌, reverse, take, drop, slice_range, sym, ap, subst, arith}
 use Rattle.std.specs.Prelude.{slice_get}
 use Rattle.std.proofs.Math.Logic.{∥∥₁_elim}
@@ -9,7 +10,7 @@ use Rattle.model.specs.declared.entry.Entry.{Entry}
 use Rattle.model.specs.declared.entry.Request.{Request}
 use Rattle.model.specs.declared.entry.Told.{Told}
 use Rattle.model.specs.Transactions.{Schema}
-use Rattle.model.specs.Logs.{Outcome, outcome, before_index, told_of, told_entry, told_at}
+use Rattle.model.specs.Logs.{Outcome, outcome, before_index, told_at}
 use Rattle.sqlchecks.specs.Columns as columns
 use Rattle.apply.specs.declared.tables.Tables.{Tables}
 use Rattle.apply.specs.View.{AreTables}
@@ -49,6 +50,13 @@ applied_more schema log before e old new got kept are =
 -- tables of some list, with one entry more
 pub made_more : (schema : columns.Tables) (e : Entry) (old new : Tables) → ((s : columns.Tables) (list : List Entry) → AreTables s list old → AreTables s (list ++ e ∷ []) new) → AreMade schema old → AreMade schema new
 made_more schema e old new kept made = ∥∥₁_elim made (hlevel props) (λ some. merely (some.0 ++ e ∷ [], kept schema some.0 some.1))
+
+-- what is told of an entry, by its request
+abbrev told_of : Schema → List Entry → ℕ → ℕ → Option Request → Option Told
+told_of schema log i t o = option_map (λ (r : Request). record { index = i; client = r.client; number = r.number; outcome = outcome schema t r (before_index log i) }) o
+
+abbrev told_entry : Schema → List Entry → ℕ → Option Entry → Option Told
+told_entry schema log i o = option_and_then (λ (e : Entry). told_of schema log i e.stamp e.request) o
 
 -- nothing is told of a Close
 pub close_is : (schema : Schema) (log : List Entry) (before : ℕ) (e : Entry) → slice_get log before ≡ Some e → e.request ≡ None → None ≡ told_at schema log (before + 1)

@@ -16,7 +16,7 @@ use Rattle.model.specs.Logs.{closed, last_entry, least_over, least_stamp}
 use Rattle.model.specs.Transactions.{Schema, Statement}
 use Rattle.model.specs.Members.{Node, has_term, is_leader, is_candidate, is_majority, is_in, stands}
 use Rattle.model.specs.Steps.{After, Effect, Moves, Refuses, Nothing, TERM_LAST, LOG_LIMIT, accepted, time_out, append_own, on_input, is_time_full, is_log_full, extended, opened, crowned, counted, hears, in_term, grants, on_request_vote, on_vote, continues, cuts_below, go_on, spells, entries_of, on_append, on_reply, on_reply_yes, on_reply_no, ask_floor, asks_for, on_seek, on_stored, with_stored, floor_fits, on_body, is_honest, on_message}
-use Rattle.model.specs.Worlds.{hand, unless_misread}
+use Rattle.model.specs.Worlds.{hand}
 use Rattle.model.specs.Kept.{node_after}
 use Rattle.sqlchecks.specs.Columns.{Tables}
 use Rattle.sqlread.specs.Meaning.{schema_of}
@@ -98,7 +98,7 @@ time_out_forms schema n me x f =
 beat_forms : (schema : Schema) (n me : ℕ) (x : Node) → Forms schema x → Formed schema x (on_input n me Beat x)
 beat_forms schema n me x f = told (Formed schema x) (is_leader x.role) _ _ (λ h. record { forms = f }) (λ h. record { forms = f })
 
-unless_forms : (schema : Schema) (r : Result (List Statement) Refusal) (effect : Effect) (x : Node) → Forms schema x → (is_ok r ≡ true → Formed schema x effect) → Formed schema x (unless_misread r effect)
+unless_forms : (schema : Schema) (r : Result (List Statement) Refusal) (effect : Effect) (x : Node) → Forms schema x → (is_ok r ≡ true → Formed schema x effect) → Formed schema x (elim (r) [ Ok ss ↦ effect | Err refusal ↦ Refuses refusal ])
 unless_forms schema (Ok statements) effect x f h = h refl
 unless_forms schema (Err refusal) effect x f h = record { forms = f }
 

@@ -16,7 +16,7 @@ use Rattle.model.specs.Logs.{last_entry, least_over}
 use Rattle.model.specs.Transactions.{Schema, Statement}
 use Rattle.model.specs.Members.{Node, agreed, has_term, is_leader, is_candidate, is_majority, is_in, stands}
 use Rattle.model.specs.Steps.{After, Effect, Moves, Refuses, Nothing, TERM_LAST, LOG_LIMIT, accepted, time_out, append_own, on_input, is_time_full, is_log_full, extended, opened, crowned, counted, hears, in_term, grants, on_request_vote, on_vote, continues, cuts_below, follows, takes_entries, commits, noted, seal_floor, on_append, on_reply, on_reply_yes, on_reply_no, ask_floor, asks_for, on_seek, on_stored, with_stored, on_body, is_honest, on_message}
-use Rattle.model.specs.Worlds.{hand, unless_misread}
+use Rattle.model.specs.Worlds.{hand}
 use Rattle.model.specs.Kept.{node_after}
 use Rattle.sqlchecks.specs.Columns.{Tables}
 use Rattle.sqlread.specs.Meaning.{schema_of}
@@ -141,7 +141,7 @@ input_stays n me (Close reading) x h = append_own_stays n me reading None x h
 input_stays n me (Floor reading) x h = ask_stays n me reading x
 input_stays n me (Submit reading request) x h = append_own_stays n me reading (Some request) x h
 
-unless_stays : (r : Result (List Statement) Refusal) (effect : Effect) (x : Node) → Stays x effect → Stays x (unless_misread r effect)
+unless_stays : (r : Result (List Statement) Refusal) (effect : Effect) (x : Node) → Stays x effect → Stays x (elim (r) [ Ok ss ↦ effect | Err refusal ↦ Refuses refusal ])
 unless_stays (Ok statements) effect x h = h
 unless_stays (Err refusal) effect x h = refused x refusal
 

@@ -13,7 +13,7 @@ use Rattle.model.specs.Logs.{last_entry, least_over}
 use Rattle.model.specs.Transactions.{Schema, Statement}
 use Rattle.model.specs.Members.{Node, has_term, is_leader, is_candidate, is_majority, is_in, stands}
 use Rattle.model.specs.Steps.{After, Effect, Moves, Refuses, Nothing, TERM_LAST, LOG_LIMIT, accepted, time_out, append_own, on_input, is_time_full, is_log_full, extended, opened, crowned, counted, hears, in_term, grants, on_request_vote, on_vote, continues, cuts_below, on_append, on_reply, on_reply_yes, on_reply_no, ask_floor, asks_for, on_seek, on_stored, with_stored, on_body, is_honest, on_message}
-use Rattle.model.specs.Worlds.{hand, unless_misread}
+use Rattle.model.specs.Worlds.{hand}
 use Rattle.model.specs.Kept.{kept_under, kept_at, node_after}
 use Rattle.raft.proofs.Lists.{stands_within, is_so}
 use Rattle.raft.proofs.Cuts.{Cut, pushed, accepted_turns}
@@ -61,7 +61,7 @@ input_keeps n me (Close reading) x = append_own_keeps n me reading None x
 input_keeps n me (Floor reading) x = ask_keeps n me reading (length x.log) x
 input_keeps n me (Submit reading request) x = append_own_keeps n me reading (Some request) x
 
-unless_keeps : (r : Result (List Statement) Refusal) (effect : Effect) (x : Node) → Leaves (length x.log) x effect → Leaves (length x.log) x (unless_misread r effect)
+unless_keeps : (r : Result (List Statement) Refusal) (effect : Effect) (x : Node) → Leaves (length x.log) x effect → Leaves (length x.log) x (elim (r) [ Ok ss ↦ effect | Err refusal ↦ Refuses refusal ])
 unless_keeps (Ok statements) effect x h = h
 unless_keeps (Err refusal) effect x h = record { turns = inl refl }
 

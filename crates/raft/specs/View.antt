@@ -26,8 +26,8 @@ use Rattle.model.specs.Stamps.{TIME_LAST, greater}
 use Rattle.model.specs.declared.entry.Entry.{Entry}
 use Rattle.model.specs.declared.entry.Request.{Request}
 use Rattle.model.specs.Lists.{nth_or}
-use Rattle.model.specs.Members.{Node, term_at}
-use Rattle.model.specs.Steps.{After, Effect, Moves, Refuses, answer, append_to, append_to_all, commits, entries_of, learned, on_message, settled, tell_all, vote_requests}
+use Rattle.model.specs.Members.{Node, last_term, term_at}
+use Rattle.model.specs.Steps.{After, Effect, Moves, Refuses, answer, append_to, append_to_all, commits, entries_of, learned, on_message, settled, tell_all}
 use Rattle.model.specs.Steps as steps
 use Rattle.model.specs.Worlds.{hand}
 use Rattle.model.specs.Kept.{kept_at}
@@ -133,7 +133,7 @@ agrees n me sender x =
 abbrev pub sends : ℕ → ℕ → Sending → Node → After
 sends n me Nothing x = record { node = x; sent = [] }
 sends n me (Answer to body) x = record { node = x; sent = answer x me to body }
-sends n me VoteRequests x = record { node = x; sent = vote_requests n me x }
+sends n me VoteRequests x = record { node = x; sent = tell_all n x me (RequestVote (length x.log) (last_term x.log)) }
 sends n me (Append to) x = record { node = x; sent = append_to x me to ∷ [] }
 sends n me Appends x = record { node = x; sent = append_to_all n x me }
 sends n me (Agreed sender) x = agrees n me sender x

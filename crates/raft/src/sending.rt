@@ -1,7 +1,9 @@
 //! What a member sends.
 ghost use Rattle.std.specs.Prelude.{◌≡◌, ◌+◌, ◌*◌, ◌≤◌, IfOk, IfErr, OnOk, ◌∷◌, [], List, None, length, vec_len, true};
 ghost use Rattle.model.specs.declared.entry.Entry as in_log;
-ghost use Rattle.model.specs.Steps.{append_to, append_to_all, commits, go_on, tell_all, vote_request, vote_requests};
+ghost use Rattle.model.specs.Steps.{append_to, append_to_all, commits, go_on, tell_all};
+ghost use Rattle.model.specs.Members.{last_term};
+ghost use Rattle.model.specs.declared.message.Body.TheVariants.{RequestVote};
 ghost use Rattle.raft.specs.View.{log_of, node_of, sends, after_of, agrees, settling, IsSameSeat, Reaches};
 ghost use Rattle.raft.specs.Reading.{IsRead, IsCauseOr};
 
@@ -96,30 +98,13 @@ impl Core {
     }
 
     #[tactic(auto, using(crate::proofs::Windows::last_term_of, crate::proofs::Windows::length_of))]
-    fn vote_request(&self, to: Member) -> Message
-        ensures { (stored : List in_log.Entry) → Reaches self.now stored → result ≡ vote_request (node_of self.now stored) self.now.me to }
+    fn vote_request(&self) -> Body
+        ensures { (stored : List in_log.Entry) → Reaches self.now stored → result ≡ RequestVote (length (log_of self.now stored)) (last_term (log_of self.now stored)) }
     {
-        let body = Body::RequestVote {
+        Body::RequestVote {
             last_index: self.log.length(),
             last_term: self.log.last_term(),
-        };
-        self.message(to, body)
-    }
-
-    /// A `RequestVote` to each other member, in order.
-    #[tactic(auto, using(crate::proofs::Lists::sent_more, crate::proofs::Lists::sent_same))]
-    fn vote_requests(&self) -> Result<Vec<Message>, AllocError>
-        ensures { IfOk result
-            (λ ms. (stored : List in_log.Entry) → Reaches self.now stored → ms.items ≡ vote_requests self.now.members self.now.me (node_of self.now stored)) }
-    {
-        let mut messages = Vec::new(self.alloc);
-        for index in 0..self.members {
-            let to = index + 1;
-            if to != self.me {
-                messages.push(self.vote_request(to))?;
-            }
         }
-        Ok(messages)
     }
 
     /// The same to each other member, in order.
@@ -223,7 +208,8 @@ impl Core {
                 Ok(messages)
             }
             Sending::VoteRequests => {
-                let messages = self.vote_requests()?;
+                let body = self.vote_request();
+                let messages = self.tell_all(&body)?;
                 Ok(messages)
             }
             Sending::Append(to) => self.append_one(shelf, to),

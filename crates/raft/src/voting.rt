@@ -1,6 +1,7 @@
 //! Elections.
-ghost use Rattle.std.specs.Prelude.{◌≡◌, ◌+◌, ◌<◌, ◌≤◌, ◌++◌, List, take, vec_len, IfOk};
-ghost use Rattle.model.specs.Members.{is_free_for, is_up_to_date, is_leader, is_candidate};
+ghost use Rattle.std.specs.Prelude.{◌≡◌, ◌==◌, true, ◌+◌, ◌<◌, ◌≤◌, ◌++◌, List, take, vec_len, IfOk};
+ghost use Rattle.std.specs.Option.{option_map_or};
+ghost use Rattle.model.specs.Members.{is_up_to_date, is_leader, is_candidate};
 ghost use Rattle.model.specs.Steps.{counted, hears, grants, on_request_vote, on_vote, opened, stands_up};
 ghost use Rattle.model.specs.declared.entry.Entry as in_log;
 ghost use Rattle.raft.specs.View.{log_of, node_of, sends, CanForget, IsSameSeat, Reaches, forgotten};
@@ -16,7 +17,7 @@ use std::mem;
 
 /// The vote is none yet, or for this candidate.
 fn is_free_for(vote: Option<Member>, candidate: Member) -> bool
-    ensures { result ≡ is_free_for vote candidate }
+    ensures { result ≡ option_map_or (λ v. v == candidate) vote true }
 {
     match vote {
         None => true,

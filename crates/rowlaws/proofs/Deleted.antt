@@ -1,10 +1,11 @@
 -- DELETE of a portion, on days and on a list of rows.
+use Rattle.std.specs.Option.{option_map_or}
 use Rattle.std.proofs.Common.{◌≡◌, ℕ, ◌-◌, ◌<◌, ◌≤◌, ◌⊎◌, inl, inr, Bool, true, false, cond, not, ◌&&◌, List, [], Option, Some, None, option_map, is_some, refl, sym, ap, ◌∙◌, subst, arith, nat_lt}
 use Rattle.std.proofs.lemmas.Bool.{cases_Bool, and_parts, and_from, and_left, and_right, lt-ltb, le-ltb, le-leb, lt-leb, ltb-true, cond-true, cond-false}
 use Rattle.model.specs.declared.value.Value.{Value}
 use Rattle.rowlaws.proofs.RowFacts.{InRow, both, row_at_is}
 use Rattle.model.specs.Tables.{days, Period, Cell, Table, Row, IsRow, joined, inside}
-use Rattle.model.specs.Statements.{deleted, is_met, meets, some_met}
+use Rattle.model.specs.Statements.{deleted, is_met, meets}
 use Rattle.rowlaws.specs.Rows.{Has, Lists}
 use Rattle.rowlaws.specs.Cutting.{part, removed, removed_rows}
 use Rattle.rowlaws.proofs.Recut.{Cuts, Middle, one_cuts, parts_cuts, parts_born, lists_cut, older_cut}
@@ -38,7 +39,7 @@ module _ (passes : Row → Bool) (p : Period) (t : ℕ) (old : Table) where
 
   met_is : {r : Row} → IsRow old r → r.period.end ≤ days → (k : List Value) (d : ℕ) → InRow r k d → is_met passes p old k d ≡ meets passes p r
   unfolding is_met
-  met_is {r} row short k d x = ap (some_met passes p) (row_at_is row short k d x)
+  met_is {r} row short k d x = ap (λ (o : Option Row). option_map_or (meets passes p) o false) (row_at_is row short k d x)
 
   new_some : (k : List Value) (d : ℕ) → is_some (new.cell k d) ≡ (is_some (old.cell k d) && left k d)
   unfolding deleted

@@ -9,7 +9,7 @@ use Rattle.std.specs.Cmp.Lexicographic.{slice_cmp, lists_total}
 use Rattle.model.specs.declared.value.Value.{Value}
 use Rattle.model.specs.declared.value.Value.TheVariants.{Number, Text, Day}
 use Rattle.model.specs.Values.{value_code, value_cmp, key_cmp, same_key}
-use Rattle.model.specs.Statements.{with_key, placed}
+use Rattle.model.specs.Statements.{with_key}
 use Rattle.rowlaws.specs.Rows.{Has, Apart}
 use Rattle.rowlaws.proofs.Orders.{then_equal}
 
@@ -81,6 +81,10 @@ unfolding same_key
 same_key-itself k = ap is_eq (key_itself k)
 
 -- ---- one more key
+
+-- k before l and the keys after it, or in its place, or after it
+abbrev placed : Ordering → List Value → List Value → List (List Value) → List (List Value) → List (List Value)
+placed o k l ls more = elim (o) [ Less ↦ k ∷ l ∷ ls | Equal ↦ l ∷ ls | Greater ↦ l ∷ more ]
 
 has_placed : (o : Ordering) (k l : List Value) (ls more : List (List Value)) → (o ≡ Equal → k ≡ l) → Has more k → Has (placed o k l ls more) k
 has_placed Less k l ls more e h = inl refl

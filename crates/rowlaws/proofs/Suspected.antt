@@ -1,7 +1,8 @@
 -- References after a change, by what it touched alone.
+use Rattle.std.specs.Result.{result_unwrap_or}
 use Rattle.std.proofs.Common.{◌≡◌, ℕ, ◌<◌, ◌≤◌, ◌⊎◌, inl, inr, Bool, true, false, cond, not, filter, ◌&&◌, ◌==◌, List, [], ◌∷◌, ◌++◌, map, flat_map, Option, Some, None, is_some, Result, Ok, Err, refl, sym, ap, ◌∙◌, subst, arith, Ordering}
 use Rattle.std.specs.Prelude.{find}
-use Rattle.std.specs.Option.{option_or}
+use Rattle.std.specs.Option.{option_or, option_map_or}
 use Rattle.std.specs.List.{range_with_len, AllByRecursion}
 use Rattle.std.specs.List.Sorted.{IsStrictlySortedBy}
 use Rattle.std.specs.declared.cmp.Ordering.TheVariants.{Less, Equal, Greater}
@@ -15,8 +16,8 @@ use Rattle.model.specs.declared.entry.Entry.{Entry}
 use Rattle.model.specs.declared.entry.Request.{Request}
 use Rattle.model.specs.Values.{key_cmp, same_key}
 use Rattle.model.specs.Tables.{days, Cell, Row, empty_table}
-use Rattle.model.specs.Transactions.{State, Schema, Reference, Place, lacks, is_orphan, first_orphan, unless_orphan, and_then, transacted, run_statements, read_statements, executed_text}
-use Rattle.model.specs.Logs.{is_first, next_state, after_request, state_after}
+use Rattle.model.specs.Transactions.{State, Schema, Reference, Place, lacks, is_orphan, first_orphan, unless_orphan, and_then, transacted, run_statements, executed_text}
+use Rattle.model.specs.Logs.{is_first, state_after}
 use Rattle.rowlaws.specs.Rows.{Has}
 use Rattle.rowlaws.specs.Statements.{Rows, AllListed}
 use Rattle.rowlaws.specs.Covering.{place_cmp, AllInOrder, missing, place_at, missing_in_rows, ReferencesHold, rows_orphan}
@@ -371,19 +372,23 @@ no_orphan_then schema t ss state next h =
     let o = accepted schema a.0 next (first_orphan schema a.0) a.2 in
     subst (λ x. first_orphan schema x ≡ None) o.1 o.0
 
-no_orphan_next : (schema : Schema) (state : State) (x : Result State Refusal) → first_orphan schema state ≡ None → ((next : State) → x ≡ Ok next → first_orphan schema next ≡ None) → first_orphan schema (next_state state x) ≡ None
+no_orphan_next : (schema : Schema) (state : State) (x : Result State Refusal) → first_orphan schema state ≡ None → ((next : State) → x ≡ Ok next → first_orphan schema next ≡ None) → first_orphan schema (result_unwrap_or x state) ≡ None
 no_orphan_next schema state (Ok next) h f = f next refl
 no_orphan_next schema state (Err e) h f = h
 
 no_orphan_text : (schema : Schema) (t : ℕ) (text : List ℕ) (state next : State) → executed_text schema t text state ≡ Ok next → first_orphan schema next ≡ None
 unfolding executed_text
-no_orphan_text schema t text state next h = no_orphan_then schema t (read_statements (schema.reads text)) state next h
+no_orphan_text schema t text state next h = no_orphan_then schema t (result_unwrap_or (schema.reads text) []) state next h
+
+-- what the request of an entry leaves, if it is a first that is accepted
+abbrev after_request : Schema → ℕ → Option Request → List Entry → State → State
+after_request schema t o before state = option_map_or (λ (r : Request). cond (is_first r before) (result_unwrap_or (executed_text schema t r.text state) state) state) o state
 
 no_orphan_request : (schema : Schema) (t : ℕ) (o : Option Request) (before : List Entry) (state : State) → first_orphan schema state ≡ None → first_orphan schema (after_request schema t o before state) ≡ None
 no_orphan_request schema t None before state h = h
 no_orphan_request schema t (Some r) before state h = by (is_first r before)
   where
-    by : (b : Bool) → first_orphan schema (cond b (next_state state (executed_text schema t r.text state)) state) ≡ None
+    by : (b : Bool) → first_orphan schema (cond b (result_unwrap_or (executed_text schema t r.text state) state) state) ≡ None
     by true = no_orphan_next schema state (executed_text schema t r.text state) h (no_orphan_text schema t r.text state)
     by false = h
 

@@ -1,4 +1,5 @@
 -- The refusals 20 and 23, on days and on a list of rows.
+use Rattle.std.specs.Option.{option_map_or}
 use Rattle.std.proofs.Common.{◌≡◌, ℕ, ◌-◌, ◌<◌, ◌≤◌, Bool, true, false, ◌&&◌, List, Option, Some, None, is_some, refl, sym, ap, ◌∙◌, subst, arith, max, nat_lt}
 use Rattle.std.specs.Prelude.{is_none, option_and_then}
 use Rattle.std.specs.List.{list_any}
@@ -7,7 +8,7 @@ use Rattle.model.specs.declared.value.Value.{Value}
 use Rattle.model.specs.Values.{same_key}
 use Rattle.rowlaws.proofs.RowFacts.{InRow, both, row_at_is}
 use Rattle.model.specs.Tables.{days, Period, Cell, Table, Row, IsRow, row_at}
-use Rattle.model.specs.Statements.{insert_overlaps, set_overflows, is_met, meets, some_met, days_of}
+use Rattle.model.specs.Statements.{insert_overlaps, set_overflows, is_met, meets, days_of}
 use Rattle.rowlaws.specs.Rows.{Has, Lists}
 use Rattle.rowlaws.specs.Changes.{clashes, overflows}
 use Rattle.rowlaws.proofs.Keys.{same_key-true, same_key-itself}
@@ -17,7 +18,7 @@ use Rattle.rowlaws.proofs.Anys.{any_has, has_any, same_test}
 
 pub met_by : (passes : Row → Bool) (p : Period) (old : Table) {r : Row} → IsRow old r → r.period.end ≤ days → (k : List Value) (d : ℕ) → InRow r k d → is_met passes p old k d ≡ meets passes p r
 unfolding is_met
-met_by passes p old {r} row short k d x = ap (some_met passes p) (row_at_is row short k d x)
+met_by passes p old {r} row short k d x = ap (λ (o : Option Row). option_map_or (meets passes p) o false) (row_at_is row short k d x)
 
 met_some : (passes : Row → Bool) (p : Period) (old : Table) (k : List Value) (d : ℕ) → is_met passes p old k d ≡ true → is_some (old.cell k d) ≡ true
 unfolding is_met row_at

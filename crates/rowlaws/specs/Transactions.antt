@@ -1,11 +1,12 @@
 -- Whole transactions on the rows of all tables.
-use Rattle.std.specs.Prelude.{◌≡◌, ℕ, Option, Some, None, List, Result, Ok, Err}
+use Rattle.std.specs.Result.{result_unwrap_or}
+use Rattle.std.specs.Prelude.{◌≡◌, ℕ, Option, Some, None, List, Result, Ok, Err, []}
 use Rattle.fault.specs.declared.refusal.Refusal.{Refusal}
 use Rattle.fault.specs.declared.refusal.Refusal.TheVariants.{NoParent}
 use Rattle.std.specs.List.Sorted.{IsStrictlySortedBy}
 use Rattle.model.specs.Tables.{Table, Row}
 use Rattle.model.specs.Texts.{key_text, day_text}
-use Rattle.model.specs.Transactions.{State, Statement, Schema, Place, and_then, transacted, read_statements, executed_text}
+use Rattle.model.specs.Transactions.{State, Statement, Schema, Place, and_then, transacted, executed_text}
 use Rattle.rowlaws.specs.Rows.{Lists}
 use Rattle.rowlaws.specs.Changes.{SameResult}
 use Rattle.rowlaws.specs.Statements.{Rows, AreFine, run_all_on_rows, AllListed, AllFollow}
@@ -27,11 +28,11 @@ rows_transacted schema t ss all = and_then (run_all_on_rows t ss all) (λ next. 
 
 -- a transaction is its text
 unfoldable pub rows_executed : Schema → ℕ → List ℕ → Rows → Result Rows Refusal
-rows_executed schema t text all = rows_transacted schema t (read_statements (schema.reads text)) all
+rows_executed schema t text all = rows_transacted schema t (result_unwrap_or (schema.reads text) []) all
 
 -- what the text says is well formed
 abbrev pub IsFineText : Schema → List ℕ → Type 0
-IsFineText schema text = AreFine (read_statements (schema.reads text))
+IsFineText schema text = AreFine (result_unwrap_or (schema.reads text) [])
 
 -- ---- laws
 

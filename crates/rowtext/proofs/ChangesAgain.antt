@@ -25,11 +25,12 @@ use Rattle.namesyntax.specs.Words.{is_name_text}
 use Rattle.namesyntax.specs.Names.{Bytes, names}
 use Rattle.sqlsyntax.specs.Shared.{operators, operator_sign, date, literal, comparison, another_comparison, comparisons, condition}
 use Rattle.sqlsyntax.specs.Transactions.{portion, new_value, AssignmentForm, assignment, another_assignment, assignments}
+use Rattle.std.specs.Option.{option_or}
 use Rattle.sqlchecks.specs.declared.field.Field.{Field}
 use Rattle.sqlchecks.specs.declared.field.Field.TheVariants as fields
 use Rattle.sqlchecks.specs.declared.comparison.Comparison.{Comparison}
 use Rattle.sqlchecks.specs.Answering.{◌>>=◌, ◌>>◌, refuse_if, or_refuse, each_of}
-use Rattle.sqlchecks.specs.Columns.{column_at, column_named, or_else, field_at}
+use Rattle.sqlchecks.specs.Columns.{column_at, column_named, field_at}
 use Rattle.sqlchecks.specs.Comparisons.{compared_kind, comparison_in, comparisons_in}
 use Rattle.sqlchecks.specs.Literals.{literal_in, day_named, period_named}
 use Rattle.sqlread.specs.declared.statement.NewValue.{NewValue}
@@ -99,7 +100,7 @@ place_among places column i at =
     found.1 ∙ ap (λ (c : ℕ). Some c) (eqb-true found.0 column found.2)
 
 field_stands : (table : TableShape) (column : ℕ) (k v : Option ℕ) (f : Field) → position (λ c. c == column) table.key ≡ k → position (λ c. c == column) table.values ≡ v
-    → or_else (option_map fields.Key k) (option_map fields.Value v) ≡ Some f → column_of table f ≡ Some column
+    → option_or (option_map fields.Key k) (option_map fields.Value v) ≡ Some f → column_of table f ≡ Some column
 field_stands table column (Some i) v f key others e =
     let is : fields.Key i ≡ f = cc in
     ap (column_of table) (sym is) ∙ place_among table.key column i key

@@ -10,9 +10,10 @@ use Rattle.schema.specs.declared.syntax.CreateTable.{CreateTable}
 use Rattle.schema.specs.Shape.{TableShape}
 use Rattle.schema.specs.Tables.{numbers_below, is_one_of, entry_of, shape_of, tables_after, schema_of}
 use Rattle.namesyntax.specs.Names.{Bytes}
+use Rattle.std.specs.Option.{option_or}
 use Rattle.sqlchecks.specs.declared.field.Field.{Field}
 use Rattle.sqlchecks.specs.declared.field.Field.TheVariants as fields
-use Rattle.sqlchecks.specs.Columns.{or_else, field_at}
+use Rattle.sqlchecks.specs.Columns.{field_at}
 use Rattle.rowtext.specs.Again.{KeepsColumns, AllKeepColumns}
 use Rattle.rowtext.proofs.Steps.{decided, none_true}
 
@@ -60,7 +61,7 @@ turned a b e = ne_eqb b a (λ same. eqb-false a b e (sym same))
 
 -- a column in the key, or else among the values
 kept_field : (key values : List ℕ) (c : ℕ) (k : Option ℕ) → position (λ d. d == c) key ≡ k → (list_any (λ d. d == c) key ≡ false → list_any (λ d. d == c) values ≡ true)
-    → (f : Field) × (or_else (option_map fields.Key k) (option_map fields.Value (position (λ d. d == c) values)) ≡ Some f)
+    → (f : Field) × (option_or (option_map fields.Key k) (option_map fields.Value (position (λ d. d == c) values)) ≡ Some f)
 kept_field key values c (Some i) at rest = (fields.Key i, refl)
 kept_field key values c None at rest =
     let found = any_position (λ d. d == c) values (rest (none_any (λ d. d == c) key at)) in

@@ -3,6 +3,7 @@ use Rattle.std.proofs.Common.{◌≡◌, ℕ, zero, suc, ◌+◌, ◌≤◌, ◌
 use Rattle.std.specs.Prelude.{nat_lt, nat_le, ◌==◌, ℤ}
 use Rattle.std.proofs.lemmas.Bool.{cases_Bool, cond_both, and_parts, eqb-false}
 use Rattle.std.proofs.lemmas.List.{take-append-le}
+use Rattle.std.specs.Option.{option_map_or}
 use Rattle.model.specs.Lists.{nth, with_nth}
 use Rattle.model.specs.Stamps.{TIME_LAST, above, greater}
 use Rattle.model.specs.Logs.{last_entry, closed}
@@ -17,11 +18,15 @@ use Rattle.model.specs.declared.message.Body.{Body}
 use Rattle.model.specs.declared.message.Body.TheVariants.{RequestVote, Vote, Append, Reply, Seek, Stored, Seal}
 use Rattle.model.specs.declared.message.Input.{Input}
 use Rattle.model.specs.declared.message.Input.TheVariants.{Timeout, Beat, Close, Submit, Floor}
-use Rattle.model.specs.Members.{Node, is_leader, is_candidate, is_majority, is_in, has_term, stands}
-use Rattle.model.specs.Steps.{Effect, Moves, Refuses, Nothing, After, append_to_all, tell_all, in_term, hears, stands_up, vote_requests, time_out, is_time_full, is_log_full, extended, append_own, next_floor, asking, ask_floor, on_input, grants, on_request_vote, counted, crowned, on_vote, is_applied, seal_floor, unapplied, learned, settled, accepted, cuts_below, continues, follows, takes_entries, on_append, noted, commits, on_reply_yes, on_reply_no, on_reply, on_seek, asks_for, with_stored, on_stored, is_floor, floor_fits, on_body, on_message, is_honest, TERM_LAST, LOG_LIMIT}
-use Rattle.model.specs.Worlds.{World, Event, Job, Left, Old, New, Hand, Deliver, Stop, Start, Torn, Ask, Local, Delivery, unless_misread, hand, deliver, effect, with_node, stopped, started, done, torn, node_left, does, delivers, tears, stops, starts, is_for, happens, fresh, new_world, led_world, led_nodes, first_leader, run}
+use Rattle.model.specs.Members.{Node, last_term, is_leader, is_candidate, is_majority, is_in, has_term, stands}
+use Rattle.model.specs.Steps.{Effect, Moves, Refuses, Nothing, After, append_to_all, tell_all, in_term, hears, stands_up, time_out, is_time_full, is_log_full, extended, append_own, next_floor, asking, ask_floor, on_input, grants, on_request_vote, counted, crowned, on_vote, is_applied, seal_floor, unapplied, learned, settled, accepted, cuts_below, continues, follows, takes_entries, on_append, noted, commits, on_reply_yes, on_reply_no, on_reply, on_seek, asks_for, with_stored, on_stored, is_floor, floor_fits, on_body, on_message, is_honest, TERM_LAST, LOG_LIMIT}
+use Rattle.model.specs.Worlds.{World, Event, Hand, Deliver, Stop, Start, Torn, Ask, hand, effect, with_node, stopped, started, done, node_left, does, is_for, happens, fresh, new_world, led_world, led_nodes, first_leader, run}
+use Rattle.model.specs.declared.event.Job.{Job}
+use Rattle.model.specs.declared.event.Job.TheVariants.{Local, Delivery}
+use Rattle.model.specs.declared.event.Left.{Left}
+use Rattle.model.specs.declared.event.Left.TheVariants.{Old, New}
 use Rattle.safety.specs.Floors.{FloorsInTime, WaitingUnapplied, SealedRises}
-use Rattle.safety.proofs.Lists.{cases, none_some, same_get, same_some, get_with, get_replicate, found_replicate, above_greater}
+use Rattle.safety.proofs.Lists.{if_there, cases, none_some, same_get, same_some, get_with, get_replicate, found_replicate, above_greater}
 use Rattle.safety.proofs.Ghost.{Ghost, GoodGhost, GoodNode}
 use Rattle.safety.proofs.Lead.{stamp_low}
 use Rattle.safety.proofs.Seals.{waiting_either}
@@ -115,7 +120,7 @@ module _ (n m f : ℕ) (x : Node) (S : Sound x) (X : Closes x) (same : f ≤ abo
   times_out : EffectHolds f (time_out n m x)
   unfolding time_out
   times_out = cond_both (is_leader x.role) Nothing _ (EffectHolds f) (λ p. tt)
-      (λ p. cond_both (nat_le TERM_LAST x.term) (Refuses TermFull) (Moves (record { node = stands_up n m x; sent = vote_requests n m (stands_up n m x) })) (EffectHolds f) (λ q. tt)
+      (λ p. cond_both (nat_le TERM_LAST x.term) (Refuses TermFull) (Moves (record { node = stands_up n m x; sent = tell_all n (stands_up n m x) m (RequestVote (length x.log) (last_term x.log)) })) (EffectHolds f) (λ q. tt)
       (λ q. record { node = record { floor = X.floor; told = omega arith; apart = X.apart }; rises = same }))
 
   appends_own : (reading : ℤ) (request : Option Request) → EffectHolds f (append_own n m reading request x)
@@ -256,7 +261,7 @@ module _ (schema : Schema) (n : ℕ) (w : World) (W : ClosingWorld w) (sound : (
   stops_with : (m : ℕ) (x z : Node) → nth w.nodes m ≡ Some x → InTime z.floor → Onward w (with_node w m (stopped z) [])
   stops_with m x z l h = stepped m x (record { node = stopped z; sent = [] }) l (record { floor = h; told = omega arith; apart = λ s e. absurd (none_some None s refl e) }) (λ u v. absurd (let q : false ≡ true = v in cc))
 
-  unless_holds : (f : ℕ) (r : Result (List Statement) Refusal) (e : Effect) → EffectHolds f e → EffectHolds f (unless_misread r e)
+  unless_holds : (f : ℕ) (r : Result (List Statement) Refusal) (e : Effect) → EffectHolds f e → EffectHolds f (elim (r) [ Ok ss ↦ e | Err refusal ↦ Refuses refusal ])
   unless_holds f (Ok ss) e h = h
   unless_holds f (Err refusal) e h = tt
 
@@ -271,7 +276,7 @@ module _ (schema : Schema) (n : ℕ) (w : World) (W : ClosingWorld w) (sound : (
   effect_holds m (Local i) x S X = handed m i x S X
   effect_holds m (Delivery k reading) x S X = go (nth w.sent k)
     where
-      go : (o : Option Message) → EffectHolds (above x.sealed) (deliver schema n m reading o x)
+      go : (o : Option Message) → EffectHolds (above x.sealed) (option_map_or (λ (p : Message). on_message schema n m reading p x) o Nothing)
       go None = tt
       go (Some p) = message_holds schema n m reading p x S X
 
@@ -280,39 +285,23 @@ module _ (schema : Schema) (n : ℕ) (w : World) (W : ClosingWorld w) (sound : (
   done_onward m x (Refuses refusal) l h = stays
   done_onward m x (Moves a) l h = stepped m x a l h.node (λ u v. h.rises)
 
-  torn_onward : (m : ℕ) (x : Node) (o : Effect) (left : Left) → nth w.nodes m ≡ Some x → EffectHolds (above x.sealed) o → Onward w (torn w m (node_left left x o))
+  torn_onward : (m : ℕ) (x : Node) (o : Effect) (left : Left) → nth w.nodes m ≡ Some x → EffectHolds (above x.sealed) o → Onward w (with_node w m (stopped (node_left left x o)) [])
   torn_onward m x o Old l h = stops_with m x x l (W.node m x l).floor
   torn_onward m x (Moves a) New l h = stops_with m x a.node l h.node.floor
   torn_onward m x (Refuses refusal) New l h = stops_with m x x l (W.node m x l).floor
   torn_onward m x Nothing New l h = stops_with m x x l (W.node m x l).floor
 
-  does_onward : (m : ℕ) (j : Job) (o : Option Node) → nth w.nodes m ≡ o → Onward w (does schema n w m j o)
-  does_onward m j None e = stays
-  does_onward m j (Some x) e = cond_both x.up _ w (Onward w) (λ p. done_onward m x (effect schema n w m j x) e (effect_holds m j x (sound m x e) (W.node m x e))) (λ p. stays)
-
-  delivers_onward : (j : Job) (o : Option Message) → Onward w (delivers schema n w j o)
-  delivers_onward j None = stays
-  delivers_onward j (Some p) = does_onward p.addressee j (nth w.nodes p.addressee) refl
-
-  tears_onward : (m : ℕ) (j : Job) (left : Left) (o : Option Node) → nth w.nodes m ≡ o → Onward w (tears schema n w m j left o)
-  tears_onward m j left None e = stays
-  tears_onward m j left (Some x) e = cond_both (x.up && is_for w m j) _ w (Onward w) (λ p. torn_onward m x (effect schema n w m j x) left e (effect_holds m j x (sound m x e) (W.node m x e))) (λ p. stays)
-
-  stops_onward : (m : ℕ) (o : Option Node) → nth w.nodes m ≡ o → Onward w (stops w m o)
-  stops_onward m None e = stays
-  stops_onward m (Some x) e = cond_both x.up _ w (Onward w) (λ p. stops_with m x x e (W.node m x e).floor) (λ p. stays)
-
-  starts_onward : (m : ℕ) (o : Option Node) → nth w.nodes m ≡ o → Onward w (starts w m o)
-  starts_onward m None e = stays
-  starts_onward m (Some x) e = cond_both x.up w _ (Onward w) (λ p. stays)
-      (λ p. stepped m x (record { node = started x; sent = [] }) e (record { floor = (W.node m x e).floor; told = omega arith; apart = λ s q. absurd (none_some None s refl q) }) (λ u v. absurd (let z = p in cc)))
+  does_onward : (m : ℕ) (j : Job) → Onward w (does schema n w m j (nth w.nodes m))
+  does_onward m j = if_there (nth w.nodes m) _ w (Onward w) (λ x e. cond_both x.up _ w (Onward w) (λ p. done_onward m x (effect schema n w m j x) e (effect_holds m j x (sound m x e) (W.node m x e))) (λ p. stays)) stays
 
   onward : (e : Event) → Onward w (happens schema n w e)
-  onward (Hand m i) = does_onward m (Local i) (nth w.nodes m) refl
-  onward (Deliver k reading) = delivers_onward (Delivery k reading) (nth w.sent k)
-  onward (Stop m) = stops_onward m (nth w.nodes m) refl
-  onward (Start m) = starts_onward m (nth w.nodes m) refl
-  onward (Torn m j left) = tears_onward m j left (nth w.nodes m) refl
+  onward (Hand m i) = does_onward m (Local i)
+  onward (Deliver k reading) = if_there (nth w.sent k) _ w (Onward w) (λ p e. does_onward p.addressee (Delivery k reading)) stays
+  onward (Stop m) = if_there (nth w.nodes m) _ w (Onward w) (λ x e. cond_both x.up _ w (Onward w) (λ p. stops_with m x x e (W.node m x e).floor) (λ p. stays)) stays
+  onward (Start m) = if_there (nth w.nodes m) _ w (Onward w) (λ x e. cond_both x.up w _ (Onward w) (λ p. stays)
+      (λ p. stepped m x (record { node = started x; sent = [] }) e (record { floor = (W.node m x e).floor; told = omega arith; apart = λ s q. absurd (none_some None s refl q) }) (λ u v. absurd (let z = p in cc)))) stays
+  onward (Torn m j left) = if_there (nth w.nodes m) _ w (Onward w) (λ x e. cond_both (x.up && is_for w m j) _ w (Onward w)
+      (λ p. torn_onward m x (effect schema n w m j x) left e (effect_holds m j x (sound m x e) (W.node m x e))) (λ p. stays)) stays
   onward (Ask m q) = stays
 
 -- ---- runs

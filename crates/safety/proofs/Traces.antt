@@ -16,8 +16,8 @@ use Rattle.model.specs.declared.message.Body.TheVariants.{RequestVote, Vote, App
 use Rattle.model.specs.declared.message.Input.{Input}
 use Rattle.model.specs.declared.message.Input.TheVariants.{Timeout, Beat, Close, Submit, Floor}
 use Rattle.model.specs.Transactions.{Schema}
-use Rattle.model.specs.Members.{Node, is_leader, is_candidate, is_majority, is_in, has_term, stands, agreed, others}
-use Rattle.model.specs.Steps.{Effect, Moves, Refuses, Nothing, After, append_to, append_to_all, tell_all, in_term, hears, stands_up, vote_request, vote_requests, time_out, is_time_full, is_log_full, extended, append_own, next_floor, asking, ask_floor, on_input, grants, on_request_vote, counted, crowned, on_vote, is_applied, seal_floor, unapplied, learned, settled, accepted, cuts_below, continues, follows, takes_entries, on_append, noted, commits, on_reply_yes, on_reply_no, on_reply, stores, on_seek, asks_for, with_stored, on_stored, on_body, on_message, is_honest, TERM_LAST, LOG_LIMIT}
+use Rattle.model.specs.Members.{Node, last_term, is_leader, is_candidate, is_majority, is_in, has_term, stands, agreed, others}
+use Rattle.model.specs.Steps.{Effect, Moves, Refuses, Nothing, After, append_to, append_to_all, tell_all, in_term, hears, stands_up, time_out, is_time_full, is_log_full, extended, append_own, next_floor, asking, ask_floor, on_input, grants, on_request_vote, counted, crowned, on_vote, is_applied, seal_floor, unapplied, learned, settled, accepted, cuts_below, continues, follows, takes_entries, on_append, noted, commits, on_reply_yes, on_reply_no, on_reply, stores, on_seek, asks_for, with_stored, on_stored, on_body, on_message, is_honest, TERM_LAST, LOG_LIMIT}
 use Rattle.safety.specs.Floors.{HadFloor, AskedFor, SealExists, IsSealedIn}
 use Rattle.safety.proofs.Lists.{cases, none_some, get_within, get_append, get_take, at_with, at_replicate, above_greater, greater_either}
 use Rattle.safety.proofs.Seals.{HasEntry, has_entry, unapplied_is, waiting_either}
@@ -158,8 +158,8 @@ module _ (Was : ℕ → Node → Type 0) (n m f : ℕ) (x : Node) (X : TracedNod
   times_out : EffectTraces Was n m f (time_out n m x)
   unfolding time_out
   times_out = cond_both (is_leader x.role) Nothing _ (EffectTraces Was n m f) (λ p. tt)
-      (λ p. cond_both (nat_le TERM_LAST x.term) (Refuses TermFull) (Moves (record { node = stands_up n m x; sent = vote_requests n m (stands_up n m x) })) (EffectTraces Was n m f) (λ q. tt)
-      (λ q. calm _ same (silent Was n x.term (x.term + 1) x.asked x.stored x.log x.commit x.sealed x.waiting X) (all_map Was n (vote_request (stands_up n m x) m) (λ y. record { body = tt }) (others n m))))
+      (λ p. cond_both (nat_le TERM_LAST x.term) (Refuses TermFull) (Moves (record { node = stands_up n m x; sent = tell_all n (stands_up n m x) m (RequestVote (length x.log) (last_term x.log)) })) (EffectTraces Was n m f) (λ q. tt)
+      (λ q. calm _ same (silent Was n x.term (x.term + 1) x.asked x.stored x.log x.commit x.sealed x.waiting X) (all_map Was n (λ to. record { sender = m; addressee = to; term = x.term + 1; body = RequestVote (length x.log) (last_term x.log) }) (λ y. record { body = tt }) (others n m))))
 
   appends_own : (reading : ℤ) (request : Option Request) → EffectTraces Was n m f (append_own n m reading request x)
   unfolding append_own

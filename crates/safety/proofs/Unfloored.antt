@@ -1,8 +1,9 @@
 -- Where no event asks for a floor, nobody has one, and no message tells of one.
-use Rattle.std.proofs.Common.{◌≡◌, ℕ, zero, suc, ◌&&◌, ◌||◌, Bool, true, false, not, Option, Some, None, is_some, Result, Ok, Err, List, [], ◌∷◌, ◌++◌, map, length, slice_get, refl, ap, ◌∙◌, subst}
+use Rattle.std.proofs.Common.{◌≡◌, ◌+◌, ℕ, zero, suc, ◌&&◌, ◌||◌, Bool, true, false, not, Option, Some, None, is_some, Result, Ok, Err, List, [], ◌∷◌, ◌++◌, map, length, slice_get, refl, ap, ◌∙◌, subst}
 use Rattle.std.specs.Prelude.{nat_lt, nat_le, ◌==◌, ℤ}
 use Rattle.std.specs.List.{list_all}
 use Rattle.std.proofs.lemmas.Bool.{cond_both, and_parts}
+use Rattle.std.specs.Option.{option_map_or}
 use Rattle.model.specs.Lists.{nth, nth_or}
 use Rattle.model.specs.Stamps.{above, greater}
 use Rattle.model.specs.Logs.{closed}
@@ -17,11 +18,15 @@ use Rattle.model.specs.declared.message.Body.{Body}
 use Rattle.model.specs.declared.message.Body.TheVariants.{RequestVote, Vote, Append, Reply, Seek, Stored, Seal}
 use Rattle.model.specs.declared.message.Input.{Input}
 use Rattle.model.specs.declared.message.Input.TheVariants.{Timeout, Beat, Close, Submit, Floor}
-use Rattle.model.specs.Members.{Node, applied, is_leader, is_candidate, is_majority, is_in, stands, others}
-use Rattle.model.specs.Steps.{Effect, Moves, Refuses, Nothing, After, append_to, append_to_all, in_term, hears, stands_up, vote_request, vote_requests, time_out, is_time_full, is_log_full, extended, append_own, on_input, grants, on_request_vote, counted, crowned, on_vote, seal_floor, unapplied, settled, accepted, cuts_below, continues, follows, takes_entries, on_append, noted, commits, on_reply_yes, on_reply_no, on_reply, on_body, on_message, is_honest, TERM_LAST, LOG_LIMIT}
-use Rattle.model.specs.Worlds.{World, Event, Job, Left, Old, New, Hand, Deliver, Stop, Start, Torn, Ask, Local, Delivery, unless_misread, hand, deliver, effect, with_node, stopped, started, done, torn, node_left, does, delivers, tears, stops, starts, is_for, happens, fresh, new_world, led_world, led_nodes, first_leader, run}
+use Rattle.model.specs.Members.{Node, last_term, applied, is_leader, is_candidate, is_majority, is_in, stands, others}
+use Rattle.model.specs.Steps.{Effect, Moves, Refuses, Nothing, After, append_to, append_to_all, in_term, hears, tell_all, stands_up, time_out, is_time_full, is_log_full, extended, append_own, on_input, grants, on_request_vote, counted, crowned, on_vote, seal_floor, unapplied, settled, accepted, cuts_below, continues, follows, takes_entries, on_append, noted, commits, on_reply_yes, on_reply_no, on_reply, on_body, on_message, is_honest, TERM_LAST, LOG_LIMIT}
+use Rattle.model.specs.Worlds.{World, Event, Hand, Deliver, Stop, Start, Torn, Ask, hand, effect, with_node, stopped, started, done, node_left, does, is_for, happens, fresh, new_world, led_world, led_nodes, first_leader, run}
+use Rattle.model.specs.declared.event.Job.{Job}
+use Rattle.model.specs.declared.event.Job.TheVariants.{Local, Delivery}
+use Rattle.model.specs.declared.event.Left.{Left}
+use Rattle.model.specs.declared.event.Left.TheVariants.{Old, New}
 use Rattle.safety.specs.Floors.{is_floor_input, is_floor_job, is_floor_event, is_floorless, IsFloorless, NoFloors}
-use Rattle.safety.proofs.Lists.{none_some, get_with, get_replicate, found_replicate}
+use Rattle.safety.proofs.Lists.{if_there, none_some, get_with, get_replicate, found_replicate}
 
 -- a member that has and knows of no floor
 pub record Unfloored (x : Node) : Type 0 where
@@ -86,8 +91,8 @@ module _ (n m : ℕ) (x : Node) (X : Unfloored x) where
   times_out : EffectSpares (time_out n m x)
   unfolding time_out
   times_out = cond_both (is_leader x.role) Nothing _ EffectSpares (λ p. tt)
-      (λ p. cond_both (nat_le TERM_LAST x.term) (Refuses TermFull) (Moves (record { node = stands_up n m x; sent = vote_requests n m (stands_up n m x) })) EffectSpares (λ q. tt)
-      (λ q. record { node = untold (stands_up n m x) refl refl refl refl; sent = all_map (vote_request (stands_up n m x) m) (λ y. record { body = refl }) (others n m) }))
+      (λ p. cond_both (nat_le TERM_LAST x.term) (Refuses TermFull) (Moves (record { node = stands_up n m x; sent = tell_all n (stands_up n m x) m (RequestVote (length x.log) (last_term x.log)) })) EffectSpares (λ q. tt)
+      (λ q. record { node = untold (stands_up n m x) refl refl refl refl; sent = all_map (λ to. record { sender = m; addressee = to; term = x.term + 1; body = RequestVote (length x.log) (last_term x.log) }) (λ y. record { body = refl }) (others n m) }))
 
   appends_own : (reading : ℤ) (request : Option Request) → EffectSpares (append_own n m reading request x)
   unfolding append_own
@@ -196,7 +201,7 @@ module _ (schema : Schema) (n : ℕ) (w : World) (W : UnflooredWorld w) where
   changed : (m : ℕ) (z : Node) → Unfloored z → UnflooredWorld (with_node w m z [])
   changed m z Z = stepped m (record { node = z; sent = [] }) (record { node = Z; sent = none })
 
-  unless_spares : (r : Result (List Statement) Refusal) (e : Effect) → EffectSpares e → EffectSpares (unless_misread r e)
+  unless_spares : (r : Result (List Statement) Refusal) (e : Effect) → EffectSpares e → EffectSpares (elim (r) [ Ok ss ↦ e | Err refusal ↦ Refuses refusal ])
   unless_spares (Ok ss) e h = h
   unless_spares (Err refusal) e h = tt
 
@@ -211,7 +216,7 @@ module _ (schema : Schema) (n : ℕ) (w : World) (W : UnflooredWorld w) where
   effect_spares m (Local i) x X e = handed m i x X e
   effect_spares m (Delivery k reading) x X e = go (nth w.sent k) refl
     where
-      go : (o : Option Message) → nth w.sent k ≡ o → EffectSpares (deliver schema n m reading o x)
+      go : (o : Option Message) → nth w.sent k ≡ o → EffectSpares (option_map_or (λ (p : Message). on_message schema n m reading p x) o Nothing)
       go None q = tt
       go (Some p) q = message_spares schema n m reading p x X (all_nth w.sent k p W.sent q)
 
@@ -220,38 +225,23 @@ module _ (schema : Schema) (n : ℕ) (w : World) (W : UnflooredWorld w) where
   done_unfloored m (Refuses refusal) S = W
   done_unfloored m (Moves a) S = stepped m a S
 
-  torn_unfloored : (m : ℕ) (x : Node) (o : Effect) (left : Left) → Unfloored x → EffectSpares o → UnflooredWorld (torn w m (node_left left x o))
+  torn_unfloored : (m : ℕ) (x : Node) (o : Effect) (left : Left) → Unfloored x → EffectSpares o → UnflooredWorld (with_node w m (stopped (node_left left x o)) [])
   torn_unfloored m x o Old X S = changed m (stopped x) (unfloored_stopped x X)
   torn_unfloored m x (Moves a) New X S = changed m (stopped a.node) (unfloored_stopped a.node S.node)
   torn_unfloored m x (Refuses refusal) New X S = changed m (stopped x) (unfloored_stopped x X)
   torn_unfloored m x Nothing New X S = changed m (stopped x) (unfloored_stopped x X)
 
-  does_unfloored : (m : ℕ) (j : Job) → is_floor_job j ≡ false → (o : Option Node) → nth w.nodes m ≡ o → UnflooredWorld (does schema n w m j o)
-  does_unfloored m j f None e = W
-  does_unfloored m j f (Some x) e = cond_both x.up _ w UnflooredWorld (λ p. done_unfloored m (effect schema n w m j x) (effect_spares m j x (W.node m x e) f)) (λ p. W)
-
-  delivers_unfloored : (j : Job) → is_floor_job j ≡ false → (o : Option Message) → UnflooredWorld (delivers schema n w j o)
-  delivers_unfloored j f None = W
-  delivers_unfloored j f (Some p) = does_unfloored p.addressee j f (nth w.nodes p.addressee) refl
-
-  tears_unfloored : (m : ℕ) (j : Job) (left : Left) → is_floor_job j ≡ false → (o : Option Node) → nth w.nodes m ≡ o → UnflooredWorld (tears schema n w m j left o)
-  tears_unfloored m j left f None e = W
-  tears_unfloored m j left f (Some x) e = cond_both (x.up && is_for w m j) _ w UnflooredWorld (λ p. torn_unfloored m x (effect schema n w m j x) left (W.node m x e) (effect_spares m j x (W.node m x e) f)) (λ p. W)
-
-  stops_unfloored : (m : ℕ) (o : Option Node) → nth w.nodes m ≡ o → UnflooredWorld (stops w m o)
-  stops_unfloored m None e = W
-  stops_unfloored m (Some x) e = cond_both x.up _ w UnflooredWorld (λ p. changed m (stopped x) (unfloored_stopped x (W.node m x e))) (λ p. W)
-
-  starts_unfloored : (m : ℕ) (o : Option Node) → nth w.nodes m ≡ o → UnflooredWorld (starts w m o)
-  starts_unfloored m None e = W
-  starts_unfloored m (Some x) e = cond_both x.up w _ UnflooredWorld (λ p. W) (λ p. let S = unfloored_stopped x (W.node m x e) in changed m (started x) (record { floor = S.floor; told = S.told; sealed = S.sealed; waiting = S.waiting }))
+  does_unfloored : (m : ℕ) (j : Job) → is_floor_job j ≡ false → UnflooredWorld (does schema n w m j (nth w.nodes m))
+  does_unfloored m j f = if_there (nth w.nodes m) _ w UnflooredWorld (λ x e. cond_both x.up _ w UnflooredWorld (λ p. done_unfloored m (effect schema n w m j x) (effect_spares m j x (W.node m x e) f)) (λ p. W)) W
 
   happens_unfloored : (e : Event) → is_floor_event e ≡ false → UnflooredWorld (happens schema n w e)
-  happens_unfloored (Hand m i) f = does_unfloored m (Local i) f (nth w.nodes m) refl
-  happens_unfloored (Deliver k reading) f = delivers_unfloored (Delivery k reading) f (nth w.sent k)
-  happens_unfloored (Stop m) f = stops_unfloored m (nth w.nodes m) refl
-  happens_unfloored (Start m) f = starts_unfloored m (nth w.nodes m) refl
-  happens_unfloored (Torn m j left) f = tears_unfloored m j left f (nth w.nodes m) refl
+  happens_unfloored (Hand m i) f = does_unfloored m (Local i) f
+  happens_unfloored (Deliver k reading) f = if_there (nth w.sent k) _ w UnflooredWorld (λ p e. does_unfloored p.addressee (Delivery k reading) f) W
+  happens_unfloored (Stop m) f = if_there (nth w.nodes m) _ w UnflooredWorld (λ x e. cond_both x.up _ w UnflooredWorld (λ p. changed m (stopped x) (unfloored_stopped x (W.node m x e))) (λ p. W)) W
+  happens_unfloored (Start m) f = if_there (nth w.nodes m) _ w UnflooredWorld (λ x e. cond_both x.up w _ UnflooredWorld (λ p. W)
+      (λ p. let S = unfloored_stopped x (W.node m x e) in changed m (started x) (record { floor = S.floor; told = S.told; sealed = S.sealed; waiting = S.waiting }))) W
+  happens_unfloored (Torn m j left) f = if_there (nth w.nodes m) _ w UnflooredWorld (λ x e. cond_both (x.up && is_for w m j) _ w UnflooredWorld
+      (λ p. torn_unfloored m x (effect schema n w m j x) left (W.node m x e) (effect_spares m j x (W.node m x e) f)) (λ p. W)) W
   happens_unfloored (Ask m q) f = W
 
 not_true : (b : Bool) → not b ≡ true → b ≡ false

@@ -5,8 +5,11 @@ use Rattle.std.specs.Io.KnownBytes.{Appends}
 use Rattle.fault.specs.declared.refusal.Refusal.{Refusal}
 use Rattle.model.specs.Lists.{nth, nth_or, with_nth}
 use Rattle.model.specs.declared.message.Input.TheVariants as input
-use Rattle.model.specs.Worlds.{World, Event, Job, Left, happens, new_world, Gives}
-use Rattle.model.specs.Worlds.Job.{Local, Delivery}
+use Rattle.model.specs.Worlds.{World, Event, happens, new_world, Gives}
+use Rattle.model.specs.declared.event.Job.{Job}
+use Rattle.model.specs.declared.event.Left.{Left}
+use Rattle.model.specs.declared.event.Job.TheVariants.{Local, Delivery}
+use Rattle.model.specs.declared.event.Left.TheVariants.{New, Old}
 use Rattle.model.specs.Worlds as model
 use Rattle.answertext.specs.Sinks.{AppendsBeginning}
 use Rattle.sqlchecks.specs.Columns.{Tables}
@@ -78,8 +81,8 @@ stage_if (Some found) s later = later
 
 -- what a step that is cut short leaves, as an event says it
 abbrev pub left_in : TornLeft → Left
-left_in kept.Old = model.Old
-left_in kept.New = model.New
+left_in kept.Old = Old
+left_in kept.New = New
 
 -- in a group of n members with these tables
 module _ (tables : Tables) (n : ℕ) where

@@ -1,11 +1,11 @@
 //! What the lines of scripts do to a group.
-ghost use Rattle.std.specs.Prelude.{◌≡◌, ◌+◌, ◌^◌, ◌++◌, ◌∷◌, [], suc, false, length, option_map, ◌<◌, ◌≤◌, IfOk, OnOk, Some, slice_get};
+ghost use Rattle.std.specs.Prelude.{◌≡◌, ◌+◌, ◌^◌, ◌++◌, ◌∷◌, [], suc, false, length, ◌<◌, ◌≤◌, IfOk, OnOk, Some, slice_get};
 ghost use Rattle.model.specs.Worlds.{Gives, happens as happens_in};
 ghost use Rattle.sqlread.specs.Meaning.{schema_of};
 ghost use Rattle.sqlread.specs.Shapes.{query_of};
 ghost use Rattle.model.specs.Lists.{nth};
 ghost use Rattle.world.specs.Run.{events_of};
-ghost use Rattle.world.specs.View.{event_of, job_of, left_of, outputs_of, ShowsColumns};
+ghost use Rattle.world.specs.View.{event_of, outputs_of, ShowsColumns};
 ghost use Rattle.script.specs.declared.sent.Sent.{Sent as AnySent};
 ghost use Rattle.script.specs.Stage.{left_in};
 
@@ -232,7 +232,7 @@ impl Play {
 
     // A delivery to this member that is cut short, if the message was sent to it.
     fn torn_delivery(&mut self, node: Member, number: u64) -> Option<event::Job>
-        ensures job { option_map job_of result ≡ torn_delivery (tables_of self.old) (members_of self.old) (stage_of self.old) node number (nth self.old.mail number) }
+        ensures job { result ≡ torn_delivery (tables_of self.old) (members_of self.old) (stage_of self.old) node number (nth self.old.mail number) }
         ensures stage { stage_of self.new ≡ stage_if result (stage_of self.old) (delivered (stage_of self.old) number) }
         ensures world { self.new.world ≡ self.old.world }
     {
@@ -249,7 +249,7 @@ impl Play {
 
     // What a step that is cut short is about, if it can be. A message counts as delivered then.
     fn torn_job(&mut self, node: Member, job: &Job) -> Result<Option<event::Job>, AllocError>
-        ensures job { IfOk result (λ found. option_map job_of found ≡ job_at (tables_of self.old) (members_of self.old) (stage_of self.old) node job.now) }
+        ensures job { IfOk result (λ found. found ≡ job_at (tables_of self.old) (members_of self.old) (stage_of self.old) node job.now) }
         ensures stage { IfOk result (λ found. stage_of self.new ≡ stage_if found (stage_of self.old) (torn_stage (tables_of self.old) (members_of self.old) (stage_of self.old) job.now)) }
         ensures world { self.new.world ≡ self.old.world }
     {
@@ -434,7 +434,7 @@ impl Play {
 
 // What a step that is cut short leaves in the store, as an event says it.
 fn kept(left: Left) -> event::Left
-    ensures { left_of result ≡ left_in left }
+    ensures { result ≡ left_in left }
 {
     match left {
         Left::Old => event::Left::Old,

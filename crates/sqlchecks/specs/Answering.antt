@@ -1,5 +1,5 @@
 -- What a function that checks a text returns.
-use Rattle.std.specs.Prelude.{◌≡◌, List, [], ◌∷◌, Bool, if◌then◌else◌, Option, Some, None, Result, Ok, Err}
+use Rattle.std.specs.Prelude.{◌≡◌, List, [], ◌∷◌, Bool, if◌then◌else◌, Option, ok_or, Result, Ok, Err}
 use Rattle.fault.specs.declared.refusal.Refusal.{Refusal}
 
 -- one check after the other: the first refusal is the answer
@@ -17,8 +17,7 @@ abbrev pub refuse_if : Bool → Refusal → Result (Unit {0}) Refusal
 refuse_if test r = if test then Err r else Ok tt
 
 abbrev pub or_refuse : {A : Type 0} → Refusal → Option A → Result A Refusal
-or_refuse r None = Err r
-or_refuse r (Some a) = Ok a
+or_refuse r found = ok_or found r
 
 -- what a function returned, seen by view, is the answer
 abbrev pub Gives : {X Y : Type 0} → (X → Y) → Result X Refusal → Result Y Refusal → Type 0

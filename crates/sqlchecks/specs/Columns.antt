@@ -1,5 +1,6 @@
 -- Tables and columns by their names, and where a row keeps the value of a column.
-use Rattle.std.specs.Prelude.{ℕ, ◌==◌, List, map, position, slice_get, Option, Some, None, option_map, option_and_then, Result}
+use Rattle.std.specs.Prelude.{ℕ, ◌==◌, List, map, position, slice_get, Option, option_map, option_and_then, Result}
+use Rattle.std.specs.Option.{option_or}
 use Rattle.fault.specs.declared.refusal.Refusal.{Refusal}
 use Rattle.fault.specs.declared.refusal.Refusal.TheVariants.{UnknownTable, UnknownColumn}
 use Rattle.model.specs.declared.value.Value.{Value as RowValue}
@@ -26,13 +27,9 @@ column_at table place = option_map (λ c. (place, c.1)) (slice_get table.columns
 unfoldable pub column_named : TableShape → Bytes → Result (ℕ × Kind) Refusal
 column_named table name = or_refuse UnknownColumn (option_and_then (column_at table) (position (same_name name) (map (λ c. c.0) table.columns)))
 
-abbrev pub or_else : {A : Type 0} → Option A → Option A → Option A
-or_else (Some a) other = Some a
-or_else None other = other
-
 -- where a row keeps this column: in its key or among its values, or nowhere
 unfoldable pub field_at : TableShape → ℕ → Option Field
-field_at table column = or_else (option_map Key (position (λ c. c == column) table.key)) (option_map Value (position (λ c. c == column) table.values))
+field_at table column = option_or (option_map Key (position (λ c. c == column) table.key)) (option_map Value (position (λ c. c == column) table.values))
 
 -- what a row with this key and these values has there
 unfoldable pub kept_at : List RowValue → List RowValue → Field → Option RowValue

@@ -1,6 +1,7 @@
 -- What INSERT, UPDATE and DELETE are checked for, in the order of the text, and the statements that they then are.
 use Rattle.std.specs.Prelude.{ℕ, Bool, true, false, not, ◌||◌, ◌==◌, if◌then◌else◌, nat_lt, List, [], ◌∷◌, ◌++◌, length, map, find, zip, slice_get, Option, Some, None, option_map, option_and_then, ◌⊎◌, Result, Ok, Err}
 use Rattle.std.specs.List.{list_any, list_all, range_with_len}
+use Rattle.std.specs.Option.{option_map_or}
 use Rattle.std.specs.Str.Parse.{digits_value}
 use mathlib.Core.Logic.{inl, inr}
 use Rattle.fault.specs.declared.refusal.Refusal.{Refusal}
@@ -128,8 +129,7 @@ if_given f (Some a) = f a >>= λ b. Ok (Some b)
 
 -- those of a list that need not be there
 abbrev pub all_given : {A B : Type 0} → (List A → Result (List B) Refusal) → Option (List A) → Result (List B) Refusal
-all_given f None = Ok []
-all_given f (Some list) = f list
+all_given f list = option_map_or f list (Ok [])
 
 -- ---- SET
 

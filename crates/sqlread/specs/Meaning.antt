@@ -1,8 +1,9 @@
 -- What statements, queries and a schema mean, in the terms of the definitions: WHERE is a test on a row, SET a function from
 -- the old values to the new ones, or to none where one is out of range.
-use Rattle.std.specs.Prelude.{ℕ, ℤ, pos, negsuc, ◌+◌, ◌++◌, ◌+ℤ◌, ◌-ℤ◌, Bool, ◌&&◌, ◌==◌, nat_lt, nat_le, if◌then◌else◌, List, [], ◌∷◌, length, map, find, filter_map, slice_get, Option, Some, None, option_map, option_and_then, unwrap_or, int_le, Result, Ok, Err}
+use Rattle.std.specs.Prelude.{ℕ, ℤ, pos, negsuc, ◌+◌, ◌++◌, ◌+ℤ◌, ◌-ℤ◌, Bool, ◌&&◌, ◌==◌, nat_lt, nat_le, if◌then◌else◌, List, [], ◌∷◌, length, map, find, filter_map, slice_get, Option, Some, None, option_map, option_and_then, unwrap_or, int_le, Result}
 use Rattle.std.specs.List.{list_all}
 use Rattle.std.specs.Option.{option_map_or}
+use Rattle.std.specs.Result.{result_map_both}
 use Rattle.fault.specs.declared.refusal.Refusal.{Refusal}
 use Rattle.model.specs.declared.value.Value.{Value as RowValue}
 use Rattle.model.specs.declared.value.Value.TheVariants as value
@@ -104,8 +105,7 @@ abbrev pub name_of : Tables → ℕ → List ℕ
 name_of tables place = option_map_or (λ t. t.0) (slice_get tables place) []
 
 abbrev pub meanings : Result (List StatementShape) Refusal → Result (List Statement) Refusal
-meanings (Ok ss) = Ok (map meaning ss)
-meanings (Err refusal) = Err refusal
+meanings read = result_map_both (map meaning) (λ refusal. refusal) read
 
 unfoldable pub schema_of : Tables → Schema
 schema_of tables = record { tables = length tables; name = name_of tables; references = references_from 0 tables; reads = λ text. meanings (transaction_in tables text) }

@@ -10,7 +10,7 @@ use Rattle.std.proofs.lemmas.List.Elements.{All-from_recursion}
 use Rattle.model.specs.Values.{key_cmp}
 use Rattle.model.specs.Tables.{Table, Row, IsRow}
 use Rattle.model.specs.Logs.{state_at}
-use Rattle.model.specs.Answers.{last_instant, Query, Shown, IsAnswerOver, IsShownEnd, row_cmp}
+use Rattle.model.specs.Answers.{Query, Shown, IsAnswerOver, IsShownEnd, row_cmp}
 use Rattle.rowlaws.specs.Rows.{Has, Apart}
 use Rattle.rowlaws.specs.Sorting.{in_order}
 use Rattle.rowlaws.proofs.Keys.{key_total, key_same}
@@ -41,17 +41,17 @@ is_before_of u None h = refl
 is_before_of u (Some e) h = lt-ltb u e h
 
 found : (q : Query) (v : Version) → is_found q v ≡ true → IsFound q v
-found q v h = let p = and_parts _ _ h in let r = and_parts _ _ p.0 in (r.0, leb-true v.row.system_start (last_instant q.time) r.1, before_is q.time.first v.end p.1)
+found q v h = let p = and_parts _ _ h in let r = and_parts _ _ p.0 in (r.0, leb-true v.row.system_start q.time.last r.1, before_is q.time.first v.end p.1)
 
 found_test : (q : Query) (v : Version) → IsFound q v → is_found q v ≡ true
-found_test q v h = and_from _ _ (and_from _ _ h.0 (le-leb v.row.system_start (last_instant q.time) h.1)) (is_before_of q.time.first v.end h.2)
+found_test q v h = and_from _ _ (and_from _ _ h.0 (le-leb v.row.system_start q.time.last h.1)) (is_before_of q.time.first v.end h.2)
 
 -- ---- the order
 
 version_total : IsTotalOrder version_cmp
 version_total = then_total (on_total (λ (v : Version). v.row.key) key_total) (then_total (on_total (λ (v : Version). v.row.period.start) nat_cmp_total) (on_total (λ (v : Version). v.row.system_start) nat_cmp_total))
 
-module _ (versions : List Version) (history : ℕ → Table) (now : ℕ) (keeps : Keeps versions history now) (apart : Apart versions) (q : Query) (some : HasInstant q.time) (is_closed : last_instant q.time ≤ now) where
+module _ (versions : List Version) (history : ℕ → Table) (now : ℕ) (keeps : Keeps versions history now) (apart : Apart versions) (q : Query) (some : HasInstant q.time) (is_closed : q.time.last ≤ now) where
   -- a version's row is there at its system start
   at_system_start : (v : Version) → Has versions v → (u : ℕ) → v.row.system_start ≡ u → u ≤ now → IsRow (history u) v.row
   at_system_start v h u e b = (keeps.rows u b v.row).1 (v, h, refl, (omega arith, subst (λ x. IsBefore x v.end) e (keeps.lasts v h)))
@@ -109,9 +109,9 @@ module _ (versions : List Version) (history : ℕ → Table) (now : ℕ) (keeps 
       (λ a. let v = (asked_is versions history now keeps q row some is_closed).0 a in
           has_contains _ row (subst (λ r. Has (map (λ s. s.row) (map (show q) rows)) r) v.2 (row_shown v.0 (has_order version_cmp hits v.0 (has_filter (is_found q) versions v.0 v.1 (found_test q v.0 v.3)))))),
     );
-    ends = All-from_recursion (λ s. IsShownEnd history (last_instant q.time) s.row s.end) (map (show q) rows) (all_from (λ s. IsShownEnd history (last_instant q.time) s.row s.end) (map (show q) rows) (λ s h.
+    ends = All-from_recursion (λ s. IsShownEnd history q.time.last s.row s.end) (map (show q) rows) (all_from (λ s. IsShownEnd history q.time.last s.row s.end) (map (show q) rows) (λ s h.
         let v = map_has (show q) rows s h in
-        subst (λ x. IsShownEnd history (last_instant q.time) x.row x.end) (sym v.2) (end_is versions history now keeps v.0 (last_instant q.time) (hit v.0 v.1).0 is_closed)));
+        subst (λ x. IsShownEnd history q.time.last x.row x.end) (sym v.2) (end_is versions history now keeps v.0 q.time.last (hit v.0 v.1).0 is_closed)));
   }
 
 pub versions_give_answer : VersionsGive
@@ -122,4 +122,4 @@ le_itself n = omega arith
 
 pub answer_in_log : HoldsAfter → KeepsAfter → VersionsAnswer
 answer_in_log holds keeps schema q list s fine some =
-    answer_is (versions_after schema q.table (reverse list)) (λ u. state_at schema list u q.table) (last_instant q.time) (keeps schema list q.table (last_instant q.time) s fine) (holds schema list q.table s fine).apart q some (le_itself (last_instant q.time))
+    answer_is (versions_after schema q.table (reverse list)) (λ u. state_at schema list u q.table) q.time.last (keeps schema list q.table q.time.last s fine) (holds schema list q.table s fine).apart q some (le_itself q.time.last)

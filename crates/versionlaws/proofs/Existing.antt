@@ -5,7 +5,7 @@ use Rattle.std.proofs.lemmas.Bool.{cases_lt}
 use Rattle.std.proofs.lemmas.List.Elements.{All-from_recursion}
 use Rattle.model.specs.Tables.{Table}
 use Rattle.model.specs.Logs.{state_at}
-use Rattle.model.specs.Answers.{SystemTime, last_instant, Query, read_at, IsAnswer, IsAnswerOver, IsShownEnd}
+use Rattle.model.specs.Answers.{SystemTime, Query, read_at, IsAnswer, IsAnswerOver, IsShownEnd}
 use Rattle.rowlaws.proofs.Contents.{contains_has}
 use Rattle.safety.specs.Answers.{HoweverLate, HoweverSealed, OneAnswer}
 use Rattle.versionlaws.specs.Committing.{versions_after}
@@ -19,13 +19,13 @@ has_or_not time = elim (cases_lt time.last time.first) [
   | inr more ↦ inl (time.first, (omega arith, more))
 ]
 
-no_rows : (history : ℕ → Table) (q : Query) → (HasInstant q.time → ⊥) → IsAnswerOver history q (record { last = last_instant q.time; rows = [] })
+no_rows : (history : ℕ → Table) (q : Query) → (HasInstant q.time → ⊥) → IsAnswerOver history q (record { last = q.time.last; rows = [] })
 unfolding IsStrictlySortedBy
 no_rows history q none = record {
   last = refl;
   order = tt;
   rows = λ row. ((λ c. absurd (contains_has [] row c)), (λ a. absurd (none (a.1.0, a.1.1))));
-  ends = All-from_recursion (λ s. IsShownEnd history (last_instant q.time) s.row s.end) [] tt;
+  ends = All-from_recursion (λ s. IsShownEnd history q.time.last s.row s.end) [] tt;
 }
 
 -- ---- the laws
@@ -33,7 +33,7 @@ no_rows history q none = record {
 pub answer_in_each : VersionsAnswer → SomeAnswer
 answer_in_each gives schema q list stamped fine = elim (has_or_not q.time) [
   | inl some ↦ (answer_from q (versions_after schema q.table (reverse list)), gives schema q list stamped fine some)
-  | inr none ↦ (record { last = last_instant q.time; rows = [] }, no_rows (λ u. state_at schema list u q.table) q none)
+  | inr none ↦ (record { last = q.time.last; rows = [] }, no_rows (λ u. state_at schema list u q.table) q none)
 ]
 
 pub closed_has_one : HoweverLate → OneAnswer → SomeAnswer → ClosedAnswer

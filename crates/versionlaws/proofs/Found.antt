@@ -2,7 +2,7 @@
 use Rattle.std.proofs.Common.{◌≡◌, ℕ, ◌<◌, ◌≤◌, inl, inr, ◌↔◌, true, Option, Some, None, List, refl, sym, subst, arith, max}
 use Rattle.std.proofs.lemmas.Bool.{cases_lt, le-leb, lt-leb}
 use Rattle.model.specs.Tables.{Table, Row, IsRow}
-use Rattle.model.specs.Answers.{last_instant, Query, IsAsked, IsShownEnd}
+use Rattle.model.specs.Answers.{Query, IsAsked, IsShownEnd}
 use Rattle.rowlaws.specs.Rows.{Has}
 use Rattle.versionlaws.specs.Versions.{Version, IsBefore, IsAlive, Keeps}
 use Rattle.versionlaws.specs.Answering.{HasInstant, IsFound, shown_end, VersionsRows, VersionsEnds}
@@ -16,11 +16,11 @@ before_both u w None a b = tt
 before_both u w (Some end) a b = omega arith
 
 module _ (versions : List Version) (history : ℕ → Table) (now : ℕ) (keeps : Keeps versions history now) where
-  pub asked_is : (q : Query) (row : Row) → HasInstant q.time → last_instant q.time ≤ now → IsAsked history q row ↔ ((v : Version) × Has versions v × (v.row ≡ row) × IsFound q v)
+  pub asked_is : (q : Query) (row : Row) → HasInstant q.time → q.time.last ≤ now → IsAsked history q row ↔ ((v : Version) × Has versions v × (v.row ≡ row) × IsFound q v)
   asked_is q row some closed =
       let some_at = some.1 in
       let first : ℕ = q.time.first in
-      let last : ℕ = last_instant q.time in (
+      let last : ℕ = q.time.last in (
         (λ h.
             let u = h.1 in
             let at = u.1 in

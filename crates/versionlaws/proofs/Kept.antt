@@ -3,17 +3,16 @@ use Rattle.std.proofs.Common.{◌≡◌, ℕ, ◌+◌, ◌<◌, ◌≤◌, inl, 
 use Rattle.std.proofs.lemmas.Bool.{cases_lt}
 use Rattle.std.proofs.lemmas.List.{reverse-append}
 use Rattle.model.specs.Tables.{Table, Row, IsRow, empty_table}
-use Rattle.model.specs.Transactions.{Schema, State}
+use Rattle.model.specs.Transactions.{Schema}
 use Rattle.model.specs.declared.entry.Entry.{Entry}
 use Rattle.model.specs.Stamps.{above}
 use Rattle.model.specs.Logs.{state_at, state_after, least_stamp, IsStamped}
-use Rattle.safety.specs.Answers.{up_to, StateUpTo}
 use Rattle.rowlaws.specs.Rows.{Has}
 use Rattle.rowlaws.specs.Touching.{rows_without, IsTouched, Touched}
 use Rattle.rowlaws.specs.Logs.{rows_after, IsFineRequest, AllFine, LogsOnRows, LogsFollow}
 use Rattle.versionlaws.specs.Versions.{Version, Holds, NoVersions}
 use Rattle.versionlaws.specs.Committing.{committed, versions_after, CommitEntry, EntryStays, Lasts, KeptLater, HoldsAfter, KeepsAfter}
-use Rattle.versionlaws.proofs.Lasting.{Falling, falling, stamped_beginning, filter-reverse, all_kept, none_later, AreOlder, lasts}
+use Rattle.versionlaws.proofs.Lasting.{Falling, falling, stamped_beginning, filter-reverse, all_kept, none_later, AreOlder, lasts, up_to}
 use Rattle.versionlaws.proofs.Committed.{holds_next, held_on, held_kept}
 
 -- ---- fine logs
@@ -117,70 +116,70 @@ module _ (schema : Schema) (n : ℕ) where
 
   -- ---- the state at an instant
 
-  module _ (same : StateUpTo) where
-    at : (list : List Entry) (u : ℕ) → IsStamped list → state_at schema list u n ≡ history (reverse list) u
-    at list u s = ap (λ (z : State). z n) (same schema list u s ∙ ap (state_after schema) (sym (filter-reverse (λ (e : Entry). nat_le e.stamp u) list)))
+  at : (list : List Entry) (u : ℕ) → IsStamped list → state_at schema list u n ≡ history (reverse list) u
+  unfolding state_at
+  at list u s = ap (λ (es : List Entry). state_after schema es n) (sym (filter-reverse (λ (e : Entry). nat_le e.stamp u) list))
 
-    -- from its bound on the table stays
-    stays_from : (list : List Entry) (u : ℕ) → IsStamped list → least_stamp list ≤ u → state_at schema list u n ≡ table (reverse list)
-    stays_from list u s le =
-        let b = bound_least list in
-        at list u s ∙ ap table (all_kept u (reverse list) (λ f h. let l = below_bound u (reverse list) (falling list s) (omega arith) f h in omega arith))
+  -- from its bound on the table stays
+  stays_from : (list : List Entry) (u : ℕ) → IsStamped list → least_stamp list ≤ u → state_at schema list u n ≡ table (reverse list)
+  stays_from list u s le =
+      let b = bound_least list in
+      at list u s ∙ ap table (all_kept u (reverse list) (λ f h. let l = below_bound u (reverse list) (falling list s) (omega arith) f h in omega arith))
 
-    held : (list : List Entry) (versions : List Version) → IsStamped list → Holds versions (history (reverse list)) (bound (reverse list)) (table (reverse list)) → Holds versions (λ u. state_at schema list u n) (least_stamp list) (table (reverse list))
-    held list versions s h =
-        let x : Holds versions (history (reverse list)) (least_stamp list) (table (reverse list)) = subst (λ k. Holds versions (history (reverse list)) k (table (reverse list))) (bound_least list) h in
-        subst (λ (f : ℕ → Table). Holds versions f (least_stamp list) (table (reverse list))) (λ i u. sym (at list u s) i) x
+  held : (list : List Entry) (versions : List Version) → IsStamped list → Holds versions (history (reverse list)) (bound (reverse list)) (table (reverse list)) → Holds versions (λ u. state_at schema list u n) (least_stamp list) (table (reverse list))
+  held list versions s h =
+      let x : Holds versions (history (reverse list)) (least_stamp list) (table (reverse list)) = subst (λ k. Holds versions (history (reverse list)) k (table (reverse list))) (bound_least list) h in
+      subst (λ (f : ℕ → Table). Holds versions f (least_stamp list) (table (reverse list))) (λ i u. sym (at list u s) i) x
 
-    held_back : (list : List Entry) (versions : List Version) → IsStamped list → Holds versions (λ u. state_at schema list u n) (least_stamp list) (table (reverse list)) → Holds versions (history (reverse list)) (bound (reverse list)) (table (reverse list))
-    held_back list versions s h =
-        let x : Holds versions (history (reverse list)) (least_stamp list) (table (reverse list)) = subst (λ (f : ℕ → Table). Holds versions f (least_stamp list) (table (reverse list))) (λ i u. at list u s i) h in
-        subst (λ k. Holds versions (history (reverse list)) k (table (reverse list))) (sym (bound_least list)) x
+  held_back : (list : List Entry) (versions : List Version) → IsStamped list → Holds versions (λ u. state_at schema list u n) (least_stamp list) (table (reverse list)) → Holds versions (history (reverse list)) (bound (reverse list)) (table (reverse list))
+  held_back list versions s h =
+      let x : Holds versions (history (reverse list)) (least_stamp list) (table (reverse list)) = subst (λ (f : ℕ → Table). Holds versions f (least_stamp list) (table (reverse list))) (λ i u. at list u s i) h in
+      subst (λ k. Holds versions (history (reverse list)) k (table (reverse list))) (sym (bound_least list)) x
 
 -- ---- the laws
 
-pub commit_entry_holds : StateUpTo → LogsFollow → CommitEntry
-commit_entry_holds same follows schema n list e versions removed added s fine h touch =
+pub commit_entry_holds : LogsFollow → CommitEntry
+commit_entry_holds follows schema n list e versions removed added s fine h touch =
     let before : List Entry = reverse list in
     let more : reverse (list ++ e ∷ []) ≡ e ∷ before = reverse-append list (e ∷ []) in
-    let was = held_back schema n same list versions (stamped_beginning list (e ∷ []) s) h in
+    let was = held_back schema n list versions (stamped_beginning list (e ∷ []) s) h in
     let fine_now : AllFine schema (e ∷ before) = subst (λ es. AllFine schema es) more (fine_reverse schema (list ++ e ∷ []) fine) in
     let falls_now : Falling (e ∷ before) = subst (λ es. Falling es) more (falling (list ++ e ∷ []) s) in
     let touched_now = subst (λ es. IsTouched (state_after schema before n) (state_after schema es n) removed added) more touch in
     let next = holds_entry schema n e before versions removed added follows fine_now falls_now was touched_now in
-    held schema n same (list ++ e ∷ []) (committed e.stamp removed added versions) s
+    held schema n (list ++ e ∷ []) (committed e.stamp removed added versions) s
     (subst (λ es. Holds (committed e.stamp removed added versions) (history schema n es) (bound es) (state_after schema es n)) (sym more) next)
 
-pub entry_stays_held : StateUpTo → EntryStays
-entry_stays_held same schema n list e versions s h stays =
+pub entry_stays_held : EntryStays
+entry_stays_held schema n list e versions s h stays =
     let was = stamped_beginning list (e ∷ []) s in
     let more : reverse (list ++ e ∷ []) ≡ e ∷ reverse list = reverse-append list (e ∷ []) in
     let falls : Falling (e ∷ reverse list) = subst (λ es. Falling es) more (falling (list ++ e ∷ []) s) in
     let bound_is = bound_least list in
     let next_is = least_more list e in
     let less = bound_less e (reverse list) falls in
-    let now : (u : ℕ) → state_at schema (list ++ e ∷ []) u n ≡ history schema n (e ∷ reverse list) u = λ u. at schema n same (list ++ e ∷ []) u s ∙ ap (λ es. history schema n es u) more in
+    let now : (u : ℕ) → state_at schema (list ++ e ∷ []) u n ≡ history schema n (e ∷ reverse list) u = λ u. at schema n (list ++ e ∷ []) u s ∙ ap (λ es. history schema n es u) more in
     let on = held_on versions (λ u. state_at schema list u n) (λ u. state_at schema (list ++ e ∷ []) u n) (least_stamp list) (least_stamp (list ++ e ∷ [])) (state_after schema (reverse list) n) h (omega arith)
-    (λ u l. now u ∙ ap (λ es. state_after schema es n) (none_later u e (reverse list) (omega arith)) ∙ sym (at schema n same list u was))
+    (λ u l. now u ∙ ap (λ es. state_after schema es n) (none_later u e (reverse list) (omega arith)) ∙ sym (at schema n list u was))
     (λ u g l. elim (cases_lt u e.stamp) [
-      | inl k ↦ now u ∙ ap (λ es. state_after schema es n) (none_later u e (reverse list) k) ∙ sym (at schema n same list u was) ∙ stays_from schema n same list u was g
+      | inl k ↦ now u ∙ ap (λ es. state_after schema es n) (none_later u e (reverse list) k) ∙ sym (at schema n list u was) ∙ stays_from schema n list u was g
       | inr k ↦ now u ∙ ap (λ es. state_after schema es n) (all_kept u (e ∷ reverse list) (λ f m. let x = below_bound (e.stamp + 1) (e ∷ reverse list) falls (omega arith) f m in omega arith) ∙ sym more) ∙ stays
     ]) in
     subst (λ (t : Table). Holds versions (λ u. state_at schema (list ++ e ∷ []) u n) (least_stamp (list ++ e ∷ [])) t) (sym stays) on
 
-pub kept_later : StateUpTo → KeptLater
-kept_later same schema n list versions now s h =
-    held_kept versions (λ u. state_at schema list u n) (least_stamp list) now (state_after schema (reverse list) n) h (λ u g le. stays_from schema n same list u s g)
+pub kept_later : KeptLater
+kept_later schema n list versions now s h =
+    held_kept versions (λ u. state_at schema list u n) (least_stamp list) now (state_after schema (reverse list) n) h (λ u g le. stays_from schema n list u s g)
 
-pub lasts_in_log : StateUpTo → LogsFollow → Lasts
-lasts_in_log same follows schema list n t w row s fine le b h =
-    subst (λ x. IsRow x row) (sym (at schema n same list w s))
-    (lasts (λ es. state_after schema es n) w t (reverse list) row (older schema n (reverse list) follows (fine_reverse schema list fine)) (falling list s) le b (subst (λ x. IsRow x row) (at schema n same list t s) h))
+pub lasts_in_log : LogsFollow → Lasts
+lasts_in_log follows schema list n t w row s fine le b h =
+    subst (λ x. IsRow x row) (sym (at schema n list w s))
+    (lasts (λ es. state_after schema es n) w t (reverse list) row (older schema n (reverse list) follows (fine_reverse schema list fine)) (falling list s) le b (subst (λ x. IsRow x row) (at schema n list t s) h))
 
-pub holds_in_log : StateUpTo → LogsOnRows → LogsFollow → Touched → HoldsAfter
-holds_in_log same listed follows touched schema list n s fine =
-    held schema n same list (versions_after schema n (reverse list)) s (holds_before schema n (reverse list) listed follows touched (fine_reverse schema list fine) (falling list s))
+pub holds_in_log : LogsOnRows → LogsFollow → Touched → HoldsAfter
+holds_in_log listed follows touched schema list n s fine =
+    held schema n list (versions_after schema n (reverse list)) s (holds_before schema n (reverse list) listed follows touched (fine_reverse schema list fine) (falling list s))
 
-pub keeps_in_log : StateUpTo → LogsOnRows → LogsFollow → Touched → KeepsAfter
-keeps_in_log same listed follows touched schema list n now s fine =
-    kept_later same schema n list (versions_after schema n (reverse list)) now s (holds_in_log same listed follows touched schema list n s fine)
+pub keeps_in_log : LogsOnRows → LogsFollow → Touched → KeepsAfter
+keeps_in_log listed follows touched schema list n now s fine =
+    kept_later schema n list (versions_after schema n (reverse list)) now s (holds_in_log listed follows touched schema list n s fine)

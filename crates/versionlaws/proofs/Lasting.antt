@@ -1,5 +1,5 @@
 -- Stamps of a list, and rows that are there at each instant from their system start on.
-use Rattle.std.proofs.Common.{◌≡◌, ◌∙◌, ℕ, zero, suc, ◌<◌, ◌≤◌, ◌⊎◌, inl, inr, Bool, true, false, cond, List, [], ◌∷◌, ◌++◌, reverse, Some, refl, sym, ap, subst, arith, filter, slice_get, append-nil}
+use Rattle.std.proofs.Common.{◌≡◌, ◌∙◌, ℕ, zero, suc, ◌<◌, ◌≤◌, ◌⊎◌, inl, inr, Bool, true, false, cond, List, [], ◌∷◌, ◌++◌, reverse, Some, refl, sym, ap, subst, arith, filter, slice_get, append-nil, nat_le}
 use Rattle.std.proofs.lemmas.Bool.{cases_lt, le-leb, lt-leb, cond-false}
 use Rattle.std.proofs.lemmas.List.{reverse-append}
 use Rattle.std.proofs.lemmas.List.Elements.{filter-append}
@@ -7,7 +7,6 @@ use Rattle.model.specs.Lists.{nth}
 use Rattle.model.specs.Tables.{Table, Row, IsRow}
 use Rattle.model.specs.declared.entry.Entry.{Entry}
 use Rattle.model.specs.Logs.{IsStamped}
-use Rattle.safety.specs.Answers.{up_to}
 use Rattle.rowlaws.specs.Rows.{Has}
 use Rattle.rowlaws.proofs.Members.{has_cases}
 
@@ -56,6 +55,10 @@ stamped_beginning xs ys s = record {
 }
 
 -- ---- the entries up to an instant
+
+-- the entries of a list that are stamped at most t
+abbrev pub up_to : ℕ → List Entry → List Entry
+up_to t list = filter (λ e. nat_le e.stamp t) list
 
 pub filter-reverse : {A : Type 0} (p : A → Bool) (xs : List A) → filter p (reverse xs) ≡ reverse (filter p xs)
 filter-reverse p [] = refl

@@ -17,7 +17,6 @@ use Rattle.model.specs.Logs.{IsStamped, state_at, state_after, executed}
 use Rattle.model.specs.Answers.{Answer, IsAnswer, row_cmp, read_at}
 use Rattle.rowlaws.specs.Rows.{Has}
 use Rattle.rowlaws.proofs.Contents.{contains_has}
-use Rattle.safety.specs.Answers.{StateUpTo}
 use Rattle.versionlaws.specs.Unanswered.{key, period_said, schema, said, log, question, NoAnswer}
 
 -- ---- the tables
@@ -172,14 +171,22 @@ stamped = record {
   rising = λ i j d e less h g. let x = (at_index i d h).0 in let y = (at_index j e g).0 in omega arith;
 }
 
-pub unanswered : StateUpTo → NoAnswer
-unanswered up_to = (stamped, (2, refl, omega arith), none_is)
+first_at : state_at schema log 1 ≡ state_after schema (said 1 (84 ∷ []) ∷ [])
+unfolding state_at
+first_at = refl
+
+second_at : state_at schema log 2 ≡ state_after schema (said 2 [] ∷ said 1 (84 ∷ []) ∷ [])
+unfolding state_at
+second_at = refl
+
+pub unanswered : NoAnswer
+unanswered = (stamped, (2, refl, omega arith), none_is)
   where
     at_first : IsRow (state_at schema log 1 0) (row 2)
-    at_first = subst (λ (s : State). IsRow (s 0) (row 2)) (sym (up_to schema log 1 stamped ∙ after_first)) first_row
+    at_first = subst (λ (s : State). IsRow (s 0) (row 2)) (sym (first_at ∙ after_first)) first_row
 
     at_second : IsRow (state_at schema log 2 0) (row 1)
-    at_second = subst (λ (s : State). IsRow (s 0) (row 1)) (sym (up_to schema log 2 stamped ∙ after_second)) second_row
+    at_second = subst (λ (s : State). IsRow (s 0) (row 1)) (sym (second_at ∙ after_second)) second_row
 
     none_is : (a : Answer) → IsAnswer schema (read_at 2 question) log a → ⊥
     none_is a is =

@@ -6,7 +6,7 @@ use Rattle.model.specs.declared.entry.Entry.{Entry}
 use Rattle.model.specs.Tables.{Table, Row}
 use Rattle.model.specs.Transactions.{Schema}
 use Rattle.model.specs.Logs.{IsStamped, closed}
-use Rattle.model.specs.Answers.{SystemTime, IsInstant, last_instant, Query, Select, read_at, Shown, Answer, row_cmp, IsAsked, IsShownEnd, IsAnswerOver, IsAnswer, IsClosed}
+use Rattle.model.specs.Answers.{SystemTime, IsInstant, Query, Select, read_at, Shown, Answer, row_cmp, IsAsked, IsShownEnd, IsAnswerOver, IsAnswer, IsClosed}
 use Rattle.rowlaws.specs.Rows.{Has, Apart}
 use Rattle.rowlaws.specs.Sorting.{in_order}
 use Rattle.rowlaws.specs.Logs.{AllFine}
@@ -19,7 +19,7 @@ HasInstant time = (u : ℕ) × IsInstant time u
 
 -- the version's row passes, and its system period has one of the query's instants
 abbrev pub IsFound : Query → Version → Type 0
-IsFound q v = IsTrue (q.passes v.row) × (v.row.system_start ≤ last_instant q.time) × IsBefore q.time.first v.end
+IsFound q v = IsTrue (q.passes v.row) × (v.row.system_start ≤ q.time.last) × IsBefore q.time.first v.end
 
 -- the same as tests
 abbrev pub is_before : ℕ → Option ℕ → Bool
@@ -27,7 +27,7 @@ is_before u None = true
 is_before u (Some end) = nat_lt u end
 
 abbrev pub is_found : Query → Version → Bool
-is_found q v = q.passes v.row && nat_le v.row.system_start (last_instant q.time) && is_before q.time.first v.end
+is_found q v = q.passes v.row && nat_le v.row.system_start q.time.last && is_before q.time.first v.end
 
 -- the end is shown where it is at or before the last instant
 abbrev pub shown_end : (last : ℕ) → Option ℕ → Option ℕ
@@ -36,7 +36,7 @@ shown_end last (Some end) = if nat_le end last then Some end else None
 
 -- the version as an answer shows it
 abbrev pub show : Query → Version → Shown
-show q v = record { row = v.row; end = shown_end (last_instant q.time) v.end }
+show q v = record { row = v.row; end = shown_end q.time.last v.end }
 
 -- by key, start and system start
 abbrev pub version_cmp : Version → Version → Ordering
@@ -44,13 +44,13 @@ version_cmp v w = row_cmp v.row w.row
 
 -- the versions that are found, in order, as they are shown
 unfoldable pub answer_from : Query → List Version → Answer
-answer_from q versions = record { last = last_instant q.time; rows = map (show q) (in_order version_cmp (filter (is_found q) versions)) }
+answer_from q versions = record { last = q.time.last; rows = map (show q) (in_order version_cmp (filter (is_found q) versions)) }
 
 -- ---- laws. In what follows `history u` is the table at the instant u.
 
 -- a row is asked for exactly where a version of it is found
 abbrev pub VersionsRows : Type 0
-VersionsRows = (versions : List Version) (history : ℕ → Table) (now : ℕ) (q : Query) (row : Row) → Keeps versions history now → HasInstant q.time → last_instant q.time ≤ now →
+VersionsRows = (versions : List Version) (history : ℕ → Table) (now : ℕ) (q : Query) (row : Row) → Keeps versions history now → HasInstant q.time → q.time.last ≤ now →
     IsAsked history q row ↔ ((v : Version) × Has versions v × (v.row ≡ row) × IsFound q v)
 
 -- a version's end is the row's shown end where it is at or before the last instant
@@ -60,7 +60,7 @@ VersionsEnds = (versions : List Version) (history : ℕ → Table) (now : ℕ) (
 
 -- the versions that are kept give the answer
 abbrev pub VersionsGive : Type 0
-VersionsGive = (versions : List Version) (history : ℕ → Table) (now : ℕ) (q : Query) → Keeps versions history now → Apart versions → HasInstant q.time → last_instant q.time ≤ now →
+VersionsGive = (versions : List Version) (history : ℕ → Table) (now : ℕ) (q : Query) → Keeps versions history now → Apart versions → HasInstant q.time → q.time.last ≤ now →
     IsAnswerOver history q (answer_from q versions)
 
 -- the versions that a log leaves give the answer

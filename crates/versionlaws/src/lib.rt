@@ -51,29 +51,23 @@ pub fn commit()
 pub fn commit_entry()
     ensures { CommitEntry }
 {
-    safety::state_up_to();
     rowlaws::logs_follow();
 }
 
 /// Where an entry of a log leaves a table as it was, the same versions hold on.
 pub fn entry_stays()
     ensures { EntryStays }
-{
-    safety::state_up_to();
-}
+{}
 
 /// What is held of a log's table is kept up to each instant: also to one after the last stamp, since the rows stay.
 pub fn kept_later()
     ensures { KeptLater }
-{
-    safety::state_up_to();
-}
+{}
 
 /// A row is there at each instant from its system start on, as long as it is there at all.
 pub fn lasts()
     ensures { Lasts }
 {
-    safety::state_up_to();
     rowlaws::logs_follow();
 }
 
@@ -81,7 +75,6 @@ pub fn lasts()
 pub fn holds()
     ensures { HoldsAfter }
 {
-    safety::state_up_to();
     rowlaws::logs_on_rows();
     rowlaws::logs_follow();
     rowlaws::touched();
@@ -91,7 +84,6 @@ pub fn holds()
 pub fn keeps()
     ensures { KeepsAfter }
 {
-    safety::state_up_to();
     rowlaws::logs_on_rows();
     rowlaws::logs_follow();
     rowlaws::touched();
@@ -154,9 +146,7 @@ pub fn sealed_answer()
 /// No answer: where a text says what is not well formed, a query that is closed may have no answer.
 pub fn no_answer()
     ensures { NoAnswer }
-{
-    safety::state_up_to();
-}
+{}
 
 /// Rows by computation: the versions of a row that is deleted, and of one that is cut, and what
 /// they answer; how many versions a key has after a portion of its days has changed.

@@ -4,7 +4,8 @@ use Rattle.model.specs.Lists.{nth}
 use Rattle.model.specs.Members.{Node}
 use Rattle.model.specs.Steps.{Effect, Refuses}
 use Rattle.model.specs.Transactions.{Schema as TheSchema}
-use Rattle.model.specs.Worlds.{World, done, does, delivers, effect_gives, step_gives, delivery_gives, Local as TheLocal, Delivery}
+use Rattle.model.specs.Worlds.{World, done, effect_gives, does, delivers, step_gives, delivery_gives}
+use Rattle.model.specs.declared.event.Job.TheVariants.{Local as TheLocal, Delivery}
 use Rattle.model.specs.Worlds.Output.{Refused}
 use Rattle.model.specs.declared.message.Message.{Message}
 use Rattle.model.specs.declared.message.Input.{Input}

@@ -2,7 +2,10 @@
 use Rattle.std.proofs.Common.{◌≡◌, ◌∙◌, ℕ, true, if◌then◌else◌, Some, [], refl, ap}
 use Rattle.model.specs.Members.{Node}
 use Rattle.model.specs.Steps.{Refuses}
-use Rattle.model.specs.Worlds.{World, Job, Left, Old, New, effect, is_for, node_left, started, starts, stopped, stops, tears, with_node}
+use Rattle.model.specs.Worlds.{World, effect, is_for, node_left, started, stopped, with_node, starts, stops, tears}
+use Rattle.model.specs.declared.event.Job.{Job}
+use Rattle.model.specs.declared.event.Left.{Left}
+use Rattle.model.specs.declared.event.Left.TheVariants.{Old, New}
 use Rattle.fault.specs.declared.refusal.Refusal.TheVariants.{NodeDown}
 use Rattle.node.specs.Work.{Work}
 use Rattle.node.specs.View.{works}

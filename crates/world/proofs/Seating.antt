@@ -7,7 +7,8 @@ use Rattle.model.specs.Logs.{IsStamped}
 use Rattle.model.specs.Members.{Node, applied, closed_time}
 use Rattle.model.specs.Transactions.{Schema as TheSchema}
 use Rattle.model.specs.Steps.{Effect, Moves, Refuses, Nothing}
-use Rattle.model.specs.Worlds.{New, node_left, stopped}
+use Rattle.model.specs.Worlds.{node_left, stopped}
+use Rattle.model.specs.declared.event.Left.TheVariants.{New}
 use Rattle.model.specs.Worlds.Output.{Applied}
 use Rattle.keep.specs.Durable.{Durable, stored_in}
 use Rattle.keep.specs.Log.{IsLog}

@@ -32,10 +32,6 @@ use Rattle.sqlread.specs.Shapes.{QueryShape, query_of}
 use Rattle.sqlread.specs.Meaning.{schema_of, select_of}
 use Rattle.world.specs.declared.event.Event.{Event as Given}
 use Rattle.world.specs.declared.event.Event.TheVariants.{Hand, Deliver, Stop, Start, Torn, Ask}
-use Rattle.world.specs.declared.event.Job.{Job}
-use Rattle.world.specs.declared.event.Job.TheVariants.{Local, Delivery}
-use Rattle.world.specs.declared.event.Left.{Left}
-use Rattle.world.specs.declared.event.Left.TheVariants.{Old, New}
 use Rattle.world.specs.declared.output.Output.{Output as Out}
 use Rattle.world.specs.declared.output.Output.TheVariants.{Sent as SentOut, Applied as AppliedOut, Refused as RefusedOut, Answered as AnsweredOut}
 use Rattle.world.specs.declared.group.Group.{Group}
@@ -44,20 +40,12 @@ use Rattle.world.specs.declared.seat.Seat.TheVariants.{Up, Down}
 
 -- ---- events and outputs
 
-abbrev pub job_of : Job → model.Job
-job_of (Local input) = model.Local input
-job_of (Delivery k reading) = model.Delivery k reading
-
-abbrev pub left_of : Left → model.Left
-left_of Old = model.Old
-left_of New = model.New
-
 abbrev pub event_of : Given → Event
 event_of (Hand m input) = model.Hand m input
 event_of (Deliver k reading) = model.Deliver k reading
 event_of (Stop m) = model.Stop m
 event_of (Start m) = model.Start m
-event_of (Torn m job left) = model.Torn m (job_of job) (left_of left)
+event_of (Torn m job left) = model.Torn m job left
 event_of (Ask m query) = model.Ask m (select_of (query_of query))
 
 abbrev pub output_of : Out → Output
@@ -71,19 +59,13 @@ outputs_of = map output_of
 
 -- an answer has the columns of the table at this place
 abbrev pub HasColumns : Tables → ℕ → Out → Type 0
-HasColumns tables table (SentOut number message) = Unit {0}
-HasColumns tables table (AppliedOut m told) = Unit {0}
-HasColumns tables table (RefusedOut m refusal) = Unit {0}
 HasColumns tables table (AnsweredOut m answer) = answer.columns.items ≡ columns_in tables table
+HasColumns tables table out = Unit {0}
 
 -- what an Ask gives has the columns of the table that was asked
 abbrev pub ShowsColumns : Tables → Given → List Out → Type 0
-ShowsColumns tables (Hand m input) outs = Unit {0}
-ShowsColumns tables (Deliver k reading) outs = Unit {0}
-ShowsColumns tables (Stop m) outs = Unit {0}
-ShowsColumns tables (Start m) outs = Unit {0}
-ShowsColumns tables (Torn m job left) outs = Unit {0}
 ShowsColumns tables (Ask m query) outs = All (HasColumns tables query.table) outs
+ShowsColumns tables event outs = Unit {0}
 
 -- each of these events, with what it gives in its turn
 abbrev pub EachShowsColumns : Tables → List Given → List (Vec Out Global) → Type 0

@@ -10,7 +10,7 @@ ghost use Rattle.node.specs.View.{works};
 ghost use Rattle.sqlchecks.specs.Columns.{Tables};
 ghost use Rattle.sqlread.specs.Meaning.{schema_of, select_of};
 ghost use Rattle.sqlread.specs.Shapes.{query_of};
-ghost use Rattle.world.specs.View.{brings, brought, commit_in, durable_in, entry_in, event_of, if_up, job_of, left_of, outputs_of, world_of, AllStamped, HasColumns, IsGroup, ShowsColumns};
+ghost use Rattle.world.specs.View.{brings, brought, commit_in, durable_in, entry_in, event_of, if_up, outputs_of, world_of, AllStamped, HasColumns, IsGroup, ShowsColumns};
 
 use crate::event::{Event, Job, Left};
 use crate::output::{Output, announce, apply_all, refused, single};
@@ -151,9 +151,9 @@ impl Group {
 
     /// The work that this is to a member, none where it is a message that was not sent to it.
     fn work_for(&self, member: Member, job: &Job) -> Result<Option<Work>, AllocError>
-        ensures { IfOk result (λ found. MatchOption found (is_for (world_of self.now) member (job_of job.now) ≡ false)
-            (λ work. (is_for (world_of self.now) member (job_of job.now) ≡ true)
-            × ((t : Tables) (n : ℕ) (x : TheNode) → works t n member work x ≡ effect (schema_of t) n (world_of self.now) member (job_of job.now) x))) }
+        ensures { IfOk result (λ found. MatchOption found (is_for (world_of self.now) member job.now ≡ false)
+            (λ work. (is_for (world_of self.now) member job.now ≡ true)
+            × ((t : Tables) (n : ℕ) (x : TheNode) → works t n member work x ≡ effect (schema_of t) n (world_of self.now) member job.now x))) }
     {
         match job {
             Job::Local(input) => Ok(Some(Work::Local(input.clone()?))),
@@ -177,7 +177,7 @@ impl Group {
     fn tear(&mut self, member: Member, job: &Job, left: Left) -> Result<(), AllocError>
         requires group { IsGroup self.old.schema self.old.members self.old.seats.items }
         ensures group { OnOk result (IsGroup self.old.schema self.old.members self.new.seats.items) }
-        ensures world { OnOk result (world_of self.new ≡ happens (schema_of self.old.schema) self.old.members (world_of self.old) (Torn member (job_of job.now) (left_of left))) }
+        ensures world { OnOk result (world_of self.new ≡ happens (schema_of self.old.schema) self.old.members (world_of self.old) (Torn member job.now left)) }
         ensures same { self.new ≡ record self.old { seats = self.new.seats } }
     {
         let Some(place) = self.place(member) else {

@@ -5,7 +5,7 @@ ghost use Rattle.model.specs.Worlds.{node_left, started, stopped};
 ghost use Rattle.sqlchecks.specs.Columns.{Tables};
 ghost use Rattle.sqlread.specs.Meaning.{schema_of};
 ghost use Rattle.sqlread.specs.Shapes.{query_of};
-ghost use Rattle.world.specs.View.{commit_in, durable_in, entry_in, left_of, node_in, works_at, IsAskedAt, IsSeat, IsStep};
+ghost use Rattle.world.specs.View.{commit_in, durable_in, entry_in, node_in, works_at, IsAskedAt, IsSeat, IsStep};
 
 use crate::event::Left;
 use answer::Answer;
@@ -91,7 +91,7 @@ impl Seat {
     pub(crate) fn tear(&mut self, alloc: Global, work: Work, left: Left) -> Result<(), AllocError>
         ensures seat { OnOk result ((t : Tables) (n m : ℕ) → IsSeat t n m self.old → IsSeat t n m self.new) }
         ensures node { OnOk result ((t : Tables) (n m : ℕ) → IsSeat t n m self.old →
-            node_in self.new ≡ stopped (node_left (left_of left) (node_in self.old) (works_at t n m work (node_in self.old)))) }
+            node_in self.new ≡ stopped (node_left left (node_in self.old) (works_at t n m work (node_in self.old)))) }
     {
         match left {
             Left::Old => {

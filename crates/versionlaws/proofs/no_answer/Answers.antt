@@ -2,4 +2,4 @@ use Rattle.versionlaws.proofs.Unanswered.{unanswered}
 use Rattle.versionlaws.proofs.no_answer.Goals as goal
 
 pub returns : goal.returns
-returns c = unanswered c.state_up_to.ensures
+returns c = unanswered
