@@ -110,17 +110,23 @@ impl<K: Keeper> Shelf for HeldKeeper<K> {
 
     ghost asks = { λ k. K.asks k.keeper };
 
+    ghost saves = { λ k. K.saves k.keeper };
+
+    ghost limit = { λ k. K.limit k.keeper };
+
     ghost may_hold = { λ k d. K.may_hold k.keeper d };
 
     ghost serves = { λ k members tables. K.serves k.keeper members tables };
 
     ghost only_honest = { λ k d h. K.only_honest k.keeper d h };
 
-    ghost only_stored = { λ k d up h. K.only_stored k.keeper d up h };
+    ghost only_stored = { λ k d h. K.only_stored k.keeper d h };
+
+    ghost holds_stored = { λ k honest. K.holds_stored k.keeper honest };
 
     ghost served_once = { λ k members tables. K.served_once k.keeper members tables };
 
-    ghost only_logs = { λ k members tables s h up. K.only_logs k.keeper members tables s h up };
+    ghost only_logs = { λ k members tables s h. K.only_logs k.keeper members tables s h };
 
     fn entry(&mut self, alloc: Global, i: usize) -> Result<Option<Entry>, StoreError> {
         self.keeper.entry(alloc, i)
@@ -133,6 +139,10 @@ impl<K: Keeper> Shelf for HeldKeeper<K> {
     fn asked(&self) -> u64 {
         self.keeper.asked()
     }
+
+    fn saved(&self) -> u64 {
+        self.keeper.saved()
+    }
 }
 
 impl<K: Keeper> Keeper for HeldKeeper<K> {
@@ -143,6 +153,16 @@ impl<K: Keeper> Keeper for HeldKeeper<K> {
     ghost suits = { λ i members tables. K.suits i.image members tables };
 
     ghost is_bad = { λ i members tables. K.is_bad i.image members tables };
+
+    ghost is_sound = { λ i. K.is_sound i.image };
+
+    ghost limit_of = { λ i. K.limit_of i.image };
+
+    ghost only_sound = { λ i d h. K.only_sound i.image d h };
+
+    ghost holds_one = { λ i d e p q. K.holds_one i.image d e p q };
+
+    ghost never_bad = { λ i members tables d h forms bad. K.never_bad i.image members tables d h forms bad };
 
     fn open(
         alloc: Global,

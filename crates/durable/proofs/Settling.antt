@@ -1,13 +1,17 @@
 -- What each call leaves stored.
-use Rattle.std.proofs.Common.{◌≡◌, ◌+◌, ◌≤◌, ◌++◌, length, length-append, take, sym, ap, subst, ◌∙◌}
+use Rattle.std.proofs.Common.{◌≡◌, ℕ, ◌+◌, ◌≤◌, ◌++◌, length, length-append, take, sym, ap, subst, ◌∙◌}
 use Rattle.std.proofs.lemmas.List.{take-map, map-append, length-map, length-take-le}
-use Rattle.sqlite.specs.State.{State, IsUnchanged}
+use Rattle.std.proofs.lemmas.Grind.{merely}
+use Rattle.sqlite.specs.State.{State, HasCleanDisk, IsUnchanged, KeepsCommit}
 use Rattle.keep.specs.declared.change.Change.{Change}
 use Rattle.keep.specs.Durable.{Durable, after}
+use Rattle.keep.specs.Log.{IsLog}
+use Rattle.model.specs.Transactions.{Schema as Tables}
 use Rattle.storetables.specs.Contents.{number_of_vote, item_of, items_of, contents_of, changed, entry_in, durable_in}
 use Rattle.storetables.specs.Rows.{Holds}
-use Rattle.storetables.specs.Stored.{contents_in, stored_in, IsSettled, Offers}
-use Rattle.storetables.specs.Found.{read_back, is_stored}
+use Rattle.storetables.specs.Stored.{contents_in, stored_in, AreTexts, IsSettled, IsSound, IsStored, Offers}
+use Rattle.storetables.specs.Found.{read_back, is_stored, texts_had}
+use Rattle.storetables.proofs.Texts.{texts_append, texts_take}
 use Rattle.storetables.specs.Steps.{IsKept}
 use Rattle.durable.specs.Saving.{IsSaved}
 
@@ -26,6 +30,45 @@ saved_settles old new c set back it =
     let is : contents_in new.now ≡ contents_of (after c (stored_in old.now)) = read ∙ ap (changed c) (sym set.plain) ∙ sym (changed_is c (stored_in old.now)) in
     let stored = ap durable_in is ∙ back in
     (record { is_open = it.is_open; committed = it.committed; holds = subst (Holds new.now) (sym read) has; plain = ap contents_of stored ∙ sym is }, stored)
+
+-- the same, of what is committed
+pub saved_is : (old new : State) (c : Change) → IsSettled old → durable_in (contents_of (after c (stored_in old.committed))) ≡ after c (stored_in old.committed) → IsSaved old new (changed c)
+    → IsSettled new × (stored_in new.committed ≡ after c (stored_in old.committed))
+saved_is old new c set =
+    subst (λ db. durable_in (contents_of (after c (stored_in db))) ≡ after c (stored_in db) → IsSaved old new (changed c) → IsSettled new × (stored_in new.committed ≡ after c (stored_in db))) (sym set.committed)
+    (λ back it. let all = saved_settles old new c set back it in (all.0, ap stored_in all.0.committed ∙ all.1))
+
+pub settled_forms : {members : ℕ} {tables : Tables} (s : State) → IsSettled s → IsLog members tables (stored_in s.now) → IsLog members tables (stored_in s.committed)
+settled_forms {members} {tables} s set = subst (λ db. IsLog members tables (stored_in db)) (sym set.committed)
+
+-- tables that are settled are committed
+pub settled_stored : (s : State) → IsSettled s → AreTexts (stored_in s.committed).log → IsStored s.committed
+settled_stored s set = subst (λ db. AreTexts (stored_in db).log → IsStored db) (sym set.committed) (λ texts. record { holds = set.holds; plain = set.plain; texts = merely texts })
+
+pub saved_stored : (old new : State) (c : Change) → IsStored old.committed → AreTexts c.entries.items → IsSettled new → stored_in new.committed ≡ after c (stored_in old.committed) → IsStored new.committed
+saved_stored old new c held texts set is =
+    let before = texts_take c.kept (stored_in old.committed).log (texts_had (stored_in old.committed).log held.texts) in
+    let all = texts_append (take c.kept (stored_in old.committed).log) c.entries.items before texts in
+    settled_stored new set (subst (λ (d : Durable). AreTexts d.log) (sym is) all)
+
+-- what was settled stays so where nothing is committed
+pub keeps_sound : (old new : State) → HasCleanDisk old → KeepsCommit old new → IsSound new → IsSound old
+keeps_sound old new clean keeps sound = record { clean = clean; is_open = keeps.was_open sound.is_open }
+
+pub keeps_same : (old new : State) → KeepsCommit old new → IsSound new → stored_in new.committed ≡ stored_in old.committed
+keeps_same old new keeps sound = ap stored_in (keeps.committed sound.is_open)
+
+pub keeps_stored : (old new : State) → KeepsCommit old new → IsSound new → IsStored old.committed → IsStored new.committed
+keeps_stored old new keeps sound held = subst IsStored (sym (keeps.committed sound.is_open)) held
+
+pub kept_sound : (old new : State) → HasCleanDisk old → IsKept old new → IsSound new → IsSound old
+kept_sound old new clean kept sound = record { clean = clean; is_open = kept.was_open sound.is_open }
+
+pub kept_same : (old new : State) → IsKept old new → IsSound new → stored_in new.committed ≡ stored_in old.committed
+kept_same old new kept sound = ap stored_in (kept.committed sound.is_open)
+
+pub kept_stored : (old new : State) → IsKept old new → IsSound new → IsStored old.committed → IsStored new.committed
+kept_stored old new kept sound held = subst IsStored (sym (kept.committed sound.is_open)) held
 
 pub kept_offers : (old new : State) (d : Durable) → IsSettled old → IsKept old new → Offers new d → d ≡ stored_in old.now
 kept_offers old new d set it offer =

@@ -2,6 +2,7 @@
 use Rattle.std.specs.Prelude.{ℕ, Option, List}
 use Rattle.std.specs.Coded.{Coded, Coded-set, code_by, coded×, coded_ℕ, coded_list, coded_option}
 use Rattle.std.proofs.Common.{ap, refl}
+use Rattle.std.proofs.Props.{props}
 use mathlib.Core.Bool.{Bool-set}
 use Rattle.sqlite_schema.specs.contracts.schema.Schema as schema_row
 use Rattle.sqlite.specs.Schema.{Schema}
@@ -10,7 +11,7 @@ use Rattle.sqlite.specs.Effect.{Database}
 use Rattle.sqlite.specs.State.{State}
 use Rattle.storetables.specs.Contents.{Item, Contents}
 use Rattle.storetables.specs.Rows.{Holds}
-use Rattle.storetables.specs.Stored.{IsSettled, contents_in}
+use Rattle.storetables.specs.Stored.{IsSettled, IsStored, contents_in}
 
 pub Schema-set : IsSet Schema
 Schema-set = Coded-set schema_row.the_row.coded
@@ -52,4 +53,14 @@ IsSettled-prop s x y = λ i. record {
   committed = Database-set _ _ x.committed y.committed i;
   holds = Holds-prop s.now (contents_in s.now) x.holds y.holds i;
   plain = Contents-set _ _ x.plain y.plain i;
+}
+
+truncated_once : {P : Type 0} → IsProp ∥ P ∥₁
+truncated_once = hlevel props
+
+pub IsStored-prop : (db : Database) → IsProp (IsStored db)
+IsStored-prop db x y = λ i. record {
+  holds = Holds-prop db (contents_in db) x.holds y.holds i;
+  plain = Contents-set _ _ x.plain y.plain i;
+  texts = truncated_once x.texts y.texts i;
 }

@@ -4,9 +4,9 @@ ghost use Rattle.sqlite.specs.State.{HasCleanDisk};
 ghost use Rattle.sqlite.specs.Held.{state};
 ghost use Rattle.std.specs.Coded.{Π_prop};
 ghost use Rattle.keep.specs.Log.{IsLog, log_prop};
-ghost use Rattle.storetables.specs.Stored.{contents_in, stored_in, IsBad, IsSettled, Offers};
-ghost use Rattle.storetables.specs.Found.{offers_stored};
-ghost use Rattle.durable.specs.Props.{IsSettled-prop};
+ghost use Rattle.storetables.specs.Stored.{contents_in, stored_in, IsBad, IsSettled, IsSound, IsStored, Offers};
+ghost use Rattle.storetables.specs.Found.{offers_held, stored_offers, is_one};
+ghost use Rattle.durable.specs.Props.{IsSettled-prop, IsStored-prop};
 
 use crate::saving::commit_change;
 use keep::{Change, Keeper, Shelf, State, StoreError};
@@ -35,11 +35,13 @@ pub struct SqlKeeper<S: Alter + Drop> {
     count: usize,
     failures: u64,
     asked: u64,
+    saved: u64,
     is_up: bool,
     ghost autocommit: { conn.in_transaction ≡ false },
     ghost unfailed: { is_up ≡ true → failures ≡ 0 },
     ghost short: { is_up ≡ true → count ≤ 100000 },
     ghost settled: { is_up ≡ true → HasCleanDisk (state S.Store conn) → IsSettled (state S.Store conn) } by { Π_prop (λ _. Π_prop (λ _. IsSettled-prop (state S.Store conn))) },
+    ghost held: { IsSound (state S.Store conn) → IsStored (state S.Store conn).committed } by { Π_prop (λ _. IsStored-prop (state S.Store conn).committed) },
     ghost counted: { is_up ≡ true → HasCleanDisk (state S.Store conn) → count ≡ length (contents_in (state S.Store conn).now).log },
 }
 
@@ -64,7 +66,7 @@ impl<S: Alter + Drop> SqlKeeper<S> {
         requires { self.old.is_up ≡ false }
         ensures down { self.new.is_up ≡ false }
         ensures conn { self.new.conn ≡ self.old.conn }
-        ensures asked { self.new.asked ≡ self.old.asked }
+        ensures asked { (self.new.asked ≡ self.old.asked) × (self.new.saved ≡ self.old.saved) }
         ensures named { (result ≡ StoreError.NoMemory) ⊎ ((result ≡ StoreError.StoreFault) × (self.new.failures ≡ 1)) }
         ensures counts { self.new.failures ≡ self.old.failures ⊎ (self.new.failures ≡ 1) }
     {
@@ -77,9 +79,9 @@ impl<S: Alter + Drop> SqlKeeper<S> {
 }
 
 impl<S: Alter + Drop> Shelf for SqlKeeper<S> {
-    ghost stored = { λ k. stored_in (state S.Store k.conn).now };
+    ghost stored = { λ k. stored_in (state S.Store k.conn).committed };
 
-    ghost is_honest = { λ k. HasCleanDisk (state S.Store k.conn) };
+    ghost is_honest = { λ k. IsSound (state S.Store k.conn) };
 
     ghost is_up = { λ k. k.is_up };
 
@@ -87,17 +89,23 @@ impl<S: Alter + Drop> Shelf for SqlKeeper<S> {
 
     ghost asks = { λ k. k.asked };
 
+    ghost saves = { λ k. k.saved };
+
+    ghost limit = { λ k. k.conn.step_limit };
+
     ghost may_hold = { λ k d. Offers (state S.Store k.conn) d };
 
-    ghost serves = { λ k members tables. k.is_up ≡ true → HasCleanDisk (state S.Store k.conn) → IsLog members tables (stored_in (state S.Store k.conn).now) };
+    ghost serves = { λ k members tables. IsSound (state S.Store k.conn) → IsLog members tables (stored_in (state S.Store k.conn).committed) };
 
-    ghost only_honest = { λ _ _ h. h.clean };
+    ghost only_honest = { λ _ _ h. record { clean = h.clean; is_open = h.is_open } };
 
-    ghost only_stored = { λ k d up h. offers_stored _ d (k.settled up h.clean) h };
+    ghost only_stored = { λ k d h. offers_held _ d (k.held (record { clean = h.clean; is_open = h.is_open })) h };
 
-    ghost served_once = { λ _ members tables. Π_prop (λ _. Π_prop (λ _. log_prop members tables _)) };
+    ghost holds_stored = { λ k sound. stored_offers _ sound k.autocommit (k.held sound) };
 
-    ghost only_logs = { λ _ _ _ forms clean up. forms up clean };
+    ghost served_once = { λ _ members tables. Π_prop (λ _. log_prop members tables _) };
+
+    ghost only_logs = { λ _ _ _ forms sound. forms sound };
 
     fn entry(&mut self, alloc: Global, i: usize) -> Result<Option<Entry>, StoreError> {
         let _ = alloc;
@@ -128,6 +136,10 @@ impl<S: Alter + Drop> Shelf for SqlKeeper<S> {
     fn asked(&self) -> u64 {
         self.asked
     }
+
+    fn saved(&self) -> u64 {
+        self.saved
+    }
 }
 
 impl<S: Alter + Drop> Keeper for SqlKeeper<S> {
@@ -138,6 +150,16 @@ impl<S: Alter + Drop> Keeper for SqlKeeper<S> {
     ghost suits = { λ _ _ _. Unit {0} };
 
     ghost is_bad = { λ c members tables. IsBad (state S.Store c) members tables };
+
+    ghost is_sound = { λ c. IsSound (state S.Store c) };
+
+    ghost limit_of = { λ c. c.step_limit };
+
+    ghost only_sound = { λ _ _ h. record { clean = h.clean; is_open = h.is_open } };
+
+    ghost holds_one = { λ _ d e p q. is_one _ d e p.found q.found };
+
+    ghost never_bad = { λ _ _ _ d offer forms bad. bad d offer forms };
 
     fn open(
         alloc: Global,
@@ -155,6 +177,7 @@ impl<S: Alter + Drop> Keeper for SqlKeeper<S> {
                 count,
                 failures: 0,
                 asked: 0,
+                saved: 0,
                 is_up: true,
             }),
             Ok(None) => Err((StoreError::BadStore, image)),
@@ -181,6 +204,7 @@ impl<S: Alter + Drop> Keeper for SqlKeeper<S> {
 
     fn save(&mut self, alloc: Global, change: &Change) -> Result<(), StoreError> {
         let _ = alloc;
+        self.saved = self.saved.saturating_add(1);
         if !self.is_up {
             return Err(StoreError::NodeDown);
         }
@@ -201,6 +225,7 @@ impl<S: Alter + Drop> Keeper for SqlKeeper<S> {
             count: _,
             failures: _,
             asked: _,
+            saved: _,
             is_up: _,
         } = self;
         conn

@@ -7,6 +7,7 @@ ghost use Rattle.keep.specs.Log.{IsSmall};
 ghost use Rattle.storetables.specs.Contents.{Contents, changed};
 ghost use Rattle.storetables.specs.Rows.{Holds};
 ghost use Rattle.storetables.specs.Steps.{IsKept};
+ghost use Rattle.storetables.specs.Stored.{AreTexts};
 ghost use Rattle.durable.specs.Saving.{IsSaved, Leaves};
 
 use keep::Change;
@@ -20,6 +21,7 @@ fn transact<S: Alter>(conn: &mut Connection<S>, change: &Change) -> Result<(), E
     requires held { HasCleanDisk (state S.Store conn.old) → (d : Contents) × Holds (state S.Store conn.old).now d × (change.now.kept ≤ length d.log) }
     ensures autocommit { conn.new.in_transaction ≡ false }
     ensures ok { HasCleanDisk (state S.Store conn.new) → OnOk result (IsSaved (state S.Store conn.old) (state S.Store conn.new) (changed change.now)) }
+    ensures texts { OnOk result (AreTexts change.now.entries.items) }
     ensures err { HasCleanDisk (state S.Store conn.new) → OnErr result (IsKept (state S.Store conn.old) (state S.Store conn.new)) }
     ensures crash { Survives (state S.Store conn.old) (state S.Store conn.new) (Leaves (state S.Store conn.old) (changed change.now)) }
 {
@@ -38,8 +40,10 @@ pub fn commit_change<S: Alter>(conn: &mut Connection<S>, change: &Change) -> Res
     requires held { HasCleanDisk (state S.Store conn.old) → (d : Contents) × Holds (state S.Store conn.old).now d × (change.now.kept ≤ length d.log) }
     ensures autocommit { conn.new.in_transaction ≡ false }
     ensures ok { HasCleanDisk (state S.Store conn.new) → OnOk result (IsSaved (state S.Store conn.old) (state S.Store conn.new) (changed change.now)) }
+    ensures texts { OnOk result (AreTexts change.now.entries.items) }
     ensures err { HasCleanDisk (state S.Store conn.new) → OnErr result (IsKept (state S.Store conn.old) (state S.Store conn.new)) }
     ensures clean { HasCleanDisk (state S.Store conn.new) → HasCleanDisk (state S.Store conn.old) }
+    ensures limit { conn.new.step_limit ≡ conn.old.step_limit }
     ensures torn { HasCleanDisk (state S.Store conn.new) → (trees : Trees) → (state S.Store conn.new).may_leave trees → (trees ≡ (state S.Store conn.old).committed.trees) ⊎ Leaves (state S.Store conn.old) (changed change.now) trees }
     ensures lasting { HasCleanDisk (state S.Store conn.new) → OnOk result ((trees : Trees) → (state S.Store conn.new).may_leave trees → trees ≡ (state S.Store conn.new).now.trees) }
 {

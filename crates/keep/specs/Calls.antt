@@ -21,6 +21,10 @@ failures_of k = k.failures
 abbrev pub asks_of : MemKeeper → ℕ
 asks_of k = k.asked
 
+-- how often a save was asked of it
+abbrev pub saves_of : MemKeeper → ℕ
+saves_of k = k.saved
+
 -- A call of it is counted.
 pub record IsCounted {A : Type 0} (old new : MemKeeper) (result : Result A StoreError) : Type 0 where
   -- StoreFault exactly where this is the call that is to fail

@@ -1,5 +1,5 @@
 //! What each keeper promises.
-ghost use Rattle.std.specs.Prelude.{◌≡◌, ◌≤◌, ℕ, Bool, true, false, length, slice_get, IfOk, IfErr, OnOk};
+ghost use Rattle.std.specs.Prelude.{◌≡◌, ◌≤◌, ℕ, Bool, true, false, Option, length, slice_get, IfOk, IfErr, OnOk, OnErr};
 ghost use Rattle.model.specs.Transactions.{Schema as Tables};
 ghost use Rattle.sqlread.specs.Meaning.{schema_of};
 ghost use Rattle.keep.specs.Durable.{Durable, after, tail_of, one_more, IsBeforeOrAfter};
@@ -19,13 +19,15 @@ use std::alloc::Global;
 /// `failures` and `asked` go on.
 ///
 /// What a clause says of the stored state holds while the shelf is honest, that is while nothing
-/// wrong was taken as true: a file may give back other bytes than it took. One that is honest after a
-/// call was so before it.
+/// wrong was taken as true and its store has not shut: a file may give back other bytes than it took, and
+/// a store that failed may answer nothing more till it is opened anew. One that is honest after a
+/// call was so before it. What an open finds once an honest shelf is closed is what is stored, neither
+/// more nor less, whether the shelf is up or down.
 pub trait Shelf: Drop {
-    /// What is stored. It says something of a shelf that is honest and up.
+    /// What is stored. It says something of a shelf that is honest.
     ghost stored: { Self → Durable };
 
-    /// Nothing wrong was taken as true so far.
+    /// Nothing wrong was taken as true so far, and the store has not shut.
     ghost is_honest: { Self → Type 0 };
 
     /// No call has failed.
@@ -36,6 +38,12 @@ pub trait Shelf: Drop {
 
     /// How often an entry was asked for.
     ghost asks: { Self → ℕ };
+
+    /// How often a save was asked for.
+    ghost saves: { Self → ℕ };
+
+    /// The limit that the opener set on how long a call may take; none where it set none.
+    ghost limit: { Self → Option ℕ };
 
     /// What the next open may find, once this is closed.
     ghost may_hold: { Self → Durable → Type 0 };
@@ -48,12 +56,14 @@ pub trait Shelf: Drop {
     /// where memory is refused.
     fn entry(&mut self, alloc: Global, i: usize) -> Result<Option<Entry>, StoreError>
         ensures ok { IfOk result (λ e. is_honest self.new → e ≡ slice_get (stored self.old).log i) }
-        ensures same { OnOk result (is_honest self.new → stored self.new ≡ stored self.old) }
+        ensures same { is_honest self.new → stored self.new ≡ stored self.old }
         ensures answered { IsAnswered (is_up self.old) (is_up self.new) (failed self.old) (failed self.new) result }
         ensures honest { is_honest self.new → is_honest self.old }
         ensures left { (d : Durable) → may_hold self.new d → may_hold self.old d }
         ensures serves { (members : ℕ) (tables : Tables) → serves self.old members tables → serves self.new members tables }
-        ensures asks { asks self.new ≡ one_more (asks self.old) };
+        ensures asks { asks self.new ≡ one_more (asks self.old) }
+        ensures saves { saves self.new ≡ saves self.old }
+        ensures limit { limit self.new ≡ limit self.old };
 
     /// How often the store has failed.
     fn failures(&self) -> u64
@@ -63,17 +73,24 @@ pub trait Shelf: Drop {
     fn asked(&self) -> u64
         ensures { result ≡ asks self.now };
 
+    /// How often `save` was called, whatever it answered; at its greatest value the count stays.
+    fn saved(&self) -> u64
+        ensures { result ≡ saves self.now };
+
     /// One that is not honest holds nothing that an open finds.
     ghost only_honest: { (k : Self) (d : Durable) → may_hold k d → is_honest k };
 
-    /// While it is up, an open finds what is stored.
-    ghost only_stored: { (k : Self) (d : Durable) → is_up k ≡ true → may_hold k d → d ≡ stored k };
+    /// An open finds nothing else than what is stored.
+    ghost only_stored: { (k : Self) (d : Durable) → may_hold k d → d ≡ stored k };
+
+    /// While it is honest, an open finds what is stored.
+    ghost holds_stored: { (k : Self) → is_honest k → may_hold k (stored k) };
 
     /// That it was opened for such a group is a fact with one proof at most, so that a struct can keep it.
     ghost served_once: { (k : Self) (members : ℕ) (tables : Tables) → IsProp (serves k members tables) };
 
-    /// While it is honest and up, what is stored forms a log.
-    ghost only_logs: { (k : Self) (members : ℕ) (tables : Tables) → serves k members tables → is_honest k → is_up k ≡ true → IsLog members tables (stored k) };
+    /// While it is honest, what is stored forms a log.
+    ghost only_logs: { (k : Self) (members : ℕ) (tables : Tables) → serves k members tables → is_honest k → IsLog members tables (stored k) };
 }
 
 /// Keeps a member's hard state and log over a restart.
@@ -95,10 +112,25 @@ pub trait Keeper: Shelf {
     /// answers `BadStore`.
     ghost is_bad: { Self.Image → ℕ → Tables → Type 0 };
 
+    /// Nothing wrong was taken as true so far, and the store has not shut.
+    ghost is_sound: { Self.Image → Type 0 };
+
+    /// The limit that was set on how long a call may take; none where none was set.
+    ghost limit_of: { Self.Image → Option ℕ };
+
+    /// Only a sound image holds anything.
+    ghost only_sound: { (i : Self.Image) (d : Durable) → holds i d → is_sound i };
+
+    /// An image holds one state at most.
+    ghost holds_one: { (i : Self.Image) (d : Durable) (e : Durable) → holds i d → holds i e → d ≡ e };
+
+    /// One that holds a log of a member is not bad for that member.
+    ghost never_bad: { (i : Self.Image) (members : ℕ) (tables : Tables) (d : Durable) → holds i d → IsLog members tables d → is_bad i members tables → ⊥ };
+
     /// Opens what an image holds, for a member of a group of so many with these tables: what is stored
     /// forms a log. `StoreFault` where the store fails, and `NoMemory` where memory is refused. A keeper
     /// over bytes from outside judges what it finds, and answers `BadStore` where that is no state of
-    /// such a member. An error gives the image back, and what it holds is as it was.
+    /// such a member. An error gives the image back, and what it holds is as it was, neither more nor less.
     fn open(
         alloc: Global,
         image: Self::Image,
@@ -110,10 +142,14 @@ pub trait Keeper: Shelf {
         ensures found { IfOk result (λ k. Self.Shelf.is_honest k → holds image (Self.Shelf.stored k)) }
         ensures log { IfOk result (λ k. Self.Shelf.is_honest k → IsLog members (schema_of schema.now) (Self.Shelf.stored k)) }
         ensures serves { IfOk result (λ k. Self.Shelf.serves k members (schema_of schema.now)) }
-        ensures fresh { IfOk result (λ k. (Self.Shelf.failed k ≡ 0) × (Self.Shelf.asks k ≡ 0)) }
+        ensures fresh { IfOk result (λ k. (Self.Shelf.failed k ≡ 0) × (Self.Shelf.asks k ≡ 0) × (Self.Shelf.saves k ≡ 0)) }
+        ensures limit { IfOk result (λ k. Self.Shelf.limit k ≡ limit_of image) }
         ensures back { IfErr result (λ e. (d : Durable) → holds e.1 d → holds image d) }
+        ensures kept { IfErr result (λ e. is_sound e.1 → (d : Durable) → holds image d → holds e.1 d) }
+        ensures limited { IfErr result (λ e. limit_of e.1 ≡ limit_of image) }
         ensures suits { IfErr result (λ e. suits e.1 members (schema_of schema.now)) }
         ensures bad { IfErr result (λ e. e.0 ≡ StoreError.BadStore → is_bad e.1 members (schema_of schema.now)) }
+        ensures was_bad { IfErr result (λ e. e.0 ≡ StoreError.BadStore → is_sound e.1 → is_bad image members (schema_of schema.now)) }
         ensures not_down { IfErr result (λ e. e.0 ≡ StoreError.NodeDown → ⊥) };
 
     /// Reads the hard state, the length of the log and its last 1,024 entries, or all where there are
@@ -122,12 +158,14 @@ pub trait Keeper: Shelf {
     fn state(&mut self, alloc: Global) -> Result<State, StoreError>
         ensures ok { IfOk result (λ s. Self.Shelf.is_honest self.new → (s.hard ≡ (Self.Shelf.stored self.old).hard) × (s.length ≡ length (Self.Shelf.stored self.old).log) × (s.tail.items ≡ tail_of (Self.Shelf.stored self.old).log)) }
         ensures log { OnOk result (Self.Shelf.is_honest self.new → (members : ℕ) (tables : Tables) → Self.Shelf.serves self.old members tables → IsLog members tables (Self.Shelf.stored self.old)) }
-        ensures same { OnOk result (Self.Shelf.is_honest self.new → Self.Shelf.stored self.new ≡ Self.Shelf.stored self.old) }
+        ensures same { Self.Shelf.is_honest self.new → Self.Shelf.stored self.new ≡ Self.Shelf.stored self.old }
         ensures answered { IsAnswered (Self.Shelf.is_up self.old) (Self.Shelf.is_up self.new) (Self.Shelf.failed self.old) (Self.Shelf.failed self.new) result }
         ensures honest { Self.Shelf.is_honest self.new → Self.Shelf.is_honest self.old }
         ensures left { (d : Durable) → Self.Shelf.may_hold self.new d → Self.Shelf.may_hold self.old d }
         ensures serves { (members : ℕ) (tables : Tables) → Self.Shelf.serves self.old members tables → Self.Shelf.serves self.new members tables }
-        ensures asks { Self.Shelf.asks self.new ≡ Self.Shelf.asks self.old };
+        ensures asks { Self.Shelf.asks self.new ≡ Self.Shelf.asks self.old }
+        ensures saves { Self.Shelf.saves self.new ≡ Self.Shelf.saves self.old }
+        ensures limit { Self.Shelf.limit self.new ≡ Self.Shelf.limit self.old };
 
     /// Stores a change, all of it at once. Its errors are those of `state`. After an error what is
     /// stored is what was so before, or what the change makes of it. Owed: the change keeps no more of
@@ -141,12 +179,21 @@ pub trait Keeper: Shelf {
         ensures answered { IsAnswered (Self.Shelf.is_up self.old) (Self.Shelf.is_up self.new) (Self.Shelf.failed self.old) (Self.Shelf.failed self.new) result }
         ensures honest { Self.Shelf.is_honest self.new → Self.Shelf.is_honest self.old }
         ensures left { Self.Shelf.is_up self.old ≡ true → (d : Durable) → Self.Shelf.may_hold self.new d → IsBeforeOrAfter (Self.Shelf.stored self.old) (after change.now (Self.Shelf.stored self.old)) d }
+        ensures torn { OnErr result (Self.Shelf.is_up self.old ≡ true → Self.Shelf.is_honest self.new → IsBeforeOrAfter (Self.Shelf.stored self.old) (after change.now (Self.Shelf.stored self.old)) (Self.Shelf.stored self.new)) }
+        ensures still { Self.Shelf.is_up self.old ≡ false → Self.Shelf.is_honest self.new → Self.Shelf.stored self.new ≡ Self.Shelf.stored self.old }
         ensures late { Self.Shelf.is_up self.old ≡ false → (d : Durable) → Self.Shelf.may_hold self.new d → Self.Shelf.may_hold self.old d }
         ensures serves { (members : ℕ) (tables : Tables) → Self.Shelf.serves self.old members tables → (Self.Shelf.is_honest self.old → Self.Shelf.is_up self.old ≡ true → IsLog members tables (after change.now (Self.Shelf.stored self.old))) → Self.Shelf.serves self.new members tables }
-        ensures asks { Self.Shelf.asks self.new ≡ Self.Shelf.asks self.old };
+        ensures asks { Self.Shelf.asks self.new ≡ Self.Shelf.asks self.old }
+        ensures saves { Self.Shelf.saves self.new ≡ one_more (Self.Shelf.saves self.old) }
+        ensures limit { Self.Shelf.limit self.new ≡ Self.Shelf.limit self.old };
 
-    /// Gives the image up. It answers also after an error.
+    /// Gives the image up, which holds what the keeper stored, neither more nor less. It answers also after
+    /// an error.
     fn close(self) -> Self::Image
         ensures holds { (d : Durable) → holds result d → Self.Shelf.may_hold self d }
+        ensures kept { (d : Durable) → Self.Shelf.may_hold self d → holds result d }
+        ensures good { (members : ℕ) (tables : Tables) → Self.Shelf.serves self members tables → Self.Shelf.is_honest self → is_bad result members tables → ⊥ }
+        ensures sound { is_sound result → Self.Shelf.is_honest self }
+        ensures limit { limit_of result ≡ Self.Shelf.limit self }
         ensures suits { (members : ℕ) (tables : Tables) → Self.Shelf.serves self members tables → suits result members tables };
 }

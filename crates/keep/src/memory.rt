@@ -1,5 +1,5 @@
 //! A keeper in memory.
-ghost use Rattle.std.specs.Prelude.{◌≡◌, ◌≢◌, ◌↔◌, ℕ, ◌-◌, ◌≤◌, ◌++◌, ◌⊎◌, true, false, take, length, slice_get, IfOk, IfErr, IsOk, IsErr, OnOk, OnErr};
+ghost use Rattle.std.specs.Prelude.{◌≡◌, ◌≢◌, ◌↔◌, ℕ, ◌-◌, ◌≤◌, ◌++◌, ◌⊎◌, true, false, None, take, length, slice_get, IfOk, IfErr, IsOk, IsErr, OnOk, OnErr};
 
 use crate::change::Change;
 use crate::error::StoreError;
@@ -117,6 +117,7 @@ pub struct MemKeeper {
     left: u64,
     failures: u64,
     asked: u64,
+    saved: u64,
     is_up: bool,
     ghost unfailed: { is_up ≡ true → failures ≡ 0 },
     ghost untold: { image.fail_at ≡ 0 },
@@ -127,7 +128,7 @@ impl MemKeeper {
 
     /// Counts a call, and says whether it may go on.
     fn count_call(&mut self) -> Result<(), StoreError>
-        ensures image { (self.new.image ≡ self.old.image) × (self.new.asked ≡ self.old.asked) }
+        ensures image { (self.new.image ≡ self.old.image) × (self.new.asked ≡ self.old.asked) × (self.new.saved ≡ self.old.saved) }
         ensures counted { IsCounted self.old self.new result }
         ensures ok { OnOk result ((self.old.is_up ≡ true) × (self.new.is_up ≡ true)) }
         ensures err { OnErr result (self.new.is_up ≡ false) }
@@ -152,7 +153,7 @@ impl MemKeeper {
     fn lack_memory(&mut self) -> StoreError
         ensures result { result ≡ StoreError.NoMemory }
         ensures down { self.new.is_up ≡ false }
-        ensures same { (self.new.image ≡ self.old.image) × (self.new.failures ≡ self.old.failures) × (self.new.left ≡ self.old.left) × (self.new.asked ≡ self.old.asked) }
+        ensures same { (self.new.image ≡ self.old.image) × (self.new.failures ≡ self.old.failures) × (self.new.left ≡ self.old.left) × (self.new.asked ≡ self.old.asked) × (self.new.saved ≡ self.old.saved) }
     {
         self.is_up = false;
         StoreError::NoMemory
@@ -160,10 +161,11 @@ impl MemKeeper {
 }
 
 impl Shelf for MemKeeper {
+    ghost use Rattle.std.proofs.Common.{refl};
     ghost use Rattle.keep.specs.Durable.{stored_in, one_more};
     ghost use Rattle.keep.specs.Log.{IsLog, log_prop};
     ghost use Rattle.keep.specs.Errors.{IsAnswered};
-    ghost use Rattle.keep.specs.Calls.{stored_by, failing_next, failures_of, asks_of, IsCounted};
+    ghost use Rattle.keep.specs.Calls.{stored_by, failing_next, failures_of, asks_of, saves_of, IsCounted};
 
     ghost stored = { λ k. stored_in k.image };
 
@@ -175,17 +177,23 @@ impl Shelf for MemKeeper {
 
     ghost asks = { λ k. k.asked };
 
+    ghost saves = { λ k. k.saved };
+
+    ghost limit = { λ _. None };
+
     ghost may_hold = { λ k d. d ≡ stored_in k.image };
 
     ghost serves = { λ k members tables. IsLog members tables (stored_in k.image) };
 
     ghost only_honest = { λ _ _ _. tt };
 
-    ghost only_stored = { λ _ _ _ h. h };
+    ghost only_stored = { λ _ _ h. h };
+
+    ghost holds_stored = { λ _ _. refl };
 
     ghost served_once = { λ k members tables. log_prop members tables (stored_in k.image) };
 
-    ghost only_logs = { λ _ _ _ forms _ _. forms };
+    ghost only_logs = { λ _ _ _ forms _. forms };
 
     fn entry(&mut self, alloc: Global, i: usize) -> Result<Option<Entry>, StoreError>
         ensures ok { IfOk result (λ e. e ≡ slice_get (stored_by self.old).log i) }
@@ -195,6 +203,7 @@ impl Shelf for MemKeeper {
         ensures answered { IsAnswered self.old.is_up self.new.is_up (failures_of self.old) (failures_of self.new) result }
         ensures counted { IsCounted self.old self.new result }
         ensures asked { asks_of self.new ≡ one_more (asks_of self.old) }
+        ensures saved { saves_of self.new ≡ saves_of self.old }
     {
         let _ = alloc;
         self.asked = self.asked.saturating_add(1);
@@ -215,13 +224,18 @@ impl Shelf for MemKeeper {
     fn asked(&self) -> u64 {
         self.asked
     }
+
+    fn saved(&self) -> u64 {
+        self.saved
+    }
 }
 
 impl Keeper for MemKeeper {
-    ghost use Rattle.keep.specs.Durable.{stored_in, failing_call, after, tail_of};
+    ghost use Rattle.std.proofs.Common.{◌∙◌, sym};
+    ghost use Rattle.keep.specs.Durable.{stored_in, failing_call, after, tail_of, one_more};
     ghost use Rattle.keep.specs.Log.{IsLog};
     ghost use Rattle.keep.specs.Errors.{IsAnswered};
-    ghost use Rattle.keep.specs.Calls.{stored_by, failing_next, failures_of, asks_of, IsCounted};
+    ghost use Rattle.keep.specs.Calls.{stored_by, failing_next, failures_of, asks_of, saves_of, IsCounted};
 
     type Image = MemImage;
 
@@ -230,6 +244,16 @@ impl Keeper for MemKeeper {
     ghost suits = { λ i members tables. IsLog members tables (stored_in i) };
 
     ghost is_bad = { λ _ _ _. ⊥ };
+
+    ghost is_sound = { λ _. Unit {0} };
+
+    ghost limit_of = { λ _. None };
+
+    ghost only_sound = { λ _ _ _. tt };
+
+    ghost holds_one = { λ _ _ _ p q. p ∙ sym q };
+
+    ghost never_bad = { λ _ _ _ _ _ _ bad. bad };
 
     fn open(
         alloc: Global,
@@ -241,7 +265,7 @@ impl Keeper for MemKeeper {
         ensures fault { IfErr result (λ e. (e.0 ≡ StoreError.StoreFault) × (stored_in e.1 ≡ stored_in image) × (failing_call e.1 ≡ 0)) }
         ensures stored { IfOk result (λ k. stored_by k ≡ stored_in image) }
         ensures told { IfOk result (λ k. failing_next k ≡ failing_call image - 1) }
-        ensures up { IfOk result (λ k. (k.is_up ≡ true) × (failures_of k ≡ 0) × (asks_of k ≡ 0)) }
+        ensures up { IfOk result (λ k. (k.is_up ≡ true) × (failures_of k ≡ 0) × (asks_of k ≡ 0) × (saves_of k ≡ 0)) }
     {
         let _ = alloc;
         let _ = members;
@@ -259,6 +283,7 @@ impl Keeper for MemKeeper {
             left: fail_at.saturating_sub(1),
             failures: 0,
             asked: 0,
+            saved: 0,
             is_up: true,
         })
     }
@@ -269,6 +294,7 @@ impl Keeper for MemKeeper {
         ensures answered { IsAnswered self.old.is_up self.new.is_up (failures_of self.old) (failures_of self.new) result }
         ensures counted { IsCounted self.old self.new result }
         ensures asked { asks_of self.new ≡ asks_of self.old }
+        ensures saved { saves_of self.new ≡ saves_of self.old }
     {
         self.count_call()?;
         let length = self.image.entries.len();
@@ -289,7 +315,9 @@ impl Keeper for MemKeeper {
         ensures answered { IsAnswered self.old.is_up self.new.is_up (failures_of self.old) (failures_of self.new) result }
         ensures counted { IsCounted self.old self.new result }
         ensures asked { asks_of self.new ≡ asks_of self.old }
+        ensures saved { saves_of self.new ≡ one_more (saves_of self.old) }
     {
+        self.saved = self.saved.saturating_add(1);
         self.count_call()?;
         let Ok(tail) = copies_of(alloc, &change.entries) else {
             return Err(self.lack_memory());

@@ -1,20 +1,21 @@
 -- What reading calls leave of a shelf, one after another.
-use Rattle.std.proofs.Common.{◌≡◌, ◌∙◌, refl, inl, inr, ℕ, ◌≤◌, Bool, true, arith}
+use Rattle.std.proofs.Common.{◌≡◌, ◌∙◌, refl, inl, inr, ℕ, ◌≤◌, arith}
 use Rattle.model.specs.Transactions.{Schema}
 use Rattle.keep.specs.Durable.{Durable}
 use Rattle.keep.specs.declared.error.StoreError.{StoreError}
 use Rattle.raft.specs.Reading.{IsRead, IsCause, IsCauseOr}
 
-pub read_none : (is : Type 0) (d : Durable) (holds : Durable → Type 0) (serving : ℕ → Schema → Type 0) (failed : ℕ) (up : Bool) → IsRead is is d d holds holds serving serving failed failed up
-read_none is d holds serving failed up = record { honest = λ h. h; same = λ u h. refl; left = λ x h. h; serves = λ n t h. h; counts = omega arith }
+pub read_none : (is : Type 0) (d : Durable) (holds : Durable → Type 0) (serving : ℕ → Schema → Type 0) (failed saves : ℕ) → IsRead is is d d holds holds serving serving failed failed saves saves
+read_none is d holds serving failed saves = record { honest = λ h. h; same = λ h. refl; left = λ x h. h; serves = λ n t h. h; counts = omega arith; unsaved = refl }
 
-pub read_both : (a b c : Type 0) (x y z : Durable) (p q r : Durable → Type 0) (s t u : ℕ → Schema → Type 0) (i j k : ℕ) (v w : Bool) → v ≡ true → IsRead a b x y p q s t i j v → IsRead b c y z q r t u j k w → IsRead a c x z p r s u i k w
-read_both a b c x y z p q r s t u i j k v w up one two = record {
+pub read_both : (a b c : Type 0) (x y z : Durable) (p q r : Durable → Type 0) (s t u : ℕ → Schema → Type 0) (i j k l m n : ℕ) → IsRead a b x y p q s t i j l m → IsRead b c y z q r t u j k m n → IsRead a c x z p r s u i k l n
+read_both a b c x y z p q r s t u i j k l m n one two = record {
   honest = λ h. one.honest (two.honest h);
-  same = λ e h. two.same e h ∙ one.same up (two.honest h);
+  same = λ h. two.same h ∙ one.same (two.honest h);
   left = λ d h. one.left d (two.left d h);
   serves = λ n m h. two.serves n m (one.serves n m h);
   counts = omega (arith, one.counts, two.counts);
+  unsaved = two.unsaved ∙ one.unsaved;
 }
 
 -- a failure after calls that went well

@@ -26,7 +26,7 @@ use Rattle.node.specs.Saving.{IsDue}
 use Rattle.node.specs.Stepping.{IsStep}
 use Rattle.node.specs.declared.node.Out.{Out}
 use Rattle.sqlread.specs.Meaning.{schema_of}
-use Rattle.node.specs.View.{Fits, durable_of, told_between}
+use Rattle.node.specs.View.{Fits, durable_of, saves_after, IsSavedOnce, IsSavedAtMostOnce, told_between}
 
 -- a member is known by its core and its log
 pub same_node : (c : Core) (stored other : List Entry) → log_of c stored ≡ log_of c other → node_of c stored ≡ node_of c other
@@ -72,6 +72,14 @@ not_idle schema n me (Local (Floor reading)) x a idle is = cc (ap is_idle is, id
 not_idle schema n me (Local (Submit reading request)) x a idle is = not_true idle
 not_idle schema n me (Delivered reading message) x a idle is = not_true idle
 
+pub saved_once : (x y : Node) (change : Option Change) (n n' : ℕ) → ChangeFits x y change → n' ≡ saves_after change n → IsSavedOnce (durable_of x) (durable_of y) n n'
+saved_once x y None n n' fits is = inl ((λ i. record { hard = fits.hard i; log = fits.log i }), is)
+saved_once x y (Some c) n n' fits is = inr ((λ same. fits.news (record { hard = ap (λ (d : Durable). d.hard) same; log = ap (λ (d : Durable). d.log) same })), is)
+
+pub saved_most : (change : Option Change) (n n' : ℕ) → n' ≡ saves_after change n → IsSavedAtMostOnce n n'
+saved_most None n n' is = inl is
+saved_most (Some c) n n' is = inr is
+
 -- ---- a step that is done
 
 module _ (c new : Core) (d : Durable) (t : Taken) (step : IsInStep c d) (fits : EffectFits (node_of c d.log) (node_of new d.log) (Done t)) (forms : EffectForms new d (Done t)) where
@@ -86,6 +94,9 @@ module _ (c new : Core) (d : Durable) (t : Taken) (step : IsInStep c d) (fits : 
         was.entries ∙ ap (λ (l : List Entry). slice_range l t.committed_before new.commit) forms.step.log ∙ ap (λ n. slice_range (log_of new (after_change t.change d).log) n new.commit) fits.1,
         was.told ∙ ap (λ (l : List Entry). told_between (schema_of schema) l t.committed_before new.commit) forms.step.log ∙ ap (λ n. told_between (schema_of schema) (log_of new (after_change t.change d).log) n new.commit) fits.1,
       )
+
+  pub done_saved : (n n' : ℕ) → n' ≡ saves_after t.change n → IsSavedOnce (durable_of (node_of c d.log)) (durable_of (node_of new (after_change t.change d).log)) n n'
+  done_saved n n' is = subst (λ (y : Node). IsSavedOnce (durable_of (node_of c d.log)) (durable_of y) n n') (sym (same_member c new t.change d step fits.0 forms.step)) (saved_once (node_of c d.log) (node_of new d.log) t.change n n' fits.0 is)
 
   pub done_grows : Grows (node_of c d.log) (node_of new d.log) → Grows (node_of c d.log) (node_of new (after_change t.change d).log)
   done_grows grows = subst (Grows (node_of c d.log)) (sym (same_member c new t.change d step fits.0 forms.step)) grows

@@ -8,7 +8,7 @@ use Rattle.model.specs.Logs.{told_at}
 use Rattle.model.specs.Members.{Node}
 use Rattle.model.specs.Steps.{Effect, Moves, Refuses, Nothing}
 use Rattle.model.specs.Worlds.{fresh, started}
-use Rattle.keep.specs.Durable.{Durable, after, IsBeforeOrAfter}
+use Rattle.keep.specs.Durable.{Durable, after, one_more, IsBeforeOrAfter}
 use Rattle.keep.specs.declared.change.Change.{Change}
 use Rattle.keep.specs.declared.error.StoreError.{StoreError}
 use Rattle.keep.specs.declared.error.StoreError.TheVariants.{NoMemory, StoreFault, BadStore}
@@ -23,6 +23,19 @@ use Rattle.node.specs.declared.node.Fault.TheVariants.{Kept, Down}
 -- what of a member is stored
 abbrev pub durable_of : Node → Durable
 durable_of x = record { hard = hard_of x; log = x.log }
+
+-- how often a save was asked for once a change is stored, if there is one
+abbrev pub saves_after : Option Change → ℕ → ℕ
+saves_after None n = n
+saves_after (Some c) n = one_more n
+
+-- one save is asked for exactly where what is stored changes
+abbrev pub IsSavedOnce : Durable → Durable → ℕ → ℕ → Type 0
+IsSavedOnce before new saves saves' = ((new ≡ before) × (saves' ≡ saves)) ⊎ ((new ≡ before → ⊥) × (saves' ≡ one_more saves))
+
+-- one at most
+abbrev pub IsSavedAtMostOnce : ℕ → ℕ → Type 0
+IsSavedAtMostOnce saves saves' = (saves' ≡ saves) ⊎ (saves' ≡ one_more saves)
 
 -- it keeps no more than there is
 abbrev pub Fits : Option Change → Durable → Type 0

@@ -12,7 +12,7 @@ ghost use Rattle.model.specs.Members.{applied, closed_time};
 ghost use Rattle.keep.specs.Durable.{Durable, IsBeforeOrAfter};
 ghost use Rattle.raft.specs.Memory.{spares_memory};
 ghost use Rattle.raft.specs.View.{brought, hard_of, node_of, works, Grows, IsInStep, after_change};
-ghost use Rattle.node.specs.View.{durable_of, Gave, IsKept, IsSame, IsTorn, IsCause, IsCauseOr, IsCauseOrBad, HasCauseOr, LeavesUp, risen, started_from, told_between};
+ghost use Rattle.node.specs.View.{durable_of, saves_after, IsSavedOnce, IsSavedAtMostOnce, Gave, IsKept, IsSame, IsTorn, IsCause, IsCauseOr, IsCauseOrBad, HasCauseOr, LeavesUp, risen, started_from, told_between};
 ghost use Rattle.node.specs.Applying.{AreApplied, AreMade};
 ghost use Rattle.node.specs.Saving.{IsDue};
 ghost use Rattle.node.specs.Stepping.{applied_in, sent_in, IsStep, TellsSealed};
@@ -101,6 +101,7 @@ fn store<K: Keeper>(
     ensures cause { IfErr result (IsCause (K.failed keeper.old) (K.failed keeper.new)) }
     ensures counts { K.failed keeper.old ≤ K.failed keeper.new }
     ensures asks { K.asks keeper.new ≡ K.asks keeper.old }
+    ensures saves { K.saves keeper.new ≡ saves_after change.now (K.saves keeper.old) }
 {
     match change {
         None => Ok(()),
@@ -145,6 +146,7 @@ fn finish<K: Keeper>(
     ensures torn { OnErr result ((d : Durable) → K.may_hold keeper.new d → IsBeforeOrAfter (K.stored keeper.old) (after_change taken.change (K.stored keeper.old)) d) }
     ensures cause { IfErr result (IsCauseOr (K.is_honest keeper.new) (K.failed keeper.old) (K.failed keeper.new)) }
     ensures asks { IfOk result (λ out. K.asks keeper.new ≤ K.asks keeper.old + length out.applied.items) }
+    ensures saves { K.saves keeper.new ≡ saves_after taken.change (K.saves keeper.old) }
 {
     let Taken {
         change,
@@ -190,6 +192,8 @@ fn take_step<K: Keeper>(
     ensures honest { K.is_honest keeper.new → K.is_honest keeper.old }
     ensures cause { IfErr result (IsCauseOr (K.is_honest keeper.new) (K.failed keeper.old) (K.failed keeper.new)) }
     ensures asks { IfOk result (λ e. K.asks keeper.new ≤ K.asks keeper.old + (65 * (brought work + sent_in e) + 1 + applied_in e)) }
+    ensures saves { OnOk result (K.is_honest keeper.new → IsSavedOnce (durable_of (node_of core.old (K.stored keeper.old).log)) (durable_of (node_of core.new (K.stored keeper.new).log)) (K.saves keeper.old) (K.saves keeper.new)) }
+    ensures saves_most { IsSavedAtMostOnce (K.saves keeper.old) (K.saves keeper.new) }
 {
     let sealed_before = core.sealed();
     match core.step(keeper, work)? {
@@ -225,7 +229,10 @@ impl<K: Keeper> Node<K> {
         ensures opened { IfOk result (λ n. K.is_honest n.keeper → member_of n ≡ started_from (durable_of (member_of n))) }
         ensures found { IfOk result (λ n. K.is_honest n.keeper → K.holds image (durable_of (member_of n))) }
         ensures group { IfOk result (λ n. (n.is_up ≡ true) × (tables_of n ≡ schema) × (members_of n ≡ members) × (me_of n ≡ me)) }
+        ensures limit { IfOk result (λ n. K.limit n.keeper ≡ K.limit_of image) }
         ensures back { IfErr result (λ e. (d : Durable) → K.holds e.1 d → K.holds image d) }
+        ensures kept { IfErr result (λ e. K.is_sound e.1 → (d : Durable) → K.holds image d → K.holds e.1 d) }
+        ensures limited { IfErr result (λ e. K.limit_of e.1 ≡ K.limit_of image) }
         ensures suits { IfErr result (λ e. K.suits e.1 members (schema_of schema)) }
         ensures bad { IfErr result (λ e. e.0 ≡ StoreError.BadStore → K.is_bad e.1 members (schema_of schema) ⊎ ((d : Durable) → K.holds e.1 d → ⊥)) }
         ensures not_down { IfErr result (λ e. e.0 ≡ StoreError.NodeDown → ⊥) }
@@ -276,6 +283,8 @@ impl<K: Keeper> Node<K> {
         ensures group { IsSameSeat self.old self.new }
         ensures honest { K.is_honest self.new.keeper → K.is_honest self.old.keeper }
         ensures asks { IfOk result (λ out. K.asks self.new.keeper ≤ K.asks self.old.keeper + (65 * (brought work + length out.messages.items) + 1 + length out.applied.items)) }
+        ensures saves { IfOk result (λ out. K.is_honest self.new.keeper → IsSavedOnce (durable_of (member_of self.old)) (durable_of (member_of self.new)) (K.saves self.old.keeper) (K.saves self.new.keeper)) }
+        ensures saves_most { IsSavedAtMostOnce (K.saves self.old.keeper) (K.saves self.new.keeper) }
     {
         if !self.is_up {
             return Err(Fault::Kept(Refusal::NodeDown));
@@ -409,10 +418,14 @@ impl<K: Keeper> Node<K> {
         }
     }
 
-    /// Stops it, and gives the image up. Of a node that is up the image holds the hard state and
-    /// the log that it has.
+    /// Stops it, and gives the image up, which holds what its keeper stored, neither more nor less. Of a node that is up
+    /// that is the hard state and the log that it has.
     pub fn stop(self) -> K::Image
         ensures held { (d : Durable) → K.holds result d → K.may_hold self.keeper d }
+        ensures kept { (d : Durable) → K.may_hold self.keeper d → K.holds result d }
+        ensures whole { self.is_up ≡ true → K.is_honest self.keeper → K.holds result (durable_of (member_of self)) }
+        ensures good { K.is_honest self.keeper → K.is_bad result (members_of self) (schema_of (tables_of self)) → ⊥ }
+        ensures limit { K.limit_of result ≡ K.limit self.keeper }
         ensures suits { K.suits result (members_of self) (schema_of (tables_of self)) }
         ensures last { self.is_up ≡ true → (d : Durable) → K.holds result d → d ≡ durable_of (member_of self) }
     {

@@ -25,7 +25,8 @@ pub(crate) fn read_state<K: Keeper>(
 ) -> Result<State, StoreError>
     requires up { K.is_up keeper.old ≡ true }
     ensures ok { IfOk result (λ s. K.is_honest keeper.new → IsStateOf s (K.stored keeper.new)) }
-    ensures same { OnOk result (K.is_honest keeper.new → K.stored keeper.new ≡ K.stored keeper.old) }
+    ensures same { K.is_honest keeper.new → K.stored keeper.new ≡ K.stored keeper.old }
+    ensures limit { K.limit keeper.new ≡ K.limit keeper.old }
     ensures fits { IfOk result (λ s. IsStart members s) }
     ensures up { OnOk result (K.is_up keeper.new ≡ true) }
     ensures honest { K.is_honest keeper.new → K.is_honest keeper.old }
@@ -51,7 +52,7 @@ pub(crate) fn all_entries<S: Shelf>(
     requires up { S.is_up shelf.old ≡ true }
     requires stored { S.is_honest shelf.old → IsInStep core.now (S.stored shelf.old) }
     ensures ok { IfOk result (λ log. S.is_honest shelf.new → log.items ≡ (S.stored shelf.old).log) }
-    ensures shelf { IsRead (S.is_honest shelf.old) (S.is_honest shelf.new) (S.stored shelf.old) (S.stored shelf.new) (S.may_hold shelf.old) (S.may_hold shelf.new) (S.serves shelf.old) (S.serves shelf.new) (S.failed shelf.old) (S.failed shelf.new) (S.is_up shelf.new) }
+    ensures shelf { IsRead (S.is_honest shelf.old) (S.is_honest shelf.new) (S.stored shelf.old) (S.stored shelf.new) (S.may_hold shelf.old) (S.may_hold shelf.new) (S.serves shelf.old) (S.serves shelf.new) (S.failed shelf.old) (S.failed shelf.new) (S.saves shelf.old) (S.saves shelf.new) }
     ensures up { OnOk result (S.is_up shelf.new ≡ true) }
     ensures not_down { IfErr result (λ e. e ≡ StoreError.NodeDown → ⊥) }
     ensures bad { IfErr result (λ e. e ≡ StoreError.BadStore → S.is_honest shelf.new → ⊥) }

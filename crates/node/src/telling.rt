@@ -82,7 +82,7 @@ fn apply_next<S: Shelf>(
     requires current { S.is_honest shelf.old → AreTables core.now.schema (take before (S.stored shelf.old).log) tables.old }
     ensures next { IfOk result (λ one. S.is_honest shelf.new → IsNext core.now.schema (S.stored shelf.old).log before one.entry one.told tables.new) }
     ensures made { OnOk result ((schema : columns.Tables) → AreMade schema tables.old → AreMade schema tables.new) }
-    ensures shelf { IsRead (S.is_honest shelf.old) (S.is_honest shelf.new) (S.stored shelf.old) (S.stored shelf.new) (S.may_hold shelf.old) (S.may_hold shelf.new) (S.serves shelf.old) (S.serves shelf.new) (S.failed shelf.old) (S.failed shelf.new) (S.is_up shelf.new) }
+    ensures shelf { IsRead (S.is_honest shelf.old) (S.is_honest shelf.new) (S.stored shelf.old) (S.stored shelf.new) (S.may_hold shelf.old) (S.may_hold shelf.new) (S.serves shelf.old) (S.serves shelf.new) (S.failed shelf.old) (S.failed shelf.new) (S.saves shelf.old) (S.saves shelf.new) }
     ensures up { OnOk result (S.is_up shelf.new ≡ true) }
     ensures cause { IfErr result (IsCauseOr (S.is_honest shelf.new) (S.failed shelf.old) (S.failed shelf.new)) }
     ensures asks { S.asks shelf.new ≤ S.asks shelf.old + 1 }
@@ -108,7 +108,7 @@ pub(crate) fn apply_after<S: Shelf>(
     requires current { S.is_honest shelf.old → AreTables core.now.schema (take before (S.stored shelf.old).log) tables.old }
     ensures applied { IfOk result (λ a. S.is_honest shelf.new → AreApplied core.now.schema (S.stored shelf.old).log before core.now.commit a.entries.items a.told.items tables.new) }
     ensures made { OnOk result ((schema : columns.Tables) → AreMade schema tables.old → AreMade schema tables.new) }
-    ensures shelf { IsRead (S.is_honest shelf.old) (S.is_honest shelf.new) (S.stored shelf.old) (S.stored shelf.new) (S.may_hold shelf.old) (S.may_hold shelf.new) (S.serves shelf.old) (S.serves shelf.new) (S.failed shelf.old) (S.failed shelf.new) (S.is_up shelf.new) }
+    ensures shelf { IsRead (S.is_honest shelf.old) (S.is_honest shelf.new) (S.stored shelf.old) (S.stored shelf.new) (S.may_hold shelf.old) (S.may_hold shelf.new) (S.serves shelf.old) (S.serves shelf.new) (S.failed shelf.old) (S.failed shelf.new) (S.saves shelf.old) (S.saves shelf.new) }
     ensures up { OnOk result (S.is_up shelf.new ≡ true) }
     ensures cause { IfErr result (IsCauseOr (S.is_honest shelf.new) (S.failed shelf.old) (S.failed shelf.new)) }
     ensures asks { IfOk result (λ a. S.asks shelf.new ≤ S.asks shelf.old + length a.entries.items) }

@@ -17,7 +17,7 @@ impl Core {
     pub fn entry<S: Shelf>(&self, shelf: &mut S, index: usize) -> Result<Option<Entry>, StoreError>
         requires up { S.is_up shelf.old ≡ true }
         ensures ok { IfOk result (λ found. S.is_honest shelf.new → Reaches self.now (S.stored shelf.old).log → found ≡ nth (log_of self.now (S.stored shelf.old).log) index) }
-        ensures shelf { IsRead (S.is_honest shelf.old) (S.is_honest shelf.new) (S.stored shelf.old) (S.stored shelf.new) (S.may_hold shelf.old) (S.may_hold shelf.new) (S.serves shelf.old) (S.serves shelf.new) (S.failed shelf.old) (S.failed shelf.new) (S.is_up shelf.new) }
+        ensures shelf { IsRead (S.is_honest shelf.old) (S.is_honest shelf.new) (S.stored shelf.old) (S.stored shelf.new) (S.may_hold shelf.old) (S.may_hold shelf.new) (S.serves shelf.old) (S.serves shelf.new) (S.failed shelf.old) (S.failed shelf.new) (S.saves shelf.old) (S.saves shelf.new) }
         ensures up { OnOk result (S.is_up shelf.new ≡ true) }
         ensures cause { IfErr result (IsCause (S.failed shelf.old) (S.failed shelf.new)) }
         ensures asks { S.asks shelf.new ≤ S.asks shelf.old + 1 }
@@ -40,7 +40,7 @@ impl Core {
         requires up { S.is_up shelf.old ≡ true }
         requires reaches { S.is_honest shelf.old → Reaches self.now (S.stored shelf.old).log }
         ensures ok { IfOk result (λ term. S.is_honest shelf.new → term ≡ term_at (log_of self.now (S.stored shelf.old).log) index) }
-        ensures shelf { IsRead (S.is_honest shelf.old) (S.is_honest shelf.new) (S.stored shelf.old) (S.stored shelf.new) (S.may_hold shelf.old) (S.may_hold shelf.new) (S.serves shelf.old) (S.serves shelf.new) (S.failed shelf.old) (S.failed shelf.new) (S.is_up shelf.new) }
+        ensures shelf { IsRead (S.is_honest shelf.old) (S.is_honest shelf.new) (S.stored shelf.old) (S.stored shelf.new) (S.may_hold shelf.old) (S.may_hold shelf.new) (S.serves shelf.old) (S.serves shelf.new) (S.failed shelf.old) (S.failed shelf.new) (S.saves shelf.old) (S.saves shelf.new) }
         ensures up { OnOk result (S.is_up shelf.new ≡ true) }
         ensures cause { IfErr result (IsCause (S.failed shelf.old) (S.failed shelf.new)) }
         ensures asks { S.asks shelf.new ≤ S.asks shelf.old + 1 }
@@ -63,7 +63,7 @@ impl Core {
         requires reaches { S.is_honest shelf.old → Reaches self.now (S.stored shelf.old).log }
         requires few { most ≤ 65 }
         ensures ok { IfOk result (λ window. S.is_honest shelf.new → window.items ≡ take most (drop before (log_of self.now (S.stored shelf.old).log))) }
-        ensures shelf { IsRead (S.is_honest shelf.old) (S.is_honest shelf.new) (S.stored shelf.old) (S.stored shelf.new) (S.may_hold shelf.old) (S.may_hold shelf.new) (S.serves shelf.old) (S.serves shelf.new) (S.failed shelf.old) (S.failed shelf.new) (S.is_up shelf.new) }
+        ensures shelf { IsRead (S.is_honest shelf.old) (S.is_honest shelf.new) (S.stored shelf.old) (S.stored shelf.new) (S.may_hold shelf.old) (S.may_hold shelf.new) (S.serves shelf.old) (S.serves shelf.new) (S.failed shelf.old) (S.failed shelf.new) (S.saves shelf.old) (S.saves shelf.new) }
         ensures up { OnOk result (S.is_up shelf.new ≡ true) }
         ensures cause { IfErr result (IsCauseOr (S.is_honest shelf.new) (S.failed shelf.old) (S.failed shelf.new)) }
         ensures asks { S.asks shelf.new ≤ S.asks shelf.old + most }

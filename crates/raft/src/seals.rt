@@ -33,7 +33,7 @@ impl Core {
         requires up { S.is_up shelf.old ≡ true }
         requires reaches { S.is_honest shelf.old → Reaches self.now (S.stored shelf.old).log }
         ensures ok { IfOk result (λ yes. S.is_honest shelf.new → yes ≡ is_applied (node_of self.now (S.stored shelf.old).log) seal) }
-        ensures shelf { IsRead (S.is_honest shelf.old) (S.is_honest shelf.new) (S.stored shelf.old) (S.stored shelf.new) (S.may_hold shelf.old) (S.may_hold shelf.new) (S.serves shelf.old) (S.serves shelf.new) (S.failed shelf.old) (S.failed shelf.new) (S.is_up shelf.new) }
+        ensures shelf { IsRead (S.is_honest shelf.old) (S.is_honest shelf.new) (S.stored shelf.old) (S.stored shelf.new) (S.may_hold shelf.old) (S.may_hold shelf.new) (S.serves shelf.old) (S.serves shelf.new) (S.failed shelf.old) (S.failed shelf.new) (S.saves shelf.old) (S.saves shelf.new) }
         ensures up { OnOk result (S.is_up shelf.new ≡ true) }
         ensures cause { IfErr result (IsCause (S.failed shelf.old) (S.failed shelf.new)) }
         ensures asks { S.asks shelf.new ≤ S.asks shelf.old + 1 }
@@ -60,7 +60,7 @@ impl Core {
         ensures log { self.new.log ≡ self.old.log }
         ensures hard { (self.new.term ≡ self.old.term) × (self.new.vote ≡ self.old.vote) }
         ensures commit { self.new.commit ≡ self.old.commit }
-        ensures shelf { IsRead (S.is_honest shelf.old) (S.is_honest shelf.new) (S.stored shelf.old) (S.stored shelf.new) (S.may_hold shelf.old) (S.may_hold shelf.new) (S.serves shelf.old) (S.serves shelf.new) (S.failed shelf.old) (S.failed shelf.new) (S.is_up shelf.new) }
+        ensures shelf { IsRead (S.is_honest shelf.old) (S.is_honest shelf.new) (S.stored shelf.old) (S.stored shelf.new) (S.may_hold shelf.old) (S.may_hold shelf.new) (S.serves shelf.old) (S.serves shelf.new) (S.failed shelf.old) (S.failed shelf.new) (S.saves shelf.old) (S.saves shelf.new) }
         ensures up { OnOk result (S.is_up shelf.new ≡ true) }
         ensures cause { IfErr result (IsCause (S.failed shelf.old) (S.failed shelf.new)) }
         ensures asks { S.asks shelf.new ≤ S.asks shelf.old + 1 }
@@ -83,7 +83,7 @@ impl Core {
         ensures log { self.new.log ≡ self.old.log }
         ensures hard { (self.new.term ≡ self.old.term) × (self.new.vote ≡ self.old.vote) }
         ensures commit { self.new.commit ≡ self.old.commit }
-        ensures shelf { IsRead (S.is_honest shelf.old) (S.is_honest shelf.new) (S.stored shelf.old) (S.stored shelf.new) (S.may_hold shelf.old) (S.may_hold shelf.new) (S.serves shelf.old) (S.serves shelf.new) (S.failed shelf.old) (S.failed shelf.new) (S.is_up shelf.new) }
+        ensures shelf { IsRead (S.is_honest shelf.old) (S.is_honest shelf.new) (S.stored shelf.old) (S.stored shelf.new) (S.may_hold shelf.old) (S.may_hold shelf.new) (S.serves shelf.old) (S.serves shelf.new) (S.failed shelf.old) (S.failed shelf.new) (S.saves shelf.old) (S.saves shelf.new) }
         ensures up { OnOk result (S.is_up shelf.new ≡ true) }
         ensures cause { IfErr result (IsCause (S.failed shelf.old) (S.failed shelf.new)) }
         ensures asks { S.asks shelf.new ≤ S.asks shelf.old + 1 }

@@ -43,7 +43,7 @@ impl Core {
         requires up { S.is_up shelf.old ≡ true }
         requires reaches { S.is_honest shelf.old → Reaches self.now (S.stored shelf.old).log }
         ensures ok { IfOk result (λ m. S.is_honest shelf.new → m ≡ append_to (node_of self.now (S.stored shelf.old).log) self.now.me to) }
-        ensures shelf { IsRead (S.is_honest shelf.old) (S.is_honest shelf.new) (S.stored shelf.old) (S.stored shelf.new) (S.may_hold shelf.old) (S.may_hold shelf.new) (S.serves shelf.old) (S.serves shelf.new) (S.failed shelf.old) (S.failed shelf.new) (S.is_up shelf.new) }
+        ensures shelf { IsRead (S.is_honest shelf.old) (S.is_honest shelf.new) (S.stored shelf.old) (S.stored shelf.new) (S.may_hold shelf.old) (S.may_hold shelf.new) (S.serves shelf.old) (S.serves shelf.new) (S.failed shelf.old) (S.failed shelf.new) (S.saves shelf.old) (S.saves shelf.new) }
         ensures up { OnOk result (S.is_up shelf.new ≡ true) }
         ensures cause { IfErr result (IsCauseOr (S.is_honest shelf.new) (S.failed shelf.old) (S.failed shelf.new)) }
         ensures asks { S.asks shelf.new ≤ S.asks shelf.old + 65 }
@@ -65,7 +65,7 @@ impl Core {
         requires up { S.is_up shelf.old ≡ true }
         requires reaches { S.is_honest shelf.old → Reaches self.now (S.stored shelf.old).log }
         ensures ok { IfOk result (λ ms. S.is_honest shelf.new → ms.items ≡ append_to (node_of self.now (S.stored shelf.old).log) self.now.me to ∷ []) }
-        ensures shelf { IsRead (S.is_honest shelf.old) (S.is_honest shelf.new) (S.stored shelf.old) (S.stored shelf.new) (S.may_hold shelf.old) (S.may_hold shelf.new) (S.serves shelf.old) (S.serves shelf.new) (S.failed shelf.old) (S.failed shelf.new) (S.is_up shelf.new) }
+        ensures shelf { IsRead (S.is_honest shelf.old) (S.is_honest shelf.new) (S.stored shelf.old) (S.stored shelf.new) (S.may_hold shelf.old) (S.may_hold shelf.new) (S.serves shelf.old) (S.serves shelf.new) (S.failed shelf.old) (S.failed shelf.new) (S.saves shelf.old) (S.saves shelf.new) }
         ensures up { OnOk result (S.is_up shelf.new ≡ true) }
         ensures cause { IfErr result (IsCauseOr (S.is_honest shelf.new) (S.failed shelf.old) (S.failed shelf.new)) }
         ensures asks { IfOk result (λ ms. S.asks shelf.new ≤ S.asks shelf.old + 65 * length ms.items) }
@@ -80,7 +80,7 @@ impl Core {
         requires up { S.is_up shelf.old ≡ true }
         requires reaches { S.is_honest shelf.old → Reaches self.now (S.stored shelf.old).log }
         ensures ok { IfOk result (λ ms. S.is_honest shelf.new → ms.items ≡ append_to_all self.now.members (node_of self.now (S.stored shelf.old).log) self.now.me) }
-        ensures shelf { IsRead (S.is_honest shelf.old) (S.is_honest shelf.new) (S.stored shelf.old) (S.stored shelf.new) (S.may_hold shelf.old) (S.may_hold shelf.new) (S.serves shelf.old) (S.serves shelf.new) (S.failed shelf.old) (S.failed shelf.new) (S.is_up shelf.new) }
+        ensures shelf { IsRead (S.is_honest shelf.old) (S.is_honest shelf.new) (S.stored shelf.old) (S.stored shelf.new) (S.may_hold shelf.old) (S.may_hold shelf.new) (S.serves shelf.old) (S.serves shelf.new) (S.failed shelf.old) (S.failed shelf.new) (S.saves shelf.old) (S.saves shelf.new) }
         ensures up { OnOk result (S.is_up shelf.new ≡ true) }
         ensures cause { IfErr result (IsCauseOr (S.is_honest shelf.new) (S.failed shelf.old) (S.failed shelf.new)) }
         ensures asks { IfOk result (λ ms. S.asks shelf.new ≤ S.asks shelf.old + 65 * length ms.items) }
@@ -133,7 +133,7 @@ impl Core {
         ensures ok { IfOk result (λ index. S.is_honest shelf.new → index ≡ (commits self.now.members self.now.me (node_of self.now (S.stored shelf.old).log)).commit) }
         ensures low { IfOk result (λ index. self.now.commit ≤ index) }
         ensures within { IfOk result (λ index. index ≤ self.now.log.shelved + vec_len self.now.log.tail) }
-        ensures shelf { IsRead (S.is_honest shelf.old) (S.is_honest shelf.new) (S.stored shelf.old) (S.stored shelf.new) (S.may_hold shelf.old) (S.may_hold shelf.new) (S.serves shelf.old) (S.serves shelf.new) (S.failed shelf.old) (S.failed shelf.new) (S.is_up shelf.new) }
+        ensures shelf { IsRead (S.is_honest shelf.old) (S.is_honest shelf.new) (S.stored shelf.old) (S.stored shelf.new) (S.may_hold shelf.old) (S.may_hold shelf.new) (S.serves shelf.old) (S.serves shelf.new) (S.failed shelf.old) (S.failed shelf.new) (S.saves shelf.old) (S.saves shelf.new) }
         ensures up { OnOk result (S.is_up shelf.new ≡ true) }
         ensures cause { IfErr result (IsCauseOr (S.is_honest shelf.new) (S.failed shelf.old) (S.failed shelf.new)) }
         ensures asks { S.asks shelf.new ≤ S.asks shelf.old + 1 }
@@ -165,7 +165,7 @@ impl Core {
         ensures log { self.new.log ≡ self.old.log }
         ensures hard { (self.new.term ≡ self.old.term) × (self.new.vote ≡ self.old.vote) }
         ensures low { self.old.commit ≤ self.new.commit }
-        ensures shelf { IsRead (S.is_honest shelf.old) (S.is_honest shelf.new) (S.stored shelf.old) (S.stored shelf.new) (S.may_hold shelf.old) (S.may_hold shelf.new) (S.serves shelf.old) (S.serves shelf.new) (S.failed shelf.old) (S.failed shelf.new) (S.is_up shelf.new) }
+        ensures shelf { IsRead (S.is_honest shelf.old) (S.is_honest shelf.new) (S.stored shelf.old) (S.stored shelf.new) (S.may_hold shelf.old) (S.may_hold shelf.new) (S.serves shelf.old) (S.serves shelf.new) (S.failed shelf.old) (S.failed shelf.new) (S.saves shelf.old) (S.saves shelf.new) }
         ensures up { OnOk result (S.is_up shelf.new ≡ true) }
         ensures cause { IfErr result (IsCauseOr (S.is_honest shelf.new) (S.failed shelf.old) (S.failed shelf.new)) }
         ensures asks { IfOk result (λ ms. S.asks shelf.new ≤ S.asks shelf.old + (65 * length ms.items + 2)) }
@@ -196,7 +196,7 @@ impl Core {
         ensures log { self.new.log ≡ self.old.log }
         ensures hard { (self.new.term ≡ self.old.term) × (self.new.vote ≡ self.old.vote) }
         ensures low { self.old.commit ≤ self.new.commit }
-        ensures shelf { IsRead (S.is_honest shelf.old) (S.is_honest shelf.new) (S.stored shelf.old) (S.stored shelf.new) (S.may_hold shelf.old) (S.may_hold shelf.new) (S.serves shelf.old) (S.serves shelf.new) (S.failed shelf.old) (S.failed shelf.new) (S.is_up shelf.new) }
+        ensures shelf { IsRead (S.is_honest shelf.old) (S.is_honest shelf.new) (S.stored shelf.old) (S.stored shelf.new) (S.may_hold shelf.old) (S.may_hold shelf.new) (S.serves shelf.old) (S.serves shelf.new) (S.failed shelf.old) (S.failed shelf.new) (S.saves shelf.old) (S.saves shelf.new) }
         ensures up { OnOk result (S.is_up shelf.new ≡ true) }
         ensures cause { IfErr result (IsCauseOr (S.is_honest shelf.new) (S.failed shelf.old) (S.failed shelf.new)) }
         ensures asks { IfOk result (λ ms. S.asks shelf.new ≤ S.asks shelf.old + (65 * length ms.items + settling sending)) }

@@ -28,7 +28,7 @@ impl Core {
         requires reaches { S.is_honest shelf.old → Reaches self.now (S.stored shelf.old).log }
         ensures ok { IfOk result (λ window. S.is_honest shelf.new → LooksAt work.now (log_of self.now (S.stored shelf.old).log) window.items) }
         ensures part { IfOk result (λ window. S.is_honest shelf.new → list_all (is_entry (schema_of self.now.schema)) (log_of self.now (S.stored shelf.old).log) ≡ true → list_all (is_entry (schema_of self.now.schema)) window.items ≡ true) }
-        ensures shelf { IsRead (S.is_honest shelf.old) (S.is_honest shelf.new) (S.stored shelf.old) (S.stored shelf.new) (S.may_hold shelf.old) (S.may_hold shelf.new) (S.serves shelf.old) (S.serves shelf.new) (S.failed shelf.old) (S.failed shelf.new) (S.is_up shelf.new) }
+        ensures shelf { IsRead (S.is_honest shelf.old) (S.is_honest shelf.new) (S.stored shelf.old) (S.stored shelf.new) (S.may_hold shelf.old) (S.may_hold shelf.new) (S.serves shelf.old) (S.serves shelf.new) (S.failed shelf.old) (S.failed shelf.new) (S.saves shelf.old) (S.saves shelf.new) }
         ensures up { OnOk result (S.is_up shelf.new ≡ true) }
         ensures cause { IfErr result (IsCauseOr (S.is_honest shelf.new) (S.failed shelf.old) (S.failed shelf.new)) }
         ensures asks { S.asks shelf.new ≤ S.asks shelf.old + looks work.now }
@@ -208,7 +208,7 @@ impl Core {
         ensures seat { IsSameSeat self.old self.new }
         ensures lower { self.new.log.shelved ≤ self.old.log.shelved }
         ensures short { vec_len self.new.log.tail ≤ 1024 }
-        ensures shelf { IsRead (S.is_honest shelf.old) (S.is_honest shelf.new) (S.stored shelf.old) (S.stored shelf.new) (S.may_hold shelf.old) (S.may_hold shelf.new) (S.serves shelf.old) (S.serves shelf.new) (S.failed shelf.old) (S.failed shelf.new) (S.is_up shelf.new) }
+        ensures shelf { IsRead (S.is_honest shelf.old) (S.is_honest shelf.new) (S.stored shelf.old) (S.stored shelf.new) (S.may_hold shelf.old) (S.may_hold shelf.new) (S.serves shelf.old) (S.serves shelf.new) (S.failed shelf.old) (S.failed shelf.new) (S.saves shelf.old) (S.saves shelf.new) }
         ensures up { OnOk result (S.is_up shelf.new ≡ true) }
         ensures cause { IfErr result (IsCauseOr (S.is_honest shelf.new) (S.failed shelf.old) (S.failed shelf.new)) }
         ensures asks { IfOk result (λ e. S.asks shelf.new ≤ S.asks shelf.old + (65 * (brought work + sent_by e) + 1)) }
@@ -260,7 +260,7 @@ impl Core {
         ensures short { OnOk result (vec_len self.new.log.tail ≤ 1024) }
         ensures ok { OnOk result ((self.old.is_spent ≡ false) × (self.new.is_spent ≡ false)) }
         ensures err { OnErr result (self.new.is_spent ≡ true) }
-        ensures shelf { IsRead (S.is_honest shelf.old) (S.is_honest shelf.new) (S.stored shelf.old) (S.stored shelf.new) (S.may_hold shelf.old) (S.may_hold shelf.new) (S.serves shelf.old) (S.serves shelf.new) (S.failed shelf.old) (S.failed shelf.new) (S.is_up shelf.new) }
+        ensures shelf { IsRead (S.is_honest shelf.old) (S.is_honest shelf.new) (S.stored shelf.old) (S.stored shelf.new) (S.may_hold shelf.old) (S.may_hold shelf.new) (S.serves shelf.old) (S.serves shelf.new) (S.failed shelf.old) (S.failed shelf.new) (S.saves shelf.old) (S.saves shelf.new) }
         ensures up { OnOk result (S.is_up shelf.new ≡ true) }
         ensures cause { IfErr result (IsCauseOr (S.is_honest shelf.new) (S.failed shelf.old) (S.failed shelf.new)) }
         ensures asks { IfOk result (λ e. S.asks shelf.new ≤ S.asks shelf.old + (65 * (brought work + sent_by e) + 1)) }

@@ -15,4 +15,5 @@ pub mod WholeTables
 pub mod Judged
 pub mod Deciding
 pub mod Tails
+pub mod Texts
 pub mod Orders

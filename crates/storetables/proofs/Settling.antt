@@ -12,11 +12,11 @@ use Rattle.keep.specs.Log.{IsLog, is_vote, is_numbered, is_entry}
 use Rattle.storetables.specs.Contents.{Contents, none_yet, number_of_vote, client_of, number_of, body_of, item_of, items_of, contents_of, vote_in, request_in, entry_in, entries_in, durable_in}
 use Rattle.storetables.specs.Tables.{schema, old_schema, no_schema}
 use Rattle.storetables.specs.Rows.{Holds, HoldsOld}
-use Rattle.storetables.specs.Stored.{stored_in, IsSettled, AreTexts, IsIn, Offers, IsBad, IsOpened, IsReady}
-use Rattle.storetables.specs.Found.{read_back, offers_stored}
-use Rattle.storetables.specs.Steps.{IsKept, IsMade, IsBlank, IsRaised}
+use Rattle.storetables.specs.Stored.{stored_in, IsSettled, AreTexts, IsIn, Offers, IsBad, IsOpened, IsReady, IsSound, IsStored}
+use Rattle.storetables.specs.Found.{read_back, no_tables, offers_stored}
+use Rattle.storetables.specs.Steps.{IsKept, IsMade, IsBlank, IsRaised, HasFloor}
 use Rattle.storetables.specs.Judging.{IsNoLog, IsFound}
-use Rattle.storetables.proofs.Floors.{raised_back}
+use Rattle.storetables.proofs.Floors.{raised_back, raised_holds}
 
 -- ---- what is read is what was written
 
@@ -175,3 +175,67 @@ no_log_found old new members tables ready same none d offer forms =
       | inl held ↦ none d (subst (λ db. Holds db (contents_of d)) was held.0) forms offer.texts
       | inr rest ↦ not_ours new.committed d (ap (λ (b : Database). b.schema) was ∙ ready.tables) rest
     ]
+
+-- ---- an open finds no less
+
+old_ours : (db : Database) (c : Contents) → HoldsOld db c → db.schema ≡ schema → ⊥
+old_ours db c has is = absurd (let e = ap (λ s. s.tables) (sym has.tables ∙ is) in cc)
+
+old_none : (db : Database) (c : Contents) → HoldsOld db c → db.schema ≡ no_schema → ⊥
+old_none db c has is = absurd (let e = ap (λ s. s.tables) (sym has.tables ∙ is) in cc)
+
+holds_old : (db : Database) (c : Contents) → Holds db c → db.schema ≡ old_schema → ⊥
+holds_old db c has is = absurd (let e = ap (λ s. s.tables) (sym has.tables ∙ is) in cc)
+
+none_old : (db : Database) → db.schema ≡ no_schema → db.schema ≡ old_schema → ⊥
+none_old db none is = absurd (let e = ap (λ s. s.tables) (sym none ∙ is) in cc)
+
+made_in : (db made : Database) (d : Durable) → db.schema ≡ no_schema → Holds made none_yet → IsIn db d → IsIn made d
+made_in db made d none has it = elim it [
+  | inl held ↦ absurd (no_tables db (contents_of d) held.0 none)
+  | inr rest ↦ elim rest [
+    | inl old ↦ absurd (old_none db (contents_of d) old.0 none)
+    | inr blanked ↦ inl (subst (λ x. Holds made (contents_of x) × (durable_in (contents_of x) ≡ x)) (sym blanked.1) (has, refl))
+  ]
+]
+
+raised_in : (db made : Database) (d : Durable) → db.schema ≡ old_schema → HasFloor db made → IsIn db d → IsIn made d
+raised_in db made d older has it = elim it [
+  | inl held ↦ absurd (holds_old db (contents_of d) held.0 older)
+  | inr rest ↦ elim rest [
+    | inl old ↦ inl (raised_holds db made (contents_of d) old.0 has, old.1)
+    | inr blanked ↦ absurd (none_old db blanked.0 older)
+  ]
+]
+
+-- an open finds what is committed, whatever else was done
+pub offers_on : (old new : State) (d : Durable) → IsSound new → new.in_transaction ≡ false → new.committed ≡ old.committed → Offers old d → Offers new d
+offers_on old new d sound out same offer = record {
+  clean = sound.clean;
+  is_open = sound.is_open;
+  autocommit = out;
+  texts = offer.texts;
+  found = subst (λ db. IsIn db d) (sym same) offer.found;
+}
+
+pub made_on : (old new : State) (d : Durable) → IsSound new → new.in_transaction ≡ false → (IsTrue old.is_open → old.now ≡ old.committed) → old.now.schema ≡ no_schema → IsMade old new IsBlank → Offers old d → Offers new d
+made_on old new d sound out settled none it offer =
+    let was = settled offer.is_open in
+    record {
+      clean = sound.clean;
+      is_open = sound.is_open;
+      autocommit = out;
+      texts = offer.texts;
+      found = subst (λ db. IsIn db d) (sym it.committed) (made_in old.now new.now d none (it.made none) (subst (λ db. IsIn db d) (sym was) offer.found));
+    }
+
+pub raised_on : (old new : State) (d : Durable) → IsSound new → new.in_transaction ≡ false → (IsTrue old.is_open → old.now ≡ old.committed) → old.now.schema ≡ old_schema → IsMade old new IsRaised → Offers old d → Offers new d
+raised_on old new d sound out settled older it offer =
+    let was = settled offer.is_open in
+    record {
+      clean = sound.clean;
+      is_open = sound.is_open;
+      autocommit = out;
+      texts = offer.texts;
+      found = subst (λ db. IsIn db d) (sym it.committed) (raised_in old.now new.now d older (it.made older) (subst (λ db. IsIn db d) (sym was) offer.found));
+    }

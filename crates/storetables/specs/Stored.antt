@@ -92,6 +92,17 @@ pub record Offers (s : State) (d : Durable) : Type 0 where
   pub texts : AreTexts d.log
   pub found : IsIn s.committed d
 
+-- nothing wrong was taken as true, and the store has not shut
+pub record IsSound (s : State) : Type 0 where
+  pub clean : HasCleanDisk s
+  pub is_open : IsTrue s.is_open
+
+-- the tables of a state are committed, which has texts for its requests
+pub record IsStored (db : Database) : Type 0 where
+  pub holds : Holds db (contents_in db)
+  pub plain : contents_of (stored_in db) ≡ contents_in db
+  pub texts : ∥ AreTexts (stored_in db).log ∥₁
+
 -- no open of it finds a state of such a member
 abbrev pub IsBad : State → ℕ → Tables → Type 0
 IsBad s members tables = (d : Durable) → Offers s d → IsLog members tables d → ⊥

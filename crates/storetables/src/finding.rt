@@ -11,7 +11,7 @@ ghost use Rattle.storetables.specs.Contents.{Contents, Item, entries_in, number_
 ghost use Rattle.storetables.specs.Tables.{schema as ours};
 ghost use Rattle.storetables.specs.Rows.{Holds, meta_row, floor_row, shown_meta, shown_floor, shown_entry, in_order, log_rows, shown_log};
 ghost use Rattle.storetables.specs.Judging.{HasHard, HasNoHard, IsNoLog, IsFound};
-ghost use Rattle.storetables.specs.Stored.{IsBad, IsOpened, Offers};
+ghost use Rattle.storetables.specs.Stored.{IsBad, IsOpened, IsSound, Offers};
 
 use crate::judging::{Meta, floor_shown, forms_log, meta_shown};
 use crate::opening::set_up;
@@ -33,6 +33,7 @@ fn read_meta<S: Alter>(conn: &mut Connection<S>) -> Result<Vec<Row>, Error>
     ensures keeps { HasCleanDisk (state S.Store conn.new) → (state S.Store conn.old).now.schema ≡ ours → KeepsCommit (state S.Store conn.old) (state S.Store conn.new) }
     ensures autocommit { conn.old.in_transaction ≡ false → conn.new.in_transaction ≡ false }
     ensures clean { HasCleanDisk (state S.Store conn.new) → HasCleanDisk (state S.Store conn.old) }
+    ensures limit { conn.new.step_limit ≡ conn.old.step_limit }
 {
     let rows = conn.query_all("SELECT id, term, vote FROM meta", &[])?;
     Ok(rows)
@@ -45,6 +46,7 @@ fn find_meta<S: Alter>(conn: &mut Connection<S>) -> Result<Option<Meta>, Error>
     ensures keeps { HasCleanDisk (state S.Store conn.new) → (state S.Store conn.old).now.schema ≡ ours → KeepsCommit (state S.Store conn.old) (state S.Store conn.new) }
     ensures autocommit { conn.old.in_transaction ≡ false → conn.new.in_transaction ≡ false }
     ensures clean { HasCleanDisk (state S.Store conn.new) → HasCleanDisk (state S.Store conn.old) }
+    ensures limit { conn.new.step_limit ≡ conn.old.step_limit }
 {
     let _ = conn.schema();
     let rows = read_meta(conn)?;
@@ -59,6 +61,7 @@ fn read_floor<S: Alter>(conn: &mut Connection<S>) -> Result<Vec<Row>, Error>
     ensures keeps { HasCleanDisk (state S.Store conn.new) → (state S.Store conn.old).now.schema ≡ ours → KeepsCommit (state S.Store conn.old) (state S.Store conn.new) }
     ensures autocommit { conn.old.in_transaction ≡ false → conn.new.in_transaction ≡ false }
     ensures clean { HasCleanDisk (state S.Store conn.new) → HasCleanDisk (state S.Store conn.old) }
+    ensures limit { conn.new.step_limit ≡ conn.old.step_limit }
 {
     let rows = conn.query_all("SELECT id, t FROM floor", &[])?;
     Ok(rows)
@@ -71,6 +74,7 @@ fn find_floor<S: Alter>(conn: &mut Connection<S>) -> Result<Option<Option<Stamp>
     ensures keeps { HasCleanDisk (state S.Store conn.new) → (state S.Store conn.old).now.schema ≡ ours → KeepsCommit (state S.Store conn.old) (state S.Store conn.new) }
     ensures autocommit { conn.old.in_transaction ≡ false → conn.new.in_transaction ≡ false }
     ensures clean { HasCleanDisk (state S.Store conn.new) → HasCleanDisk (state S.Store conn.old) }
+    ensures limit { conn.new.step_limit ≡ conn.old.step_limit }
 {
     let _ = conn.schema();
     let rows = read_floor(conn)?;
@@ -85,6 +89,7 @@ pub fn find_hard<S: Alter>(conn: &mut Connection<S>) -> Result<Option<HardState>
     ensures keeps { HasCleanDisk (state S.Store conn.new) → (state S.Store conn.old).now.schema ≡ ours → KeepsCommit (state S.Store conn.old) (state S.Store conn.new) }
     ensures autocommit { conn.old.in_transaction ≡ false → conn.new.in_transaction ≡ false }
     ensures clean { HasCleanDisk (state S.Store conn.new) → HasCleanDisk (state S.Store conn.old) }
+    ensures limit { conn.new.step_limit ≡ conn.old.step_limit }
 {
     let Some(meta) = find_meta(conn)? else {
         return Ok(None);
@@ -107,6 +112,7 @@ fn read_log<S: Alter>(conn: &mut Connection<S>) -> Result<Vec<Row>, Error>
     ensures keeps { HasCleanDisk (state S.Store conn.new) → (state S.Store conn.old).now.schema ≡ ours → KeepsCommit (state S.Store conn.old) (state S.Store conn.new) }
     ensures autocommit { conn.old.in_transaction ≡ false → conn.new.in_transaction ≡ false }
     ensures clean { HasCleanDisk (state S.Store conn.new) → HasCleanDisk (state S.Store conn.old) }
+    ensures limit { conn.new.step_limit ≡ conn.old.step_limit }
 {
     let rows = conn.query_all(
         "SELECT idx, term, stamp, client, number, body FROM log ORDER BY idx",
@@ -138,6 +144,7 @@ fn judge<S: Alter>(
     ensures keeps { HasCleanDisk (state S.Store conn.new) → (state S.Store conn.old).now.schema ≡ ours → KeepsCommit (state S.Store conn.old) (state S.Store conn.new) }
     ensures autocommit { conn.old.in_transaction ≡ false → conn.new.in_transaction ≡ false }
     ensures clean { HasCleanDisk (state S.Store conn.new) → HasCleanDisk (state S.Store conn.old) }
+    ensures limit { conn.new.step_limit ≡ conn.old.step_limit }
 {
     let _ = conn.schema();
     let Some(hard) = find_hard(conn)? else {
@@ -172,7 +179,9 @@ pub fn find_log<S: Alter>(
     ensures short { IfOk result (λ o. MatchOption o (Unit {0}) (λ n. n ≤ 100000)) }
     ensures autocommit { conn.new.in_transaction ≡ false }
     ensures clean { HasCleanDisk (state S.Store conn.new) → HasCleanDisk (state S.Store conn.old) }
+    ensures limit { conn.new.step_limit ≡ conn.old.step_limit }
     ensures left { (d : Durable) → Offers (state S.Store conn.new) d → Offers (state S.Store conn.old) d }
+    ensures kept { IsSound (state S.Store conn.new) → (d : Durable) → Offers (state S.Store conn.old) d → Offers (state S.Store conn.new) d }
 {
     let ready = set_up(conn)?;
     if !ready {
@@ -194,6 +203,7 @@ fn read_tail<S: Alter>(
     ensures keeps { HasCleanDisk (state S.Store conn.new) → (d : Contents) → Holds (state S.Store conn.old).now d → IsTrue (state S.Store conn.old).is_open → KeepsCommit (state S.Store conn.old) (state S.Store conn.new) }
     ensures autocommit { conn.old.in_transaction ≡ false → conn.new.in_transaction ≡ false }
     ensures clean { HasCleanDisk (state S.Store conn.new) → HasCleanDisk (state S.Store conn.old) }
+    ensures limit { conn.new.step_limit ≡ conn.old.step_limit }
 {
     let mut tail = Vec::new(alloc);
     'each: for i in before..count {
@@ -220,6 +230,7 @@ pub fn read_state<S: Alter>(
     ensures keeps { HasCleanDisk (state S.Store conn.new) → (d : Contents) → Holds (state S.Store conn.old).now d → KeepsCommit (state S.Store conn.old) (state S.Store conn.new) }
     ensures autocommit { conn.old.in_transaction ≡ false → conn.new.in_transaction ≡ false }
     ensures clean { HasCleanDisk (state S.Store conn.new) → HasCleanDisk (state S.Store conn.old) }
+    ensures limit { conn.new.step_limit ≡ conn.old.step_limit }
 {
     let Some(hard) = find_hard(conn)? else {
         return Err(Error::SqliteFailure(ErrorCode::DatabaseCorrupt));

@@ -4,7 +4,7 @@ ghost use Rattle.sqlite.specs.State.{HasCleanDisk, KeepsCommit, Survives};
 ghost use Rattle.sqlite.specs.Held.{state};
 ghost use Rattle.keep.specs.Durable.{Durable};
 ghost use Rattle.storetables.specs.Steps.{Ran, Makes, IsMade, IsKept, IsBegun, IsBlank, IsRaised, LeavesMade};
-ghost use Rattle.storetables.specs.Stored.{IsReady, Offers};
+ghost use Rattle.storetables.specs.Stored.{IsReady, IsSound, Offers};
 ghost use Rattle.storetables.specs.Tables.{no_schema};
 
 use crate::ours::{is_old, is_ours};
@@ -104,15 +104,17 @@ pub fn is_blank(schema: &Schema) -> bool
 
 /// Makes what is missing: all tables where there are none, and floor where there are the other two alone.
 /// Whether the three tables are there then, and nothing else. Whatever it answers, an open finds after
-/// it only what it would have found before.
+/// it what it would have found before, neither more nor less, unless the store has shut.
 pub fn set_up<S: Alter>(conn: &mut Connection<S>) -> Result<bool, Error>
     requires out { conn.old.in_transaction ≡ false }
     requires settled { IsTrue (state S.Store conn.old).is_open → (state S.Store conn.old).now ≡ (state S.Store conn.old).committed }
     ensures autocommit { conn.new.in_transaction ≡ false }
     ensures clean { HasCleanDisk (state S.Store conn.new) → HasCleanDisk (state S.Store conn.old) }
+    ensures limit { conn.new.step_limit ≡ conn.old.step_limit }
     ensures ready { HasCleanDisk (state S.Store conn.new) → IfOk result (λ b. IsTrue b → IsReady (state S.Store conn.new)) }
     ensures foreign { HasCleanDisk (state S.Store conn.new) → IfOk result (λ b. b ≡ false → (d : Durable) → Offers (state S.Store conn.new) d → ⊥) }
     ensures left { (d : Durable) → Offers (state S.Store conn.new) d → Offers (state S.Store conn.old) d }
+    ensures kept { IsSound (state S.Store conn.new) → (d : Durable) → Offers (state S.Store conn.old) d → Offers (state S.Store conn.new) d }
 {
     if is_blank(conn.schema()) {
         commit_tables(conn)?;

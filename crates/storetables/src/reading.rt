@@ -147,6 +147,7 @@ fn find_row<S: Alter>(conn: &mut Connection<S>, number: Whole) -> Result<Option<
     ensures keeps { HasCleanDisk (state S.Store conn.new) → (d : Contents) → Holds (state S.Store conn.old).now d → KeepsCommit (state S.Store conn.old) (state S.Store conn.new) }
     ensures autocommit { conn.old.in_transaction ≡ false → conn.new.in_transaction ≡ false }
     ensures clean { HasCleanDisk (state S.Store conn.new) → HasCleanDisk (state S.Store conn.old) }
+    ensures limit { conn.new.step_limit ≡ conn.old.step_limit }
 {
     let mut rows = conn.query_all(
         "SELECT idx, term, stamp, client, number, body FROM log WHERE idx = ?1",
@@ -162,6 +163,7 @@ pub fn find_entry<S: Alter>(conn: &mut Connection<S>, number: Whole) -> Result<O
     ensures keeps { HasCleanDisk (state S.Store conn.new) → (d : Contents) → Holds (state S.Store conn.old).now d → KeepsCommit (state S.Store conn.old) (state S.Store conn.new) }
     ensures autocommit { conn.old.in_transaction ≡ false → conn.new.in_transaction ≡ false }
     ensures clean { HasCleanDisk (state S.Store conn.new) → HasCleanDisk (state S.Store conn.old) }
+    ensures limit { conn.new.step_limit ≡ conn.old.step_limit }
 {
     let Some(row) = find_row(conn, number)? else {
         return Ok(None);

@@ -8,6 +8,7 @@ ghost use Rattle.keep.specs.Log.{IsSmall};
 ghost use Rattle.storetables.specs.Contents.{Contents, item_of, items_of, changed, number_of_vote, client_of, number_of, body_of};
 ghost use Rattle.storetables.specs.Steps.{Goes};
 ghost use Rattle.storetables.specs.Rows.{Holds};
+ghost use Rattle.storetables.specs.Stored.{IsText, AreTexts};
 
 use crate::whole::{Floor, Whole};
 use keep::Change;
@@ -42,7 +43,8 @@ fn number_of(request: &Option<Request>) -> Whole
 
 /// The text of the request: empty for a Close.
 fn body_of(request: &Option<Request>) -> &str
-    ensures { result.now ≡ body_of request.now }
+    ensures text { result.now ≡ body_of request.now }
+    ensures is_text { IsText request.now }
 {
     match request {
         None => "",
@@ -70,6 +72,7 @@ pub fn append_one<S: Alter>(
     requires next { HasCleanDisk (state S.Store tx.old.conn.now) → (d : Contents) × Holds (state S.Store tx.old.conn.now).now d × (at.value ≡ length d.log + 1) }
     ensures same_reference { tx.new.conn.ghost_name ≡ tx.old.conn.ghost_name }
     ensures ok { HasCleanDisk (state S.Store tx.new.conn.now) → OnOk result (Goes (state S.Store tx.old.conn.now) (state S.Store tx.new.conn.now) (λ d. record d { log = d.log ++ item_of entry.now ∷ [] })) }
+    ensures texts { OnOk result (IsText entry.now.request) }
     ensures keeps { HasCleanDisk (state S.Store tx.new.conn.now) → KeepsCommit (state S.Store tx.old.conn.now) (state S.Store tx.new.conn.now) }
     ensures survives { Survives (state S.Store tx.old.conn.now) (state S.Store tx.new.conn.now) (λ _. ⊥) }
 {
@@ -137,6 +140,7 @@ pub fn append_all<S: Alter>(
     requires next { HasCleanDisk (state S.Store tx.old.conn.now) → (d : Contents) × Holds (state S.Store tx.old.conn.now).now d × (from.value ≡ length d.log + 1) }
     ensures same_reference { tx.new.conn.ghost_name ≡ tx.old.conn.ghost_name }
     ensures ok { HasCleanDisk (state S.Store tx.new.conn.now) → OnOk result (Goes (state S.Store tx.old.conn.now) (state S.Store tx.new.conn.now) (λ d. record d { log = d.log ++ items_of entries.now })) }
+    ensures texts { OnOk result (AreTexts entries.now) }
     ensures keeps { HasCleanDisk (state S.Store tx.new.conn.now) → KeepsCommit (state S.Store tx.old.conn.now) (state S.Store tx.new.conn.now) }
     ensures survives { Survives (state S.Store tx.old.conn.now) (state S.Store tx.new.conn.now) (λ _. ⊥) }
 {
@@ -154,6 +158,7 @@ pub fn write_change<S: Alter>(tx: &mut Transaction<'_, S>, change: &Change) -> R
     requires held { HasCleanDisk (state S.Store tx.old.conn.now) → (d : Contents) × Holds (state S.Store tx.old.conn.now).now d × (change.now.kept ≤ length d.log) }
     ensures same_reference { tx.new.conn.ghost_name ≡ tx.old.conn.ghost_name }
     ensures ok { HasCleanDisk (state S.Store tx.new.conn.now) → OnOk result (Goes (state S.Store tx.old.conn.now) (state S.Store tx.new.conn.now) (changed change.now)) }
+    ensures texts { OnOk result (AreTexts change.now.entries.items) }
     ensures keeps { HasCleanDisk (state S.Store tx.new.conn.now) → KeepsCommit (state S.Store tx.old.conn.now) (state S.Store tx.new.conn.now) }
     ensures survives { Survives (state S.Store tx.old.conn.now) (state S.Store tx.new.conn.now) (λ _. ⊥) }
 {

@@ -18,12 +18,12 @@ loop-before-preserved g c =
     record {
       read = λ honest.
           let was = c.entry.ensures.shelf.honest honest in
-          let same = inv.shelf.same inv.up was in
+          let same = inv.shelf.same was in
           let step = subst (λ (d : Durable). IsInStep core d) (sym same) (c.requires.stored (inv.shelf.honest was)) in
           let got = fetched core here i e c.in_ok-entry.field-0 step (c.in_ok-entry.ensures.ok honest (reached core here step)) c.in-Some.is in
           let found = subst (λ (d : Durable). slice_get d.log i ≡ Some e) same got in
           c.in_ok-push.ensures.items ∙ ap (λ xs. xs ++ e ∷ []) (inv.read was) ∙ sym (take_more first.log i e found);
-      shelf = read_both _ _ _ _ _ _ _ _ _ _ _ _ _ _ _ _ _ inv.up inv.shelf c.entry.ensures.shelf;
+      shelf = read_both _ _ _ _ _ _ _ _ _ _ _ _ _ _ _ _ _ _ inv.shelf c.entry.ensures.shelf;
       up = c.in_ok-entry.ensures.up;
       asks = omega (arith, c.entry.ensures.asks, inv.asks);
     }

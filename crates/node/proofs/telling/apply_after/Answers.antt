@@ -19,12 +19,12 @@ loop-place-init g c = record {
 pub apply_next-requires-clause-stored : goal.apply_next-requires-clause-stored
 apply_next-requires-clause-stored g c = λ honest.
     let inv = c.loop-place.invariant in
-    subst (λ (d : Durable). IsInStep c.args.core.now d) (sym (inv.shelf.same inv.up honest)) (c.requires.stored (inv.shelf.honest honest))
+    subst (λ (d : Durable). IsInStep c.args.core.now d) (sym (inv.shelf.same honest)) (c.requires.stored (inv.shelf.honest honest))
 
 pub apply_next-requires-clause-current : goal.apply_next-requires-clause-current
 apply_next-requires-clause-current g c = λ honest.
     let inv = c.loop-place.invariant in
-    subst (λ (d : Durable). AreTables c.args.core.now.schema (take c.loop-place.place d.log) c.loop-place.tables) (sym (inv.shelf.same inv.up honest)) (inv.applied honest).current
+    subst (λ (d : Durable). AreTables c.args.core.now.schema (take c.loop-place.place d.log) c.loop-place.tables) (sym (inv.shelf.same honest)) (inv.applied honest).current
 
 pub loop-place-preserved : goal.loop-place-preserved
 loop-place-preserved g c =
@@ -35,10 +35,10 @@ loop-place-preserved g c =
     record {
       applied = λ honest.
           let was = one.shelf.honest honest in
-          let next = subst (λ (d : Durable). IsNext core.schema d.log c.loop-place.place c.in_ok-one.one.entry c.in_ok-one.one.told c.apply_next.new.tables) (inv.shelf.same inv.up was) (one.next honest) in
+          let next = subst (λ (d : Durable). IsNext core.schema d.log c.loop-place.place c.in_ok-one.one.entry c.in_ok-one.one.told c.apply_next.new.tables) (inv.shelf.same was) (one.next honest) in
           applied_next core.schema (g.S.Shelf.stored c.args.shelf.now).log c.args.before c.loop-place.place _ c.add.new.self.entries.items _ c.add.new.self.told.items c.in_ok-one.one.entry c.in_ok-one.one.told c.loop-place.tables c.apply_next.new.tables (omega arith) (inv.applied was) next c.in_ok-add.ensures.entries c.in_ok-add.ensures.told;
       made = λ schema made. one.made schema (inv.made schema made);
-      shelf = read_both _ _ _ _ _ _ _ _ _ _ _ _ _ _ _ _ _ inv.up inv.shelf one.shelf;
+      shelf = read_both _ _ _ _ _ _ _ _ _ _ _ _ _ _ _ _ _ _ inv.shelf one.shelf;
       up = one.up;
       asks = omega (arith, one.asks, inv.asks, longer);
     }

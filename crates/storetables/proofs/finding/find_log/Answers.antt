@@ -1,7 +1,8 @@
 use Rattle.sqlite.specs.State.{HasCleanDisk}
 use Rattle.sqlite.specs.Held.{state}
 use Rattle.sqlread.specs.Meaning.{schema_of}
-use Rattle.storetables.proofs.Settling.{keeps_offers}
+use Rattle.storetables.specs.Stored.{IsSound}
+use Rattle.storetables.proofs.Settling.{keeps_offers, offers_on}
 use Rattle.storetables.proofs.Opened.{judged_opens}
 use Rattle.storetables.proofs.finding.find_log.Goals as goal
 
@@ -25,3 +26,13 @@ returns-clause-left g c d offer =
     let early : HasCleanDisk mid = c.judge.ensures.clean late in
     let ready = c.in_ok-ready.ensures.ready early c.if-not-ready.false in
     c.set_up.ensures.left d (keeps_offers mid new d early c.set_up.ensures.autocommit (c.judge.ensures.keeps late ready.tables) offer)
+
+pub returns-clause-kept : goal.returns-clause-kept
+returns-clause-kept g c sound d offer =
+    let mid = state g.S.Store c.set_up.new.conn in
+    let new = state g.S.Store c.judge.new.conn in
+    let early : HasCleanDisk mid = c.judge.ensures.clean sound.clean in
+    let ready = c.in_ok-ready.ensures.ready early c.if-not-ready.false in
+    let keeps = c.judge.ensures.keeps sound.clean ready.tables in
+    let still : IsSound mid = record { clean = early; is_open = keeps.was_open sound.is_open } in
+    offers_on mid new d sound (c.judge.ensures.autocommit c.set_up.ensures.autocommit) (keeps.committed sound.is_open) (c.set_up.ensures.kept still d offer)

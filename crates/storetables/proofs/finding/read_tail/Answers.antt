@@ -1,4 +1,4 @@
-use Rattle.std.proofs.Common.{◌≡◌, length, sym, refl, subst, arith}
+use Rattle.std.proofs.Common.{◌≡◌, ◌∙◌, length, sym, refl, subst, arith}
 use Rattle.sqlite.proofs.Callers.{unchanged_then}
 use Rattle.storetables.specs.Rows.{Holds}
 use Rattle.storetables.proofs.Tails.{tail_more, tail_whole}
@@ -8,6 +8,7 @@ pub each-preserved : goal.each-preserved
 each-preserved g c = record {
   clean = λ h. c.each.invariant.clean (c.find_entry.ensures.clean h);
   autocommit = λ h. c.find_entry.ensures.autocommit (c.each.invariant.autocommit h);
+  limit = c.find_entry.ensures.limit ∙ c.each.invariant.limit;
   same = λ clean d has opened.
       let one = c.each.invariant.same (c.find_entry.ensures.clean clean) d has opened in
       unchanged_then _ _ _ one (c.in_ok-entry.ensures.same clean d (subst (λ db. Holds db d) (sym one.0.now_is) has));

@@ -12,6 +12,7 @@ invariant-each g l =
     record {
       clean : HasCleanDisk now → HasCleanDisk old;
       autocommit : l.fn.conn.in_transaction ≡ false → l.conn.in_transaction ≡ false;
+      limit : l.conn.step_limit ≡ l.fn.conn.step_limit;
       same : HasCleanDisk now → (d : Contents) → Holds old.now d → IsTrue old.is_open → IsUnchanged old now;
       read : HasCleanDisk now → (d : Contents) → Holds old.now d → IsTrue old.is_open → l.count ≡ length d.log → l.tail.items ≡ drop l.before (take l.i (entries_in d.log));
     }

@@ -2,6 +2,7 @@ use Rattle.std.proofs.Common.{◌∙◌, arith}
 use Rattle.sqlite.specs.State.{HasCleanDisk}
 use Rattle.sqlite.specs.Held.{state}
 use Rattle.storetables.proofs.Stepping.{passes_at, small_term, survives_none, keeps_then, goes_further, next_place}
+use Rattle.storetables.proofs.Texts.{texts_more}
 use Rattle.storetables.proofs.steps.append_all.Goals as goal
 
 pub append_one-requires-clause-small : goal.append_one-requires-clause-small
@@ -22,6 +23,7 @@ each-preserved g c = record {
   keeps = λ clean.
       let early : HasCleanDisk (state g.S.Store c.each.tx.conn.now) = omega (arith, c.append_one.ensures.survives.clean) in
       keeps_then _ _ _ (c.each.invariant.keeps early) (c.append_one.ensures.keeps clean);
+  texts = texts_more c.args.entries.now c.each.entry-index c.entry-item.result c.each-test.true c.entry-item.is c.each.invariant.texts c.in_ok-append_one.ensures.texts;
   goes = λ clean.
       let early : HasCleanDisk (state g.S.Store c.each.tx.conn.now) = omega (arith, c.append_one.ensures.survives.clean) in
       goes_further _ _ _ c.args.entries.now c.each.entry-index c.entry-item.result c.each-test.true c.entry-item.is (c.each.invariant.goes early) (c.in_ok-append_one.ensures.ok clean);

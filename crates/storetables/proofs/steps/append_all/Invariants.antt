@@ -3,6 +3,7 @@ use Rattle.sqlite.specs.State.{HasCleanDisk, KeepsCommit, Survives}
 use Rattle.sqlite.specs.Held.{state}
 use Rattle.storetables.specs.Contents.{items_of}
 use Rattle.storetables.specs.Steps.{Goes}
+use Rattle.storetables.specs.Stored.{AreTexts}
 use Rattle.storetables.proofs.steps.append_all.Given as goal
 
 abbrev pub invariant-each : goal.invariant-each
@@ -14,5 +15,6 @@ invariant-each g l =
       same : l.tx.conn.ghost_name ≡ l.fn.tx.conn.ghost_name;
       kept : Survives old now (λ _. ⊥);
       keeps : HasCleanDisk now → KeepsCommit old now;
+      texts : AreTexts (take l.entry-index l.entries);
       goes : HasCleanDisk now → Goes old now (λ d. record d { log = d.log ++ items_of (take l.entry-index l.entries) });
     }

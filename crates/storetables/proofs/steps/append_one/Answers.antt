@@ -16,7 +16,7 @@ returns-clause-ok g c clean =
     let early : HasCleanDisk old = omega (arith, c.execute.ensures.survives.clean) in
     let count = c.in_ok-execute.field-0 in
     let ran : ExecutesInside 0 insert_text (entry_values c.args.at.value (item_of c.args.entry.now)) old new (Ok count) =
-    rw (c.params-to_sql.ensures, c.params-to_sql-2.ensures, c.params-to_sql-3.ensures, c.params-to_sql-4.ensures, c.params-to_sql-5.ensures, c.params-to_sql-6.ensures, c.micros.ensures.value, c.client_of-client.ensures, c.number_of-number.ensures, c.body_of-body.ensures) at (c.in_ok-execute.ensures.runs clean was) in
+    rw (c.params-to_sql.ensures, c.params-to_sql-2.ensures, c.params-to_sql-3.ensures, c.params-to_sql-4.ensures, c.params-to_sql-5.ensures, c.params-to_sql-6.ensures, c.micros.ensures.value, c.client_of-client.ensures, c.number_of-number.ensures, c.body_of-body.ensures.text) at (c.in_ok-execute.ensures.runs clean was) in
     let place = c.requires.next early in
     goes_by old new insert_text _ count _ was (λ (d : Contents) (has : Holds old.now d) h. inserts old new d (item_of c.args.entry.now) count has
     (subst (λ n. Executes insert_text (entry_values n (item_of c.args.entry.now)) old new (Ok count)) (place.2 ∙ ap (λ n. n + 1) (same_count old.now place.0 d place.1 has)) h)) ran

@@ -17,7 +17,7 @@ returns-clause-asked g c = λ up honest.
     let list = applied (node_of core d.log) in
     let step = node.synced up honest in
     let serves = known (g.met.K.Shelf.served_once node.keeper core.members (schema_of core.schema)) node.serves in
-    let log = g.met.K.Shelf.only_logs node.keeper core.members (schema_of core.schema) serves honest (node.kept_up up) in
+    let log = g.met.K.Shelf.only_logs node.keeper core.members (schema_of core.schema) serves honest in
     let asked = c.ask.ensures.asked core.schema list (node.current up honest) (applied_stamped core core.members (schema_of core.schema) d step log) in
     subst (λ (time : Option ℕ). IsAskedOf (schema_of core.schema) (query_of c.args.query.now) list time c.ask.result) (c.closed_time.ensures.closed up honest) asked
 

@@ -18,10 +18,10 @@ invariant_of-self g c =
     record {
       fresh = node.fresh;
       kept_up = λ up. c.in-Ok.ensures.up;
-      synced = λ up honest. subst (λ (d : Durable). IsInStep core d) (sym (read.same c.in-Ok.ensures.up honest)) (node.synced up (read.honest honest));
+      synced = λ up honest. subst (λ (d : Durable). IsInStep core d) (sym (read.same honest)) (node.synced up (read.honest honest));
       serves = merely (read.serves core.members (schema_of core.schema) serves);
       made = node.made;
-      current = λ up honest. subst (λ (d : Durable). AreTables core.schema (applied (node_of core d.log)) tables) (sym (read.same c.in-Ok.ensures.up honest)) (node.current up (read.honest honest));
+      current = λ up honest. subst (λ (d : Durable). AreTables core.schema (applied (node_of core d.log)) tables) (sym (read.same honest)) (node.current up (read.honest honest));
     }
 
 pub invariant_of-self-in-Err-clause-serves : goal.invariant_of-self-in-Err-clause-serves

@@ -30,7 +30,7 @@ take_work-requires g c = λ κs lives.
                   let there : old.log.shelved ≤ length d.log = omega (arith, len) in
                   let same : filled room.shelved d.log ≡ d.log = filled_same room.shelved d.log (omega (arith, len, c.make_room.ensures.length)) in
                   let logs : take room.shelved d.log ++ room.tail.items ≡ log_of old d.log = room_same old.log.shelved room.shelved d.log old.log.tail.items room.tail.items c.make_room.ensures.shelved there c.make_room.ensures.tail step.log in
-                  let log = g.met.S.Shelf.only_logs c.args.shelf.now old.members (schema_of old.schema) c.requires.serves start c.requires.up in
+                  let log = g.met.S.Shelf.only_logs c.args.shelf.now old.members (schema_of old.schema) c.requires.serves start in
                   let whole : d.log ≡ take room.shelved (filled room.shelved d.log) ++ room.tail.items = step.log ∙ sym logs ∙ ap (λ (l : List Entry). take room.shelved l ++ room.tail.items) (sym same) in
                   forms_before old.members (schema_of old.schema) old d _ step whole log,
               c.make_room.ensures.room,

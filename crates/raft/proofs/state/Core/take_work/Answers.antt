@@ -18,7 +18,7 @@ send-requires-clause-rises g c = λ honest.
     let mid = c.on_work.new.self in
     let e = moved old mid g.stored (g.S.Shelf.stored c.args.shelf.now).log c.args.work c.in_ok-window.window.items c.deref-2.result.now c.in_ok-refusal.field-0 c.in-Done.sending same c.deref-2.ensures.value (first.ok honest) (first.part honest) log c.in_ok-refusal.ensures.done c.in-Done.is in
     let f = mid_forms old mid g.stored c.args.work c.in-Done.sending e c.has_ranges_in.ensures log in
-    let stayed = first.shelf.same first.up honest in
+    let stayed = first.shelf.same honest in
     subst (λ (d : Durable). go_on None mid.term (log_of mid d.log) ≡ true) (sym stayed) (subst (λ (l : List Entry). go_on None mid.term (log_of mid l) ≡ true) (sym same) f.rises)
 
 pub returns-in_err-messages-clause-spares : goal.returns-in_err-messages-clause-spares
@@ -44,7 +44,7 @@ returns-clause-fits g c = λ honest.
     let e = moved old mid g.stored (g.S.Shelf.stored c.args.shelf.now).log c.args.work c.in_ok-window.window.items c.deref-2.result.now c.in_ok-refusal.field-0 c.in-Done.sending same c.deref-2.ensures.value (first.ok near) (first.part near) log c.in_ok-refusal.ensures.done c.in-Done.is in
     let few = moves_carried old.schema old.members old.me c.args.work (node_of old g.stored) _ e in
     let looks = looking old g.stored (g.S.Shelf.stored c.args.shelf.now).log c.args.work c.in_ok-window.window.items c.deref.result.now same c.deref.ensures.value (first.ok near) in
-    let there : (g.S.Shelf.stored c.look.new.shelf).log ≡ g.stored = ap (λ (d : Durable). d.log) (first.shelf.same first.up near) ∙ same in
+    let there : (g.S.Shelf.stored c.look.new.shelf).log ≡ g.stored = ap (λ (d : Durable). d.log) (first.shelf.same near) ∙ same in
     let after : after_of new g.stored c.in_ok-messages.messages.items ≡ sends mid.members mid.me c.in-Done.sending (node_of mid g.stored) =
     subst (λ (l : List Entry). after_of new l c.in_ok-messages.messages.items ≡ sends mid.members mid.me c.in-Done.sending (node_of mid l)) there (sent.ok honest) in
     let turned = turns old.schema old.members old.me mark.kept c.args.work (node_of old g.stored) (after_of new g.stored c.in_ok-messages.messages.items) (ap Moves after ∙ e) (c.mark-mark.ensures.kept few looks) in

@@ -16,13 +16,13 @@ loop-place-preserved g c =
     record {
       seen = λ honest.
           let was = one.shelf.honest honest in
-          let same : (g.S.Shelf.stored c.loop-place.shelf) ≡ g.S.Shelf.stored c.args.shelf.now = inv.shelf.same inv.up was in
+          let same : (g.S.Shelf.stored c.loop-place.shelf) ≡ g.S.Shelf.stored c.args.shelf.now = inv.shelf.same was in
           let there : Reaches core (g.S.Shelf.stored c.loop-place.shelf).log = subst (λ (d : Durable). Reaches core d.log) (sym same) (c.requires.reaches (inv.shelf.honest was)) in
           let found = one.ok honest there in
           let got : nth (log_of core (g.S.Shelf.stored c.args.shelf.now).log) (c.loop-place.place + 1) ≡ Some c.in-Some.entry =
           subst (λ (d : Durable). nth (log_of core d.log) (c.loop-place.place + 1) ≡ Some c.in-Some.entry) same (sym found ∙ c.in-Some.is) in
           items ∙ ap (λ (es : List Entry). es ++ c.in-Some.entry ∷ []) (inv.seen was) ∙ sym (seen_more (log_of core (g.S.Shelf.stored c.args.shelf.now).log) c.min-first.result c.loop-place.place c.in-Some.entry (omega arith) got);
-      shelf = read_both _ _ _ _ _ _ _ _ _ _ _ _ _ _ _ _ _ inv.up inv.shelf one.shelf;
+      shelf = read_both _ _ _ _ _ _ _ _ _ _ _ _ _ _ _ _ _ _ inv.shelf one.shelf;
       up = one.up;
       asks = omega (arith, inv.asks, one.asks);
     }
