@@ -123,10 +123,17 @@ fn open<R: Wait>(rt: &R, alloc: Global, schema: &Schema) -> Result<Publisher> {
     };
     let mut publisher = Publisher::start(rt, alloc, name, schema.clone()?)?;
     for item in items(alloc, 0, FIRST)? {
-        publisher.append(item)?;
+        add(&mut publisher, item)?;
     }
     publisher.publish(rt)?;
     Ok(publisher)
+}
+
+// Appends an item that may come after all that was appended.
+fn add(publisher: &mut Publisher, item: Item) -> Result<()> {
+    ensure!(item.follows(publisher.closed()), "a stamp does not rise");
+    publisher.append(item)?;
+    Ok(())
 }
 
 // So many requests from this number on.
@@ -214,7 +221,7 @@ fn publish_all<R: Clock + Wait>(
         thread::sleep(rt, Duration::from_millis(QUIET));
     }
     for item in items {
-        publisher.append(item)?;
+        add(publisher, item)?;
         publisher.publish(rt)?;
     }
     Ok(start.elapsed(rt)?.as_nanos())

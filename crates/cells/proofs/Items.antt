@@ -84,7 +84,7 @@ sealed_by mark x y g =
     ∙ sealed_risen mark x.sealed y.sealed g.sealed
 
 -- what is applied after a step
-applied_more : (x y : Node) → Grows x y → applied y ≡ applied x ++ slice_range y.log x.commit y.commit
+pub applied_more : (x y : Node) → Grows x y → applied y ≡ applied x ++ slice_range y.log x.commit y.commit
 applied_more x y g =
     let n : x.commit + (y.commit - x.commit) ≡ y.commit = omega (arith, g.commit) in
     ap (λ (k : ℕ). take k y.log) (sym n) ∙ take-add x.commit (y.commit - x.commit) y.log ∙ ap (λ (es : List Entry). es ++ slice_range y.log x.commit y.commit) g.log

@@ -1,3 +1,5 @@
 pub mod Replays
 pub mod Rising
 pub mod Items
+pub mod Listing
+pub mod Runs

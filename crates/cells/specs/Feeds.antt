@@ -2,6 +2,8 @@
 use Rattle.std.specs.Prelude.{◌≡◌, ◌⊎◌, ℕ, Bool, true, false, Option, Some, None, Result, Ok, Err, List, [], ◌∷◌, ◌++◌}
 use Rattle.fault.specs.declared.refusal.Refusal.{Refusal}
 use Rattle.fault.specs.declared.refusal.Refusal.TheVariants.{StoreFault, NodeDown, LifeFull, NoMemory, BadStore}
+use Rattle.keep.specs.declared.error.StoreError.TheVariants as store
+use Rattle.node.specs.View.{IsCauseOr}
 use Rattle.node.specs.declared.node.Out.{Out as NodeOut}
 use Rattle.node.specs.declared.node.Fault.{Fault}
 use Rattle.node.specs.declared.node.Fault.TheVariants.{Kept, Down}
@@ -45,3 +47,9 @@ IsStartRefusal (Some mark) refusal = (refusal ≡ StoreFault) ⊎ ((refusal ≡ 
 abbrev pub ending_of : Bool → Ending → Ending
 ending_of true ending = Stopped
 ending_of false ending = ending
+
+-- each fault that takes the cell down has one of a node's causes; or what the step makes applied may not come after what was
+-- published, since a stamp does not rise. This is told as 44, and comes in no run of a group
+abbrev pub HasCauseOrOrder : Type 0 → ℕ → ℕ → Type 0 → Fault → Type 0
+HasCauseOrOrder honest failed failed' rises (Kept refusal) = Unit {0}
+HasCauseOrOrder honest failed failed' rises (Down error) = IsCauseOr honest failed failed' error ⊎ ((error ≡ store.BadStore) × (honest → rises → ⊥))

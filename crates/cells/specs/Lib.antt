@@ -1,3 +1,4 @@
 pub mod Lives
 pub mod Feeds
 pub mod Publishing
+pub mod Runs

@@ -1,5 +1,7 @@
 -- What a life publishes.
-use Rattle.std.specs.Prelude.{◌≡◌, ℕ, Option, Some, None, List, [], ◌∷◌, ◌++◌, map, length, take, slice_range}
+use Rattle.std.specs.Prelude.{◌≡◌, ◌⊎◌, ℕ, Option, Some, None, MatchOption, List, [], ◌∷◌, ◌++◌, map, length, take, slice_range}
+use Rattle.keep.specs.declared.error.StoreError.{StoreError}
+use Rattle.keep.specs.declared.error.StoreError.TheVariants.{NoMemory, BadStore}
 use Rattle.model.specs.declared.entry.Entry.{Entry}
 use Rattle.model.specs.Members.{Node}
 use Rattle.sqlchecks.specs.Columns.{Tables}
@@ -8,6 +10,7 @@ use Rattle.node.specs.Member.{me_of, members_of, tables_of}
 use Rattle.node.specs.declared.node.Node.{Node as NodeUp}
 use Rattle.history.specs.declared.item.Item.{Item}
 use Rattle.history.specs.declared.item.Item.TheVariants.{Applied, Sealed}
+use Rattle.history.specs.Items.{Rises}
 use Rattle.view.specs.declared.publisher.Publisher.{Publisher}
 use Rattle.view.specs.Publishing.{name_of, schema_of}
 use Rattle.flight.specs.declared.life.Step.{Step}
@@ -43,3 +46,12 @@ AreFirst xs ys = take (length xs) ys ≡ xs
 -- the publisher is of the life of member `me` over these tables that opened with this mark
 abbrev pub IsPublisherOf : Tables → ℕ → ℕ → Publisher → Type 0
 IsPublisherOf schema me opening p = (name_of p ≡ record { node = me; opening = opening }) × (schema_of p ≡ schema)
+
+-- why items are not appended: for want of memory, or since they may not come after what was appended before, as a stamp in them is
+-- not above what is closed there. That is told as 44
+abbrev pub IsUnlisted : List Item → List Item → StoreError → Type 0
+IsUnlisted before more error = (error ≡ NoMemory) ⊎ ((error ≡ BadStore) × (Rises (before ++ more) → ⊥))
+
+-- stamps rise in what a life makes applied and sealed, together with what a step of this mark does that takes its member x to y
+abbrev pub RisesWith : {K I : Type 0} {g : _} {s : _} → NodeUp K I g s → Life → Option ℕ → Node → Node → Type 0
+RisesWith node life mark x y = MatchOption mark ⊥ (λ m. Rises (items_of node life ++ items_by m x y))

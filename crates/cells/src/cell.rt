@@ -2,7 +2,7 @@
 ghost use Rattle.std.specs.Prelude.{◌≡◌, ◌≢◌, ◌≤◌, ◌<◌, ◌+◌, ◌⊎◌, [], ◌++◌, ◌∷◌, true, false, Some, None, Err, IfOk, IfErr, OnOk, OnErr, MatchOption, MatchResult, slice_range, unwrap_or};
 ghost use Rattle.sqlread.specs.Meaning.{schema_of};
 ghost use Rattle.keep.specs.Durable.{Durable};
-ghost use Rattle.node.specs.View.{durable_of, spares_memory, Gave, IsKept, LeavesUp, HasCauseOr, risen, told_between};
+ghost use Rattle.node.specs.View.{durable_of, spares_memory, Gave, IsKept, LeavesUp, risen, told_between};
 ghost use Rattle.node.specs.Member.{effect_at, me_of, member_of, members_of, tables_of, IsSameSeat};
 ghost use Rattle.model.specs.Marks.{mark_after};
 ghost use Rattle.model.specs.Members.{applied};
@@ -12,15 +12,15 @@ ghost use Rattle.view.specs.Publishing.{published, pending, given_of as views_of
 ghost use Rattle.view.specs.Viewing.{seen_by, name_seen, schema_seen, book_seen, IsTold};
 ghost use Rattle.flight.specs.Lives.{torn_step, all_steps, mark_for, step_of};
 ghost use Rattle.cells.specs.Lives.{work_of, opened_with, replay, IsLeft, marks_rise};
-ghost use Rattle.cells.specs.Feeds.{IsLifeWith, IsRecorded, given_of, IsTurnedAway, IsStartRefusal, ending_of};
-ghost use Rattle.cells.specs.Publishing.{items_of, AreFirst, IsPublisherOf};
+ghost use Rattle.cells.specs.Feeds.{IsLifeWith, IsRecorded, given_of, IsTurnedAway, IsStartRefusal, ending_of, HasCauseOrOrder};
+ghost use Rattle.cells.specs.Publishing.{items_of, AreFirst, IsPublisherOf, RisesWith};
+ghost use Rattle.model.specs.Kept.{node_after};
 ghost use Rattle.flight.specs.declared.life.Ending.TheVariants.{Up};
 
 use crate::copies::work_of;
 use crate::publishing::{note, publish_all};
 use fault::Refusal;
 use flight::life::{Ending, Life, Opening, Packet, Step};
-use keep::StoreError;
 use keep::keeper::Keeper;
 use model::mark::Mark;
 use model::member::Member;
@@ -143,8 +143,9 @@ impl<K: Keeper> Cell<K> {
     ///
     /// 41 where the node is down; 42 where the life has its last step or no mark is left; 43 where there is no
     /// memory to record the step: these record and change nothing. A step that goes down is recorded as torn, and so is
-    /// one where there is no memory to record what it told or to append what became applied or sealed; nothing is published
-    /// then.
+    /// one where there is no memory to record what it told or to append what became applied or sealed, and one, told as 44, by which
+    /// an entry becomes applied whose stamp does not rise over what the life closed before, as in no run of a group; nothing is
+    /// published then.
     pub fn feed<R: Wait>(&mut self, rt: &R, packet: Packet) -> Result<Out, Fault>
         ensures fed { (IsTurnedAway self.old.node.is_up (mark_for self.old.life packet) result
             × IsLifeWith self.old.life self.new.life [] self.old.life.ending
@@ -162,7 +163,7 @@ impl<K: Keeper> Cell<K> {
         ensures up { OnOk result ((self.old.node.is_up ≡ true) × (self.new.node.is_up ≡ true)) }
         ensures leaves { IfErr result (LeavesUp self.old.node.is_up self.new.node.is_up) }
         ensures honest { K.is_honest self.new.node.keeper → K.is_honest self.old.node.keeper }
-        ensures cause { IfErr result (HasCauseOr (K.is_honest self.new.node.keeper) (K.failed self.old.node.keeper) (K.failed self.new.node.keeper)) }
+        ensures cause { IfErr result (HasCauseOrOrder (K.is_honest self.new.node.keeper) (K.failed self.old.node.keeper) (K.failed self.new.node.keeper) (RisesWith self.old.node self.old.life (mark_for self.old.life packet) (member_of self.old.node) (node_after (member_of self.old.node) (effect_at self.old.node (work_of packet))))) }
         ensures group { IsSameSeat self.old.node self.new.node }
     {
         if !self.node.is_up {
@@ -180,10 +181,13 @@ impl<K: Keeper> Cell<K> {
         let step = Step::new(self.alloc, mark, packet);
         match self.node.step(work) {
             Ok(given) => {
-                let Ok(outcomes) = note(self.alloc, &mut self.publisher, mark, &given) else {
-                    self.node.take_down();
-                    self.life.ending = Ending::Torn(step);
-                    return Err(Fault::Down(StoreError::NoMemory));
+                let outcomes = match note(self.alloc, &mut self.publisher, mark, &given) {
+                    Ok(outcomes) => outcomes,
+                    Err(error) => {
+                        self.node.take_down();
+                        self.life.ending = Ending::Torn(step);
+                        return Err(Fault::Down(error));
+                    }
                 };
                 self.life.steps.push_reserved(step.with_outcomes(outcomes));
                 publish_all(&mut self.publisher, rt);

@@ -3,5 +3,6 @@
 
 pub mod cell;
 pub mod copies;
+pub mod laws;
 pub mod locked;
 mod publishing;

@@ -1,15 +1,16 @@
 //! A cell for several threads to feed under a lock, and the shares of those that feed it.
 ghost use Rattle.std.specs.Prelude.{◌≡◌, ◌≤◌, ◌<◌, ◌+◌, ◌⊎◌, [], ◌∷◌, length, true, Some, Err, IfOk, IfErr, OnOk, OnErr, MatchOption, MatchResult, slice_range};
 ghost use Rattle.sqlread.specs.Meaning.{schema_of};
-ghost use Rattle.node.specs.View.{spares_memory, Gave, IsKept, LeavesUp, HasCauseOr, risen, told_between};
+ghost use Rattle.node.specs.View.{spares_memory, Gave, IsKept, LeavesUp, risen, told_between};
 ghost use Rattle.node.specs.Member.{effect_at, me_of, member_of, members_of, tables_of, IsSameSeat};
 ghost use Rattle.fault.specs.declared.refusal.Refusal.TheVariants.{NoMemory, NoView};
-ghost use Rattle.view.specs.Publishing.{published, book_of, given_of as views_of, IsSameLife};
-ghost use Rattle.view.specs.Viewing.{seen_by, name_seen, book_seen, book_told, IsTold};
+ghost use Rattle.view.specs.Publishing.{published, pending, book_of, given_of as views_of, IsSameLife};
+ghost use Rattle.view.specs.Viewing.{seen_by, name_seen, schema_seen, book_seen, book_told, IsTold};
 ghost use Rattle.flight.specs.Lives.{all_steps, mark_for, step_of};
 ghost use Rattle.cells.specs.Lives.{work_of};
-ghost use Rattle.cells.specs.Feeds.{IsLifeWith, IsRecorded, given_of, IsTurnedAway};
-ghost use Rattle.cells.specs.Publishing.{items_of};
+ghost use Rattle.cells.specs.Feeds.{IsLifeWith, IsRecorded, given_of, IsTurnedAway, HasCauseOrOrder};
+ghost use Rattle.cells.specs.Publishing.{items_of, RisesWith};
+ghost use Rattle.model.specs.Kept.{node_after};
 
 use crate::cell::{Cell, Out};
 use fault::Refusal;
@@ -87,7 +88,7 @@ impl<K: Keeper, L: Naming> LockedNode<K, L> {
         ensures up { OnOk result ((self.old.cell.node.is_up ≡ true) × (self.new.cell.node.is_up ≡ true)) }
         ensures leaves { IfErr result (LeavesUp self.old.cell.node.is_up self.new.cell.node.is_up) }
         ensures honest { K.is_honest self.new.cell.node.keeper → K.is_honest self.old.cell.node.keeper }
-        ensures cause { IfErr result (HasCauseOr (K.is_honest self.new.cell.node.keeper) (K.failed self.old.cell.node.keeper) (K.failed self.new.cell.node.keeper)) }
+        ensures cause { IfErr result (HasCauseOrOrder (K.is_honest self.new.cell.node.keeper) (K.failed self.old.cell.node.keeper) (K.failed self.new.cell.node.keeper) (RisesWith self.old.cell.node self.old.cell.life (mark_for self.old.cell.life packet) (member_of self.old.cell.node) (node_after (member_of self.old.cell.node) (effect_at self.old.cell.node (work_of packet))))) }
         ensures group { IsSameSeat self.old.cell.node self.new.cell.node }
         ensures counted { share.new.amount + length (all_steps self.old.cell.life) ≡ share.old.amount + length (all_steps self.new.cell.life) }
         ensures parts { share.new.parts ≡ share.old.parts }
@@ -119,9 +120,11 @@ impl<K: Keeper, L: Naming> LockedNode<K, L> {
     /// `Cell::take_view`.
     pub fn take_view(&mut self) -> Result<View, Refusal>
         ensures same { (self.new.cell.node ≡ self.old.cell.node) × (self.new.cell.life ≡ self.old.cell.life) }
+        ensures publisher { IsSameLife self.old.cell.publisher self.new.cell.publisher × (published self.new.cell.publisher ≡ published self.old.cell.publisher) × (pending self.new.cell.publisher ≡ pending self.old.cell.publisher) }
         ensures given { MatchResult result (λ v. (views_of self.old.cell.publisher < 8) × (views_of self.new.cell.publisher ≡ views_of self.old.cell.publisher + 1)) (λ e. views_of self.new.cell.publisher ≡ views_of self.old.cell.publisher) }
+        ensures ninth { 8 ≤ views_of self.old.cell.publisher → result ≡ Err NoView }
         ensures refused { IfErr result (λ e. (e ≡ NoView) ⊎ (e ≡ NoMemory)) }
-        ensures life { IfOk result (λ v. book_seen v ≡ L.history) }
+        ensures life { IfOk result (λ v. (name_seen v ≡ record { node = me_of self.old.cell.node; opening = self.old.cell.life.opening.mark }) × (schema_seen v ≡ tables_of self.old.cell.node) × (book_seen v ≡ L.history)) }
         ensures seen { IfOk result (λ v. seen_by v ≡ published self.old.cell.publisher) }
     {
         self.cell.take_view()

@@ -1,10 +1,11 @@
 //! What a step appends to a life's publisher and publishes, and what it told.
-ghost use Rattle.std.specs.Prelude.{◌≡◌, ◌⊎◌, None, [], ◌++◌, IfOk, OnOk, IsOk};
+ghost use Rattle.std.specs.Prelude.{◌≡◌, ◌⊎◌, None, [], ◌∷◌, ◌++◌, IfOk, IfErr, OnOk, IsOk};
 ghost use Rattle.flight.specs.Telling.{outcomes_of};
 ghost use Rattle.view.specs.Publishing.{published, pending, given_of, IsSameLife};
-ghost use Rattle.cells.specs.Publishing.{marked, marked_seal};
+ghost use Rattle.cells.specs.Publishing.{marked, marked_seal, IsUnlisted};
 
 use flight::outcome::Outcomes;
+use keep::StoreError;
 use model::entry::Entry;
 use model::mark::Mark;
 use model::stamp::Stamp;
@@ -13,20 +14,37 @@ use std::alloc::{AllocError, Global};
 use std::sync::Wait;
 use view::{Item, Publisher};
 
-/// Puts the entries at the end of what is pending, in their order and each with this mark. The error is want of memory;
-/// some of them may be pending then.
+/// Puts an item at the end of what is pending. The error is want of memory, or 44 where it may not come after what was appended
+/// before; nothing is changed then.
+fn append_one(publisher: &mut Publisher, item: Item) -> Result<(), StoreError>
+    ensures same { IsSameLife publisher.old publisher.new × (given_of publisher.new ≡ given_of publisher.old) × (published publisher.new ≡ published publisher.old) }
+    ensures pending { OnOk result (pending publisher.new ≡ pending publisher.old ++ item ∷ []) }
+    ensures refused { IfErr result (IsUnlisted (published publisher.old ++ pending publisher.old) (item ∷ [])) }
+{
+    if !item.follows(publisher.closed()) {
+        return Err(StoreError::BadStore);
+    }
+    publisher.append(item)?;
+    Ok(())
+}
+
+/// Puts the entries at the end of what is pending, in their order and each with this mark. The error is want of memory, or 44
+/// where a stamp does not rise over what was appended before; some of them may be pending then.
 pub(crate) fn append_all(
     publisher: &mut Publisher,
     mark: Mark,
     entries: &[Entry],
-) -> Result<(), AllocError>
+) -> Result<(), StoreError>
     ensures same { IsSameLife publisher.old publisher.new × (given_of publisher.new ≡ given_of publisher.old) × (published publisher.new ≡ published publisher.old) }
     ensures pending { OnOk result (pending publisher.new ≡ pending publisher.old ++ marked mark entries.now) }
     ensures none { entries.now ≡ [] → IsOk result }
+    ensures refused { IfErr result (IsUnlisted (published publisher.old ++ pending publisher.old) (marked mark entries.now)) }
 {
     for entry in entries {
         let entry = entry.clone()?;
-        publisher.append(Item::Applied { mark, entry })?;
+        if let Err(error) = append_one(publisher, Item::Applied { mark, entry }) {
+            return Err(error);
+        }
     }
     Ok(())
 }
@@ -49,20 +67,24 @@ fn append_seal(
 }
 
 /// What is recorded of what the node told, with the entries that became applied and then what became sealed at the end of what
-/// is pending, each with this mark. The error is want of memory; some of these may be pending then.
+/// is pending, each with this mark. The error is want of memory, or 44 where a stamp does not rise over what was appended before;
+/// some of these may be pending then.
 pub(crate) fn note(
     alloc: Global,
     publisher: &mut Publisher,
     mark: Mark,
     given: &NodeOut,
-) -> Result<Outcomes, AllocError>
+) -> Result<Outcomes, StoreError>
     ensures same { IsSameLife publisher.old publisher.new × (given_of publisher.new ≡ given_of publisher.old) × (published publisher.new ≡ published publisher.old) }
     ensures pending { OnOk result (pending publisher.new ≡ pending publisher.old ++ (marked mark given.now.applied.items ++ marked_seal mark given.now.sealed)) }
     ensures told { IfOk result (λ outcomes. outcomes ≡ outcomes_of given.now.told.items) }
     ensures none { given.now.applied.items ≡ [] → given.now.told.items ≡ [] → given.now.sealed ≡ None → IsOk result }
+    ensures refused { IfErr result (IsUnlisted (published publisher.old ++ pending publisher.old) (marked mark given.now.applied.items ++ marked_seal mark given.now.sealed)) }
 {
     let outcomes = Outcomes::of(alloc, &given.told)?;
-    append_all(publisher, mark, &given.applied)?;
+    if let Err(error) = append_all(publisher, mark, &given.applied) {
+        return Err(error);
+    }
     append_seal(publisher, mark, given.sealed)?;
     Ok(outcomes)
 }

@@ -1,8 +1,8 @@
 -- What contracts say of a list of items.
-use Rattle.std.specs.Prelude.{ℕ, max, Option, Some, None, unwrap_or, List, fold}
+use Rattle.std.specs.Prelude.{ℕ, ◌≤◌, max, Option, Some, None, unwrap_or, List, [], ◌∷◌, fold}
 use Rattle.std.specs.List.{filter_map}
 use Rattle.model.specs.declared.entry.Entry.{Entry}
-use Rattle.model.specs.Stamps.{greater}
+use Rattle.model.specs.Stamps.{TIME_LAST, above, greater}
 use Rattle.model.specs.Logs.{closed}
 use Rattle.history.specs.declared.item.Item.{Item}
 use Rattle.history.specs.declared.item.Item.TheVariants.{Applied, Sealed}
@@ -33,6 +33,25 @@ sealed_in items = fold greater_sealed None items
 -- the closed time of items: the greater of the last entry's stamp and the greatest sealed time
 abbrev pub closed_in : List Item → Option ℕ
 closed_in items = greater (closed (entries_in items)) (sealed_in items)
+
+-- the item may come where this time is closed: as an entry, where its stamp is an instant above that. Any time may become sealed
+abbrev pub Follows : Option ℕ → Item → Type 0
+Follows time (Applied mark entry) = (above time ≤ entry.stamp) × (entry.stamp ≤ TIME_LAST)
+Follows time (Sealed mark sealed) = Unit {0}
+
+-- what is closed after an item, where this time was closed before it
+abbrev pub closed_after : Option ℕ → Item → Option ℕ
+closed_after time (Applied mark entry) = greater time (Some entry.stamp)
+closed_after time (Sealed mark sealed) = greater time (Some sealed)
+
+-- where this time is closed before the items, each may come where what is closed before it is closed
+abbrev pub RisesFrom : Option ℕ → List Item → Type 0
+RisesFrom time [] = Unit {0}
+RisesFrom time (item ∷ items) = Follows time item × RisesFrom (closed_after time item) items
+
+-- stamps rise in the items, and no entry is stamped at or below a time that became sealed before it
+abbrev pub Rises : List Item → Type 0
+Rises items = RisesFrom None items
 
 -- the greater of a mark, if there is one, and an item's
 abbrev pub greater_mark : Option ℕ → Item → Option ℕ

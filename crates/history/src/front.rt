@@ -1,15 +1,17 @@
 //! Tokens that say with which list a history begins.
 ghost use Rattle.std.specs.Prelude.{◌≡◌, ◌<◌, length, MatchBool};
 ghost use mathlib.Core.List.{IsPrefix};
-ghost use Rattle.history.specs.Items.{greatest_mark, last_mark};
+ghost use Rattle.history.specs.Items.{Rises, greatest_mark, last_mark};
+ghost use Rattle.history.specs.Once.{rises_prop};
 
 use crate::item::Item;
 use crate::rule::Grows;
 use logbook::Seen;
 use model::mark::Mark;
 
-/// A history began with a list of items, and does so for good. It has the list's length and its greatest mark, and none
-/// of the items; contracts see the list as `seen.log`.
+/// A history began with a list of items, and does so for good. In it no entry is stamped at or below what is closed by the
+/// items before it. The token has the list's length and its greatest mark, and none of the items; contracts see the list as
+/// `seen.log`.
 #[derive(Drop)]
 pub struct Front {
     /// How many items the list has.
@@ -18,6 +20,7 @@ pub struct Front {
     pub seen: Seen<Item, u64, Grows>,
     pub ghost counted: { count ≡ length seen.log },
     pub ghost marked: { mark ≡ greatest_mark seen.log },
+    pub ghost rising: { Rises seen.log } by { rises_prop _ _ },
 }
 
 impl Front {

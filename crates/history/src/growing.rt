@@ -1,6 +1,6 @@
 //! The end at which a history grows.
 ghost use Rattle.std.specs.Prelude.{◌≡◌, ◌+◌, ◌<◌, ◌^◌, ◌++◌, ◌∷◌, [], length, MatchBool, Some};
-ghost use Rattle.history.specs.Items.{greater_mark};
+ghost use Rattle.history.specs.Items.{Follows, closed_in, greater_mark};
 ghost use Rattle.history.specs.Rules.{head_of};
 
 use crate::front::Front;
@@ -43,9 +43,10 @@ impl History {
         }
     }
 
-    /// Adds an item. False, and nothing is changed, only where another end of the same history added to it. Takes no memory.
+    /// Adds an item that may come where the closed time of the history's items is closed. False, and nothing is changed, only where another end of the same history added to it. Takes no memory.
     pub fn extend(&mut self, item: &Item) -> bool
         requires room { length self.old.front.seen.log + 1 < 2 ^ 64 }
+        requires follows { Follows (closed_in self.old.front.seen.log) item.now }
         ensures book { self.new.front.seen.book ≡ self.old.front.seen.book }
         ensures log { MatchBool result (self.new.front.seen.log ≡ self.old.front.seen.log ++ item.now ∷ []) (self.new.front.seen.log ≡ self.old.front.seen.log) }
     {

@@ -1,7 +1,8 @@
 //! Items, of which a history is a list.
-ghost use Rattle.std.specs.Prelude.{◌≡◌};
-ghost use Rattle.history.specs.Items.{mark_of};
+ghost use Rattle.std.specs.Prelude.{◌≡◌, MatchBool};
+ghost use Rattle.history.specs.Items.{mark_of, Follows, closed_after};
 
+use closedtime::greater;
 use model::entry::Entry;
 use model::mark::Mark;
 use model::stamp::Stamp;
@@ -23,6 +24,31 @@ impl Item {
     {
         match self {
             Item::Applied { mark, .. } | Item::Sealed { mark, .. } => *mark,
+        }
+    }
+
+    /// Whether it may come where this time is closed: an entry may where it is stamped above that, and any time may become
+    /// sealed. Takes no memory.
+    pub fn follows(&self, closed: Option<Stamp>) -> bool
+        ensures { MatchBool result (Follows closed self.now) (Follows closed self.now → ⊥) }
+    {
+        match (self, closed) {
+            (Item::Applied { entry, .. }, None) => {
+                let _ = entry.stamp.micros();
+                true
+            }
+            (Item::Applied { entry, .. }, Some(time)) => time.micros() < entry.stamp.micros(),
+            (Item::Sealed { .. }, _) => true,
+        }
+    }
+
+    /// What is closed after it, where this time was closed before it. Takes no memory.
+    pub fn closed_after(&self, closed: Option<Stamp>) -> Option<Stamp>
+        ensures { result ≡ closed_after closed self.now }
+    {
+        match self {
+            Item::Applied { entry, .. } => greater(closed, Some(entry.stamp)),
+            Item::Sealed { time, .. } => greater(closed, Some(*time)),
         }
     }
 }

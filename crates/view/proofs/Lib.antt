@@ -2,3 +2,5 @@ pub mod Turns
 pub mod Taking
 pub mod Parts
 pub mod Seeing
+pub mod Appending
+pub mod Staying

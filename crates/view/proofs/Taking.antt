@@ -29,7 +29,7 @@ taken_next (x ∷ items) zero item h = let same : x ≡ item = cc h in ap (λ i.
 taken_next (x ∷ items) (suc n) item h = ap (λ xs. x ∷ xs) (taken_next items n item h)
 
 -- one item more
-taken_more : (items : List Item) (n : ℕ) (item : Item) → slice_get items n ≡ Some item → take (n + 1) items ≡ take n items ++ item ∷ []
+pub taken_more : (items : List Item) (n : ℕ) (item : Item) → slice_get items n ≡ Some item → take (n + 1) items ≡ take n items ++ item ∷ []
 taken_more items n item h = ap (λ k. take k items) (add-one n) ∙ taken_next items n item h
 
 -- the tables of one entry more

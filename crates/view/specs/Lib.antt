@@ -3,3 +3,4 @@ pub mod Lists
 pub mod Publishing
 pub mod Viewing
 pub mod Replies
+pub mod Staying

@@ -3,7 +3,6 @@ use Rattle.std.specs.Prelude.{◌≡◌, List, Result, Ok, Err}
 use Rattle.fault.specs.declared.refusal.Refusal.{Refusal}
 use Rattle.fault.specs.declared.refusal.Refusal.TheVariants.{NotClosed, NoMemory, NoView}
 use Rattle.model.specs.Transactions.{Schema}
-use Rattle.model.specs.Logs.{IsStamped}
 use Rattle.sqlchecks.specs.Columns.{Tables}
 use Rattle.sqlread.specs.Shapes.{QueryShape}
 use Rattle.answer.specs.declared.Answer.{Answer}
@@ -59,10 +58,10 @@ answer_in (Ok a) = Ok a.answer
 answer_in (Err refusal) = Err refusal
 
 -- what comes of a question, by what was seen before it and after it: the answer in the entries seen, or 33 where it is not
--- closed at the closed time of the items seen, wherever stamps rise in the entries; or there was no memory or no reading, and nothing more is seen
+-- closed at the closed time of the items seen; or there was no memory or no reading, and nothing more is seen
 abbrev pub Answers : Schema → QueryShape → List Item → List Item → Result Answer Refusal → Type 0
-Answers schema q before after (Ok a) = IsStamped (entries_in after) → IsAskedOf schema q (entries_in after) (closed_in after) (Ok a)
-Answers schema q before after (Err (NotClosed closed)) = IsStamped (entries_in after) → IsAskedOf schema q (entries_in after) (closed_in after) (Err (NotClosed closed))
+Answers schema q before after (Ok a) = IsAskedOf schema q (entries_in after) (closed_in after) (Ok a)
+Answers schema q before after (Err (NotClosed closed)) = IsAskedOf schema q (entries_in after) (closed_in after) (Err (NotClosed closed))
 Answers schema q before after (Err NoMemory) = after ≡ before
 Answers schema q before after (Err NoView) = after ≡ before
 Answers schema q before after (Err refusal) = ⊥

@@ -2,6 +2,8 @@
 ghost use Rattle.std.specs.Prelude.{◌≡◌, ◌⊎◌, ◌≤◌, ◌<◌, ◌+◌, [], ◌∷◌, ◌++◌, take, drop, length, fold, vec_len, Some, Err, IfOk, IfErr, OnOk, OnErr, MatchResult};
 ghost use Rattle.left_right.specs.Sides.{view};
 ghost use Rattle.fault.specs.declared.refusal.Refusal.TheVariants.{NoMemory, NoView};
+ghost use Rattle.history.specs.Items.{Follows, Rises, closed_in};
+ghost use Rattle.history.specs.Once.{rises_prop};
 ghost use Rattle.view.specs.Lists.{IsAt, IsGrown, shown_of, applied};
 
 use crate::published::{More, Published};
@@ -13,6 +15,7 @@ use core::mem::{ManuallyDrop, replace_with};
 use fault::Refusal;
 use history::{Front, History, Item};
 use left_right::writer::Writer;
+use model::stamp::Stamp;
 use schema::Schema;
 use std::alloc::{AllocError, Global};
 use std::sync::Wait;
@@ -20,7 +23,8 @@ use std::sync::Wait;
 /// How many views a life gives.
 pub const VIEWS: usize = 8;
 
-/// What a life publishes: a list of items, of which the first are published and the others pending. End it by `stop`;
+/// What a life publishes: a list of items, of which the first are published and the others pending. No entry in it is
+/// stamped at or below what is closed by the items before it. End it by `stop`;
 /// one that is dropped keeps the memory of what it published, since only a call that may wait for views could give it
 /// back.
 pub struct Publisher {
@@ -30,6 +34,8 @@ pub struct Publisher {
     writer: Writer<Published, More, Option<Front>, Grows>,
     /// All that was appended.
     items: Vec<Item>,
+    /// The closed time of that.
+    closed: Option<Stamp>,
     /// How many of the items are published.
     shown: usize,
     /// How many of them the writer has taken.
@@ -40,6 +46,8 @@ pub struct Publisher {
     ghost shown_at: { IsAt (shown_of writer.desk.shown.value) items.items history.front.seen.book shown },
     ghost queued_at: { IsAt (fold applied (shown_of writer.desk.shown.value) (drop writer.behind writer.log.items)) items.items history.front.seen.book queued },
     ghost grown: { IsGrown queued items.items history.front.count history.front.seen.log },
+    ghost closing: { closed ≡ closed_in items.items },
+    pub ghost rising: { Rises items.items } by { rises_prop _ _ },
     ghost known: { view writer.desk.place ≡ Some writer.desk.shown.value.front },
 }
 
@@ -51,6 +59,7 @@ impl Drop for Publisher {
             schema: _schema,
             writer,
             items: _items,
+            closed: _,
             shown: _,
             queued: _,
             history: _history,
@@ -99,6 +108,7 @@ impl Publisher {
             schema,
             writer,
             items: Vec::new(alloc),
+            closed: None,
             shown: 0,
             queued: 0,
             history,
@@ -114,6 +124,7 @@ impl Publisher {
             schema: _schema,
             writer,
             items: _items,
+            closed: _,
             shown: _,
             queued: _,
             history: _history,
@@ -146,12 +157,23 @@ impl Publisher {
         Ok(View::of(self.name, reader, replay))
     }
 
-    /// Puts an item at the end of what is pending. The error is want of memory, and changes nothing.
+    /// The closed time of all that was appended: only what may come where this is closed may be appended. Takes no memory.
+    pub fn closed(&self) -> Option<Stamp>
+        ensures { result ≡ closed_in (published self.now ++ pending self.now) }
+    {
+        self.closed
+    }
+
+    /// Puts an item at the end of what is pending: an entry that is stamped above the closed time of all that was appended
+    /// before, or a time that became sealed. The error is want of memory, and changes nothing.
     pub fn append(&mut self, item: Item) -> Result<(), AllocError>
+        requires follows { Follows (closed_in (published self.old ++ pending self.old)) item }
         ensures same { IsSameLife self.old self.new × (given_of self.new ≡ given_of self.old) × (published self.new ≡ published self.old) }
         ensures pending { MatchResult result (λ _. pending self.new ≡ pending self.old ++ item ∷ []) (λ _. pending self.new ≡ pending self.old) }
     {
+        let closed = item.closed_after(self.closed);
         self.items.push(item)?;
+        self.closed = closed;
         Ok(())
     }
 
@@ -197,6 +219,7 @@ impl Publisher {
             schema,
             writer,
             items,
+            closed,
             shown,
             queued,
             history,
@@ -210,6 +233,7 @@ impl Publisher {
             schema,
             writer,
             items,
+            closed,
             shown,
             queued,
             history,

@@ -2,7 +2,6 @@
 ghost use Rattle.std.specs.Prelude.{◌≡◌, ◌+◌, ◌<◌, ◌^◌, ◌≤◌, false, take, length, slice_get, Some, OnOk, IfOk};
 ghost use mathlib.Core.List.{IsPrefix};
 ghost use Rattle.std.specs.Coded.{→_prop};
-ghost use Rattle.model.specs.Logs.{IsStamped};
 ghost use Rattle.sqlread.specs.Meaning.{schema_of};
 ghost use Rattle.sqlread.specs.Shapes.{query_of};
 ghost use Rattle.answer.specs.Answers.{columns_in};
@@ -126,10 +125,11 @@ impl Replay {
 
     /// Answers a question from the list that was read last, all of which has been taken in, at its closed time. The error
     /// is want of memory.
+    #[tactic(auto, using(history::proofs::Rising::stamped))]
     pub(crate) fn ask(&self, query: &Query) -> Result<Reply, AllocError>
         requires up { is_failed self.now.tables ≡ false }
         requires whole { take self.now.applied self.now.front.seen.log ≡ self.now.front.seen.log }
-        ensures asked { IfOk result (λ reply. IsStamped (entries_in self.now.front.seen.log) → IsAskedOf (schema_of self.now.schema) (query_of query.now) (entries_in self.now.front.seen.log) (closed_in self.now.front.seen.log) (said reply)) }
+        ensures asked { IfOk result (λ reply. IsAskedOf (schema_of self.now.schema) (query_of query.now) (entries_in self.now.front.seen.log) (closed_in self.now.front.seen.log) (said reply)) }
         ensures columns { IfOk result (λ reply. HasColumns (columns_in self.now.schema query.now.table) reply) }
     {
         match self.tables.ask(query, self.closed()) {

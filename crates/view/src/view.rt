@@ -7,7 +7,7 @@ ghost use Rattle.sqlread.specs.Meaning.{schema_of};
 ghost use Rattle.sqlread.specs.Shapes.{query_of};
 ghost use Rattle.answer.specs.Answers.{columns_in};
 ghost use Rattle.apply.specs.View.{is_failed};
-ghost use Rattle.history.specs.Items.{last_mark};
+ghost use Rattle.history.specs.Items.{Rises, last_mark};
 
 use crate::published::Published;
 use crate::replay::{Replay, Reply};
@@ -150,6 +150,7 @@ impl View {
     pub fn ask(&mut self, query: &Query) -> Result<Marked, Refusal>
         ensures same { IsSameView self.old self.new }
         ensures grows { IsPrefix (seen_by self.old) (seen_by self.new) }
+        ensures rises { Rises (seen_by self.new) }
         ensures answers { Answers (schema_of (schema_seen self.old)) (query_of query.now) (seen_by self.old) (seen_by self.new) (answer_in result) }
         ensures mark { IfOk result (λ a. a.mark ≡ last_mark (name_seen self.old).opening (seen_by self.new)) }
         ensures columns { IfOk result (λ a. a.answer.columns.items ≡ columns_in (schema_seen self.old) query.now.table) }

@@ -1,4 +1,4 @@
-use Rattle.std.proofs.Common.{◌≡◌, ◌∙◌, ℕ, Option, List, [], ◌++◌, ◌∷◌, refl, sym, ap, subst}
+use Rattle.std.proofs.Common.{◌≡◌, ◌∙◌, ℕ, Option, MatchOption, List, [], ◌++◌, ◌∷◌, refl, sym, ap, subst}
 use Rattle.std.specs.List.{slice_range}
 use Rattle.node.specs.Member.{me_of, member_of, members_of, tables_of}
 use Rattle.model.specs.declared.entry.Entry.{Entry}
@@ -7,6 +7,12 @@ use Rattle.view.specs.Publishing.{published, pending}
 use Rattle.flight.specs.Lives.{step_of, with_outcomes}
 use Rattle.flight.specs.declared.life.Step.{Step}
 use Rattle.cells.specs.Publishing.{marked, marked_seal, items_by}
+use Rattle.history.specs.Items.{Rises}
+use Rattle.model.specs.Kept.{node_after}
+use Rattle.node.specs.Member.{effect_at}
+use Rattle.cells.specs.Lives.{work_of}
+use Rattle.cells.specs.Publishing.{items_of}
+use Rattle.cells.proofs.Listing.{in_order, goes_down, given_after}
 use Rattle.cells.proofs.Rising.{rises_whole, rises_torn, made_for, made_of}
 use Rattle.cells.proofs.Replays.{seated, stepped_given, stepped_refused, replayed_given, replayed_refused, torn_left}
 use Rattle.cells.proofs.Items.{items_in, one_more, OneMore, same_grows, all_listed, still_listed, are_first, whole_left, items_still, listed_still, named_still}
@@ -198,14 +204,14 @@ invariant_of-self-in-Err-Down-clause-named g c =
 
 -- ---- a step whose entries, or whose outcomes, found no memory
 
-pub invariant_of-self-in_default-note-clause-rising : goal.invariant_of-self-in_default-note-clause-rising
-invariant_of-self-in_default-note-clause-rising g c =
+pub invariant_of-self-in-Err-clause-rising : goal.invariant_of-self-in-Err-clause-rising
+invariant_of-self-in-Err-clause-rising g c =
     let old = c.args.self.now in
     let s : Step = c.new-step.result in
     rises_torn old.life _ s (old.replayed c.if-not-self.false).1 old.rising (made_for old.life s c.in-Some.mark c.args.packet [] c.new-step.ensures (sym c.in-Some.is ∙ c.mark_for.ensures)) c.reserve.ensures.items
 
-pub invariant_of-self-in_default-note-clause-held : goal.invariant_of-self-in_default-note-clause-held
-invariant_of-self-in_default-note-clause-held g c = λ down d may.
+pub invariant_of-self-in-Err-clause-held : goal.invariant_of-self-in-Err-clause-held
+invariant_of-self-in-Err-clause-held g c = λ down d may.
     let old = c.args.self.now in
     let same = c.take_down.ensures.group in
     let honest = subst (λ (k : g.row.K.Denot). g.K.Shelf.is_honest k) c.take_down.ensures.keeper (g.met.K.Shelf.only_honest c.take_down.new.self.keeper d may) in
@@ -216,24 +222,24 @@ invariant_of-self-in_default-note-clause-held g c = λ down d may.
     let left = whole_left (member_of old.node) (tables_of old.node) (members_of old.node) (me_of old.node) c.in-Ok.work (member_of c.step.new.self) c.in-Ok-step.given d (c.in-Ok-step.ensures.done c.in-Ok-step.ensures.up.0 honest) is in
     torn_left (seated old.node) (seated c.take_down.new.self) old.life.opening old.life.steps.items _ s c.in-Ok.work d (same.0 ∙ seat.0) (same.1 ∙ seat.1) (same.2 ∙ seat.2) c.reserve.ensures.items (made_of s c.in-Some.mark c.args.packet c.in-Ok.work [] c.new-step.ensures c.in-Ok.ensures) (was.0 (c.step.ensures.honest honest)) left
 
-pub invariant_of-self-in_default-note-clause-listed : goal.invariant_of-self-in_default-note-clause-listed
-invariant_of-self-in_default-note-clause-listed g c = λ honest.
+pub invariant_of-self-in-Err-clause-listed : goal.invariant_of-self-in-Err-clause-listed
+invariant_of-self-in-Err-clause-listed g c = λ honest.
     let old = c.args.self.now in
     let before = c.step.ensures.honest (subst (λ (k : g.row.K.Denot). g.K.Shelf.is_honest k) c.take_down.ensures.keeper honest) in
     let same = c.take_down.ensures.group in
     let seat = c.step.ensures.group in
     (listed_still (seated old.node) (seated c.take_down.new.self) old.life.opening old.life.steps.items c.reserve.new.self.items (same.0 ∙ seat.0) (same.1 ∙ seat.1) (same.2 ∙ seat.2) c.reserve.ensures.items (record { entries = old.listed before; sealed = old.sealed before })).entries
 
-pub invariant_of-self-in_default-note-clause-sealed : goal.invariant_of-self-in_default-note-clause-sealed
-invariant_of-self-in_default-note-clause-sealed g c = λ honest.
+pub invariant_of-self-in-Err-clause-sealed : goal.invariant_of-self-in-Err-clause-sealed
+invariant_of-self-in-Err-clause-sealed g c = λ honest.
     let old = c.args.self.now in
     let before = c.step.ensures.honest (subst (λ (k : g.row.K.Denot). g.K.Shelf.is_honest k) c.take_down.ensures.keeper honest) in
     let same = c.take_down.ensures.group in
     let seat = c.step.ensures.group in
     (listed_still (seated old.node) (seated c.take_down.new.self) old.life.opening old.life.steps.items c.reserve.new.self.items (same.0 ∙ seat.0) (same.1 ∙ seat.1) (same.2 ∙ seat.2) c.reserve.ensures.items (record { entries = old.listed before; sealed = old.sealed before })).sealed
 
-pub invariant_of-self-in_default-note-clause-shown : goal.invariant_of-self-in_default-note-clause-shown
-invariant_of-self-in_default-note-clause-shown g c = λ down honest.
+pub invariant_of-self-in-Err-clause-shown : goal.invariant_of-self-in-Err-clause-shown
+invariant_of-self-in-Err-clause-shown g c = λ down honest.
     let old = c.args.self.now in
     let before = c.step.ensures.honest (subst (λ (k : g.row.K.Denot). g.K.Shelf.is_honest k) c.take_down.ensures.keeper honest) in
     let same = c.take_down.ensures.group in
@@ -241,10 +247,24 @@ invariant_of-self-in_default-note-clause-shown g c = λ down honest.
     let items = items_still (seated old.node) (seated c.take_down.new.self) old.life.opening old.life.steps.items c.reserve.new.self.items (same.0 ∙ seat.0) (same.1 ∙ seat.1) (same.2 ∙ seat.2) c.reserve.ensures.items in
     are_first (published old.publisher) (pending old.publisher) (items_in (seated old.node) old.life.opening old.life.steps.items) (published c.note.new.publisher) _ (old.whole c.if-not-self.false before) c.note.ensures.same.2 items
 
-pub invariant_of-self-in_default-note-clause-named : goal.invariant_of-self-in_default-note-clause-named
-invariant_of-self-in_default-note-clause-named g c =
+pub invariant_of-self-in-Err-clause-named : goal.invariant_of-self-in-Err-clause-named
+invariant_of-self-in-Err-clause-named g c =
     let old = c.args.self.now in
     let node = old.node in
     let same = c.take_down.ensures.group in
     let seat = c.step.ensures.group in
     named_still (tables_of node) (tables_of c.take_down.new.self) (me_of node) (me_of c.take_down.new.self) old.life.opening.mark old.publisher c.note.new.publisher old.named c.note.ensures.same.0 (same.0 ∙ seat.0) (same.2 ∙ seat.2)
+
+pub returns-in-Err-clause-cause : goal.returns-in-Err-clause-cause
+returns-in-Err-clause-cause g c =
+    let old = c.args.self.now in
+    let x = member_of old.node in
+    let m : ℕ = c.in-Some.mark in
+    let up = c.in-Ok-step.ensures.up.0 in
+    goes_down (published old.publisher ++ pending old.publisher) (marked m c.in-Ok-step.given.applied.items ++ marked_seal m c.in-Ok-step.given.sealed) c.in-Err.error _ _ _ _ c.in-Err.ensures.refused (λ honest rises.
+    let still = subst (λ (k : g.row.K.Denot). g.K.Shelf.is_honest k) c.take_down.ensures.keeper honest in
+    let after : node_after x (effect_at old.node (work_of c.args.packet)) ≡ member_of c.step.new.self = given_after x (tables_of old.node) (members_of old.node) (me_of old.node) c.in-Ok.work (work_of c.args.packet) (member_of c.step.new.self) c.in-Ok-step.given c.in-Ok.ensures (c.in-Ok-step.ensures.done up still) in
+    let all : Rises (items_of old.node old.life ++ items_by m x (node_after x (effect_at old.node (work_of c.args.packet)))) =
+    subst (λ (o : Option ℕ). MatchOption o ⊥ (λ (k : ℕ). Rises (items_of old.node old.life ++ items_by k x (node_after x (effect_at old.node (work_of c.args.packet)))))) (sym (sym c.in-Some.is ∙ c.mark_for.ensures)) rises in
+    in_order (published old.publisher) (pending old.publisher) (items_of old.node old.life) m x (member_of c.step.new.self) (node_after x (effect_at old.node (work_of c.args.packet))) c.in-Ok-step.given.applied.items c.in-Ok-step.given.sealed
+    (old.whole up (c.step.ensures.honest still)) after (c.in-Ok-step.ensures.applied still) (c.in-Ok-step.ensures.sealed still) all)

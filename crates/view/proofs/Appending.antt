@@ -1,0 +1,51 @@
+-- Items in which stamps rise, one after another.
+use Rattle.std.proofs.Common.{◌≡◌, ◌∙◌, ℕ, zero, suc, ◌+◌, ◌<◌, Option, Some, List, [], ◌∷◌, ◌++◌, length, take, drop, slice_get, get_or, refl, sym, ap, subst, arith, length-append}
+use Rattle.std.proofs.lemmas.List.{take-append-drop, take-append-le}
+use Rattle.logbook.specs.Pages.{Book}
+use Rattle.history.specs.declared.item.Item.{Item}
+use Rattle.history.specs.Items.{closed_in, Follows, closed_after, Rises}
+use Rattle.history.proofs.Rising.{rises_more, closed_more, rises_take, rises_after}
+use Rattle.view.specs.declared.published.Shown.{Shown}
+use Rattle.view.specs.Lists.{IsAt, IsGrown}
+use Rattle.view.proofs.Taking.{taken_more}
+
+-- an item may come after those that are published and pending
+follows_all : (n : ℕ) (items : List Item) (item : Item) → Follows (closed_in (take n items ++ drop n items)) item → Follows (closed_in items) item
+follows_all n items item h = subst (λ (xs : List Item). Follows (closed_in xs) item) (take-append-drop n items) h
+
+pub appended_rises : (n : ℕ) (items more : List Item) (item : Item) → Rises items → Follows (closed_in (take n items ++ drop n items)) item → more ≡ items ++ item ∷ [] → Rises more
+appended_rises n items more item rises h e = subst Rises (sym e) (rises_more items item rises (follows_all n items item h))
+
+pub appended_closed : (n : ℕ) (items more : List Item) (item : Item) (old new : Option ℕ) → Rises items → Follows (closed_in (take n items ++ drop n items)) item → more ≡ items ++ item ∷ [] → old ≡ closed_in items → new ≡ closed_after old item → new ≡ closed_in more
+appended_closed n items more item old new rises h e was is =
+    is ∙ ap (λ (t : Option ℕ). closed_after t item) was ∙ closed_more items item rises (follows_all n items item h) ∙ ap (λ (xs : List Item). closed_in xs) (sym e)
+
+-- each of the items may come after those before it
+pub next_follows : (n : ℕ) (items log : List Item) (item : Item) → Rises items → log ≡ take n items → slice_get items n ≡ Some item → Follows (closed_in log) item
+next_follows n items log item rises is here =
+    let first : Rises (take n items ++ item ∷ []) = subst Rises (taken_more items n item here) (rises_take (n + 1) items rises) in
+    subst (λ (xs : List Item). Follows (closed_in xs) item) (sym is) (rises_after (take n items) (item ∷ []) first).0
+
+-- what stood at a place in the list stands there in the longer one
+pub at_more : (s : Shown) (items more ys : List Item) (book : Book) (n : ℕ) → IsAt s items book n → more ≡ items ++ ys → IsAt s more book n
+at_more s items more ys book n h e =
+    let same : take n more ≡ take n items = ap (λ (xs : List Item). take n xs) e ∙ take-append-le n items ys h.3 in
+    let longer : length more ≡ length items + length ys = ap (λ (xs : List Item). length xs) e ∙ length-append items ys in
+    (h.0 ∙ sym same, h.1 ∙ sym same, h.2, omega (arith, h.3, longer))
+
+pub grown_more : (queued : ℕ) (items more ys : List Item) (count : ℕ) (log : List Item) → IsGrown queued items count log → more ≡ items ++ ys → IsGrown queued more count log
+grown_more queued items more ys count log h e =
+    let same : take count more ≡ take count items = ap (λ (xs : List Item). take count xs) e ∙ take-append-le count items ys h.3 in
+    let longer : length more ≡ length items + length ys = ap (λ (xs : List Item). length xs) e ∙ length-append items ys in
+    (h.0 ∙ sym same, h.1, h.2, omega (arith, h.3, longer))
+
+-- what an index within the list reads
+got_there : {A : Type 0} (xs : List A) (i : ℕ) (d : A) → i < length xs → slice_get xs i ≡ Some (get_or xs i d)
+got_there [] i d h = absurd (omega (arith, h))
+got_there (x ∷ xs) zero d h = refl
+got_there (x ∷ xs) (suc i) d h = got_there xs i d (omega (arith, h))
+
+-- the item that is read next may come after what the history has
+pub read_follows : (n queued : ℕ) (items log : List Item) (read item : Item) → Rises items → log ≡ take n items → n ≡ queued → queued < length items → read ≡ get_or items queued read → item ≡ read → Follows (closed_in log) item
+read_follows n queued items log read item rises is level within there copied =
+    next_follows n items log item rises is (ap (λ (k : ℕ). slice_get items k) level ∙ got_there items queued read within ∙ ap Some (sym there ∙ sym copied))
