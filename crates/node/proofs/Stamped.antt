@@ -1,5 +1,5 @@
 -- The applied entries of a member are stamped, since what it stores forms a log.
-use Rattle.std.proofs.Common.{◌≡◌, ◌∙◌, ℕ, zero, suc, ◌+◌, ◌≤◌, ◌<◌, Bool, true, false, nat_lt, nat_le, ◌&&◌, Option, Some, None, option_map, List, [], ◌∷◌, ◌++◌, take, drop, length, slice_get, refl, sym, ap, subst, arith}
+use Rattle.std.proofs.Common.{◌≡◌, ℕ, zero, suc, ◌≤◌, ◌<◌, true, nat_lt, nat_le, ◌&&◌, Option, Some, None, option_map, List, [], ◌∷◌, take, slice_get, refl, subst, arith}
 use Rattle.std.proofs.lemmas.Bool.{leb-true}
 use Rattle.std.specs.List.{list_all}
 use Rattle.model.specs.declared.entry.Entry.{Entry}
@@ -9,7 +9,6 @@ use Rattle.model.specs.Stamps.{TIME_LAST, above}
 use Rattle.model.specs.Transactions.{Schema}
 use Rattle.model.specs.Members.{applied, term_of}
 use Rattle.model.specs.Steps.{go_on, spells}
-use Rattle.sqlread.specs.Meaning.{schema_of}
 use Rattle.keep.specs.Log.{is_entry, is_numbered}
 use Rattle.keep.specs.Durable.{Durable}
 use Rattle.keep.specs.Log.{IsLog}

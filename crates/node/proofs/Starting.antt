@@ -1,8 +1,7 @@
 -- What forms a log may be started with, and what a member is then.
-use Rattle.std.proofs.Common.{◌≡◌, ◌∙◌, ℕ, zero, suc, ◌+◌, ◌-◌, ◌≤◌, min, Bool, true, false, nat_lt, nat_le, ◌&&◌, Option, Some, None, option_map, List, [], ◌∷◌, length, drop, refl, sym, ap, subst, arith, rules}
+use Rattle.std.proofs.Common.{◌≡◌, ◌∙◌, ℕ, zero, suc, ◌-◌, ◌≤◌, min, Bool, true, nat_lt, nat_le, ◌&&◌, Option, Some, None, option_map, List, [], ◌∷◌, length, drop, refl, sym, ap, subst, arith, rules}
 use Rattle.std.proofs.Common.{length-drop}
 use Rattle.std.proofs.lemmas.Bool.{leb-true, le-leb}
-use Rattle.std.proofs.lemmas.Grind.{merely}
 use Rattle.std.specs.Prelude.{vec_len}
 use Rattle.std.specs.List.{list_all}
 use Rattle.model.specs.declared.entry.Entry.{Entry}

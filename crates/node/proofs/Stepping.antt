@@ -1,5 +1,5 @@
 -- What one step of a core, once it is stored, makes of a member.
-use Rattle.std.proofs.Common.{◌≡◌, ◌∙◌, ℕ, ◌+◌, ◌≤◌, Bool, true, false, Option, Some, None, MatchOption, List, ◌++◌, take, length, slice_range, refl, sym, ap, subst, arith, inl, inr}
+use Rattle.std.proofs.Common.{◌≡◌, ◌∙◌, ℕ, ◌≤◌, true, false, Option, Some, None, MatchOption, List, ◌++◌, take, length, slice_range, sym, ap, subst, inl, inr}
 use Rattle.sqlchecks.specs.Columns as columns
 use Rattle.model.specs.declared.entry.Entry.{Entry}
 use Rattle.model.specs.declared.entry.Told.{Told}
@@ -8,7 +8,7 @@ use Rattle.model.specs.declared.message.Input.TheVariants.{Timeout, Beat, Close,
 use Rattle.model.specs.Kept.{node_after}
 use Rattle.model.specs.Members.{Node, applied}
 use Rattle.model.specs.Steps.{Effect, Moves}
-use Rattle.keep.specs.Durable.{Durable, after, IsBeforeOrAfter}
+use Rattle.keep.specs.Durable.{Durable, IsBeforeOrAfter}
 use Rattle.keep.specs.Log.{IsSmall}
 use Rattle.keep.specs.declared.change.Change.{Change}
 use Rattle.raft.specs.declared.state.Core.{Core}
@@ -17,7 +17,7 @@ use Rattle.raft.specs.declared.state.Taken.{Taken}
 use Rattle.raft.specs.declared.state.Work.{Work}
 use Rattle.raft.specs.declared.state.Work.TheVariants.{Local, Delivered}
 use Rattle.raft.specs.Memory.{spares_memory, is_idle}
-use Rattle.raft.specs.View.{ChangeFits, EffectFits, EffectForms, Grows, IsChange, IsInStep, IsSmallChange, IsStorable, after_change, log_of, node_of, works}
+use Rattle.raft.specs.View.{ChangeFits, EffectFits, EffectForms, Grows, IsInStep, IsSmallChange, after_change, log_of, node_of, works}
 use Rattle.apply.specs.declared.tables.Tables.{Tables}
 use Rattle.apply.specs.View.{AreTables}
 use Rattle.node.proofs.Starting.{stored_is}

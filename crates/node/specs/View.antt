@@ -1,5 +1,5 @@
 -- What a node stores, tells and answers, in the words of the definitions and of its keeper.
-use Rattle.std.specs.Prelude.{◌≡◌, ℕ, ◌+◌, ◌-◌, ◌≤◌, ◌<◌, Bool, false, nat_lt, if◌then◌else◌, Option, Some, None, Result, Ok, Err, List, [], length, ◌⊎◌}
+use Rattle.std.specs.Prelude.{◌≡◌, ℕ, ◌+◌, ◌-◌, ◌≤◌, Bool, false, nat_lt, if◌then◌else◌, Option, Some, None, Result, Ok, Err, List, [], length, ◌⊎◌}
 use Rattle.std.specs.List.{filter_map, range_with_len}
 use Rattle.model.specs.declared.entry.Entry.{Entry}
 use Rattle.model.specs.declared.entry.Told.{Told}
@@ -8,10 +8,10 @@ use Rattle.model.specs.Logs.{told_at}
 use Rattle.model.specs.Members.{Node}
 use Rattle.model.specs.Steps.{Effect, Moves, Refuses, Nothing}
 use Rattle.model.specs.Worlds.{fresh, started}
-use Rattle.keep.specs.Durable.{Durable, after, one_more, IsBeforeOrAfter}
+use Rattle.keep.specs.Durable.{Durable, one_more, IsBeforeOrAfter}
 use Rattle.keep.specs.declared.change.Change.{Change}
 use Rattle.keep.specs.declared.error.StoreError.{StoreError}
-use Rattle.keep.specs.declared.error.StoreError.TheVariants.{NoMemory, StoreFault, BadStore}
+use Rattle.keep.specs.declared.error.StoreError.TheVariants.{BadStore}
 pub use Rattle.raft.specs.View.{after_change, hard_of, works, Grows}
 pub use Rattle.raft.specs.Reading.{IsCause, IsCauseOr}
 pub use Rattle.raft.specs.Memory.{spares_memory}

@@ -1,5 +1,5 @@
 -- What reading calls leave of a shelf, one after another.
-use Rattle.std.proofs.Common.{◌≡◌, ◌∙◌, refl, inl, inr, ℕ, ◌≤◌, arith}
+use Rattle.std.proofs.Common.{◌∙◌, refl, inl, inr, ℕ, ◌≤◌, arith}
 use Rattle.model.specs.Transactions.{Schema}
 use Rattle.keep.specs.Durable.{Durable}
 use Rattle.keep.specs.declared.error.StoreError.{StoreError}

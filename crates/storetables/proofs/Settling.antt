@@ -12,7 +12,7 @@ use Rattle.keep.specs.Log.{IsLog, is_vote, is_numbered, is_entry}
 use Rattle.storetables.specs.Contents.{Contents, none_yet, number_of_vote, client_of, number_of, body_of, item_of, items_of, contents_of, vote_in, request_in, entry_in, entries_in, durable_in}
 use Rattle.storetables.specs.Tables.{schema, old_schema, no_schema}
 use Rattle.storetables.specs.Rows.{Holds, HoldsOld}
-use Rattle.storetables.specs.Stored.{stored_in, IsSettled, AreTexts, IsIn, Offers, IsBad, IsOpened, IsReady, IsSound, IsStored}
+use Rattle.storetables.specs.Stored.{stored_in, IsSettled, AreTexts, IsIn, Offers, IsBad, IsOpened, IsReady, IsSound}
 use Rattle.storetables.specs.Found.{read_back, no_tables, offers_stored}
 use Rattle.storetables.specs.Steps.{IsKept, IsMade, IsBlank, IsRaised, HasFloor}
 use Rattle.storetables.specs.Judging.{IsNoLog, IsFound}

@@ -1,4 +1,3 @@
-use Rattle.keep.specs.Durable.{Durable}
 use Rattle.raft.specs.View.{IsStateOf}
 use Rattle.node.proofs.Starting.{start_is}
 use Rattle.node.proofs.reading.read_state.Goals as goal

@@ -1,7 +1,5 @@
-use Rattle.std.proofs.Common.{◌≤◌, refl, sym, ap, subst}
-use Rattle.sqlite.specs.State.{HasCleanDisk}
+use Rattle.std.proofs.Common.{◌≤◌, refl, sym, subst}
 use Rattle.sqlite.specs.Held.{state}
-use Rattle.keep.specs.Durable.{Durable}
 use Rattle.storetables.specs.Stored.{stored_in, AreTexts, Offers}
 use Rattle.durable.proofs.Settling.{settled_stored, settled_forms}
 use Rattle.durable.proofs.keeper.SqlKeeperKeeper.open.Goals as goal

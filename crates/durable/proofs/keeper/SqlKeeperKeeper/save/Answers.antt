@@ -1,7 +1,7 @@
 use Rattle.std.proofs.Common.{◌≡◌, ◌+◌, ◌≤◌, inl, inr, true, length, ap, sym, subst, ◌∙◌, arith, rules}
 use Rattle.sqlite.specs.State.{HasCleanDisk}
 use Rattle.sqlite.specs.Held.{state}
-use Rattle.keep.specs.Durable.{Durable, after, IsBeforeOrAfter}
+use Rattle.keep.specs.Durable.{Durable}
 use Rattle.keep.specs.Log.{IsLog}
 use Rattle.storetables.specs.Stored.{contents_in, stored_in, IsSound, Offers}
 use Rattle.storetables.specs.Found.{offers_held}

@@ -1,8 +1,8 @@
-use Rattle.std.proofs.Common.{◌≡◌, true, length, refl, sym, ap, subst, ◌∙◌, rules}
+use Rattle.std.proofs.Common.{◌≡◌, true, length, sym, ap, subst, ◌∙◌, rules}
 use Rattle.sqlite.specs.State.{HasCleanDisk}
 use Rattle.sqlite.specs.Held.{state}
 use Rattle.sqlite.specs.Effect.{Database}
-use Rattle.keep.specs.Durable.{Durable, tail_of}
+use Rattle.keep.specs.Durable.{tail_of}
 use Rattle.keep.specs.Log.{IsLog}
 use Rattle.storetables.specs.Stored.{contents_in, stored_in, IsSound, Offers}
 use Rattle.storetables.proofs.Settling.{keeps_offers}

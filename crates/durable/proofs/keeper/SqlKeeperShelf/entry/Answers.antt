@@ -2,12 +2,11 @@ use Rattle.std.proofs.Common.{◌≡◌, true, length, slice_get, refl, sym, ap,
 use Rattle.sqlite.specs.State.{HasCleanDisk}
 use Rattle.sqlite.specs.Held.{state}
 use Rattle.sqlite.specs.Effect.{Database}
-use Rattle.keep.specs.Durable.{Durable, tail_of}
 use Rattle.keep.specs.Log.{IsLog}
 use Rattle.storetables.specs.Stored.{contents_in, stored_in, IsSound, Offers}
 use Rattle.storetables.proofs.Settling.{keeps_offers}
 use Rattle.storetables.proofs.Tails.{found_in}
-use Rattle.durable.proofs.Settling.{stored_length, same_settles, keeps_sound, keeps_same, keeps_stored}
+use Rattle.durable.proofs.Settling.{same_settles, keeps_sound, keeps_same, keeps_stored}
 use Rattle.durable.proofs.keeper.SqlKeeperShelf.entry.Goals as goal
 
 pub invariant_of-self-in-Ok : goal.invariant_of-self-in-Ok

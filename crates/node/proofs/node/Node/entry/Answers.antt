@@ -1,4 +1,4 @@
-use Rattle.std.proofs.Common.{◌≡◌, sym, subst}
+use Rattle.std.proofs.Common.{sym, subst}
 use Rattle.std.proofs.lemmas.Grind.{merely}
 use Rattle.keep.specs.Durable.{Durable}
 use Rattle.sqlread.specs.Meaning.{schema_of}

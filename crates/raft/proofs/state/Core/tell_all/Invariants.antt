@@ -1,5 +1,4 @@
-use Rattle.std.proofs.Common.{◌≡◌, List, map}
-use Rattle.model.specs.declared.message.Message.{Message}
+use Rattle.std.proofs.Common.{◌≡◌, map}
 use Rattle.model.specs.Members.{others}
 use Rattle.raft.proofs.state.Core.tell_all.Given as goal
 
