@@ -2,6 +2,7 @@
 ghost use Rattle.std.specs.Prelude.{◌≡◌, ◌≤◌, List, length, map, IfOk, IfErr, OnOk};
 ghost use Rattle.model.specs.Agreement.{Agree};
 ghost use Rattle.model.specs.Worlds.{Event as ModelEvent, new_world};
+ghost use Rattle.onelist.specs.Explained.{IsExplained};
 ghost use Rattle.sqlread.specs.Meaning.{schema_of};
 ghost use Rattle.world.specs.Run.{tables_in, members_in};
 ghost use Rattle.world.specs.View.{event_of};
@@ -68,7 +69,8 @@ fn explain(
 /// The events are those of a run that explains all of it: each node begins, takes what it took and tells what it told,
 /// is cut short, answers and ends as was recorded. Of flights of version 1 it is not known what the steps told, and
 /// their outcomes are not looked at. What a life begins with is its term, vote, floor and log; of versions 1 and 2 it has
-/// no floor. All members agree about the events, as `World::run` says.
+/// no floor. All members agree about the events, and one list of requests explains all that they told and answered in
+/// it, in order, as `World::run` says.
 ///
 /// A fault is 53 exactly where the marks of a node do not rise over its openings and steps, or a message's is not
 /// below that of the step that takes it; 43 aside. Else no events explain what was recorded. It is then 54 of an answer
@@ -87,11 +89,13 @@ pub fn audit(
     ensures rise { OnOk result (Rise lives.now) }
     ensures ok { IfOk result (λ events. Explains (record { version = version; tables = schema.now; lives = lives.now; answers = answers.now }) (map event_of events.items)) }
     ensures agree { IfOk result (λ events. Agree (schema_of schema.now) (length lives.now) (new_world (length lives.now)) (map event_of events.items)) }
+    ensures explained { IfOk result (λ events. IsExplained (schema_of schema.now) (length lives.now) (new_world (length lives.now)) (map event_of events.items)) }
     ensures order { IfErr result (IsOrderFault lives.now) }
     ensures no { IfErr result (OfRun (λ _. NoneAre (Explains (record { version = version; tables = schema.now; lives = lives.now; answers = answers.now })))) }
     ensures first { IfErr result (OfRun (IsFirst (record { version = version; tables = schema.now; lives = lives.now; answers = answers.now }))) }
 {
     safety::agreement();
+    onelist::one_list_explains();
     check_order(lives)?;
     explain(alloc, version, schema, lives, answers)
 }

@@ -7,3 +7,4 @@ pub mod Restarts
 pub mod Bringing
 pub mod Asking
 pub mod Starting
+pub mod Ways

@@ -1,7 +1,9 @@
 //! A group, and all that happened to it.
 ghost use Rattle.std.specs.Prelude.{◌≡◌, ◌++◌, ◌∷◌, ◌≤◌, ◌↔◌, [], true, false, map, None, IfOk, IsErr, IsOk, OnErr, OnOk, if◌then◌else◌};
-ghost use Rattle.model.specs.Agreement.{Agree};
+ghost use Rattle.model.specs.Agreement.{Agree, decided};
 ghost use Rattle.model.specs.Worlds.{Gives, GivesAll, new_world};
+ghost use Rattle.onelist.specs.Explained.{IsDecidedInOrder, IsExplained, WereSubmitted};
+ghost use Rattle.progress.specs.Progress.{CanServe};
 ghost use Rattle.sqlread.specs.Meaning.{schema_of};
 ghost use Rattle.sqlread.specs.Reading.{IsSchema};
 ghost use Rattle.world.specs.View.{commit_in, durable_in, entry_in, event_of, if_up, outputs_of, world_of, IsRun};
@@ -121,8 +123,21 @@ impl World {
     /// member that is not there, of a message that was not sent, a start of a member that is up, a
     /// stop or a cut step of one that is down, or a cut step by a message to another.
     ///
+    /// One list of requests explains all that happened so far: each request that was told of has its
+    /// outcome in it, each answer is the answer in it, each request in it was submitted, by an event of
+    /// its own, and what began after something was told or answered stands after it. So writes are
+    /// strictly serializable. What one member answers does not go back while it is up; one that was
+    /// stopped and started may answer of an earlier instant than before.
+    ///
     /// All members agree about all that happened so far: the State Machine Safety Property of "In
-    /// Search of an Understandable Consensus Algorithm", and what it comes to for answers.
+    /// Search of an Understandable Consensus Algorithm", and what it comes to for answers. What is
+    /// decided is such a list.
+    ///
+    /// And it is never stuck. If any majority of the members has room for two terms, two entries and two
+    /// instants more, starts, timeouts, beats and deliveries among these members alone, so many at most,
+    /// lead from where the group now is to where a request that can be read is decided, and all of them
+    /// tell the same outcome. Each is an event that this call takes. That a message is ever delivered is
+    /// nobody's promise.
     ///
     /// A question is closed up to the member's closed time: the last stamp that it has applied, or the
     /// greatest floor that it has sealed, whichever is greater. The answer is that in what it has applied,
@@ -139,6 +154,10 @@ impl World {
         ensures kept { OnOk result (events_of self.new ≡ events_of self.old ++ map event_of events.now) }
         ensures begun { OnErr result (AddsBeginning (events_of self.old) (events_of self.new) (map event_of events.now)) }
         ensures agree { Agree (schema_in self.new) (members_in self.new) (opening_of self.new) (events_of self.new) }
+        ensures explained { IsExplained (schema_in self.new) (members_in self.new) (opening_of self.new) (events_of self.new) }
+        ensures invented { WereSubmitted (events_of self.new) (decided (schema_in self.new) (members_in self.new) (opening_of self.new) (events_of self.new)) }
+        ensures ordered { IsDecidedInOrder (schema_in self.new) (members_in self.new) (opening_of self.new) (events_of self.new) }
+        ensures serves { CanServe (schema_in self.new) (members_in self.new) (now_of self.new) }
         ensures language { IsSchema (tables_in self.new) (schema_in self.new) }
         ensures tables { tables_in self.new ≡ tables_in self.old }
         ensures same { (schema_in self.new ≡ schema_in self.old) × (members_in self.new ≡ members_in self.old) }
@@ -149,6 +168,10 @@ impl World {
         ensures stays { self.old.is_spent ≡ true → self.new ≡ self.old }
     {
         safety::agreement();
+        onelist::one_list_explains();
+        onelist::nothing_invented();
+        onelist::in_real_order();
+        progress::always_serves();
         sqlread::laws::schema_is_spelled();
         self.check_live()?;
         match self.run_all(events) {

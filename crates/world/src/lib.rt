@@ -4,6 +4,7 @@
 pub mod event;
 mod group;
 pub mod history;
+pub mod laws;
 mod opening;
 pub mod output;
 mod seat;

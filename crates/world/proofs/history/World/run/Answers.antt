@@ -1,4 +1,5 @@
 use Rattle.std.proofs.Common.{rules}
+use Rattle.world.specs.Run.{events_of}
 use Rattle.world.proofs.history.World.run.Goals as goal
 
 pub returns-in_err-check_live-clause-gives : goal.returns-in_err-check_live-clause-gives
@@ -15,6 +16,18 @@ returns-in_err-check_live-clause-begun c = search rules
 
 pub returns-in_err-check_live-clause-agree : goal.returns-in_err-check_live-clause-agree
 returns-in_err-check_live-clause-agree c = search rules
+
+pub returns-in_err-check_live-clause-explained : goal.returns-in_err-check_live-clause-explained
+returns-in_err-check_live-clause-explained c = search rules
+
+pub returns-in_err-check_live-clause-invented : goal.returns-in_err-check_live-clause-invented
+returns-in_err-check_live-clause-invented c = search rules
+
+pub returns-in_err-check_live-clause-ordered : goal.returns-in_err-check_live-clause-ordered
+returns-in_err-check_live-clause-ordered c = search rules
+
+pub returns-in_err-check_live-clause-serves : goal.returns-in_err-check_live-clause-serves
+returns-in_err-check_live-clause-serves c = c.always_serves.ensures.new _ _ (events_of c.args.self.now)
 
 pub returns-in_err-check_live-clause-tables : goal.returns-in_err-check_live-clause-tables
 returns-in_err-check_live-clause-tables c = search rules
@@ -52,6 +65,18 @@ returns-in-Ok-clause-begun c = search rules
 pub returns-in-Ok-clause-agree : goal.returns-in-Ok-clause-agree
 returns-in-Ok-clause-agree c = search rules
 
+pub returns-in-Ok-clause-explained : goal.returns-in-Ok-clause-explained
+returns-in-Ok-clause-explained c = search rules
+
+pub returns-in-Ok-clause-invented : goal.returns-in-Ok-clause-invented
+returns-in-Ok-clause-invented c = search rules
+
+pub returns-in-Ok-clause-ordered : goal.returns-in-Ok-clause-ordered
+returns-in-Ok-clause-ordered c = search rules
+
+pub returns-in-Ok-clause-serves : goal.returns-in-Ok-clause-serves
+returns-in-Ok-clause-serves c = c.always_serves.ensures.new _ _ (events_of c.run_all.new.self)
+
 pub returns-in-Ok-clause-tables : goal.returns-in-Ok-clause-tables
 returns-in-Ok-clause-tables c = search rules
 
@@ -87,6 +112,18 @@ returns-in-Err-clause-begun c = search rules
 
 pub returns-in-Err-clause-agree : goal.returns-in-Err-clause-agree
 returns-in-Err-clause-agree c = search rules
+
+pub returns-in-Err-clause-explained : goal.returns-in-Err-clause-explained
+returns-in-Err-clause-explained c = search rules
+
+pub returns-in-Err-clause-invented : goal.returns-in-Err-clause-invented
+returns-in-Err-clause-invented c = search rules
+
+pub returns-in-Err-clause-ordered : goal.returns-in-Err-clause-ordered
+returns-in-Err-clause-ordered c = search rules
+
+pub returns-in-Err-clause-serves : goal.returns-in-Err-clause-serves
+returns-in-Err-clause-serves c = c.always_serves.ensures.new _ _ (events_of c.run_all.new.self)
 
 pub returns-in-Err-clause-tables : goal.returns-in-Err-clause-tables
 returns-in-Err-clause-tables c = search rules
