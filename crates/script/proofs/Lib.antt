@@ -1,3 +1,5 @@
 pub mod Mailing
 pub mod Playing
 pub mod Rounds
+pub mod Recovering
+pub mod Counting
