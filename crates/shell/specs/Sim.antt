@@ -5,6 +5,7 @@ use Rattle.lines.specs.declared.line.Line.{Line}
 use Rattle.lines.specs.Script.{HasLines, IsScriptFault}
 use Rattle.model.specs.Agreement.{Agree}
 use Rattle.model.specs.Worlds.{new_world}
+use Rattle.onelist.specs.Explained.{IsExplained}
 use Rattle.script.specs.declared.run_fault.RunFault.{RunFault}
 use Rattle.script.specs.declared.run_fault.RunFault.TheVariants.{Refused, Output}
 use Rattle.script.specs.Stage.{Act, opening_stage, played_all, events_in, IsPrinted, IsBegun}
@@ -15,11 +16,13 @@ use Rattle.sqlread.specs.Meaning.{schema_of}
 abbrev pub acts_of : ℕ → Tables → List Line → List Act
 acts_of members schema lines = (played_all schema members lines (opening_stage members)).acts
 
--- The text is a script, known bytes grow by exactly what its lines print, and all members agree about what happened.
+-- The text is a script, known bytes grow by exactly what its lines print, all members agree about what happened, and one list
+-- of requests explains, in order, all that they told and answered.
 abbrev pub PrintsScript : List ℕ → Option (List ℕ) → Option (List ℕ) → Type 0
 PrintsScript text old new = (members : ℕ) × (schema : Tables) × (lines : List Line) × HasLines text members schema lines
     × IsPrinted schema members (new_world members) (acts_of members schema lines) old new
     × Agree (schema_of schema) members (new_world members) (events_in (acts_of members schema lines))
+    × IsExplained (schema_of schema) members (new_world members) (events_in (acts_of members schema lines))
 
 -- the text is a script, and known bytes grow by a beginning of what its lines print
 abbrev pub BeginsScript : List ℕ → Option (List ℕ) → Option (List ℕ) → Type 0

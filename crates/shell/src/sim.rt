@@ -32,8 +32,9 @@ pub fn run_sim<R: io::Read, W: io::Write>(
     ensures bad { (line : ℕ) → result ≡ Err (RunFault.Refused (BadScript line)) → writer.new ≡ writer.old }
     ensures refused { (refusal : AnyRefusal) → result ≡ Err (RunFault.Refused refusal) → refusal ≢ NoMemory → writer.new ≡ writer.old }
 {
-    // Its contract says that all members agree about whatever happens.
+    // Their contracts say that all members agree about whatever happens, and that one list explains it.
     safety::agreement();
+    onelist::one_list_explains();
     let text = read_text(alloc, reader)?;
     let script = read_script(alloc, text.as_str())?;
     let Script {
