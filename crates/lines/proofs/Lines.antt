@@ -11,7 +11,7 @@ use Rattle.lines.specs.declared.line.Left.TheVariants.{Old, New}
 use Rattle.lines.specs.declared.line.Job.{Job}
 use Rattle.lines.specs.declared.line.Job.TheVariants as jobs
 use Rattle.lines.specs.declared.line.Line.{Line}
-use Rattle.lines.specs.declared.line.Line.TheVariants.{Clock, ClockAll, Submit, Timeout, Beat, Close, Floor, Deliver, Lose, LoseAll, Settle, Stop, Start, Torn, Ask}
+use Rattle.lines.specs.declared.line.Line.TheVariants.{Clock, ClockAll, Submit, Timeout, Beat, Close, Floor, Deliver, Lose, LoseAll, Settle, Recover, Stop, Start, Torn, Ask}
 use Rattle.lines.specs.Number.{IsSigned}
 use Rattle.lines.specs.Line.{left_text, request_text, job_text, line_text, IsNode, IsRequest, IsJobInRange, IsInRange, IsNoLine}
 use Rattle.lines.specs.Reading.{HasNoSpace, IsNoNode, IsNoRequest, IsNoJob, IsNoTorn, IsNoLong}
@@ -229,24 +229,25 @@ not_signed o word every none z signed e = never o z none (every z signed e)
 
 -- ---- lines of one word, and those that begin with none of the words
 
--- no space but in the one-word line
-pub line_unspaced : (members : ℕ) (text : List ℕ) → HasNoSpace text → text ≢ codes "settle" → IsNoLine members text
-line_unspaced members text h settle (Clock n z) range e = not_spaced text (codes "clock") _ h e
-line_unspaced members text h settle (ClockAll z) range e = not_spaced text (codes "clock") _ h e
-line_unspaced members text h settle (Submit n c k t) range e = not_spaced text (codes "submit") _ h e
-line_unspaced members text h settle (Timeout n) range e = not_spaced text (codes "timeout") _ h e
-line_unspaced members text h settle (Beat n) range e = not_spaced text (codes "beat") _ h e
-line_unspaced members text h settle (Close n) range e = not_spaced text (codes "close") _ h e
-line_unspaced members text h settle (Floor n) range e = not_spaced text (codes "floor") _ h e
-line_unspaced members text h settle (Deliver m) range e = not_spaced text (codes "deliver") _ h e
-line_unspaced members text h settle (Lose m) range e = not_spaced text (codes "lose") _ h e
-line_unspaced members text h settle LoseAll range e = not_spaced text (codes "lose") _ h e
-line_unspaced members text h settle (Settle None) range e = settle e
-line_unspaced members text h settle (Settle (Some r)) range e = not_spaced text (codes "settle") _ h e
-line_unspaced members text h settle (Stop n) range e = not_spaced text (codes "stop") _ h e
-line_unspaced members text h settle (Start n) range e = not_spaced text (codes "start") _ h e
-line_unspaced members text h settle (Torn n left job) range e = not_spaced text (codes "torn") _ h e
-line_unspaced members text h settle (Ask n t) range e = not_spaced text (codes "ask") _ h e
+-- no space, and neither of the one-word lines
+pub line_unspaced : (members : ℕ) (text : List ℕ) → HasNoSpace text → text ≢ codes "settle" → text ≢ codes "recover" → IsNoLine members text
+line_unspaced members text h settle recover (Clock n z) range e = not_spaced text (codes "clock") _ h e
+line_unspaced members text h settle recover (ClockAll z) range e = not_spaced text (codes "clock") _ h e
+line_unspaced members text h settle recover (Submit n c k t) range e = not_spaced text (codes "submit") _ h e
+line_unspaced members text h settle recover (Timeout n) range e = not_spaced text (codes "timeout") _ h e
+line_unspaced members text h settle recover (Beat n) range e = not_spaced text (codes "beat") _ h e
+line_unspaced members text h settle recover (Close n) range e = not_spaced text (codes "close") _ h e
+line_unspaced members text h settle recover (Floor n) range e = not_spaced text (codes "floor") _ h e
+line_unspaced members text h settle recover (Deliver m) range e = not_spaced text (codes "deliver") _ h e
+line_unspaced members text h settle recover (Lose m) range e = not_spaced text (codes "lose") _ h e
+line_unspaced members text h settle recover LoseAll range e = not_spaced text (codes "lose") _ h e
+line_unspaced members text h settle recover (Settle None) range e = settle e
+line_unspaced members text h settle recover (Settle (Some r)) range e = not_spaced text (codes "settle") _ h e
+line_unspaced members text h settle recover Recover range e = recover e
+line_unspaced members text h settle recover (Stop n) range e = not_spaced text (codes "stop") _ h e
+line_unspaced members text h settle recover (Start n) range e = not_spaced text (codes "start") _ h e
+line_unspaced members text h settle recover (Torn n left job) range e = not_spaced text (codes "torn") _ h e
+line_unspaced members text h settle recover (Ask n t) range e = not_spaced text (codes "ask") _ h e
 
 -- none of the first words that begin a line with one number
 pub record IsNoShort (word : List ℕ) : Type 0 where
@@ -278,6 +279,7 @@ module _ (members : ℕ) (word rest : List ℕ) (first : HasNoSpace word) where
   line_word long short LoseAll range e = short.lose (begins _ (codes "all") refl e)
   line_word long short (Settle None) range e = not_spaced (codes "settle") word rest (no_space_test (codes "settle") refl) (sym e)
   line_word long short (Settle (Some r)) range e = short.settle (begins _ _ refl e)
+  line_word long short Recover range e = not_spaced (codes "recover") word rest (no_space_test (codes "recover") refl) (sym e)
   line_word long short (Stop n) range e = short.stop (begins _ _ refl e)
   line_word long short (Start n) range e = short.start (begins _ _ refl e)
   line_word long short (Torn n left job) range e = long.1 (begins _ _ refl e)

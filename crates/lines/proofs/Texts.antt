@@ -14,7 +14,7 @@ use Rattle.lines.specs.declared.line.Left.TheVariants.{Old, New}
 use Rattle.lines.specs.declared.line.Job.{Job}
 use Rattle.lines.specs.declared.line.Job.TheVariants as jobs
 use Rattle.lines.specs.declared.line.Line.{Line}
-use Rattle.lines.specs.declared.line.Line.TheVariants.{Clock, ClockAll, Submit, Timeout, Beat, Close, Floor, Deliver, Lose, LoseAll, Settle, Stop, Start, Torn, Ask}
+use Rattle.lines.specs.declared.line.Line.TheVariants.{Clock, ClockAll, Submit, Timeout, Beat, Close, Floor, Deliver, Lose, LoseAll, Settle, Recover, Stop, Start, Torn, Ask}
 use Rattle.lines.specs.Number.{IsSigned}
 use Rattle.lines.specs.Line.{left_text, request_text, job_text, line_text, IsNode, IsRequest, IsJobInRange, IsInRange}
 
@@ -82,6 +82,7 @@ kind_of (Deliver m) = kind (codes "deli")
 kind_of (Lose m) = kind (codes "lose")
 kind_of LoseAll = kind (codes "lose")
 kind_of (Settle r) = kind (codes "sett")
+kind_of Recover = kind (codes "reco")
 kind_of (Stop n) = kind (codes "stop")
 kind_of (Start n) = kind (codes "star")
 kind_of (Torn n left job) = kind (codes "torn")
@@ -130,6 +131,7 @@ module _ (members : ℕ) (few : members < 2 ^ 64) where
   same_line (Settle (Some r)) (Settle (Some r')) h k e = ap (λ n. Settle (Some n)) (decimal_injective r r' (omega (arith, h.1)) (omega (arith, k.1)) (ap (drop 7) e))
   same_line (Settle None) (Settle (Some r)) h k e = absurd (nothing_more (decimal r) (ap (drop 6) e))
   same_line (Settle (Some r)) (Settle None) h k e = absurd (nothing_more (decimal r) (ap (drop 6) (sym e)))
+  same_line Recover Recover h k e = refl
   same_line (Stop n) (Stop n') h k e = ap Stop (same_node n n' h k (ap (drop 5) e))
   same_line (Start n) (Start n') h k e = ap Start (same_node n n' h k (ap (drop 6) e))
   same_line (Torn n left job) (Torn n' left' job') h k e =

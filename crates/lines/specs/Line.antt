@@ -7,7 +7,7 @@ use Rattle.lines.specs.declared.line.Left.TheVariants.{Old, New}
 use Rattle.lines.specs.declared.line.Job.{Job}
 use Rattle.lines.specs.declared.line.Job.TheVariants as jobs
 use Rattle.lines.specs.declared.line.Line.{Line}
-use Rattle.lines.specs.declared.line.Line.TheVariants.{Clock, ClockAll, Submit, Timeout, Beat, Close, Floor, Deliver, Lose, LoseAll, Settle, Stop, Start, Torn, Ask}
+use Rattle.lines.specs.declared.line.Line.TheVariants.{Clock, ClockAll, Submit, Timeout, Beat, Close, Floor, Deliver, Lose, LoseAll, Settle, Recover, Stop, Start, Torn, Ask}
 
 abbrev pub left_text : Left → List ℕ
 left_text Old = codes "old"
@@ -38,6 +38,7 @@ line_text (Lose message) = codes "lose " ++ decimal message
 line_text LoseAll = codes "lose all"
 line_text (Settle None) = codes "settle"
 line_text (Settle (Some rounds)) = codes "settle " ++ decimal rounds
+line_text Recover = codes "recover"
 line_text (Stop node) = codes "stop " ++ decimal node
 line_text (Start node) = codes "start " ++ decimal node
 line_text (Torn node left job) = codes "torn " ++ (decimal node ++ 32 ∷ (left_text left ++ 32 ∷ job_text job))
@@ -73,6 +74,7 @@ IsInRange members (Lose message) = message < 2 ^ 64
 IsInRange members LoseAll = ⊤
 IsInRange members (Settle None) = ⊤
 IsInRange members (Settle (Some rounds)) = (1 ≤ rounds) × (rounds ≤ 100)
+IsInRange members Recover = ⊤
 IsInRange members (Stop node) = IsNode members node
 IsInRange members (Start node) = IsNode members node
 IsInRange members (Torn node left job) = IsNode members node × IsJobInRange job

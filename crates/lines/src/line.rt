@@ -84,6 +84,8 @@ pub enum Line {
     Settle {
         rounds: Option<u8>,
     },
+    /// `recover`: all nodes are brought to where one leads and all have applied its log.
+    Recover,
     /// `stop N`: a node goes down, and keeps only what it has stored.
     Stop {
         node: Member,
@@ -112,10 +114,10 @@ pub fn read_line(alloc: Global, members: usize, text: &str) -> Result<Option<Lin
     ensures none { IfOk result (λ read. IfNone read (IsNoLine members text.now)) }
 {
     let Some((word, rest)) = split_word(text) else {
-        return Ok(if text == "settle" {
-            Some(Line::Settle { rounds: None })
-        } else {
-            None
+        return Ok(match text {
+            "settle" => Some(Line::Settle { rounds: None }),
+            "recover" => Some(Line::Recover),
+            _ => None,
         });
     };
     match word {
