@@ -1,3 +1,4 @@
 pub mod Mailing
 pub mod Playing
 pub mod Rounds
+pub mod Recovering

@@ -1,5 +1,6 @@
 pub mod Mail
 pub mod Printing
+pub mod Standing
 pub mod Stage
 pub mod Faults
 pub mod Plays

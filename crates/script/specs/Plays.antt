@@ -18,6 +18,14 @@ tables_of p = tables_in p.world
 abbrev pub members_of : Play → ℕ
 members_of p = members_in p.world
 
+-- nothing happened, and memory was not refused
+pub record IsStill (old new : Play) : Type 0 where
+  pub stage : stage_of new ≡ stage_of old
+  pub events : events_of new.world ≡ events_of old.world
+  pub tables : tables_of new ≡ tables_of old
+  pub members : members_of new ≡ members_of old
+  pub live : new.world.is_spent ≡ false
+
 -- the group, to which memory was never refused, and to which exactly these events happened since
 pub record Moves (old : World) (new : Play) (p : Played) : Type 0 where
   pub stage : stage_of new ≡ p.stage

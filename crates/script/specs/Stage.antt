@@ -1,5 +1,5 @@
 -- What the lines of a script bring to a group, and what is printed of it.
-use Rattle.std.specs.Prelude.{◌≡◌, ℕ, zero, suc, ℤ, pos, Bool, ◌==◌, if◌then◌else◌, is_some, unwrap_or, Option, Some, None, Result, Ok, Err, List, [], ◌∷◌, ◌++◌, map, drop, length, replicate}
+use Rattle.std.specs.Prelude.{◌≡◌, ℕ, zero, suc, ◌+◌, ◌*◌, ℤ, pos, Bool, ◌==◌, if◌then◌else◌, is_some, unwrap_or, Option, Some, None, Result, Ok, Err, List, [], ◌∷◌, ◌++◌, map, drop, length, replicate}
 use Rattle.std.specs.List.{All, flat_map}
 use Rattle.std.specs.Io.KnownBytes.{Appends}
 use Rattle.fault.specs.declared.refusal.Refusal.{Refusal}
@@ -24,10 +24,11 @@ use Rattle.lines.specs.declared.line.Job.TheVariants as torn
 use Rattle.lines.specs.declared.line.Left.{Left as TornLeft}
 use Rattle.lines.specs.declared.line.Left.TheVariants as kept
 use Rattle.lines.specs.declared.line.Line.{Line}
-use Rattle.lines.specs.declared.line.Line.TheVariants.{Clock, ClockAll, Submit, Timeout, Beat, Close, Floor, Deliver, Lose, LoseAll, Settle, Stop, Start, Torn as TornLine, Ask}
+use Rattle.lines.specs.declared.line.Line.TheVariants.{Clock, ClockAll, Submit, Timeout, Beat, Close, Floor, Deliver, Lose, LoseAll, Settle, Recover, Stop, Start, Torn as TornLine, Ask}
 use Rattle.script.specs.declared.sent.Sent.{Sent}
 use Rattle.script.specs.Mail.{newly_sent, as_delivered, as_lost, changed, left_from}
 use Rattle.script.specs.Printing.{output_text}
+use Rattle.script.specs.Standing.{standing_at, ends_own, foremost, longest, is_well}
 
 -- what a line brings: an event; a question that a member is asked, which is an event too; or the refusal of a text by a member
 -- to which nothing is brought
@@ -64,6 +65,10 @@ is_up w m = is_some (if_up (nth w.nodes m))
 -- the k-th message counts as delivered
 abbrev pub delivered : Stage → ℕ → Stage
 delivered s k = record { clocks = s.clocks; world = s.world; sent = changed as_delivered s.sent k }
+
+-- all messages so far are lost
+abbrev pub all_lost : Stage → Stage
+all_lost s = record { clocks = s.clocks; world = s.world; sent = map as_lost s.sent }
 
 -- ---- lines
 
@@ -121,6 +126,47 @@ module _ (tables : Tables) (n : ℕ) where
   rounds zero s = nothing s
   rounds (suc r) s = followed (round s) (rounds r)
 
+  -- so many members from member m on are started
+  abbrev pub starts : ℕ → ℕ → Stage → Played
+  starts zero m s = nothing s
+  starts (suc more) m s = followed (event_at s (model.Start m)) (starts more (suc m))
+
+  -- so many messages from the k-th on are delivered, each after the one before; those that this sends are among them
+  abbrev pub deliveries_from : ℕ → ℕ → Stage → Played
+  deliveries_from zero k s = nothing s
+  deliveries_from (suc more) k s = followed (delivery s k (nth s.sent k)) (deliveries_from more (suc k))
+
+  -- the timer of member m goes off, and it is told to send its heartbeats
+  abbrev pub stirred : ℕ → Stage → Played
+  stirred m s = followed (event_at s (model.Hand m input.Timeout)) (λ t. event_at t (model.Hand m input.Beat))
+
+  -- of what is sent then two messages for each member, which has a clock, are delivered, as the first of them come: to each other one,
+  -- and back
+  abbrev pub turn : ℕ → Stage → Played
+  turn m s = followed (stirred m s) (deliveries_from (2 * length s.clocks) (suc (length s.sent)))
+
+  -- so many turns, until all is well
+  abbrev pub turns : ℕ → ℕ → Stage → Played
+  turns zero m s = nothing s
+  turns (suc more) m s = if is_well (length s.clocks) s.world m then nothing s else followed (turn m s) (turns more m)
+
+  -- As many turns as it takes to bring each member the log of m, where none is longer than so many entries. A leader that could append no
+  -- entry of its term had no stamp or no room left: told to close, it says which.
+  abbrev pub spread_or_said : ℕ → ℕ → Stage → Played
+  spread_or_said m most s = if ends_own (standing_at s.world m) then turns (2 * most + 4) m s else event_at s (model.Hand m (input.Close (reading_of s m)))
+
+  -- two turns first: in the first member m hears of the greatest term, in the second it is elected
+  abbrev pub led_on : ℕ → ℕ → Stage → Played
+  led_on m most s = followed (turns 2 m s) (spread_or_said m most)
+
+  -- one whose log is most up to date leads all on, and messages that are still on their way are lost
+  abbrev pub all_led_on : Stage → Played
+  all_led_on s = followed (led_on (foremost (length s.clocks) s.world) (longest (length s.clocks) s.world) s) (λ t. nothing (all_lost t))
+
+  -- all are started first
+  abbrev pub recovery : Stage → Played
+  recovery s = followed (starts (length s.clocks) 1 s) all_led_on
+
   abbrev pub torn_delivery : Stage → ℕ → ℕ → Option Sent → Option Job
   torn_delivery s m k None = None
   torn_delivery s m k (Some message) = if message.addressee == m then Some (Delivery k (reading_of s m)) else None
@@ -163,8 +209,9 @@ module _ (tables : Tables) (n : ℕ) where
   played s (Floor m) = event_at s (model.Hand m (input.Floor (reading_of s m)))
   played s (Deliver k) = delivery s k (nth s.sent k)
   played s (Lose k) = nothing (record { clocks = s.clocks; world = s.world; sent = changed as_lost s.sent k })
-  played s LoseAll = nothing (record { clocks = s.clocks; world = s.world; sent = map as_lost s.sent })
+  played s LoseAll = nothing (all_lost s)
   played s (Settle most) = rounds (unwrap_or most 100) s
+  played s Recover = recovery s
   played s (Stop m) = event_at s (model.Stop m)
   played s (Start m) = event_at s (model.Start m)
   played s (TornLine m left job) = if is_up s.world m then tear_of s m (left_in left) job (job_at s m job) else nothing s

@@ -5,6 +5,8 @@ mod mail;
 mod play;
 pub mod player;
 pub mod printing;
+mod recovery;
 pub mod run_fault;
 mod sent;
+mod standing;
 mod writing;

@@ -35,8 +35,8 @@ pub(crate) struct Play {
     alloc: Global,
     pub(crate) world: World,
     // In order of the members, which count from 1.
-    clocks: Vec<i64>,
-    mail: Mail,
+    pub(crate) clocks: Vec<i64>,
+    pub(crate) mail: Mail,
 }
 
 impl Play {
@@ -62,7 +62,7 @@ impl Play {
     }
 
     // What the clock of a member shows.
-    fn reading_of(&self, node: Member) -> i64
+    pub(crate) fn reading_of(&self, node: Member) -> i64
         ensures { result ≡ reading_of (stage_of self.now) node }
     {
         if 1 <= node && node <= self.clocks.len() {
@@ -101,7 +101,7 @@ impl Play {
 
     // Lets an event happen, and prints what it gives.
     #[tactic(auto, using(crate::proofs::Playing::nothing_yet))]
-    fn happen<W: io::Write>(&mut self, event: Event, writer: &mut W) -> Result<(), RunFault>
+    pub(crate) fn happen<W: io::Write>(&mut self, event: Event, writer: &mut W) -> Result<(), RunFault>
         requires live { self.old.world.is_spent ≡ false }
         ensures { Plays self.old.world result self.new (event_at (tables_of self.old) (members_of self.old) (stage_of self.old) (event_of event)) (W.contents writer.old) (W.contents writer.new) }
     {
@@ -150,7 +150,7 @@ impl Play {
         }
     }
 
-    fn lose_all(&mut self)
+    pub(crate) fn lose_all(&mut self)
         ensures stage { stage_of self.new ≡ (played_by (tables_of self.old) (members_of self.old) (stage_of self.old) Line.LoseAll).stage }
         ensures world { self.new.world ≡ self.old.world }
     {
@@ -208,7 +208,7 @@ impl Play {
     }
 
     // Delivers the message at this place among those sent.
-    fn deliver_at<W: io::Write>(&mut self, place: usize, writer: &mut W) -> Result<(), RunFault>
+    pub(crate) fn deliver_at<W: io::Write>(&mut self, place: usize, writer: &mut W) -> Result<(), RunFault>
         requires live { self.old.world.is_spent ≡ false }
         requires sent { place < length self.old.mail }
         ensures { Plays self.old.world result self.new (delivery (tables_of self.old) (members_of self.old) (stage_of self.old) (suc place) (nth self.old.mail (suc place))) (W.contents writer.old) (W.contents writer.new) }
@@ -407,6 +407,7 @@ impl Play {
             }
             Line::Deliver { message } => self.deliver(*message, writer),
             Line::Settle { rounds } => self.settle(rounds.unwrap_or(ROUNDS_MOST), writer),
+            Line::Recover => self.recover(writer),
             Line::Stop { node } => self.happen(Event::Stop(*node), writer),
             Line::Start { node } => self.happen(Event::Start(*node), writer),
             Line::Torn { node, left, job } => self.tear(*node, *left, job, writer),

@@ -1,0 +1,221 @@
+//! Bringing a group to where one member leads and all have applied its log.
+ghost use Rattle.std.specs.Prelude.{◌≡◌, false, suc, length, IfOk, OnOk};
+ghost use Rattle.script.specs.Standing.{foremost, is_well, longest, standing_at};
+ghost use Rattle.script.specs.Stage.{all_led_on, deliveries_from, led_on, recovery, spread_or_said, starts, stirred, turn, turns};
+
+use crate::play::Play;
+use crate::run_fault::RunFault;
+use crate::standing::Standing;
+use model::member::Member;
+use model::message::Input;
+use std::alloc::AllocError;
+use std::io;
+use world::event::Event;
+
+// How many turns a member takes at most to be elected.
+const TURNS_TO_LEAD: u128 = 2;
+
+impl Play {
+    ghost use Rattle.script.specs.Plays.{stage_of, tables_of, members_of, IsStill, Plays};
+
+    // How a member stands.
+    fn standing(&mut self, node: Member) -> Result<Standing, AllocError>
+        requires live { self.old.world.is_spent ≡ false }
+        ensures standing { IfOk result (λ standing. standing ≡ standing_at (stage_of self.old).world node) }
+        ensures still { OnOk result (IsStill self.old self.new) }
+    {
+        let applied = self.world.commit(node).unwrap_or(0);
+        let Some(stored) = self.world.durable(node)? else {
+            return Ok(Standing::NONE);
+        };
+        let last_term = match self.world.entry(node, stored.length)? {
+            Some(entry) => entry.term,
+            None => 0,
+        };
+        Ok(Standing {
+            term: stored.hard.term,
+            last_term,
+            length: stored.length,
+            applied,
+        })
+    }
+
+    // A member whose log is most up to date, and how long the longest log is.
+    fn survey(&mut self) -> Result<(Member, usize), AllocError>
+        requires live { self.old.world.is_spent ≡ false }
+        ensures foremost { IfOk result (λ p. p.0 ≡ foremost (length (stage_of self.old).clocks) (stage_of self.old).world) }
+        ensures longest { IfOk result (λ p. p.1 ≡ longest (length (stage_of self.old).clocks) (stage_of self.old).world) }
+        ensures still { OnOk result (IsStill self.old self.new) }
+    {
+        let mut first = 0;
+        let mut best = Standing::NONE;
+        let mut longest = 0;
+        let members = self.clocks.len();
+        for place in 0..members {
+            let standing = self.standing(place + 1)?;
+            longest = standing.length.max(longest);
+            if standing.is_up_to_date(best) {
+                first = place + 1;
+                best = standing;
+            }
+        }
+        Ok((first, longest))
+    }
+
+    // Whether the log of a member ends with an entry of its term, and each is in that term and has applied as much.
+    fn is_well(&mut self, node: Member) -> Result<bool, AllocError>
+        requires live { self.old.world.is_spent ≡ false }
+        ensures well { IfOk result (λ well. well ≡ is_well (length (stage_of self.old).clocks) (stage_of self.old).world node) }
+        ensures still { OnOk result (IsStill self.old self.new) }
+    {
+        let leader = self.standing(node)?;
+        let mut are_in_step = true;
+        let members = self.clocks.len();
+        for place in 0..members {
+            let standing = self.standing(place + 1)?;
+            are_in_step = are_in_step && standing.is_in_step(leader);
+        }
+        Ok(leader.ends_own() && are_in_step)
+    }
+
+    // Starts all members.
+    fn start_all<W: io::Write>(&mut self, writer: &mut W) -> Result<(), RunFault>
+        requires live { self.old.world.is_spent ≡ false }
+        ensures { Plays self.old.world result self.new (starts (tables_of self.old) (members_of self.old) (length (stage_of self.old).clocks) 1 (stage_of self.old)) (W.contents writer.old) (W.contents writer.new) }
+    {
+        let members = self.clocks.len();
+        for place in 0..members {
+            if let Err(fault) = self.happen(Event::Start(place + 1), writer) {
+                return Err(fault);
+            }
+        }
+        Ok(())
+    }
+
+    // Delivers so many messages from this place on, or fewer, until none is left.
+    fn deliver_from<W: io::Write>(
+        &mut self,
+        first: usize,
+        most: u128,
+        writer: &mut W,
+    ) -> Result<(), RunFault>
+        requires live { self.old.world.is_spent ≡ false }
+        ensures { Plays self.old.world result self.new (deliveries_from (tables_of self.old) (members_of self.old) most (suc first) (stage_of self.old)) (W.contents writer.old) (W.contents writer.new) }
+    {
+        let mut place = first;
+        for delivered in 0..most {
+            if self.mail.len() <= place {
+                return Ok(());
+            }
+            if let Err(fault) = self.deliver_at(place, writer) {
+                return Err(fault);
+            }
+            place += 1;
+        }
+        Ok(())
+    }
+
+    // The timer of a member goes off, and it is told to send its heartbeats.
+    fn stir<W: io::Write>(&mut self, node: Member, writer: &mut W) -> Result<(), RunFault>
+        requires live { self.old.world.is_spent ≡ false }
+        ensures { Plays self.old.world result self.new (stirred (tables_of self.old) (members_of self.old) node (stage_of self.old)) (W.contents writer.old) (W.contents writer.new) }
+    {
+        if let Err(fault) = self.happen(Event::Hand(node, Input::Timeout), writer) {
+            return Err(fault);
+        }
+        self.happen(Event::Hand(node, Input::Beat), writer)
+    }
+
+    // A member is stirred, and of what is sent then two messages for each member are delivered: to each other one, and
+    // back.
+    fn turn<W: io::Write>(&mut self, node: Member, writer: &mut W) -> Result<(), RunFault>
+        requires live { self.old.world.is_spent ≡ false }
+        ensures { Plays self.old.world result self.new (turn (tables_of self.old) (members_of self.old) node (stage_of self.old)) (W.contents writer.old) (W.contents writer.new) }
+    {
+        let sent = self.mail.len();
+        let members = self.clocks.len();
+        if let Err(fault) = self.stir(node, writer) {
+            return Err(fault);
+        }
+        self.deliver_from(sent, 2 * (members as u128), writer)
+    }
+
+    // So many turns, or fewer, until all is well.
+    fn take_turns<W: io::Write>(
+        &mut self,
+        node: Member,
+        most: u128,
+        writer: &mut W,
+    ) -> Result<(), RunFault>
+        requires live { self.old.world.is_spent ≡ false }
+        ensures { Plays self.old.world result self.new (turns (tables_of self.old) (members_of self.old) most node (stage_of self.old)) (W.contents writer.old) (W.contents writer.new) }
+    {
+        for taken in 0..most {
+            if self.is_well(node)? {
+                return Ok(());
+            }
+            if let Err(fault) = self.turn(node, writer) {
+                return Err(fault);
+            }
+        }
+        Ok(())
+    }
+
+    // A member that was to be elected brings its log to all, or says why it cannot append an entry.
+    fn spread_or_say<W: io::Write>(
+        &mut self,
+        node: Member,
+        longest: usize,
+        writer: &mut W,
+    ) -> Result<(), RunFault>
+        requires live { self.old.world.is_spent ≡ false }
+        ensures { Plays self.old.world result self.new (spread_or_said (tables_of self.old) (members_of self.old) node longest (stage_of self.old)) (W.contents writer.old) (W.contents writer.new) }
+    {
+        if self.standing(node)?.ends_own() {
+            let most = 2 * (longest as u128) + 4;
+            return self.take_turns(node, most, writer);
+        }
+        let reading = self.reading_of(node);
+        self.happen(Event::Hand(node, Input::Close { reading }), writer)
+    }
+
+    // A member leads the others on, whose logs have at most so many entries.
+    fn lead_on<W: io::Write>(
+        &mut self,
+        node: Member,
+        longest: usize,
+        writer: &mut W,
+    ) -> Result<(), RunFault>
+        requires live { self.old.world.is_spent ≡ false }
+        ensures { Plays self.old.world result self.new (led_on (tables_of self.old) (members_of self.old) node longest (stage_of self.old)) (W.contents writer.old) (W.contents writer.new) }
+    {
+        if let Err(fault) = self.take_turns(node, TURNS_TO_LEAD, writer) {
+            return Err(fault);
+        }
+        self.spread_or_say(node, longest, writer)
+    }
+
+    // One whose log is most up to date leads all on, and messages that are still on their way are lost.
+    fn lead_all<W: io::Write>(&mut self, writer: &mut W) -> Result<(), RunFault>
+        requires live { self.old.world.is_spent ≡ false }
+        ensures { Plays self.old.world result self.new (all_led_on (tables_of self.old) (members_of self.old) (stage_of self.old)) (W.contents writer.old) (W.contents writer.new) }
+    {
+        let (node, longest) = self.survey()?;
+        if let Err(fault) = self.lead_on(node, longest, writer) {
+            return Err(fault);
+        }
+        self.lose_all();
+        Ok(())
+    }
+
+    // Starts all members, and one whose log is most up to date leads them on.
+    pub(crate) fn recover<W: io::Write>(&mut self, writer: &mut W) -> Result<(), RunFault>
+        requires live { self.old.world.is_spent ≡ false }
+        ensures { Plays self.old.world result self.new (recovery (tables_of self.old) (members_of self.old) (stage_of self.old)) (W.contents writer.old) (W.contents writer.new) }
+    {
+        if let Err(fault) = self.start_all(writer) {
+            return Err(fault);
+        }
+        self.lead_all(writer)
+    }
+}

@@ -1,0 +1,45 @@
+//! How a member stands, as far as its group tells.
+ghost use Rattle.std.specs.Prelude.{◌≡◌};
+ghost use Rattle.script.specs.Standing.{ends_own, is_in_step, is_up_to_date};
+
+// Of one that is down, or not there, all is 0.
+#[derive(Clone, Copy)]
+pub(crate) struct Standing {
+    pub(crate) term: u64,
+    // The term of the last entry of its log.
+    pub(crate) last_term: u64,
+    // How many entries its log has, and how many of them it has applied.
+    pub(crate) length: usize,
+    pub(crate) applied: usize,
+}
+
+impl Standing {
+    pub(crate) const NONE: Standing = Standing {
+        term: 0,
+        last_term: 0,
+        length: 0,
+        applied: 0,
+    };
+
+    // Whether its log is at least as up to date as the other's.
+    pub(crate) fn is_up_to_date(self, other: Standing) -> bool
+        ensures { result ≡ is_up_to_date self other }
+    {
+        other.last_term < self.last_term
+            || (other.last_term == self.last_term && other.length <= self.length)
+    }
+
+    // Whether its log ends with an entry of its term.
+    pub(crate) fn ends_own(self) -> bool
+        ensures { result ≡ ends_own self }
+    {
+        0 < self.length && self.last_term == self.term
+    }
+
+    // Whether it is in the term of the other, with as much applied as the other's log has.
+    pub(crate) fn is_in_step(self, other: Standing) -> bool
+        ensures { result ≡ is_in_step self other }
+    {
+        self.term == other.term && self.applied == other.length
+    }
+}
