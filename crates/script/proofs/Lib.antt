@@ -2,3 +2,4 @@ pub mod Mailing
 pub mod Playing
 pub mod Rounds
 pub mod Recovering
+pub mod Counting

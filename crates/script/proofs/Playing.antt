@@ -237,7 +237,7 @@ run_more : (s : Schema) (n : ℕ) (w : World) (es fs : List Event) → run s n w
 run_more s n w [] fs = refl
 run_more s n w (e ∷ es) fs = run_more s n (happens s n w e) es fs
 
-events_append : (xs ys : List Act) → events_in (xs ++ ys) ≡ events_in xs ++ events_in ys
+pub events_append : (xs ys : List Act) → events_in (xs ++ ys) ≡ events_in xs ++ events_in ys
 events_append [] ys = refl
 events_append (Happens e ∷ xs) ys = ap (λ es. e ∷ es) (events_append xs ys)
 events_append (Asks m q ∷ xs) ys = ap (λ es. model.Ask m (select_of q) ∷ es) (events_append xs ys)

@@ -94,21 +94,21 @@ module _ (old mid : Play) (live : old.world.is_spent ≡ false) (still : IsStill
 
 -- ---- how a member stands
 
-pub stands_down : (member : Option Node) → None ≡ option_map (λ x. stored_of (durable_of x)) member → standing_of member ≡ record { term = 0; last_term = 0; length = 0; applied = 0 }
+pub stands_down : (member : Option Node) → None ≡ option_map (λ x. stored_of (durable_of x)) member → record { term = 0; last_term = 0; length = 0; applied = 0 } ≡ standing_of member
 stands_down None e = refl
 stands_down (Some x) e = absurd (some_is_not_none e)
 
-pub stands_up : (member : Option Node) (stored : Stored) (entry : Option Entry) (applied : Option ℕ) → Some stored ≡ option_map (λ x. stored_of (durable_of x)) member →
-    entry ≡ option_and_then (λ x. nth x.log stored.length) member → applied ≡ option_map (λ x. x.commit) member →
-    standing_of member ≡ record { term = stored.hard.term; last_term = term_of entry; length = stored.length; applied = unwrap_or applied 0 }
-stands_up None stored entry applied is last commit = absurd (some_is_not_none (sym is))
-stands_up (Some x) stored entry applied is last commit =
+pub stands_up : (member : Option Node) (stored : Stored) (last applied : ℕ) → Some stored ≡ option_map (λ x. stored_of (durable_of x)) member →
+    last ≡ term_of (option_and_then (λ x. nth x.log stored.length) member) → applied ≡ unwrap_or (option_map (λ x. x.commit) member) 0 →
+    record { term = stored.hard.term; last_term = last; length = stored.length; applied = applied } ≡ standing_of member
+stands_up None stored last applied is ends commit = absurd (some_is_not_none (sym is))
+stands_up (Some x) stored last applied is ends commit =
     let same : stored ≡ stored_of (durable_of x) = some_same is in
     λ i. record {
-      term = (sym same i).hard.term;
-      last_term = (ap (λ k. term_of (nth x.log k)) (ap (λ (s : Stored). s.length) (sym same)) ∙ ap term_of (sym last)) i;
-      length = (sym same i).length;
-      applied = ap (λ o. unwrap_or o 0) (sym commit) i;
+      term = (same i).hard.term;
+      last_term = (ends ∙ ap (λ (s : Stored). term_of (nth x.log s.length)) same) i;
+      length = (same i).length;
+      applied = commit i;
     }
 
 -- ---- all are started

@@ -5,3 +5,4 @@ pub mod Stage
 pub mod Faults
 pub mod Plays
 pub mod Player
+pub mod Laws

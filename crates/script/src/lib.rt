@@ -1,6 +1,7 @@
 //! Playing the lines of scripts on a group, and printing what comes of them.
 #![tactic(auto)]
 
+pub mod laws;
 mod mail;
 mod play;
 pub mod player;

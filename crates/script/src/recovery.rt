@@ -1,5 +1,8 @@
 //! Bringing a group to where one member leads and all have applied its log.
 ghost use Rattle.std.specs.Prelude.{◌≡◌, false, suc, length, IfOk, OnOk};
+ghost use Rattle.model.specs.Lists.{nth};
+ghost use Rattle.model.specs.Members.{term_of};
+ghost use Rattle.world.specs.View.{entry_in};
 ghost use Rattle.script.specs.Standing.{foremost, is_well, longest, standing_at};
 ghost use Rattle.script.specs.Stage.{all_led_on, deliveries_from, led_on, recovery, spread_or_said, starts, stirred, turn, turns};
 
@@ -18,6 +21,19 @@ const TURNS_TO_LEAD: u128 = 2;
 impl Play {
     ghost use Rattle.script.specs.Plays.{stage_of, tables_of, members_of, IsStill, Plays};
 
+    // The term of the entry that a member has stored at an index of its log; 0 where there is none.
+    fn term_at(&mut self, node: Member, index: usize) -> Result<u64, AllocError>
+        requires live { self.old.world.is_spent ≡ false }
+        ensures term { IfOk result (λ term. term ≡ term_of (entry_in index (nth (stage_of self.old).world.nodes node))) }
+        ensures still { OnOk result (IsStill self.old self.new) }
+    {
+        let entry = self.world.entry(node, index)?;
+        match entry {
+            Some(entry) => Ok(entry.term),
+            None => Ok(0),
+        }
+    }
+
     // How a member stands.
     fn standing(&mut self, node: Member) -> Result<Standing, AllocError>
         requires live { self.old.world.is_spent ≡ false }
@@ -25,13 +41,11 @@ impl Play {
         ensures still { OnOk result (IsStill self.old self.new) }
     {
         let applied = self.world.commit(node).unwrap_or(0);
-        let Some(stored) = self.world.durable(node)? else {
+        let found = self.world.durable(node)?;
+        let Some(stored) = found else {
             return Ok(Standing::NONE);
         };
-        let last_term = match self.world.entry(node, stored.length)? {
-            Some(entry) => entry.term,
-            None => 0,
-        };
+        let last_term = self.term_at(node, stored.length)?;
         Ok(Standing {
             term: stored.hard.term,
             last_term,
@@ -53,7 +67,7 @@ impl Play {
         let members = self.clocks.len();
         for place in 0..members {
             let standing = self.standing(place + 1)?;
-            longest = standing.length.max(longest);
+            longest = longest.max(standing.length);
             if standing.is_up_to_date(best) {
                 first = place + 1;
                 best = standing;
@@ -104,7 +118,8 @@ impl Play {
     {
         let mut place = first;
         for delivered in 0..most {
-            if self.mail.len() <= place {
+            let sent = self.mail.len();
+            if sent <= place {
                 return Ok(());
             }
             if let Err(fault) = self.deliver_at(place, writer) {
@@ -151,7 +166,8 @@ impl Play {
         ensures { Plays self.old.world result self.new (turns (tables_of self.old) (members_of self.old) most node (stage_of self.old)) (W.contents writer.old) (W.contents writer.new) }
     {
         for taken in 0..most {
-            if self.is_well(node)? {
+            let well = self.is_well(node)?;
+            if well {
                 return Ok(());
             }
             if let Err(fault) = self.turn(node, writer) {
@@ -171,9 +187,9 @@ impl Play {
         requires live { self.old.world.is_spent ≡ false }
         ensures { Plays self.old.world result self.new (spread_or_said (tables_of self.old) (members_of self.old) node longest (stage_of self.old)) (W.contents writer.old) (W.contents writer.new) }
     {
-        if self.standing(node)?.ends_own() {
-            let most = 2 * (longest as u128) + 4;
-            return self.take_turns(node, most, writer);
+        let standing = self.standing(node)?;
+        if standing.ends_own() {
+            return self.take_turns(node, 2 * (longest as u128) + 4, writer);
         }
         let reading = self.reading_of(node);
         self.happen(Event::Hand(node, Input::Close { reading }), writer)
