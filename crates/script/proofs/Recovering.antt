@@ -94,22 +94,45 @@ module _ (old mid : Play) (live : old.world.is_spent ≡ false) (still : IsStill
 
 -- ---- how a member stands
 
-pub stands_down : (member : Option Node) → None ≡ option_map (λ x. stored_of (durable_of x)) member → record { term = 0; last_term = 0; length = 0; applied = 0 } ≡ standing_of member
-stands_down None e = refl
-stands_down (Some x) e = absurd (some_is_not_none e)
+module _ (member : Option Node) (stored : Stored) (is : Some stored ≡ option_map (λ x. stored_of (durable_of x)) member) where
+  pub term_some : stored.hard.term ≡ (standing_of member).term
+  term_some = some_term member is
+    where
+      some_term : (o : Option Node) → Some stored ≡ option_map (λ x. stored_of (durable_of x)) o → stored.hard.term ≡ (standing_of o).term
+      some_term None e = absurd (some_is_not_none (sym e))
+      some_term (Some x) e = ap (λ (s : Stored). s.hard.term) (some_same e)
 
-pub stands_up : (member : Option Node) (stored : Stored) (last applied : ℕ) → Some stored ≡ option_map (λ x. stored_of (durable_of x)) member →
-    last ≡ term_of (option_and_then (λ x. nth x.log stored.length) member) → applied ≡ unwrap_or (option_map (λ x. x.commit) member) 0 →
-    record { term = stored.hard.term; last_term = last; length = stored.length; applied = applied } ≡ standing_of member
-stands_up None stored last applied is ends commit = absurd (some_is_not_none (sym is))
-stands_up (Some x) stored last applied is ends commit =
-    let same : stored ≡ stored_of (durable_of x) = some_same is in
-    λ i. record {
-      term = (same i).hard.term;
-      last_term = (ends ∙ ap (λ (s : Stored). term_of (nth x.log s.length)) same) i;
-      length = (same i).length;
-      applied = commit i;
-    }
+  pub length_some : stored.length ≡ (standing_of member).length
+  length_some = some_length member is
+    where
+      some_length : (o : Option Node) → Some stored ≡ option_map (λ x. stored_of (durable_of x)) o → stored.length ≡ (standing_of o).length
+      some_length None e = absurd (some_is_not_none (sym e))
+      some_length (Some x) e = ap (λ (s : Stored). s.length) (some_same e)
+
+pub term_none : (member : Option Node) → None ≡ option_map (λ x. stored_of (durable_of x)) member → 0 ≡ (standing_of member).term
+term_none None e = refl
+term_none (Some x) e = absurd (some_is_not_none e)
+
+pub length_none : (member : Option Node) → None ≡ option_map (λ x. stored_of (durable_of x)) member → 0 ≡ (standing_of member).length
+length_none None e = refl
+length_none (Some x) e = absurd (some_is_not_none e)
+
+pub applied_some : (member : Option Node) (k : ℕ) → Some k ≡ option_map (λ x. x.commit) member → k ≡ (standing_of member).applied
+applied_some None k e = absurd (some_is_not_none (sym e))
+applied_some (Some x) k e = some_same e
+
+pub applied_none : (member : Option Node) → None ≡ option_map (λ x. x.commit) member → 0 ≡ (standing_of member).applied
+applied_none None e = refl
+applied_none (Some x) e = absurd (some_is_not_none e)
+
+ends : (member : Option Node) (len : ℕ) → len ≡ (standing_of member).length → term_of (option_and_then (λ x. nth x.log len) member) ≡ (standing_of member).last_term
+ends None len e = refl
+ends (Some x) len e = ap (λ k. term_of (nth x.log k)) e
+
+pub stands : (member : Option Node) (term last len applied : ℕ) → term ≡ (standing_of member).term → len ≡ (standing_of member).length →
+    last ≡ term_of (option_and_then (λ x. nth x.log len) member) → applied ≡ (standing_of member).applied →
+    record { term = term; last_term = last; length = len; applied = applied } ≡ standing_of member
+stands member term last len applied t l e a = λ i. record { term = t i; last_term = (e ∙ ends member len l) i; length = l i; applied = a i }
 
 -- ---- all are started
 
@@ -264,10 +287,11 @@ module _ (old mid after : Play) (live : old.world.is_spent ≡ false) (still : I
       Plays old.world (Ok tt) new (all_led_on (tables_of old) (members_of old) (stage_of old)) c d
   all_led new plays stage world =
       let done = led (Ok tt) plays in
-      both old after live _ c d (λ t n s. nothing (all_lost s)) (Ok tt) new d done (quiet after.world new (all_lost (stage_of after)) d stage world done.0.live)
+      both old after live (led_on (tables_of old) (members_of old) (foremost (length old.clocks.items) (stage_of old).world) (longest (length old.clocks.items) (stage_of old).world) (stage_of old)) c d (λ t n s. nothing (all_lost s)) (Ok tt) new d done (quiet after.world new (all_lost (stage_of after)) d stage world done.0.live)
 
   pub all_fails : (fault : RunFault) (new : Play) → Plays mid.world (Err fault) after (led_on (tables_of mid) (members_of mid) m most (stage_of mid)) c d → Plays old.world (Err fault) new (all_led_on (tables_of old) (members_of old) (stage_of old)) c d
-  all_fails fault new plays = first_fails old after live _ c d (λ s. nothing (all_lost s)) fault new (led (Err fault) plays)
+  all_fails fault new plays =
+      first_fails old after live (led_on (tables_of old) (members_of old) (foremost (length old.clocks.items) (stage_of old).world) (longest (length old.clocks.items) (stage_of old).world) (stage_of old)) c d (λ s. nothing (all_lost s)) fault new (led (Err fault) plays)
 
 -- ---- what loops over the members look for
 
@@ -330,3 +354,12 @@ in_step_more start now new leader standing place b h is still =
       still = still_on start now new h.still still;
       so_far = (λ i. h.so_far i && is_in_step (this i) leader) ∙ ap (λ k. are_in_step leader k w) (sym (add-one place));
     }
+
+pub in_step_none : (start now : Play) (leader : Standing) → IsStill start now → InStep start now leader 0 true
+in_step_none start now leader still = record { still = still; so_far = refl }
+
+pub in_step_all : (start now : Play) (m place members : ℕ) (leader : Standing) (b : Bool) → InStep start now leader place b → leader ≡ standing_at (stage_of start).world m → place ≡ members →
+    (ends_own leader && b) ≡ is_well members (stage_of start).world m
+in_step_all start now m place members leader b h is all =
+    let w = (stage_of start).world in
+    ap (λ x. ends_own leader && x) h.so_far ∙ (λ i. ends_own (is i) && are_in_step (is i) (all i) w)

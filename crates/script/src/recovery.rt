@@ -34,22 +34,45 @@ impl Play {
         }
     }
 
+    // The term of a member, and how many entries its log has; 0 of one that is down, or not there.
+    #[tactic(auto, using(crate::proofs::Recovering::term_some, crate::proofs::Recovering::length_some, crate::proofs::Recovering::term_none, crate::proofs::Recovering::length_none))]
+    fn stored(&mut self, node: Member) -> Result<(u64, usize), AllocError>
+        requires live { self.old.world.is_spent ≡ false }
+        ensures term { IfOk result (λ p. p.0 ≡ (standing_at (stage_of self.old).world node).term) }
+        ensures length { IfOk result (λ p. p.1 ≡ (standing_at (stage_of self.old).world node).length) }
+        ensures still { OnOk result (IsStill self.old self.new) }
+    {
+        match self.world.durable(node) {
+            Ok(Some(stored)) => Ok((stored.hard.term, stored.length)),
+            Ok(None) => Ok((0, 0)),
+            Err(error) => Err(error),
+        }
+    }
+
+    // How many entries a member has applied; 0 of one that is down, or not there.
+    fn applied(&self, node: Member) -> usize
+        requires live { self.now.world.is_spent ≡ false }
+        ensures { result ≡ (standing_at (stage_of self.now).world node).applied }
+    {
+        match self.world.commit(node) {
+            Some(applied) => applied,
+            None => 0,
+        }
+    }
+
     // How a member stands.
     fn standing(&mut self, node: Member) -> Result<Standing, AllocError>
         requires live { self.old.world.is_spent ≡ false }
         ensures standing { IfOk result (λ standing. standing ≡ standing_at (stage_of self.old).world node) }
         ensures still { OnOk result (IsStill self.old self.new) }
     {
-        let applied = self.world.commit(node).unwrap_or(0);
-        let found = self.world.durable(node)?;
-        let Some(stored) = found else {
-            return Ok(Standing::NONE);
-        };
-        let last_term = self.term_at(node, stored.length)?;
+        let applied = self.applied(node);
+        let (term, length) = self.stored(node)?;
+        let last_term = self.term_at(node, length)?;
         Ok(Standing {
-            term: stored.hard.term,
+            term,
             last_term,
-            length: stored.length,
+            length,
             applied,
         })
     }
@@ -82,14 +105,14 @@ impl Play {
         ensures well { IfOk result (λ well. well ≡ is_well (length (stage_of self.old).clocks) (stage_of self.old).world node) }
         ensures still { OnOk result (IsStill self.old self.new) }
     {
+        let members = self.clocks.len();
         let leader = self.standing(node)?;
         let mut are_in_step = true;
-        let members = self.clocks.len();
         for place in 0..members {
             let standing = self.standing(place + 1)?;
-            are_in_step = are_in_step && standing.is_in_step(leader);
+            are_in_step = standing.is_in_step_too(leader, are_in_step);
         }
-        Ok(leader.ends_own() && are_in_step)
+        Ok(leader.is_well(are_in_step))
     }
 
     // Starts all members.
@@ -156,6 +179,7 @@ impl Play {
     }
 
     // So many turns, or fewer, until all is well.
+    #[tactic(auto, using(crate::proofs::Recovering::so_far_gives_up))]
     fn take_turns<W: io::Write>(
         &mut self,
         node: Member,
@@ -178,6 +202,7 @@ impl Play {
     }
 
     // A member that was to be elected brings its log to all, or says why it cannot append an entry.
+    #[tactic(auto, using(crate::proofs::Playing::nothing_yet))]
     fn spread_or_say<W: io::Write>(
         &mut self,
         node: Member,
@@ -212,6 +237,7 @@ impl Play {
     }
 
     // One whose log is most up to date leads all on, and messages that are still on their way are lost.
+    #[tactic(auto, using(crate::proofs::Playing::nothing_yet))]
     fn lead_all<W: io::Write>(&mut self, writer: &mut W) -> Result<(), RunFault>
         requires live { self.old.world.is_spent ≡ false }
         ensures { Plays self.old.world result self.new (all_led_on (tables_of self.old) (members_of self.old) (stage_of self.old)) (W.contents writer.old) (W.contents writer.new) }

@@ -1,5 +1,5 @@
 //! How a member stands, as far as its group tells.
-ghost use Rattle.std.specs.Prelude.{◌≡◌};
+ghost use Rattle.std.specs.Prelude.{◌≡◌, ◌&&◌};
 ghost use Rattle.script.specs.Standing.{ends_own, is_in_step, is_up_to_date};
 
 // Of one that is down, or not there, all is 0.
@@ -36,10 +36,17 @@ impl Standing {
         0 < self.length && self.last_term == self.term
     }
 
-    // Whether it is in the term of the other, with as much applied as the other's log has.
-    pub(crate) fn is_in_step(self, other: Standing) -> bool
-        ensures { result ≡ is_in_step self other }
+    // Whether others are in step, and it is in the term of this one with as much applied as that one's log has.
+    pub(crate) fn is_in_step_too(self, other: Standing, are_others: bool) -> bool
+        ensures { result ≡ (are_others && is_in_step self other) }
     {
-        self.term == other.term && self.applied == other.length
+        are_others && (self.term == other.term && self.applied == other.length)
+    }
+
+    // Whether all is well where it is to lead: its log ends with an entry of its term, and all are in step with it.
+    pub(crate) fn is_well(self, are_in_step: bool) -> bool
+        ensures { result ≡ (ends_own self && are_in_step) }
+    {
+        self.ends_own() && are_in_step
     }
 }

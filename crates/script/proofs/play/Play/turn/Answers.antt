@@ -1,8 +1,8 @@
-use Rattle.std.proofs.Common.{◌*◌, length, suc}
+use Rattle.std.proofs.Common.{◌≡◌, ◌*◌, length, suc, arith}
 use Rattle.script.specs.Plays.{stage_of, tables_of, members_of}
 use Rattle.script.specs.Stage.{stirred, deliveries_from}
 use Rattle.script.proofs.Recovering.{turned, first_fails}
-use Rattle.script.proofs.recovery.Play.turn.Goals as goal
+use Rattle.script.proofs.play.Play.turn.Goals as goal
 
 pub returns-in-Err : goal.returns-in-Err
 returns-in-Err g c =
@@ -12,4 +12,5 @@ returns-in-Err g c =
 
 pub returns : goal.returns
 returns g c =
-    turned c.args.self.now c.stir.new.self c.deliver_from.new.self c.requires.live c.args.node c.len-sent.result c.len-members.result c.len-sent.ensures c.len-members.ensures c.deliver_from.result _ _ _ c.in_default.ensures c.deliver_from.ensures
+    let count : c.len-members.result ≡ length c.args.self.now.clocks.items = omega (arith, c.len-members.ensures) in
+    turned c.args.self.now c.stir.new.self c.deliver_from.new.self c.requires.live c.args.node c.len-sent.result c.len-members.result c.len-sent.ensures count c.deliver_from.result _ _ _ c.in_default.ensures c.deliver_from.ensures

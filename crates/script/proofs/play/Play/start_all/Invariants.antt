@@ -2,7 +2,7 @@ use Rattle.std.proofs.Common.{◌+◌, ◌-◌, length}
 use Rattle.script.specs.Plays.{stage_of, tables_of, members_of}
 use Rattle.script.specs.Stage.{starts}
 use Rattle.script.proofs.Playing.{SoFar}
-use Rattle.script.proofs.recovery.Play.start_all.Given as goal
+use Rattle.script.proofs.play.Play.start_all.Given as goal
 
 abbrev pub invariant-loop-place : goal.invariant-loop-place
 invariant-loop-place g l =

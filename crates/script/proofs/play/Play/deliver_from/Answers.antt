@@ -2,7 +2,7 @@ use Rattle.std.proofs.Common.{arith, ◌≡◌, ◌∙◌, ◌+◌, ◌-◌, ◌
 use Rattle.script.specs.Plays.{stage_of, tables_of, members_of}
 use Rattle.script.specs.Stage.{deliveries_from}
 use Rattle.script.proofs.Recovering.{deliveries_stop, deliveries_more, deliveries_fail}
-use Rattle.script.proofs.recovery.Play.deliver_from.Goals as goal
+use Rattle.script.proofs.play.Play.deliver_from.Goals as goal
 
 pub returns-then-sent-place : goal.returns-then-sent-place
 returns-then-sent-place g c =

@@ -2,10 +2,12 @@ use Rattle.std.proofs.Common.{arith, ◌≡◌, ◌∙◌, ◌+◌, ◌-◌, len
 use Rattle.script.specs.Plays.{stage_of, tables_of, members_of}
 use Rattle.script.specs.Stage.{starts}
 use Rattle.script.proofs.Recovering.{starts_begin, starts_more, starts_fail}
-use Rattle.script.proofs.recovery.Play.start_all.Goals as goal
+use Rattle.script.proofs.play.Play.start_all.Goals as goal
 
 pub loop-place-init : goal.loop-place-init
-loop-place-init g c = starts_begin c.args.self.now c.len-members.result _ c.requires.live c.len-members.ensures
+loop-place-init g c =
+    let count : c.len-members.result ≡ length c.args.self.now.clocks.items = omega (arith, c.len-members.ensures) in
+    starts_begin c.args.self.now c.len-members.result _ c.requires.live count
 
 pub returns-in-Err : goal.returns-in-Err
 returns-in-Err g c =

@@ -2,7 +2,7 @@ use Rattle.std.proofs.Common.{◌-◌}
 use Rattle.script.specs.Plays.{stage_of, tables_of, members_of}
 use Rattle.script.specs.Stage.{turns}
 use Rattle.script.proofs.Playing.{SoFar}
-use Rattle.script.proofs.recovery.Play.take_turns.Given as goal
+use Rattle.script.proofs.play.Play.take_turns.Given as goal
 
 abbrev pub invariant-loop-taken : goal.invariant-loop-taken
 invariant-loop-taken g l =

@@ -2,7 +2,7 @@ use Rattle.std.proofs.Common.{◌-◌, suc}
 use Rattle.script.specs.Plays.{stage_of, tables_of, members_of}
 use Rattle.script.specs.Stage.{deliveries_from}
 use Rattle.script.proofs.Playing.{SoFar}
-use Rattle.script.proofs.recovery.Play.deliver_from.Given as goal
+use Rattle.script.proofs.play.Play.deliver_from.Given as goal
 
 abbrev pub invariant-loop-delivered : goal.invariant-loop-delivered
 invariant-loop-delivered g l =

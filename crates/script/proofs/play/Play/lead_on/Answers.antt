@@ -1,7 +1,7 @@
 use Rattle.script.specs.Plays.{stage_of, tables_of, members_of}
 use Rattle.script.specs.Stage.{turns, spread_or_said}
 use Rattle.script.proofs.Recovering.{both, first_fails}
-use Rattle.script.proofs.recovery.Play.lead_on.Goals as goal
+use Rattle.script.proofs.play.Play.lead_on.Goals as goal
 
 pub returns-in-Err : goal.returns-in-Err
 returns-in-Err g c =

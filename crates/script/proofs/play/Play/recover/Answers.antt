@@ -2,7 +2,7 @@ use Rattle.std.proofs.Common.{length}
 use Rattle.script.specs.Plays.{stage_of, tables_of, members_of}
 use Rattle.script.specs.Stage.{starts, all_led_on}
 use Rattle.script.proofs.Recovering.{both, first_fails}
-use Rattle.script.proofs.recovery.Play.recover.Goals as goal
+use Rattle.script.proofs.play.Play.recover.Goals as goal
 
 pub returns-in-Err : goal.returns-in-Err
 returns-in-Err g c =

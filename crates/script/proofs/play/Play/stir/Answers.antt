@@ -3,7 +3,7 @@ use Rattle.model.specs.Worlds.Event.{Hand}
 use Rattle.script.specs.Plays.{stage_of, tables_of, members_of}
 use Rattle.script.specs.Stage.{event_at}
 use Rattle.script.proofs.Recovering.{both, first_fails}
-use Rattle.script.proofs.recovery.Play.stir.Goals as goal
+use Rattle.script.proofs.play.Play.stir.Goals as goal
 
 pub returns-in-Err : goal.returns-in-Err
 returns-in-Err g c =

@@ -1,0 +1,13 @@
+use Rattle.std.proofs.Common.{◌∙◌, sym}
+use Rattle.script.proofs.Recovering.{spreads, says}
+use Rattle.script.proofs.play.Play.spread_or_say.Goals as goal
+
+pub returns-then-ends_own : goal.returns-then-ends_own
+returns-then-ends_own g c =
+    spreads c.args.self.now c.standing.new.self c.take_turns.new.self c.requires.live c.in_ok-standing.ensures.still c.args.node c.args.longest c.in_ok-standing.standing c.in_ok-standing.ensures.standing
+    c.take_turns.result _ _ (sym c.ends_own.ensures ∙ c.if-ends_own.true) c.take_turns.ensures
+
+pub returns : goal.returns
+returns g c =
+    says c.args.self.now c.standing.new.self c.happen.new.self c.requires.live c.in_ok-standing.ensures.still c.args.node c.args.longest c.in_ok-standing.standing c.in_ok-standing.ensures.standing
+    c.happen.result _ _ c.reading_of-reading.result c.reading_of-reading.ensures (sym c.ends_own.ensures ∙ c.if-ends_own.false) c.happen.ensures
