@@ -1,6 +1,6 @@
 -- Lemmas on parts of a line that follow each other, on what is only looked at, and on how a group recovers.
 use Rattle.std.proofs.Common.{◌≡◌, ◌∙◌, ℕ, zero, suc, ◌+◌, ◌-◌, ◌*◌, ◌<◌, ◌≤◌, Bool, true, false, List, [], ◌∷◌, ◌++◌, length, Option, Some, None, Result, Ok, Err, refl, sym, ap, subst, add-one, arith}
-use Rattle.std.specs.Prelude.{ℤ, if◌then◌else◌, ◌&&◌, max, option_map, option_and_then, unwrap_or}
+use Rattle.std.specs.Prelude.{ℤ, if◌then◌else◌, ◌&&◌, max, option_map, option_and_then}
 use Rattle.model.specs.Lists.{nth}
 use Rattle.model.specs.Members.{Node, term_of}
 use Rattle.model.specs.Worlds as model
@@ -16,7 +16,7 @@ use Rattle.script.specs.declared.play.Play.{Play}
 use Rattle.script.specs.declared.run_fault.RunFault.{RunFault}
 use Rattle.script.specs.declared.standing.Standing.{Standing}
 use Rattle.script.specs.Faults.{IsPlayFault}
-use Rattle.script.specs.Stage.{Stage, Played, nothing, followed, event_at, delivery, deliveries_from, reading_of, all_lost, starts, stirred, turn, turns, spread_or_said, led_on, all_led_on, recovery}
+use Rattle.script.specs.Stage.{Stage, Played, nothing, followed, event_at, delivery, deliveries_from, reading_of, all_lost, starts, stirred, turn, turns, spread_or_said, led_on, led_by, all_led_on}
 use Rattle.script.specs.Standing.{standing_of, standing_at, ends_own, is_up_to_date, is_in_step, foremost, longest, are_in_step, is_well}
 use Rattle.script.specs.Plays.{stage_of, tables_of, members_of, IsStill, Plays}
 use Rattle.script.proofs.Mailing.{past, some_same, some_is_not_none}
@@ -276,22 +276,18 @@ module _ (old mid new : Play) (live : old.world.is_spent ≡ false) (still : IsS
       (plays_from mid.world mid.world r new _ _ c d refl
       (ap (λ z. event_at t n s (model.Hand m (input.Close z))) shown ∙ ap (λ b. if b then turns t n (2 * most + 4) m s else event_at t n s (model.Hand m (input.Close (reading_of s m)))) (sym (owns false own))) plays)
 
-module _ (old mid after : Play) (live : old.world.is_spent ≡ false) (still : IsStill old mid) (m most : ℕ) (first : m ≡ foremost (length old.clocks.items) (stage_of old).world) (long : most ≡ longest (length old.clocks.items) (stage_of old).world) (c d : Option (List ℕ)) where
-  led : (r : Result (Unit {0}) RunFault) → Plays mid.world r after (led_on (tables_of mid) (members_of mid) m most (stage_of mid)) c d →
-      Plays old.world r after (led_on (tables_of old) (members_of old) (foremost (length old.clocks.items) (stage_of old).world) (longest (length old.clocks.items) (stage_of old).world) (stage_of old)) c d
-  led r plays =
-      plays_from old.world old.world r after _ _ c d refl (λ i. led_on (tables_of old) (members_of old) (first i) (long i) (stage_of old))
-      (after_look old mid live still (λ t n. led_on t n m most) c r after d plays)
+pub all_led : (old mid new : Play) (m most : ℕ) (r : Result (Unit {0}) RunFault) (c d : Option (List ℕ)) → old.world.is_spent ≡ false → IsStill old mid →
+    m ≡ foremost (length old.clocks.items) (stage_of old).world → most ≡ longest (length old.clocks.items) (stage_of old).world →
+    Plays mid.world r new (led_by (tables_of mid) (members_of mid) m most (stage_of mid)) c d → Plays old.world r new (all_led_on (tables_of old) (members_of old) (stage_of old)) c d
+all_led old mid new m most r c d live still first long plays =
+    plays_from old.world old.world r new _ _ c d refl (λ i. led_by (tables_of old) (members_of old) (first i) (long i) (stage_of old))
+    (after_look old mid live still (λ t n. led_by t n m most) c r new d plays)
 
-  pub all_led : (new : Play) → Plays mid.world (Ok tt) after (led_on (tables_of mid) (members_of mid) m most (stage_of mid)) c d → stage_of new ≡ all_lost (stage_of after) → new.world ≡ after.world →
-      Plays old.world (Ok tt) new (all_led_on (tables_of old) (members_of old) (stage_of old)) c d
-  all_led new plays stage world =
-      let done = led (Ok tt) plays in
-      both old after live (led_on (tables_of old) (members_of old) (foremost (length old.clocks.items) (stage_of old).world) (longest (length old.clocks.items) (stage_of old).world) (stage_of old)) c d (λ t n s. nothing (all_lost s)) (Ok tt) new d done (quiet after.world new (all_lost (stage_of after)) d stage world done.0.live)
-
-  pub all_fails : (fault : RunFault) (new : Play) → Plays mid.world (Err fault) after (led_on (tables_of mid) (members_of mid) m most (stage_of mid)) c d → Plays old.world (Err fault) new (all_led_on (tables_of old) (members_of old) (stage_of old)) c d
-  all_fails fault new plays =
-      first_fails old after live (led_on (tables_of old) (members_of old) (foremost (length old.clocks.items) (stage_of old).world) (longest (length old.clocks.items) (stage_of old).world) (stage_of old)) c d (λ s. nothing (all_lost s)) fault new (led (Err fault) plays)
+pub led_then_lost : (old mid new : Play) (m most : ℕ) (c d : Option (List ℕ)) → old.world.is_spent ≡ false → Plays old.world (Ok tt) mid (led_on (tables_of old) (members_of old) m most (stage_of old)) c d →
+    stage_of new ≡ all_lost (stage_of mid) → new.world ≡ mid.world → Plays old.world (Ok tt) new (led_by (tables_of old) (members_of old) m most (stage_of old)) c d
+led_then_lost old mid new m most c d live done stage world =
+    both old mid live (led_on (tables_of old) (members_of old) m most (stage_of old)) c d (λ t n s. nothing (all_lost s)) (Ok tt) new d done
+    (quiet mid.world new (all_lost (stage_of mid)) d stage world done.0.live)
 
 -- ---- what loops over the members look for
 

@@ -159,9 +159,13 @@ module _ (tables : Tables) (n : ℕ) where
   abbrev pub led_on : ℕ → ℕ → Stage → Played
   led_on m most s = followed (turns 2 m s) (spread_or_said m most)
 
-  -- one whose log is most up to date leads all on, and messages that are still on their way are lost
+  -- messages that are still on their way then are lost
+  abbrev pub led_by : ℕ → ℕ → Stage → Played
+  led_by m most s = followed (led_on m most s) (λ t. nothing (all_lost t))
+
+  -- one whose log is most up to date leads all on
   abbrev pub all_led_on : Stage → Played
-  all_led_on s = followed (led_on (foremost (length s.clocks) s.world) (longest (length s.clocks) s.world) s) (λ t. nothing (all_lost t))
+  all_led_on s = led_by (foremost (length s.clocks) s.world) (longest (length s.clocks) s.world) s
 
   -- all are started first
   abbrev pub recovery : Stage → Played

@@ -4,11 +4,12 @@ ghost use Rattle.model.specs.Lists.{nth};
 ghost use Rattle.model.specs.Members.{term_of};
 ghost use Rattle.world.specs.View.{entry_in};
 ghost use Rattle.script.specs.Standing.{foremost, is_well, longest, standing_at};
-ghost use Rattle.script.specs.Stage.{all_led_on, deliveries_from, led_on, recovery, spread_or_said, starts, stirred, turn, turns};
+ghost use Rattle.script.specs.Stage.{all_led_on, deliveries_from, led_by, led_on, recovery, spread_or_said, starts, stirred, turn, turns};
 
 use crate::play::Play;
 use crate::run_fault::RunFault;
 use crate::standing::Standing;
+use fault::Refusal;
 use model::member::Member;
 use model::message::Input;
 use std::alloc::AllocError;
@@ -236,18 +237,33 @@ impl Play {
         self.spread_or_say(node, longest, writer)
     }
 
-    // One whose log is most up to date leads all on, and messages that are still on their way are lost.
-    #[tactic(auto, using(crate::proofs::Playing::nothing_yet))]
-    fn lead_all<W: io::Write>(&mut self, writer: &mut W) -> Result<(), RunFault>
+    // A member leads the others on, and messages that are still on their way are lost.
+    fn lead_by<W: io::Write>(
+        &mut self,
+        node: Member,
+        longest: usize,
+        writer: &mut W,
+    ) -> Result<(), RunFault>
         requires live { self.old.world.is_spent ≡ false }
-        ensures { Plays self.old.world result self.new (all_led_on (tables_of self.old) (members_of self.old) (stage_of self.old)) (W.contents writer.old) (W.contents writer.new) }
+        ensures { Plays self.old.world result self.new (led_by (tables_of self.old) (members_of self.old) node longest (stage_of self.old)) (W.contents writer.old) (W.contents writer.new) }
     {
-        let (node, longest) = self.survey()?;
         if let Err(fault) = self.lead_on(node, longest, writer) {
             return Err(fault);
         }
         self.lose_all();
         Ok(())
+    }
+
+    // So does one whose log is most up to date.
+    #[tactic(auto, using(crate::proofs::Playing::nothing_yet))]
+    fn lead_all<W: io::Write>(&mut self, writer: &mut W) -> Result<(), RunFault>
+        requires live { self.old.world.is_spent ≡ false }
+        ensures { Plays self.old.world result self.new (all_led_on (tables_of self.old) (members_of self.old) (stage_of self.old)) (W.contents writer.old) (W.contents writer.new) }
+    {
+        match self.survey() {
+            Ok((node, longest)) => self.lead_by(node, longest, writer),
+            Err(_) => Err(RunFault::Refused(Refusal::NoMemory)),
+        }
     }
 
     // Starts all members, and one whose log is most up to date leads them on.

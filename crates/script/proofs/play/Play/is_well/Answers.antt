@@ -10,7 +10,7 @@ loop-place-init c = in_step_none c.args.self.now c.standing.new.self c.in_ok-lea
 pub loop-place-preserved : goal.loop-place-preserved
 loop-place-preserved c =
     let P : Bool → Type 0 = λ b. InStep c.args.self.now c.standing-in-loop-place.new.self c.in_ok-leader.leader (c.loop-place.place + 1) b in
-    subst P (sym c.is_in_step_too.ensures)
+    subst P (sym c.is_in_step_too-are_in_step.ensures)
     (in_step_more c.args.self.now c.loop-place.self c.standing-in-loop-place.new.self c.in_ok-leader.leader c.in_ok-standing.standing c.loop-place.place c.loop-place.are_in_step
     c.loop-place.invariant c.in_ok-standing.ensures.standing c.in_ok-standing.ensures.still)
 

@@ -1,4 +1,4 @@
-use Rattle.std.proofs.Common.{◌∙◌, sym}
+use Rattle.std.proofs.Common.{rules, ◌≡◌, ◌∙◌, sym, to_z, of_z, w64}
 use Rattle.script.proofs.Recovering.{spreads, says}
 use Rattle.script.proofs.play.Play.spread_or_say.Goals as goal
 
@@ -9,5 +9,6 @@ returns-then-ends_own g c =
 
 pub returns : goal.returns
 returns g c =
+    let same : to_z w64 (of_z w64 c.reading_of-reading.result) ≡ c.reading_of-reading.result = search rules in
     says c.args.self.now c.standing.new.self c.happen.new.self c.requires.live c.in_ok-standing.ensures.still c.args.node c.args.longest c.in_ok-standing.standing c.in_ok-standing.ensures.standing
-    c.happen.result _ _ c.reading_of-reading.result c.reading_of-reading.ensures (sym c.ends_own.ensures ∙ c.if-ends_own.false) c.happen.ensures
+    c.happen.result _ _ (to_z w64 (of_z w64 c.reading_of-reading.result)) (same ∙ c.reading_of-reading.ensures) (sym c.ends_own.ensures ∙ c.if-ends_own.false) c.happen.ensures
