@@ -1,6 +1,7 @@
 -- Lemmas on parts of a line that follow each other, on what is only looked at, and on how a group recovers.
 use Rattle.std.proofs.Common.{◌≡◌, ◌∙◌, ℕ, zero, suc, ◌+◌, ◌-◌, ◌*◌, ◌<◌, ◌≤◌, Bool, true, false, List, [], ◌∷◌, ◌++◌, length, Option, Some, None, Result, Ok, Err, refl, sym, ap, subst, add-one, arith}
-use Rattle.std.specs.Prelude.{ℤ, if◌then◌else◌, ◌&&◌, max, option_map, option_and_then}
+use Rattle.std.specs.Prelude.{ℤ, if◌then◌else◌, ◌&&◌, option_map, option_and_then}
+use Rattle.std.specs.Ordering.{ord_max, nat_cmp}
 use Rattle.model.specs.Lists.{nth}
 use Rattle.model.specs.Members.{Node, term_of}
 use Rattle.model.specs.Worlds as model
@@ -311,8 +312,8 @@ module _ (start now new : Play) (place first most : ℕ) (best standing : Standi
   best_of : best ≡ standing_at w (foremost place w)
   best_of = h.best_is ∙ ap (standing_at w) h.first_is
 
-  longer : max most standing.length ≡ longest (place + 1) w
-  longer = (λ i. max (h.most_is i) (this_is i).length) ∙ ap (λ k. longest k w) (sym (add-one place))
+  longer : ord_max nat_cmp most standing.length ≡ longest (place + 1) w
+  longer = (λ i. ord_max nat_cmp (h.most_is i) (this_is i).length) ∙ ap (λ k. longest k w) (sym (add-one place))
 
   foremost_is : (b : Bool) → is_up_to_date standing best ≡ b → foremost (place + 1) w ≡ (if b then suc place else foremost place w)
   foremost_is b won =
@@ -320,7 +321,7 @@ module _ (start now new : Play) (place first most : ℕ) (best standing : Standi
       ∙ (λ i. if is_up_to_date (sym this_is i) (sym best_of i) then suc place else foremost place w)
       ∙ ap (λ x. if x then suc place else foremost place w) won
 
-  pub surveyed_won : is_up_to_date standing best ≡ true → Surveyed start new (place + 1) (place + 1) (max most standing.length) standing
+  pub surveyed_won : is_up_to_date standing best ≡ true → Surveyed start new (place + 1) (place + 1) (ord_max nat_cmp most standing.length) standing
   surveyed_won won = record {
     still = still_on start now new h.still still;
     first_is = add-one place ∙ sym (foremost_is true won);
@@ -328,7 +329,7 @@ module _ (start now new : Play) (place first most : ℕ) (best standing : Standi
     most_is = longer;
   }
 
-  pub surveyed_lost : is_up_to_date standing best ≡ false → Surveyed start new (place + 1) first (max most standing.length) best
+  pub surveyed_lost : is_up_to_date standing best ≡ false → Surveyed start new (place + 1) first (ord_max nat_cmp most standing.length) best
   surveyed_lost lost = record {
     still = still_on start now new h.still still;
     first_is = h.first_is ∙ sym (foremost_is false lost);

@@ -1,5 +1,6 @@
 -- How members stand, and which of them is to lead a group on.
-use Rattle.std.specs.Prelude.{ℕ, zero, suc, max, Bool, true, false, ◌&&◌, ◌||◌, ◌==◌, nat_lt, nat_le, if◌then◌else◌, Option, Some, None, length}
+use Rattle.std.specs.Prelude.{ℕ, zero, suc, Bool, true, false, ◌&&◌, ◌||◌, ◌==◌, nat_lt, nat_le, if◌then◌else◌, Option, Some, None, length}
+use Rattle.std.specs.Ordering.{ord_max, nat_cmp}
 use Rattle.model.specs.Lists.{nth}
 use Rattle.model.specs.Members.{Node, last_term}
 use Rattle.model.specs.Worlds.{World}
@@ -34,7 +35,7 @@ foremost (suc m) w = if is_up_to_date (standing_at w (suc m)) (standing_at w (fo
 -- the length of the longest log of the first so many members
 abbrev pub longest : ℕ → World → ℕ
 longest zero w = 0
-longest (suc m) w = max (longest m w) (standing_at w (suc m)).length
+longest (suc m) w = ord_max nat_cmp (longest m w) (standing_at w (suc m)).length
 
 -- the first so many members are in step with this one
 abbrev pub are_in_step : Standing → ℕ → World → Bool

@@ -255,7 +255,6 @@ impl Play {
     }
 
     // So does one whose log is most up to date.
-    #[tactic(auto, using(crate::proofs::Playing::nothing_yet))]
     fn lead_all<W: io::Write>(&mut self, writer: &mut W) -> Result<(), RunFault>
         requires live { self.old.world.is_spent ≡ false }
         ensures { Plays self.old.world result self.new (all_led_on (tables_of self.old) (members_of self.old) (stage_of self.old)) (W.contents writer.old) (W.contents writer.new) }

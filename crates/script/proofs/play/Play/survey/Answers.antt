@@ -1,4 +1,4 @@
-use Rattle.std.proofs.Common.{◌≡◌, ◌∙◌, max, sym, ap, arith, length}
+use Rattle.std.proofs.Common.{◌≡◌, ◌∙◌, sym, ap, arith, length}
 use Rattle.script.specs.Standing.{foremost, longest}
 use Rattle.script.specs.Plays.{stage_of}
 use Rattle.script.proofs.Recovering.{surveyed_none, surveyed_won, surveyed_lost}
@@ -9,15 +9,13 @@ pub loop-place-init : goal.loop-place-init
 loop-place-init c = surveyed_none c.args.self.now c.requires.live
 
 pub loop-place-preserved : goal.loop-place-preserved
-loop-place-preserved c =
-    let longer : c.max-longest.result ≡ max c.loop-place.longest c.in_ok-standing.standing.length = omega (arith, c.max-longest.ensures) in
-    elim c.if-is_up_to_date.branch [
+loop-place-preserved c = elim c.if-is_up_to_date.branch [
   | then-is_up_to_date w ↦
-      rw (w.first-is, w.best-is, longer)
+      rw (w.first-is, w.best-is, c.max-longest.ensures)
       (surveyed_won c.args.self.now c.loop-place.self c.standing.new.self c.loop-place.place c.loop-place.first c.loop-place.longest c.loop-place.best c.in_ok-standing.standing
       c.loop-place.invariant c.in_ok-standing.ensures.standing c.in_ok-standing.ensures.still (sym c.is_up_to_date.ensures ∙ w.if-is_up_to_date.true))
   | else-is_up_to_date w ↦
-      rw (w.first-is, w.best-is, longer)
+      rw (w.first-is, w.best-is, c.max-longest.ensures)
       (surveyed_lost c.args.self.now c.loop-place.self c.standing.new.self c.loop-place.place c.loop-place.first c.loop-place.longest c.loop-place.best c.in_ok-standing.standing
       c.loop-place.invariant c.in_ok-standing.ensures.standing c.in_ok-standing.ensures.still (sym c.is_up_to_date.ensures ∙ w.if-is_up_to_date.false))
 ]
