@@ -101,7 +101,11 @@ impl Play {
 
     // Lets an event happen, and prints what it gives.
     #[tactic(auto, using(crate::proofs::Playing::nothing_yet))]
-    pub(crate) fn happen<W: io::Write>(&mut self, event: Event, writer: &mut W) -> Result<(), RunFault>
+    pub(crate) fn happen<W: io::Write>(
+        &mut self,
+        event: Event,
+        writer: &mut W,
+    ) -> Result<(), RunFault>
         requires live { self.old.world.is_spent ≡ false }
         ensures { Plays self.old.world result self.new (event_at (tables_of self.old) (members_of self.old) (stage_of self.old) (event_of event)) (W.contents writer.old) (W.contents writer.new) }
     {
@@ -208,7 +212,11 @@ impl Play {
     }
 
     // Delivers the message at this place among those sent.
-    pub(crate) fn deliver_at<W: io::Write>(&mut self, place: usize, writer: &mut W) -> Result<(), RunFault>
+    pub(crate) fn deliver_at<W: io::Write>(
+        &mut self,
+        place: usize,
+        writer: &mut W,
+    ) -> Result<(), RunFault>
         requires live { self.old.world.is_spent ≡ false }
         requires sent { place < length self.old.mail }
         ensures { Plays self.old.world result self.new (delivery (tables_of self.old) (members_of self.old) (stage_of self.old) (suc place) (nth self.old.mail (suc place))) (W.contents writer.old) (W.contents writer.new) }
