@@ -1,14 +1,15 @@
 //! The program `bitable`: commands of the crate `shell` over files and the standard streams.
 #![tactic(auto)]
 
+use causes::{Name, Trouble};
 use clap::error::ErrorKind;
 use fault::Refusal;
-use script::run_fault::RunFault;
 use shell::audit::run_audit;
 use shell::command::{Command, Live};
 use shell::command_line::read_command;
 use shell::live_run::run_live;
 use shell::sim::run_sim;
+use shell::stop::Stop;
 use std::alloc::Global;
 use std::fs::File;
 use std::io::{BufWriter, Read};
@@ -18,32 +19,42 @@ use std::sync::Wait;
 use std::thread::Threads;
 use std::{env, fs, io};
 
+const SIM: &str = "playing the script";
+
 fn main(rt: HostRuntime) -> ExitCode {
-    match run(&rt, &rt) {
-        Ok(status) => ExitCode::from(status),
-        Err(fault) => {
-            let _ = eprintln!(rt; "{fault}");
-            ExitCode::FAILURE
-        }
+    match words_given(&rt) {
+        Ok(Some(words)) => end(&rt, run(&rt, &rt, words.as_slice())),
+        Ok(None) => end(&rt, refuse_words(&rt)),
+        Err(stop) => end(&rt, Err(stop)),
     }
 }
 
-fn run<R>(rt: &R, host: &HostRuntime) -> Result<u8, RunFault>
+// The exit status; where the command was refused, why: the refusal, and below it what is known of the file.
+fn end(rt: &impl Eprint, ended: Result<u8, Stop<'_>>) -> ExitCode {
+    let Stop { fault, cause } = match ended {
+        Ok(status) => return ExitCode::from(status),
+        Err(stop) => stop,
+    };
+    let _ = eprintln!(rt; "{fault}");
+    if let Some(cause) = cause {
+        let _ = eprintln!(rt; "{cause}");
+    }
+    ExitCode::FAILURE
+}
+
+fn run<'a, R>(rt: &R, host: &HostRuntime, words: &'a [String]) -> Result<u8, Stop<'a>>
 where
-    R: AllocGlobal + Env + Files + Input + Print + Eprint,
+    R: AllocGlobal + Files + Input + Print + Eprint,
     R: Wait + Threads + Copy + Send + Drop + 'static,
 {
-    let Some(words) = words_given(rt)? else {
-        return refuse_words(rt);
-    };
-    match read_command(rt.alloc(), words.as_slice()) {
-        Ok(Command::PlayInput) => play(rt, &mut rt.reader()),
-        Ok(Command::PlayFile(path)) => play(rt, &mut open_script(rt, path)?),
+    match read_command(rt.alloc(), words) {
+        Ok(Command::PlayInput) => {
+            play(rt, &mut rt.reader()).map_err(|stop| stop.of_script(Name::Input, SIM))
+        }
+        Ok(Command::PlayFile(path)) => play_file(rt, path),
         Ok(Command::Live(live)) => play_live(rt, host, live),
         Ok(Command::Audit(names)) => audit(rt, names.as_slice()),
-        Err(error) if error.kind() == ErrorKind::OutOfMemory => {
-            Err(RunFault::Refused(Refusal::NoMemory))
-        }
+        Err(error) if error.kind() == ErrorKind::OutOfMemory => Err(Stop::from(Refusal::NoMemory)),
         Err(error) => {
             error.print(rt)?;
             Ok(if error.use_stderr() { 2 } else { 0 })
@@ -52,62 +63,78 @@ where
 }
 
 // The words of the command line, the program's name first, or none where one is not UTF-8.
-fn words_given<R: AllocGlobal + Env>(rt: &R) -> Result<Option<Vec<String>>, RunFault> {
+fn words_given<R: AllocGlobal + Env>(rt: &R) -> Result<Option<Vec<String>>, Stop<'static>> {
     match env::args(rt) {
         Ok(words) => Ok(Some(words.collect(rt.alloc())?)),
         Err(error) if error.kind() == io::ErrorKind::OutOfMemory => {
-            Err(RunFault::Refused(Refusal::NoMemory))
+            Err(Stop::from(Refusal::NoMemory))
         }
         Err(_) => Ok(None),
     }
 }
 
-fn refuse_words(rt: &impl Eprint) -> Result<u8, RunFault> {
+fn refuse_words(rt: &impl Eprint) -> Result<u8, Stop<'static>> {
     let _ = eprintln!(rt; "error: the command line is not UTF-8");
     Ok(2)
 }
 
-fn open_script<R: Files>(rt: &R, path: &str) -> Result<R::File, Refusal> {
-    match File::open(rt, path) {
-        Ok(file) => Ok(file),
-        Err(error) if error.kind() == io::ErrorKind::OutOfMemory => Err(Refusal::NoMemory),
-        Err(_) => Err(Refusal::BadScript(0)),
-    }
+fn open_script<'a, R: Files>(rt: &R, path: &'a str) -> Result<R::File, Trouble<'a>> {
+    let file = Name::Given(path);
+    File::open(rt, path).map_err(|error| {
+        Trouble::of_system(file, "opening the script", Refusal::BadScript(0), error)
+    })
 }
 
 // Plays the script that the reader has, on standard output.
-fn play<R: AllocGlobal + Print, I: Read>(rt: &R, reader: &mut I) -> Result<u8, RunFault> {
+fn play<'a, R: AllocGlobal + Print, I: Read>(rt: &R, reader: &mut I) -> Result<u8, Stop<'a>> {
     let alloc: Global = rt.alloc();
     match BufWriter::new(alloc, io::writer(rt)) {
-        Ok(mut writer) => run_sim(alloc, reader, &mut writer),
-        Err(_) => Err(RunFault::Refused(Refusal::NoMemory)),
+        Ok(mut writer) => Ok(run_sim(alloc, reader, &mut writer)?),
+        Err(_) => Err(Stop::from(Refusal::NoMemory)),
     }
+}
+
+fn play_file<'a, R: AllocGlobal + Files + Print>(rt: &R, path: &'a str) -> Result<u8, Stop<'a>> {
+    let mut script = open_script(rt, path)?;
+    play(rt, &mut script).map_err(|stop| stop.of_script(Name::Given(path), SIM))
 }
 
 // Plays a script on nodes that run on threads of their own.
-fn play_live<R>(rt: &R, host: &HostRuntime, live: Live<'_>) -> Result<u8, RunFault>
+fn play_live<'a, R>(rt: &R, host: &HostRuntime, live: Live<'a>) -> Result<u8, Stop<'a>>
 where
-    R: AllocGlobal + Files + Print + Wait + Threads + Copy + Send + Drop + 'static,
+    R: AllocGlobal + Files + Print + Eprint + Wait + Threads + Copy + Send + Drop + 'static,
 {
+    let file = Name::Given(live.script);
     let mut script = open_script(rt, live.script)?;
-    match BufWriter::new(rt.alloc(), io::writer(rt)) {
+    let ended = match BufWriter::new(rt.alloc(), io::writer(rt)) {
         Ok(mut writer) => run_live(rt, host, live, &mut script, &mut writer),
-        Err(_) => Err(RunFault::Refused(Refusal::NoMemory)),
-    }
+        Err(_) => Err(Stop::from(Refusal::NoMemory)),
+    };
+    ended.map_err(|stop| stop.of_script(file, "playing the script with live"))
 }
 
-// Judges the flights in the files of these names.
-fn audit<R: AllocGlobal + Files + Print>(rt: &R, names: &[&str]) -> Result<u8, RunFault> {
-    let alloc: Global = rt.alloc();
-    let mut texts = Vec::new(alloc);
+// The texts of the files of these names.
+fn read_flights<'a, R: AllocGlobal + Files>(
+    rt: &R,
+    names: &[&'a str],
+) -> Result<Vec<String>, Stop<'a>> {
+    let mut texts = Vec::new(rt.alloc());
     for name in names {
         match fs::read_to_string(rt, *name) {
             Ok(text) => texts.push(text)?,
-            Err(error) if error.kind() == io::ErrorKind::OutOfMemory => {
-                return Err(RunFault::Refused(Refusal::NoMemory));
+            Err(error) => {
+                let (file, tried) = (Name::Given(*name), "reading the flight");
+                return Err(Stop::from(Trouble::of_system(file, tried, Refusal::BadFlight, error)));
             }
-            Err(_) => return Err(RunFault::Refused(Refusal::BadFlight)),
         }
     }
-    run_audit(alloc, texts.as_slice(), &mut io::writer(rt))
+    Ok(texts)
+}
+
+// Judges the flights in the files of these names.
+fn audit<'a, R: AllocGlobal + Files + Print>(rt: &R, names: &[&'a str]) -> Result<u8, Stop<'a>> {
+    let alloc: Global = rt.alloc();
+    let texts = read_flights(rt, names)?;
+    let ended = run_audit(alloc, texts.as_slice(), &mut io::writer(rt));
+    ended.map_err(|fault| Stop::of_flights(alloc, fault, names, texts.as_slice()))
 }

@@ -42,12 +42,13 @@ loss_rule = record (new_rule (codes "loss")) {
   parser = Some (parser.Signed (pos 0) (pos 100));
 }
 
--- [--dir DIR]
+-- [--dir DIR], not empty
 abbrev pub dir_rule : Rule
 dir_rule = record (new_rule (codes "dir")) {
   long = Some (codes "dir");
   value_names = 1;
   action = Some Set;
+  parser = Some parser.NonEmptyString;
 }
 
 -- FILE.., one or more

@@ -7,12 +7,12 @@ ghost use Rattle.fault.specs.declared.refusal.Refusal.{Refusal as AnyRefusal};
 ghost use Rattle.shell.specs.Audit.{IsExplained, IsFaultOf, IsJudged, IsSaid, judged_of, judged_from, line_of, records_of};
 ghost use Rattle.shell.specs.Group.{IsNoGroup};
 
-use crate::flights::Flown;
 use crate::group::read_run;
 use auditor::{AuditFault, Recorded as Judged, audit};
 use fault::Refusal;
 use flight::flight::{Recorded, Version};
 use flight::life::Life;
+use folder::Flown;
 use model::member::Member;
 use schema::Schema;
 use script::run_fault::RunFault;

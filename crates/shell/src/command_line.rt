@@ -8,6 +8,7 @@ ghost use Rattle.shell.specs.declared.command.Live.{Live as Run};
 ghost use Rattle.shell.specs.CommandLine.{AsksFor, AsksLive, script_rule, nodes_rule, seed_rule, loss_rule, dir_rule, files_rule, sim_app, live_app, audit_app, bitable_app};
 
 use crate::command::{Command, Live};
+use clap::builder::ValueParser;
 use clap::error::ErrorKind;
 use clap::{Arg, ArgAction, ArgMatches, Command as Parser, Error, value_parser};
 use std::alloc::{AllocError, Global};
@@ -76,6 +77,7 @@ fn dir_word<'a>(alloc: Global) -> Arg<'a>
         .long("dir")
         .value_name("DIR")
         .action(ArgAction::Set)
+        .value_parser(ValueParser::NonEmptyString)
         .help("The folder for databases and flights; without it all is kept in memory")
 }
 

@@ -9,10 +9,10 @@ ghost use Rattle.schemaread.specs.Schemas.{SchemaSays};
 ghost use Rattle.shell.specs.Group.{AreFilesOf, IsNoGroup, IsRunIn};
 ghost use Rattle.shell.specs.Reading.{AreRead, InOrder, LacksNode};
 
-use crate::flights::Flown;
 use fault::Refusal;
 use flight::flight::{Flight, Version};
 use flightread::read_flight;
+use folder::Flown;
 use model::member::Member;
 use schema::Schema;
 use schemaread::laws::schema_says;

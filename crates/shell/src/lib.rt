@@ -5,7 +5,7 @@ pub mod audit;
 pub mod command;
 pub mod command_line;
 mod databases;
-mod flights;
 mod group;
 pub mod live_run;
 pub mod sim;
+pub mod stop;

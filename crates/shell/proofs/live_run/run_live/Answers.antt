@@ -7,5 +7,5 @@ returns g c =
     let script = c.in_ok-script.script in
     record {
       said = said_after (g.I.Read.remaining c.args.reader.now) (string_bytes c.in_ok-text.text) c.in_ok-text.ensures.text c.args.live.nodes script.schema script.lines.items
-          (rw c.as_str.ensures.value at c.in_ok-script.ensures.lines) c.in_ok-flown.flown.lives.items c.in_ok-flown.flown.answers.items _ _ _ _ c.in_ok-flown.ensures c.end_run.ensures.said;
+          (rw c.as_str.ensures.value at c.in_ok-script.ensures.lines) c.in_ok-made.flown.lives.items c.in_ok-made.flown.answers.items _ _ _ _ c.in_ok-made.ensures c.end_run.ensures.said;
     }
