@@ -118,15 +118,6 @@ pub trait Keeper: Shelf {
     /// The limit that was set on how long a call may take; none where none was set.
     ghost limit_of: { Self.Image → Option ℕ };
 
-    /// Only a sound image holds anything.
-    ghost only_sound: { (i : Self.Image) (d : Durable) → holds i d → is_sound i };
-
-    /// An image holds one state at most.
-    ghost holds_one: { (i : Self.Image) (d : Durable) (e : Durable) → holds i d → holds i e → d ≡ e };
-
-    /// One that holds a log of a member is not bad for that member.
-    ghost never_bad: { (i : Self.Image) (members : ℕ) (tables : Tables) (d : Durable) → holds i d → IsLog members tables d → is_bad i members tables → ⊥ };
-
     /// Opens what an image holds, for a member of a group of so many with these tables: what is stored
     /// forms a log. `StoreFault` where the store fails, and `NoMemory` where memory is refused. A keeper
     /// over bytes from outside judges what it finds, and answers `BadStore` where that is no state of
@@ -196,4 +187,13 @@ pub trait Keeper: Shelf {
         ensures sound { is_sound result → Self.Shelf.is_honest self }
         ensures limit { limit_of result ≡ Self.Shelf.limit self }
         ensures suits { (members : ℕ) (tables : Tables) → Self.Shelf.serves self members tables → suits result members tables };
+
+    /// Only a sound image holds anything.
+    ghost only_sound: { (i : Self.Image) (d : Durable) → holds i d → is_sound i };
+
+    /// An image holds one state at most.
+    ghost holds_one: { (i : Self.Image) (d : Durable) (e : Durable) → holds i d → holds i e → d ≡ e };
+
+    /// One that holds a log of a member is not bad for that member.
+    ghost never_bad: { (i : Self.Image) (members : ℕ) (tables : Tables) (d : Durable) → holds i d → IsLog members tables d → is_bad i members tables → ⊥ };
 }

@@ -50,6 +50,7 @@ impl<K: Keeper> Node<K> {
         ensures honest { K.is_honest self.new.keeper → K.is_honest self.old.keeper }
         ensures left { (d : Durable) → K.may_hold self.new.keeper d → K.may_hold self.old.keeper d }
         ensures asks { K.asks self.new.keeper ≤ K.asks self.old.keeper + 1 }
+        ensures saves { K.saves self.new.keeper ≡ K.saves self.old.keeper }
     {
         if !self.is_up {
             return Err(Fault::Kept(Refusal::NodeDown));

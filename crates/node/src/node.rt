@@ -399,6 +399,7 @@ impl<K: Keeper> Node<K> {
         ensures was_down { self.old.is_up ≡ false → result ≡ Err StoreError.NodeDown }
         ensures cause { self.old.is_up ≡ true → IfErr result (IsCauseOrBad (K.is_honest self.new.keeper) (K.failed self.old.keeper) (K.failed self.new.keeper)) }
         ensures asks { K.is_honest self.new.keeper → K.asks self.new.keeper ≤ K.asks self.old.keeper + length (member_of self.old).log }
+        ensures saves { K.saves self.new.keeper ≡ K.saves self.old.keeper }
         ensures core { self.new.core ≡ self.old.core }
         ensures group { IsSameSeat self.old self.new }
         ensures member { OnOk result (K.is_honest self.new.keeper → member_of self.new ≡ member_of self.old) }
@@ -425,6 +426,7 @@ impl<K: Keeper> Node<K> {
         ensures kept { (d : Durable) → K.may_hold self.keeper d → K.holds result d }
         ensures whole { self.is_up ≡ true → K.is_honest self.keeper → K.holds result (durable_of (member_of self)) }
         ensures good { K.is_honest self.keeper → K.is_bad result (members_of self) (schema_of (tables_of self)) → ⊥ }
+        ensures sound { K.is_sound result → K.is_honest self.keeper }
         ensures limit { K.limit_of result ≡ K.limit self.keeper }
         ensures suits { K.suits result (members_of self) (schema_of (tables_of self)) }
         ensures last { self.is_up ≡ true → (d : Durable) → K.holds result d → d ≡ durable_of (member_of self) }

@@ -25,7 +25,7 @@ pub returns-in-Err-clause-kept : goal.returns-in-Err-clause-kept
 returns-in-Err-clause-kept g c = λ sound d held.
     let late = c.close.ensures.sound sound in
     let early = c.read_state.ensures.honest late in
-    let is : d ≡ g.K.Shelf.stored c.in_ok-keeper.keeper = g.K.Keeper.holds_one c.args.image d _ held (c.in_ok-keeper.ensures.found early) in
+    let is : d ≡ g.K.Shelf.stored c.in_ok-keeper.keeper = g.met.K.Keeper.holds_one c.args.image d _ held (c.in_ok-keeper.ensures.found early) in
     let may = g.met.K.Shelf.holds_stored c.read_state.new.keeper late in
     let P : Durable → Type 0 = g.K.Shelf.may_hold c.read_state.new.keeper in
     c.close.ensures.kept d (subst P (c.read_state.ensures.same late ∙ sym is) may)
