@@ -229,6 +229,7 @@ impl<K: Keeper> Node<K> {
         ensures opened { IfOk result (λ n. K.is_honest n.keeper → member_of n ≡ started_from (durable_of (member_of n))) }
         ensures found { IfOk result (λ n. K.is_honest n.keeper → K.holds image (durable_of (member_of n))) }
         ensures group { IfOk result (λ n. (n.is_up ≡ true) × (tables_of n ≡ schema) × (members_of n ≡ members) × (me_of n ≡ me)) }
+        ensures saves { IfOk result (λ n. K.saves n.keeper ≡ 0) }
         ensures limit { IfOk result (λ n. K.limit n.keeper ≡ K.limit_of image) }
         ensures back { IfErr result (λ e. (d : Durable) → K.holds e.1 d → K.holds image d) }
         ensures kept { IfErr result (λ e. K.is_sound e.1 → (d : Durable) → K.holds image d → K.holds e.1 d) }

@@ -26,6 +26,7 @@ pub(crate) fn read_state<K: Keeper>(
     requires up { K.is_up keeper.old ≡ true }
     ensures ok { IfOk result (λ s. K.is_honest keeper.new → IsStateOf s (K.stored keeper.new)) }
     ensures same { K.is_honest keeper.new → K.stored keeper.new ≡ K.stored keeper.old }
+    ensures saves { K.saves keeper.new ≡ K.saves keeper.old }
     ensures limit { K.limit keeper.new ≡ K.limit keeper.old }
     ensures fits { IfOk result (λ s. IsStart members s) }
     ensures up { OnOk result (K.is_up keeper.new ≡ true) }
