@@ -1,5 +1,6 @@
 -- What contracts say of a view, and of what it is told.
 use Rattle.std.specs.Prelude.{◌≡◌, List, Result, Ok, Err}
+use mathlib.Core.List.{IsPrefix}
 use Rattle.fault.specs.declared.refusal.Refusal.{Refusal}
 use Rattle.fault.specs.declared.refusal.Refusal.TheVariants.{NotClosed, NoMemory, NoView}
 use Rattle.model.specs.Transactions.{Schema}
@@ -47,6 +48,10 @@ book_told told = told.front.seen.book
 -- the token tells of this list of the life with this name and history
 abbrev pub IsTold : Name → Book → List Item → Told → Type 0
 IsTold name book list told = (name_told told ≡ name) × (book_told told ≡ book) × (list_told told ≡ list)
+
+-- what the view has seen, and so what it answers, rests on at least what was told
+abbrev pub RestsOn : Told → View → Type 0
+RestsOn told v = IsPrefix (list_told told) (seen_by v)
 
 -- a token that bears the view's name is of the life that it is a view of
 abbrev pub IsOwn : Told → View → Type 0

@@ -43,7 +43,8 @@ pub struct View {
 }
 
 impl View {
-    ghost use Rattle.view.specs.Viewing.{seen_by, name_seen, schema_seen, book_seen, IsSameView, name_told, list_told, IsOwn, answer_in, Answers};
+    ghost use Rattle.view.specs.Viewing.{seen_by, name_seen, schema_seen, book_seen, IsSameView, name_told, list_told, IsOwn, RestsOn, answer_in, Answers};
+    ghost use Rattle.view.specs.declared.told.Told.{Told};
 
     /// A view that has seen what was read last.
     pub(crate) fn of(
@@ -69,7 +70,7 @@ impl View {
     pub fn learn(&mut self, told: &Told) -> Result<(), Refusal>
         requires own { IsOwn told.now self.old }
         ensures same { IsSameView self.old self.new }
-        ensures learnt { MatchResult result (λ _. (name_told told.now ≡ name_seen self.old) × IsPrefix (list_told told.now) (seen_by self.new)) (λ e. (e ≡ NoView) × (name_told told.now ≢ name_seen self.old)) }
+        ensures learnt { MatchResult result (λ _. (name_told told.now ≡ name_seen self.old) × RestsOn told.now self.new) (λ e. (e ≡ NoView) × (name_told told.now ≢ name_seen self.old)) }
         ensures grows { IsPrefix (seen_by self.old) (seen_by self.new) }
         ensures invents_nothing { (seen_by self.new ≡ seen_by self.old) ⊎ (seen_by self.new ≡ list_told told.now) }
     {
@@ -140,16 +141,17 @@ impl View {
         replace_with(self, (), |view, ()| view.entered())
     }
 
-    /// Answers a question from what is published now, which is at least what was seen before, and has then seen that; one
-    /// without system time is AS OF the closed time of what is then seen: the greater of the last entry's stamp and the
+    /// Answers a question from what is published now, which is at least what was seen before and all that was told, and has
+    /// then seen that; one without system time is AS OF the closed time of what is then seen: the greater of the last entry's stamp and the
     /// greatest sealed time.
     ///
     /// 33 with that closed time where the question is not closed at it; 43 for want of memory, and 45 where
     /// there is no reading, as once the life has ended: these change nothing. It waits for nobody.
-    #[tactic(auto, using(crate::proofs::Seeing::same_grows, crate::proofs::Seeing::refused))]
+    #[tactic(auto, using(crate::proofs::Seeing::same_grows, crate::proofs::Seeing::rests_still, crate::proofs::Seeing::rests_more, crate::proofs::Seeing::refused))]
     pub fn ask(&mut self, query: &Query) -> Result<Marked, Refusal>
         ensures same { IsSameView self.old self.new }
         ensures grows { IsPrefix (seen_by self.old) (seen_by self.new) }
+        ensures told { (told : Told) → RestsOn told self.old → RestsOn told self.new }
         ensures rises { Rises (seen_by self.new) }
         ensures answers { Answers (schema_of (schema_seen self.old)) (query_of query.now) (seen_by self.old) (seen_by self.new) (answer_in result) }
         ensures mark { IfOk result (λ a. a.mark ≡ last_mark (name_seen self.old).opening (seen_by self.new)) }
