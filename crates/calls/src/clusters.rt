@@ -22,12 +22,15 @@ use std::test::Fail;
 use std::thread::Threads;
 use view::View;
 
+// What the clocks of all nodes show.
+const READING: i64 = 100;
+
 const QUESTION: &str =
     "SELECT * FROM Dept FOR SYSTEM_TIME AS OF TIMESTAMP '1970-01-01 00:00:00.000100';";
 
 // Sends node 2 what it is held in. Whether it comes to the door.
 fn hold<R: Wait>(rt: &R, cluster: &Cluster, door: &Door) -> Result<bool, Refusal> {
-    cluster.send(rt, 2, timeout())?;
+    cluster.send(rt, 2, READING, timeout())?;
     Ok(door.is_reached())
 }
 
@@ -39,7 +42,7 @@ fn is_fed<R: Wait>(rt: &R, cluster: &Cluster, node: Member) -> Result<bool, Refu
 
 // Whether node 1 feeds.
 fn feeds<R: Wait>(rt: &R, cluster: &Cluster, packet: Packet) -> Result<bool, Refusal> {
-    cluster.send(rt, 1, packet)?;
+    cluster.send(rt, 1, READING, packet)?;
     is_fed(rt, cluster, 1)
 }
 
@@ -80,7 +83,7 @@ fn held<R: Wait + Abort>(
 // Node 1 is stopped, which sends it no packet any more.
 fn stops<R: Wait + Abort>(rt: &R, cluster: &mut Cluster) -> Result<(), Refusal> {
     cluster.stop_node(rt, 1)?;
-    let sent = cluster.send(rt, 1, beat());
+    let sent = cluster.send(rt, 1, READING, beat());
     let stopped = cluster.stop_node(rt, 1);
     assert!(rt; sent == Err(Refusal::NodeDown) && stopped == Err(Refusal::NodeDown));
     Ok(())

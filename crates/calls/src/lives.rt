@@ -92,8 +92,8 @@ pub(crate) fn lead<R: Wait>(rt: &R, cell: &mut Cell<MemKeeper>) -> Result<(), Fa
     ensures group { (members_of cell.new.node ≡ members_of cell.old.node) × (tables_of cell.new.node ≡ tables_of cell.old.node) }
     ensures life { IsSameLife cell.old.publisher cell.new.publisher }
 {
-    let _ = cell.feed(rt, timeout())?;
-    let _ = cell.feed(rt, vote(Mark::new(5)))?;
+    let _ = cell.feed(rt, 100, timeout())?;
+    let _ = cell.feed(rt, 100, vote(Mark::new(5)))?;
     Ok(())
 }
 
@@ -101,7 +101,7 @@ pub(crate) fn lead<R: Wait>(rt: &R, cell: &mut Cell<MemKeeper>) -> Result<(), Fa
 fn refusal_of<R: Wait>(rt: &R, cell: &mut Cell<MemKeeper>, packet: Packet) -> Option<Refusal>
     ensures { (members_of cell.new.node ≡ members_of cell.old.node) × (tables_of cell.new.node ≡ tables_of cell.old.node) }
 {
-    match cell.feed(rt, packet) {
+    match cell.feed(rt, 100, packet) {
         Err(Fault::Kept(refusal)) => Some(refusal),
         _ => None,
     }
@@ -216,7 +216,7 @@ fn second_life(rt: &(impl Abort + Wait), mut cell: Cell<MemKeeper>) -> Life {
 fn is_idle<R: Wait>(rt: &R, cell: &mut Cell<MemKeeper>, packet: Packet) -> bool
     ensures { (members_of cell.new.node ≡ members_of cell.old.node) × (tables_of cell.new.node ≡ tables_of cell.old.node) }
 {
-    match cell.feed(rt, packet) {
+    match cell.feed(rt, 100, packet) {
         Ok(out) => out.given.messages.is_empty() && out.given.told.is_empty(),
         Err(_) => false,
     }

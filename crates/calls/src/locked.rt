@@ -62,9 +62,9 @@ fn note(
 }
 
 impl Fed {
-    // Feeds it, and keeps what came of it.
+    // Feeds it while its clock shows 100, and keeps what came of it.
     fn feed<R: Wait>(&mut self, rt: &R, alloc: Global, packet: Packet) -> Result<Out, Fail> {
-        let answer = self.cell.feed(rt, packet);
+        let answer = self.cell.feed(rt, 100, packet);
         note(alloc, &mut self.outcomes, &answer)?;
         Ok(answer?)
     }
@@ -227,7 +227,7 @@ struct Task {
     trace: Trace,
 }
 
-// Feeds it a packet.
+// Feeds it a packet, while its clock shows 100.
 pub(crate) fn feed_locked<L: Naming, R: Wait>(
     rt: &R,
     node: &Mutex<LockedNode<MemKeeper, L>>,
@@ -237,7 +237,7 @@ pub(crate) fn feed_locked<L: Naming, R: Wait>(
     requires { 0 < share.old.parts }
     ensures { share.new.parts ≡ share.old.parts }
 {
-    node.lock(rt).feed(rt, share, packet)
+    node.lock(rt).feed(rt, share, 100, packet)
 }
 
 // Feeds it each packet.

@@ -152,8 +152,8 @@ pub(crate) fn is_early(view: &mut View, query: &Query) -> bool
 fn submit<R: Wait>(rt: &R, alloc: Global, cell: &mut Cell<MemKeeper>) -> Result<(), Fail>
     ensures { book_of cell.new.publisher ≡ book_of cell.old.publisher }
 {
-    let _ = cell.feed(rt, insert(alloc)?)?;
-    let _ = cell.feed(rt, reply(Mark::new(20), 2))?;
+    let _ = cell.feed(rt, 100, insert(alloc)?)?;
+    let _ = cell.feed(rt, 100, reply(Mark::new(20), 2))?;
     Ok(())
 }
 

@@ -97,10 +97,10 @@ impl<'a, L: Naming> Player<'a, L> {
         Record::of(&self.node.cell)
     }
 
-    /// Feeds it its packet of this turn.
+    /// Feeds it its packet of this turn, while its clock shows 100.
     pub(crate) fn feed(&mut self, rt: &(impl Wait + Abort), notes: &mut Notes, turn: Turn) -> Fed {
         let packet = turn.packet(rt, self.setting.alloc, notes, &self.node.cell.life.opening);
-        let answer = self.node.feed(rt, &mut self.share, packet);
+        let answer = self.node.feed(rt, &mut self.share, 100, packet);
         Fed::of(rt, &answer)
     }
 

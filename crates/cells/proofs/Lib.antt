@@ -3,3 +3,4 @@ pub mod Rising
 pub mod Items
 pub mod Listing
 pub mod Runs
+pub mod Telling

@@ -1,5 +1,5 @@
 -- Marks that rise.
-use Rattle.std.proofs.Common.{◌≡◌, ◌∙◌, ℕ, Bool, true, false, ◌&&◌, nat_lt, List, [], ◌∷◌, ◌++◌, Some, None, refl, ap, arith, append-nil, ◌+◌, max, if◌then◌else◌}
+use Rattle.std.proofs.Common.{◌≡◌, ◌∙◌, ℕ, ℤ, Bool, true, false, ◌&&◌, nat_lt, List, [], ◌∷◌, ◌++◌, Some, None, refl, ap, arith, append-nil, ◌+◌, max, if◌then◌else◌}
 use Rattle.std.proofs.lemmas.Bool.Decides.{nat_tests}
 use Rattle.flight.specs.declared.life.Step.{Step}
 use Rattle.flight.specs.declared.life.Ending.TheVariants.{Up}
@@ -52,8 +52,8 @@ rises_torn life steps s up rises m e =
 
 -- ---- the step that a packet makes, whatever it told
 
-pub made_for : (life : Life) (s : Step) (m : ℕ) (p : Packet) (outcomes : List Outcome) → s ≡ with_outcomes outcomes (step_of m p) → Some m ≡ mark_for life p → Some s.mark ≡ mark_for life s.packet
-made_for life s m p outcomes e for = rw e for
+pub made_for : (life : Life) (s : Step) (m : ℕ) (reading : ℤ) (p : Packet) (outcomes : List Outcome) → s ≡ with_outcomes outcomes (step_of m reading p) → Some m ≡ mark_for life p → Some s.mark ≡ mark_for life s.packet
+made_for life s m reading p outcomes e for = rw e for
 
-pub made_of : (s : Step) (m : ℕ) (p : Packet) (w : Work) (outcomes : List Outcome) → s ≡ with_outcomes outcomes (step_of m p) → w ≡ work_of p → w ≡ work_of s.packet
-made_of s m p w outcomes e of = rw e of
+pub made_of : (s : Step) (m : ℕ) (reading : ℤ) (p : Packet) (w : Work) (outcomes : List Outcome) → s ≡ with_outcomes outcomes (step_of m reading p) → w ≡ work_of p → w ≡ work_of s.packet
+made_of s m reading p w outcomes e of = rw e of

@@ -1,10 +1,11 @@
--- What a life replays to, and that its marks rise.
-use Rattle.std.specs.Prelude.{ℕ, Bool, true, nat_lt, ◌&&◌, List, [], ◌∷◌, fold}
+-- What a life replays to and tells, that its marks rise, and which readings it has.
+use Rattle.std.specs.Prelude.{◌≡◌, ℕ, ℤ, Bool, true, nat_lt, ◌&&◌, List, [], ◌∷◌, fold, map}
 use Rattle.sqlchecks.specs.Columns.{Tables}
 use Rattle.model.specs.Members.{Node}
 use Rattle.model.specs.Kept.{node_after}
 use Rattle.keep.specs.Durable.{Durable, IsBeforeOrAfter}
-use Rattle.node.specs.View.{durable_of, started_from, works}
+use Rattle.sqlread.specs.Meaning.{schema_of}
+use Rattle.node.specs.View.{durable_of, started_from, told_between, works}
 use Rattle.node.specs.Work as work
 use Rattle.node.specs.Work.{Work}
 use Rattle.flight.specs.declared.life.Packet.{Packet}
@@ -14,7 +15,9 @@ use Rattle.flight.specs.declared.life.Opening.{Opening}
 use Rattle.flight.specs.declared.life.Ending.{Ending}
 use Rattle.flight.specs.declared.life.Ending.TheVariants.{Up, Stopped, Torn}
 use Rattle.flight.specs.declared.life.Life.{Life}
-use Rattle.flight.specs.Lives.{sent_at}
+use Rattle.flight.specs.declared.outcome.Outcome.{Outcome}
+use Rattle.flight.specs.Lives.{sent_at, shown}
+use Rattle.flight.specs.Telling.{outcomes_of}
 
 -- ---- replay
 
@@ -44,6 +47,38 @@ ended schema n me x (Torn s) = stepped schema n me x s
 -- what a life leaves in the store: what it replays to or, where its last step is torn, that or what the step comes to
 abbrev pub IsLeft : Tables → ℕ → ℕ → Life → Durable → Type 0
 IsLeft schema n me life = IsBeforeOrAfter (durable_of (replay schema n me life)) (durable_of (ended schema n me (replay schema n me life) life.ending))
+
+-- ---- outcomes and readings
+
+-- what is recorded of a step that takes member x to y: what it told of the requests that became applied
+abbrev pub told_by : Tables → Node → Node → List Outcome
+told_by schema x y = outcomes_of (told_between (schema_of schema) y.log x.commit y.commit)
+
+-- what each of the steps tells, from member x on
+unfoldable pub told_from : Tables → ℕ → ℕ → Node → List Step → List (List Outcome)
+told_from schema n me x [] = []
+told_from schema n me x (s ∷ steps) = told_by schema x (stepped schema n me x s) ∷ told_from schema n me (stepped schema n me x s) steps
+
+abbrev pub outcomes_at : Step → List Outcome
+outcomes_at s = s.outcomes
+
+-- what is recorded of each step of a life is exactly what it tells as the life is replayed
+abbrev pub AreTold : Tables → ℕ → ℕ → Life → Type 0
+AreTold schema n me life = map outcomes_at life.steps.items ≡ told_from schema n me (started_from (opened_with life.opening)) life.steps.items
+
+-- nothing is recorded as told of these steps
+abbrev pub AreUntold : List Step → Type 0
+AreUntold steps = map outcomes_at steps ≡ map (λ s. []) steps
+
+abbrev pub reading_at : Step → ℤ
+reading_at s = s.reading
+
+abbrev pub shown_at : Step → ℤ
+shown_at s = shown s.reading s.packet
+
+-- the reading that is recorded of each step is the one that its packet bears, if it bears one
+abbrev pub AreRead : List Step → Type 0
+AreRead steps = map shown_at steps ≡ map reading_at steps
 
 -- ---- marks
 

@@ -11,7 +11,7 @@ ghost use Rattle.history.specs.Items.{entries_in, sealed_in};
 ghost use Rattle.view.specs.Publishing.{published, pending, given_of as views_of, book_of, IsSameLife};
 ghost use Rattle.view.specs.Viewing.{seen_by, name_seen, schema_seen, book_seen, IsTold};
 ghost use Rattle.flight.specs.Lives.{torn_step, all_steps, mark_for, step_of};
-ghost use Rattle.cells.specs.Lives.{work_of, opened_with, replay, IsLeft, marks_rise};
+ghost use Rattle.cells.specs.Lives.{work_of, opened_with, replay, IsLeft, AreTold, AreUntold, AreRead, marks_rise};
 ghost use Rattle.cells.specs.Feeds.{IsLifeWith, IsRecorded, given_of, IsTurnedAway, IsStartRefusal, ending_of, HasCauseOrOrder};
 ghost use Rattle.cells.specs.Publishing.{items_of, AreFirst, IsPublisherOf, RisesWith};
 ghost use Rattle.model.specs.Kept.{node_after};
@@ -37,7 +37,8 @@ pub struct Out {
     pub given: NodeOut,
 }
 
-/// A node, its life, and what it publishes of it. While the node is up it is what its life replays to, and what is
+/// A node, its life, and what it publishes of it. While the node is up it is what its life replays to. What is recorded of
+/// each step is exactly what the replay tells in it, none of a torn one, and the reading with which its packet came. What is
 /// published and what is pending are together the entries that it has applied and the times that it has sealed, in their
 /// order and each with the mark of its step: what these close is the node's closed time. Once it is down what is published are
 /// the first of those before the torn step. All this holds while its store is
@@ -52,6 +53,9 @@ pub struct Cell<K: Keeper> {
     pub publisher: Publisher,
     pub ghost replayed: { node.is_up ≡ true → (K.is_honest node.keeper → member_of node ≡ replay (tables_of node) (members_of node) (me_of node) life) × (life.ending ≡ Up) },
     pub ghost torn: { node.is_up ≡ false → torn_step life.ending ≢ [] },
+    pub ghost told: { K.is_honest node.keeper → AreTold (tables_of node) (members_of node) (me_of node) life },
+    pub ghost untold: { AreUntold (torn_step life.ending) },
+    pub ghost clocked: { AreRead (all_steps life) },
     pub ghost rising: { marks_rise life.opening.mark (all_steps life) ≡ true },
     pub ghost held: { node.is_up ≡ false → (d : Durable) → K.may_hold node.keeper d → ∥ IsLeft (tables_of node) (members_of node) (me_of node) life d ∥₁ },
     pub ghost listed: { K.is_honest node.keeper → entries_in (items_of node life) ≡ applied (replay (tables_of node) (members_of node) (me_of node) life) },
@@ -136,7 +140,8 @@ impl<K: Keeper> Cell<K> {
     }
 
     /// One step of the node by this packet, recorded with the mark that is one more than the greater of
-    /// the last mark and the packet's, and with what it told of requests. A refused step and one without effect are recorded
+    /// the last mark and the packet's, with the reading that the packet bears or, where it bears none, this one, which the
+    /// node's clock shows, and with what it told of requests. A refused step and one without effect are recorded
     /// too. Then the entries that
     /// became applied are published, and what became sealed, for which it may wait for a view that reads; where there is no memory to publish
     /// them they stay pending, and a later step publishes them.
@@ -146,12 +151,12 @@ impl<K: Keeper> Cell<K> {
     /// one where there is no memory to record what it told or to append what became applied or sealed, and one, told as 44, by which
     /// an entry becomes applied whose stamp does not rise over what the life closed before, as in no run of a group; nothing is
     /// published then.
-    pub fn feed<R: Wait>(&mut self, rt: &R, packet: Packet) -> Result<Out, Fault>
+    pub fn feed<R: Wait>(&mut self, rt: &R, reading: i64, packet: Packet) -> Result<Out, Fault>
         ensures fed { (IsTurnedAway self.old.node.is_up (mark_for self.old.life packet) result
             × IsLifeWith self.old.life self.new.life [] self.old.life.ending
             × (self.new.node ≡ self.old.node) × (self.new.publisher ≡ self.old.publisher))
             ⊎ ((self.old.node.is_up ≡ true)
-            × MatchOption (mark_for self.old.life packet) ⊥ (λ m. IsRecorded self.old.life self.new.life (step_of m packet) result)
+            × MatchOption (mark_for self.old.life packet) ⊥ (λ m. IsRecorded self.old.life self.new.life (step_of m reading packet) result)
             × (K.is_honest self.new.node.keeper → Gave (member_of self.old.node) (member_of self.new.node) (effect_at self.old.node (work_of packet)) (given_of result))) }
         ensures applied { IfOk result (λ out. K.is_honest self.new.node.keeper → out.given.applied.items ≡ slice_range (member_of self.new.node).log (member_of self.old.node).commit (member_of self.new.node).commit) }
         ensures sealed { IfOk result (λ out. K.is_honest self.new.node.keeper → out.given.sealed ≡ risen (member_of self.old.node).sealed (member_of self.new.node).sealed) }
@@ -178,7 +183,7 @@ impl<K: Keeper> Cell<K> {
         if self.life.steps.reserve(1).is_err() {
             return Err(Fault::Kept(Refusal::NoMemory));
         }
-        let step = Step::new(self.alloc, mark, packet);
+        let step = Step::new(self.alloc, mark, reading, packet);
         match self.node.step(work) {
             Ok(given) => {
                 let outcomes = match note(self.alloc, &mut self.publisher, mark, &given) {

@@ -64,11 +64,12 @@ impl<K: Keeper, L: Naming> LockedNode<K, L> {
         LockedNode { cell, book }
     }
 
-    /// One `Cell::feed` of this packet. Book and share rise by one exactly where it recorded a step.
+    /// One `Cell::feed` of this packet at this reading. Book and share rise by one exactly where it recorded a step.
     pub fn feed<R: Wait>(
         &mut self,
         rt: &R,
         share: &mut Share<L>,
+        reading: i64,
         packet: Packet,
     ) -> Result<Out, Fault>
         requires { 0 < share.old.parts }
@@ -76,7 +77,7 @@ impl<K: Keeper, L: Naming> LockedNode<K, L> {
             × IsLifeWith self.old.cell.life self.new.cell.life [] self.old.cell.life.ending
             × (self.new.cell.node ≡ self.old.cell.node) × (self.new.cell.publisher ≡ self.old.cell.publisher))
             ⊎ ((self.old.cell.node.is_up ≡ true)
-            × MatchOption (mark_for self.old.cell.life packet) ⊥ (λ m. IsRecorded self.old.cell.life self.new.cell.life (step_of m packet) result)
+            × MatchOption (mark_for self.old.cell.life packet) ⊥ (λ m. IsRecorded self.old.cell.life self.new.cell.life (step_of m reading packet) result)
             × (K.is_honest self.new.cell.node.keeper → Gave (member_of self.old.cell.node) (member_of self.new.cell.node) (effect_at self.old.cell.node (work_of packet)) (given_of result))) }
         ensures applied { IfOk result (λ out. K.is_honest self.new.cell.node.keeper → out.given.applied.items ≡ slice_range (member_of self.new.cell.node).log (member_of self.old.cell.node).commit (member_of self.new.cell.node).commit) }
         ensures sealed { IfOk result (λ out. K.is_honest self.new.cell.node.keeper → out.given.sealed ≡ risen (member_of self.old.cell.node).sealed (member_of self.new.cell.node).sealed) }
@@ -94,7 +95,7 @@ impl<K: Keeper, L: Naming> LockedNode<K, L> {
         ensures parts { share.new.parts ≡ share.old.parts }
     {
         let before = recorded(&self.cell.life);
-        let answer = self.cell.feed(rt, packet);
+        let answer = self.cell.feed(rt, reading, packet);
         if before < recorded(&self.cell.life) {
             self.book.add(share, 1);
         }

@@ -168,10 +168,10 @@ impl Seat {
         }
     }
 
-    /// Feeds it, if it runs: else 41.
+    /// Feeds it while its clock shows 100, if it runs: else 41.
     pub(crate) fn feed<R: Wait>(&mut self, rt: &R, packet: Packet) -> Result<Out, Fault> {
         match &mut self.running {
-            Some(running) => running.cell.feed(rt, packet),
+            Some(running) => running.cell.feed(rt, 100, packet),
             None => Err(Fault::Kept(Refusal::NodeDown)),
         }
     }

@@ -1,5 +1,5 @@
 -- The marks of a life, and what a step records.
-use Rattle.std.specs.Prelude.{ℕ, ℤ, pos, max, nat_le, Option, None, List, [], ◌∷◌, ◌++◌, length, if◌then◌else◌}
+use Rattle.std.specs.Prelude.{ℕ, ℤ, max, nat_le, Option, None, List, [], ◌∷◌, ◌++◌, length, if◌then◌else◌}
 use Rattle.model.specs.Marks.{mark_after}
 use Rattle.model.specs.declared.entry.Told.{Told}
 use Rattle.model.specs.declared.message.Input.TheVariants as input
@@ -40,18 +40,18 @@ sent_at (Delivered mark reading message) = mark
 abbrev pub mark_for : Life → Packet → Option ℕ
 mark_for life p = if nat_le 200000 (length life.steps.items) then None else mark_after (max (last_mark life) (sent_at p))
 
--- what the clock shows in it, 0 for an input that bears no reading
-abbrev pub shown : Packet → ℤ
-shown (Local input.Timeout) = pos 0
-shown (Local input.Beat) = pos 0
-shown (Local (input.Close reading)) = reading
-shown (Local (input.Floor reading)) = reading
-shown (Local (input.Submit reading request)) = reading
-shown (Delivered mark reading message) = reading
+-- what the clock shows as it comes: the reading that it bears or, where it bears none, this one
+abbrev pub shown : ℤ → Packet → ℤ
+shown reading (Local input.Timeout) = reading
+shown reading (Local input.Beat) = reading
+shown reading (Local (input.Close own)) = own
+shown reading (Local (input.Floor own)) = own
+shown reading (Local (input.Submit own request)) = own
+shown reading (Delivered mark own message) = own
 
--- the step that this packet makes at this mark, before it told anything
-abbrev pub step_of : ℕ → Packet → Step
-step_of m p = record { mark = m; reading = shown p; packet = p; outcomes = [] }
+-- the step that this packet makes at this mark as the clock shows this reading, before it told anything
+abbrev pub step_of : ℕ → ℤ → Packet → Step
+step_of m reading p = record { mark = m; reading = shown reading p; packet = p; outcomes = [] }
 
 -- with other outcomes
 abbrev pub with_outcomes : List Outcome → Step → Step

@@ -64,7 +64,7 @@ OneSeek = (rest : List ℕ) →
 -- a close that tells of a request that it was refused
 abbrev pub OneOutcome : Type 0
 OneOutcome = (rest : List ℕ) →
-    step_text Two (told_step (record { index = 3; client = 7; number = 9; outcome = Err Gap } ∷ []) (step_of 5 (Local (Close (pos 100))))) rest
+    step_text Two (told_step (record { index = 3; client = 7; number = 9; outcome = Err Gap } ∷ []) (step_of 5 (pos 100) (Local (Close (pos 100))))) rest
     ≡ codes "step 5 100 close\noutcome 3 7 9\ntext 26\nrefused 31 gap in requests\n" ++ rest
 
 -- a timeout that is cut short

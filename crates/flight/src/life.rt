@@ -27,7 +27,8 @@ pub enum Packet {
 #[derive(Debug, Drop)]
 pub struct Step {
     pub mark: Mark,
-    /// What the clock showed, in microseconds since 1970: the reading that the packet bears, if it bears one.
+    /// What the clock showed, in microseconds since 1970: the reading that the packet bears or, where it bears none, the one
+    /// with which it came.
     pub reading: i64,
     pub packet: Packet,
     /// What it told of the requests that became applied. A torn step told nothing.
@@ -70,13 +71,13 @@ impl Packet {
         }
     }
 
-    /// What the clock shows in it, 0 for an input that bears no reading.
-    fn shown(&self) -> i64
-        ensures { result ≡ shown self.now }
+    /// What the clock shows as it comes: the reading that it bears, else this one.
+    fn shown(&self, reading: i64) -> i64
+        ensures { result ≡ shown reading self.now }
     {
         match self {
-            Packet::Local(Input::Timeout) => 0,
-            Packet::Local(Input::Beat) => 0,
+            Packet::Local(Input::Timeout) => reading,
+            Packet::Local(Input::Beat) => reading,
             Packet::Local(Input::Close { reading }) => *reading,
             Packet::Local(Input::Floor { reading }) => *reading,
             Packet::Local(Input::Submit { reading, .. }) => *reading,
@@ -86,12 +87,12 @@ impl Packet {
 }
 
 impl Step {
-    /// The step that this packet makes at this mark, with the reading that it bears, else 0, and with no outcomes.
+    /// The step that this packet makes at this mark, with the reading that it bears, else this one, and with no outcomes.
     /// Takes no memory.
-    pub fn new(alloc: Global, mark: Mark, packet: Packet) -> Step
-        ensures { result ≡ step_of mark packet }
+    pub fn new(alloc: Global, mark: Mark, reading: i64, packet: Packet) -> Step
+        ensures { result ≡ step_of mark reading packet }
     {
-        let reading = packet.shown();
+        let reading = packet.shown(reading);
         Step {
             mark,
             reading,

@@ -55,7 +55,7 @@ impl Driver {
         Ok(())
     }
 
-    // Sends a packet to a node; to one that does not run nothing is sent.
+    // Sends a packet to a node, with what its clock shows; to one that does not run nothing is sent.
     fn send<R: Wait>(
         &mut self,
         rt: &R,
@@ -64,7 +64,10 @@ impl Driver {
         note: Note,
         packet: Packet,
     ) -> Result<(), Refusal> {
-        match self.cluster.send(rt, node, packet) {
+        let Some(reading) = self.reading(node) else {
+            return Ok(());
+        };
+        match self.cluster.send(rt, node, reading, packet) {
             Ok(()) => {
                 sent.push(Sent { node, note })?;
                 Ok(())

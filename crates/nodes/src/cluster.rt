@@ -247,12 +247,19 @@ impl Cluster {
         }
     }
 
-    /// Sends a packet to a node. 41 where the node does not run, 43 where there is no memory.
-    pub fn send<R: Wait>(&self, rt: &R, node: Member, packet: Packet) -> Result<(), Refusal> {
+    /// Sends a packet to a node. `reading` is what the node's clock shows, which is recorded of a packet that bears no reading
+    /// itself. 41 where the node does not run, 43 where there is no memory.
+    pub fn send<R: Wait>(
+        &self,
+        rt: &R,
+        node: Member,
+        reading: i64,
+        packet: Packet,
+    ) -> Result<(), Refusal> {
         let running = self.running(node)?;
         running
             .orders
-            .send(rt, Order::Feed(packet))
+            .send(rt, Order::Feed(reading, packet))
             .map_err(refusal_of)
     }
 

@@ -22,7 +22,8 @@ pub type Report = Result<Out, Fault>;
 /// What is sent to a node that runs.
 #[derive(Drop)]
 pub(crate) enum Order {
-    Feed(Packet),
+    /// A packet, and what the node's clock shows as it is fed, if the packet bears no reading.
+    Feed(i64, Packet),
     View(Address<Result<View, Refusal>>),
 }
 
@@ -65,9 +66,9 @@ fn serve<K: Keeper, G: Gate, R: Wait>(
     let me = cell.node.me();
     for _ in rt.forever() {
         match orders.next(rt) {
-            Some(Order::Feed(packet)) => {
+            Some(Order::Feed(reading, packet)) => {
                 gate.pass(me, Point::Before);
-                let report = cell.feed(rt, packet);
+                let report = cell.feed(rt, reading, packet);
                 gate.pass(me, Point::After);
                 if reports.send(rt, report).is_err() {
                     break;

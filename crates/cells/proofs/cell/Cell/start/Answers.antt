@@ -5,6 +5,7 @@ use Rattle.cells.specs.Lives.{marks_rise}
 use Rattle.view.specs.Publishing.{published, pending}
 use Rattle.cells.proofs.Items.{listed_none, whole_none}
 use Rattle.cells.proofs.Replays.{seated, replayed_first}
+use Rattle.cells.proofs.Telling.{told_first}
 use Rattle.cells.proofs.cell.Cell.start.Goals as goal
 
 pub invariant_of-result-clause-replayed : goal.invariant_of-result-clause-replayed
@@ -32,3 +33,11 @@ invariant_of-result-clause-whole g c = λ up honest.
     let p = c.in-Ok-open_publisher.publisher in
     let none = c.in-Ok-open_publisher.ensures.none in
     whole_none (seated c.entries.new.self) o c.new.result.items (published p) (pending p) c.new.ensures.items none.0 none.1
+
+pub invariant_of-result-clause-told : goal.invariant_of-result-clause-told
+invariant_of-result-clause-told g c = λ honest.
+    let o : Opening = record { mark = c.in-Some.mark; hard = c.hard_state.result; entries = c.in-Ok-entries.entries } in
+    told_first (seated c.entries.new.self) o c.new.result.items c.new.ensures.items
+
+pub invariant_of-result-clause-clocked : goal.invariant_of-result-clause-clocked
+invariant_of-result-clause-clocked g c = rw c.new.ensures.items refl
