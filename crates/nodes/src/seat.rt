@@ -9,30 +9,52 @@ use fault::Refusal;
 use flight::life::{Life, Packet};
 use keep::keeper::Keeper;
 use model::member::Member;
-use network::{Address, Inbox};
+use network::{Address, Inbox, Unsent};
 use node::Fault;
 use schema::Schema;
 use std::alloc::Global;
 use std::sync::Wait;
 use view::View;
 
+/// A packet that was sent to a node, and what the node's clock shows as it is fed, if the packet bears no reading.
+#[derive(Debug, Drop)]
+pub struct Sent {
+    /// How many packets were sent to this life of the node, up to it: from 1 on.
+    pub number: u64,
+    pub reading: i64,
+    pub packet: Packet,
+}
+
 /// What comes of one feed.
-pub type Report = Result<Out, Fault>;
+#[derive(Debug, Drop)]
+pub struct Report {
+    /// The number of the packet that was fed.
+    pub number: u64,
+    pub outcome: Result<Out, Fault>,
+}
 
 /// What is sent to a node that runs.
 #[derive(Drop)]
 pub(crate) enum Order {
-    /// A packet, and what the node's clock shows as it is fed, if the packet bears no reading.
-    Feed(i64, Packet),
+    Feed(Sent),
     View(Address<Result<View, Refusal>>),
 }
 
-/// The ends of a life that is to open: what it is sent, what comes of that, and whether it opened.
+/// What a life was sent and did not feed.
+#[derive(Drop)]
+pub(crate) struct Unfed {
+    pub packets: Vec<Sent>,
+    /// How many more there were, for which there was no memory.
+    pub lost: u64,
+}
+
+/// The ends of a life that is to open: what it is sent, what comes of that, whether it opened, and what it did not feed.
 #[derive(Drop)]
 pub(crate) struct Start {
     pub orders: Inbox<Order>,
     pub reports: Address<Report>,
     pub opened: Address<Result<(), Refusal>>,
+    pub ended: Address<Unfed>,
 }
 
 /// What a thread is told beside its node's orders.
@@ -53,7 +75,29 @@ pub(crate) struct Post {
     ghost member: { (1 ≤ me) × (me ≤ members) },
 }
 
-// Feeds the cell what it is sent, till nothing is sent any more, or what comes of it can't be reported.
+// Feeds the cell a packet.
+fn feed<K: Keeper, G: Gate, R: Wait>(
+    rt: &R,
+    cell: &mut Cell<K>,
+    sent: Sent,
+    gate: &G,
+) -> Report
+    ensures number { result.number ≡ sent.number }
+    ensures group { (tables_of cell.new.node ≡ tables_of cell.old.node) × (members_of cell.new.node ≡ members_of cell.old.node) }
+{
+    let me = cell.node.me();
+    let Sent {
+        number,
+        reading,
+        packet,
+    } = sent;
+    gate.pass(me, Point::Before);
+    let outcome = cell.feed(rt, reading, packet);
+    gate.pass(me, Point::After);
+    Report { number, outcome }
+}
+
+// Feeds the cell what it is sent, till nothing is sent any more, or there is no memory for what comes of it.
 fn serve<K: Keeper, G: Gate, R: Wait>(
     rt: &R,
     mut cell: Cell<K>,
@@ -63,14 +107,11 @@ fn serve<K: Keeper, G: Gate, R: Wait>(
 ) -> Cell<K>
     ensures { (tables_of result.node ≡ tables_of cell.node) × (members_of result.node ≡ members_of cell.node) }
 {
-    let me = cell.node.me();
     for _ in rt.forever() {
         match orders.next(rt) {
-            Some(Order::Feed(reading, packet)) => {
-                gate.pass(me, Point::Before);
-                let report = cell.feed(rt, reading, packet);
-                gate.pass(me, Point::After);
-                if reports.send(rt, report).is_err() {
+            Some(Order::Feed(sent)) => {
+                let report = feed(rt, &mut cell, sent, gate);
+                if let Err(Unsent::NoMemory(_)) = reports.send(rt, report) {
                     break;
                 }
             }
@@ -81,6 +122,24 @@ fn serve<K: Keeper, G: Gate, R: Wait>(
         }
     }
     cell
+}
+
+// What is left of what a life was sent, once nothing is sent any more. Views are given no more.
+fn leave_rest<R: Wait>(rt: &R, alloc: Global, orders: &Inbox<Order>) -> Unfed {
+    let mut packets = Vec::new(alloc);
+    let mut lost: u64 = 0;
+    for _ in rt.forever() {
+        match orders.next(rt) {
+            Some(Order::Feed(sent)) => {
+                if packets.push(sent).is_err() {
+                    lost = lost.saturating_add(1);
+                }
+            }
+            Some(Order::View(_)) => {}
+            None => break,
+        }
+    }
+    Unfed { packets, lost }
 }
 
 // Opens a life, whose mark is above those of the lives before. The image comes back with each refusal.
@@ -130,6 +189,7 @@ fn lead<K: Keeper, G: Gate, R: Wait>(
         orders,
         reports,
         opened,
+        ended,
     } = start;
     if lives.reserve(1).is_err() {
         let _ = opened.send(rt, Err(Refusal::NoMemory));
@@ -144,10 +204,11 @@ fn lead<K: Keeper, G: Gate, R: Wait>(
     };
     let _ = opened.send(rt, Ok(()));
     let cell = serve(rt, cell, &orders, &reports, gate);
-    drop(orders);
     drop(reports);
+    let unfed = leave_rest(rt, alloc, &orders);
     let (image, life) = end(rt, cell, control);
     lives.push_reserved(life);
+    let _ = ended.send(rt, unfed);
     image
 }
 

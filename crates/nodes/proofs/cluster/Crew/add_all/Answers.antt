@@ -1,7 +1,7 @@
 use Rattle.std.proofs.Common.{arith}
 use Rattle.sqlread.specs.Meaning.{schema_of}
 use Rattle.nodes.proofs.Carried.{all_left}
-use Rattle.nodes.proofs.cluster.Cluster.add_all.Goals as goal
+use Rattle.nodes.proofs.cluster.Crew.add_all.Goals as goal
 
 pub loop-image-preserved : goal.loop-image-preserved
 loop-image-preserved g c =
