@@ -4,6 +4,7 @@
 mod mail;
 mod play;
 pub mod player;
+pub mod printer;
 pub mod printing;
 pub mod run_fault;
 mod sent;

@@ -8,4 +8,5 @@ mod databases;
 mod flights;
 mod group;
 pub mod live_run;
+pub mod shown_run;
 pub mod sim;
