@@ -12,7 +12,7 @@ pub mod outcome;
 mod packets;
 pub mod parts;
 pub mod steps;
-mod writing;
+pub mod writing;
 
 pub use file::{WriteFault, write_flight};
 pub use flight::{Flight, Recorded, Version};

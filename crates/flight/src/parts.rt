@@ -69,8 +69,9 @@ pub fn read_number(text: &str, end: char) -> Result<(u64, &str), Refusal>
     }
 }
 
-// A number that may be below zero, up to the character that ends it.
-pub(crate) fn read_signed(text: &str, end: char) -> Result<(i64, &str), Refusal>
+/// A number of 64 bits that may be below zero, up to the character that ends it, which is below the digits and the sign. What
+/// is none is refused 50.
+pub fn read_signed(text: &str, end: char) -> Result<(i64, &str), Refusal>
     requires { end < 45 }
     ensures ok { IfOk result (λ p. Spells IsSigned (signed_text end) text.now p.0 p.1.now) }
     ensures only { IfOk result (λ p. SpellsOnly IsSigned (signed_text end) text.now p.0 p.1.now) }
@@ -150,8 +151,8 @@ pub(crate) fn read_stamp(text: &str, end: char) -> Result<(Stamp, &str), Refusal
     Ok((Stamp::new(number), rest))
 }
 
-// A client, up to a space.
-pub(crate) fn read_client(text: &str) -> Result<(Client, &str), Refusal>
+/// A client, from 1 to 65535, up to a space. What is none is refused 50.
+pub fn read_client(text: &str) -> Result<(Client, &str), Refusal>
     ensures ok { IfOk result (λ p. Spells IsClient (number_text 32) text.now p.0 p.1.now) }
     ensures only { IfOk result (λ p. SpellsOnly IsClient (number_text 32) text.now p.0 p.1.now) }
     ensures err { IfErr result (IsUnread IsClient (number_text 32) text.now) }
@@ -167,8 +168,9 @@ pub(crate) fn read_client(text: &str) -> Result<(Client, &str), Refusal>
     Ok((client, rest))
 }
 
-// The number of a request, up to the character that ends it.
-pub(crate) fn read_request_number(text: &str, end: char) -> Result<(RequestNumber, &str), Refusal>
+/// The number of a request, from 1 to 2^62, up to the character that ends it, which is below the digits. What is none is
+/// refused 50.
+pub fn read_request_number(text: &str, end: char) -> Result<(RequestNumber, &str), Refusal>
     requires { end < 48 }
     ensures ok { IfOk result (λ p. Spells IsRequestNumber (number_text end) text.now p.0 p.1.now) }
     ensures only { IfOk result (λ p. SpellsOnly IsRequestNumber (number_text end) text.now p.0 p.1.now) }
@@ -196,8 +198,9 @@ pub fn read_vote(text: &str) -> Result<(Option<Member>, &str), Refusal>
     Ok((Some(number as usize), rest))
 }
 
-// A floor, or -1 for none, up to the character that ends it.
-pub(crate) fn read_floor(text: &str, end: char) -> Result<(Option<Stamp>, &str), Refusal>
+/// A floor, an instant or -1 for none, up to the character that ends it, which is below the digits and the sign. What is
+/// neither is refused 50.
+pub fn read_floor(text: &str, end: char) -> Result<(Option<Stamp>, &str), Refusal>
     requires { end < 45 }
     ensures ok { IfOk result (λ p. Spells IsFloor (floor_text end) text.now p.0 p.1.now) }
     ensures only { IfOk result (λ p. SpellsOnly IsFloor (floor_text end) text.now p.0 p.1.now) }

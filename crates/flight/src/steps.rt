@@ -52,8 +52,8 @@ fn read_each_outcome(alloc: Global, text: &str) -> Result<(Vec<Outcome>, &str), 
     Ok((outcomes, rest))
 }
 
-// The outcomes of a step, of which version 1 has none.
-fn read_outcomes(alloc: Global, version: Version, text: &str) -> Result<(Outcomes, &str), Refusal>
+/// The outcomes of a step, all that stand here; version 1 has none. What is none is refused 50; want of memory is 43.
+pub fn read_outcomes(alloc: Global, version: Version, text: &str) -> Result<(Outcomes, &str), Refusal>
     ensures ok { IfOk result (λ p. Spells (AreOutcomes version) (outcomes_text version) text.now p.0 p.1.now) }
     ensures only { IfOk result (λ p. SpellsOnlyTo (AreOutcomes version) (outcomes_text version) IsNoOutcome text.now p.0 p.1.now) }
     ensures err { IfErr result (IsUnreadTo (AreOutcomes version) (outcomes_text version) IsNoOutcome text.now) }

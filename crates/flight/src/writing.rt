@@ -12,7 +12,8 @@ use model::message::{Body, Input};
 use model::stamp::Stamp;
 use std::alloc::{AllocError, Global};
 
-fn put_request(request: &Request, text: &mut String) -> Result<(), AllocError>
+/// Adds a request to the text: its client, its number and its text. The error is want of memory.
+pub fn put_request(request: &Request, text: &mut String) -> Result<(), AllocError>
     ensures { OnOk result (Adds (string_bytes text.old) (string_bytes text.new) (request_text request.now)) }
 {
     let client = request.client.get();
@@ -22,7 +23,8 @@ fn put_request(request: &Request, text: &mut String) -> Result<(), AllocError>
     write!(text, "{client} {number} {length}\n{asked}\n")
 }
 
-fn put_entry(entry: &Entry, text: &mut String) -> Result<(), AllocError>
+/// Adds an entry to the text. The error is want of memory.
+pub fn put_entry(entry: &Entry, text: &mut String) -> Result<(), AllocError>
     ensures { OnOk result (Adds (string_bytes text.old) (string_bytes text.new) (entry_text entry.now)) }
 {
     let term = entry.term;
@@ -58,8 +60,8 @@ fn flag_number(flag: bool) -> u8
     if flag { 1 } else { 0 }
 }
 
-// The number that a floor is spelled with.
-fn floor_number(floor: Option<Stamp>) -> i64
+/// The number that a floor is spelled with: its instant, or -1 for none.
+pub fn floor_number(floor: Option<Stamp>) -> i64
     ensures { result ≡ floor_number floor }
 {
     match floor {
@@ -178,7 +180,8 @@ fn put_outcome(outcome: &Outcome, text: &mut String) -> Result<(), AllocError>
     )
 }
 
-fn put_each_outcome(outcomes: &[Outcome], text: &mut String) -> Result<(), AllocError>
+/// Adds these outcomes to the text, in their order. The error is want of memory.
+pub fn put_each_outcome(outcomes: &[Outcome], text: &mut String) -> Result<(), AllocError>
     ensures { OnOk result (Adds (string_bytes text.old) (string_bytes text.new) (each_text outcome_text outcomes.now)) }
 {
     for outcome in outcomes {

@@ -1,0 +1,4 @@
+pub mod Blocks
+pub mod Digests
+pub mod Ranges
+pub mod Spelling

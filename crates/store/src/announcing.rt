@@ -1,0 +1,243 @@
+//! A keeper that announces each save in a journal before it makes it.
+ghost use Rattle.std.specs.Prelude.{◌≡◌, ℕ, true, Option};
+ghost use Rattle.model.specs.Transactions.{Schema as Tables};
+
+use crate::chain::Chain;
+use crate::device::{Device, DeviceError};
+use crate::scribe::Scribe;
+use durable::SqlKeeper;
+use journal::Line;
+use keep::{Change, Keeper, Shelf, State, StoreError};
+use model::entry::Entry;
+use model::member::Member;
+use schema::Schema;
+use sqlite::Alter;
+use std::alloc::Global;
+
+/// What a member announces its saves by: the journal, which is lent to it for a step, and the digests of its log.
+#[derive(Drop)]
+pub struct Voice<J: Device> {
+    pub scribe: Scribe<J>,
+    pub chain: Chain,
+    pub member: Member,
+}
+
+impl<J: Device> Voice<J> {
+    /// Writes what is in the journal's buffer, and then what the member is about to store.
+    fn announce(&mut self, change: &Change) -> Result<(), StoreError> {
+        let stored = self.chain.change(change)?;
+        let line = Line::Saves {
+            member: self.member,
+            stored,
+        };
+        self.scribe.add(&line).map_err(error_of)?;
+        self.scribe.flush().map_err(error_of)
+    }
+}
+
+fn error_of(error: DeviceError) -> StoreError {
+    match error {
+        DeviceError::NoMemory => StoreError::NoMemory,
+        DeviceError::Full | DeviceError::Failed => StoreError::StoreFault,
+    }
+}
+
+/// A keeper that judges what it opens, and owes it to nobody.
+pub trait Judging: Keeper {
+    /// It takes every image.
+    ghost takes_all: { (image : Self.Image) (members : ℕ) (tables : Tables) → Self.Keeper.suits image members tables };
+}
+
+impl<S: Alter + Drop> Judging for SqlKeeper<S> {
+    ghost takes_all = { λ _ _ _. tt };
+}
+
+/// A keeper that a voice can be lent to, which it announces its saves by.
+pub trait Announces: Keeper {
+    type Journal: Device;
+
+    /// Lends a voice. What is stored, and all else that contracts see of it, stays.
+    fn lend(&mut self, voice: Voice<Self::Journal>)
+        ensures stored { Self.Shelf.stored self.new ≡ Self.Shelf.stored self.old }
+        ensures honest { (Self.Shelf.is_honest self.new → Self.Shelf.is_honest self.old) × (Self.Shelf.is_honest self.old → Self.Shelf.is_honest self.new) }
+        ensures up { Self.Shelf.is_up self.new ≡ Self.Shelf.is_up self.old }
+        ensures serves { (members : ℕ) (tables : Tables) → Self.Shelf.serves self.old members tables → Self.Shelf.serves self.new members tables };
+
+    /// Takes the voice back, if one was lent. What is stored, and all else that contracts see of it, stays.
+    fn take_back(&mut self) -> Option<Voice<Self::Journal>>
+        ensures stored { Self.Shelf.stored self.new ≡ Self.Shelf.stored self.old }
+        ensures honest { (Self.Shelf.is_honest self.new → Self.Shelf.is_honest self.old) × (Self.Shelf.is_honest self.old → Self.Shelf.is_honest self.new) }
+        ensures up { Self.Shelf.is_up self.new ≡ Self.Shelf.is_up self.old }
+        ensures serves { (members : ℕ) (tables : Tables) → Self.Shelf.serves self.old members tables → Self.Shelf.serves self.new members tables };
+
+    /// It takes every image.
+    ghost takes_all: { (image : Self.Image) (members : ℕ) (tables : Tables) → Self.Keeper.suits image members tables };
+}
+
+/// A keeper over another one that announces each save by the voice that was lent to it: nothing is stored that was not announced
+/// before. Without a voice it saves as the other does. Where the journal fails, so does the save, and nothing is stored.
+#[derive(Drop)]
+pub struct Announcing<K: Keeper, J: Device> {
+    keeper: K,
+    voice: Option<Voice<J>>,
+    failures: u64,
+    asked: u64,
+    saved: u64,
+    is_up: bool,
+    ghost under: { is_up ≡ true → K.is_up keeper ≡ true },
+    ghost unfailed: { is_up ≡ true → failures ≡ 0 },
+}
+
+impl<K: Keeper, J: Device> Announcing<K, J> {
+    // It is down from here on; a fault of the store is counted.
+    fn fail(&mut self, error: StoreError) -> StoreError {
+        self.is_up = false;
+        if error == StoreError::StoreFault {
+            self.failures = 1;
+        }
+        error
+    }
+
+    // Announces a change, where a voice was lent.
+    fn announce(&mut self, change: &Change) -> Result<(), StoreError> {
+        match &mut self.voice {
+            Some(voice) => voice.announce(change),
+            None => Ok(()),
+        }
+    }
+}
+
+impl<K: Keeper, J: Device> Shelf for Announcing<K, J> {
+    ghost stored = { λ k. K.stored k.keeper };
+
+    ghost is_honest = { λ k. K.is_honest k.keeper };
+
+    ghost is_up = { λ k. k.is_up };
+
+    ghost failed = { λ k. k.failures };
+
+    ghost asks = { λ k. k.asked };
+
+    ghost saves = { λ k. k.saved };
+
+    ghost limit = { λ k. K.limit k.keeper };
+
+    ghost may_hold = { λ k d. K.may_hold k.keeper d };
+
+    ghost serves = { λ k members tables. K.serves k.keeper members tables };
+
+    ghost only_honest = { λ k d h. K.only_honest k.keeper d h };
+
+    ghost only_stored = { λ k d h. K.only_stored k.keeper d h };
+
+    ghost holds_stored = { λ k honest. K.holds_stored k.keeper honest };
+
+    ghost served_once = { λ k members tables. K.served_once k.keeper members tables };
+
+    ghost only_logs = { λ k members tables s h. K.only_logs k.keeper members tables s h };
+
+    fn entry(&mut self, alloc: Global, i: usize) -> Result<Option<Entry>, StoreError> {
+        self.asked = self.asked.saturating_add(1);
+        if !self.is_up {
+            return Err(StoreError::NodeDown);
+        }
+        match self.keeper.entry(alloc, i) {
+            Ok(entry) => Ok(entry),
+            Err(error) => Err(self.fail(error)),
+        }
+    }
+
+    fn failures(&self) -> u64 {
+        self.failures
+    }
+
+    fn asked(&self) -> u64 {
+        self.asked
+    }
+
+    fn saved(&self) -> u64 {
+        self.saved
+    }
+}
+
+impl<K: Keeper, J: Device> Keeper for Announcing<K, J> {
+    type Image = K::Image;
+
+    ghost holds = { λ i d. K.holds i d };
+
+    ghost suits = { λ i members tables. K.suits i members tables };
+
+    ghost is_bad = { λ i members tables. K.is_bad i members tables };
+
+    ghost is_sound = { λ i. K.is_sound i };
+
+    ghost limit_of = { λ i. K.limit_of i };
+
+    ghost only_sound = { λ i d h. K.only_sound i d h };
+
+    ghost holds_one = { λ i d e p q. K.holds_one i d e p q };
+
+    ghost never_bad = { λ i members tables d h forms bad. K.never_bad i members tables d h forms bad };
+
+    fn open(
+        alloc: Global,
+        image: K::Image,
+        members: usize,
+        schema: &Schema,
+    ) -> Result<Announcing<K, J>, (StoreError, K::Image)> {
+        match K::open(alloc, image, members, schema) {
+            Ok(keeper) => Ok(Announcing {
+                keeper,
+                voice: None,
+                failures: 0,
+                asked: 0,
+                saved: 0,
+                is_up: true,
+            }),
+            Err((error, image)) => Err((error, image)),
+        }
+    }
+
+    fn state(&mut self, alloc: Global) -> Result<State, StoreError> {
+        if !self.is_up {
+            return Err(StoreError::NodeDown);
+        }
+        match self.keeper.state(alloc) {
+            Ok(state) => Ok(state),
+            Err(error) => Err(self.fail(error)),
+        }
+    }
+
+    fn save(&mut self, alloc: Global, change: &Change) -> Result<(), StoreError> {
+        self.saved = self.saved.saturating_add(1);
+        if !self.is_up {
+            return Err(StoreError::NodeDown);
+        }
+        if let Err(error) = self.announce(change) {
+            return Err(self.fail(error));
+        }
+        match self.keeper.save(alloc, change) {
+            Ok(()) => Ok(()),
+            Err(error) => Err(self.fail(error)),
+        }
+    }
+
+    fn close(self) -> K::Image {
+        let Announcing { keeper, .. } = self;
+        keeper.close()
+    }
+}
+
+impl<K: Judging, J: Device> Announces for Announcing<K, J> {
+    type Journal = J;
+
+    ghost takes_all = { λ image members tables. K.takes_all image members tables };
+
+    fn lend(&mut self, voice: Voice<J>) {
+        self.voice = Some(voice);
+    }
+
+    fn take_back(&mut self) -> Option<Voice<J>> {
+        self.voice.take()
+    }
+}
