@@ -104,6 +104,11 @@ impl Chain {
         Ok(())
     }
 
+    /// Only the first so many entries, or all where there are fewer.
+    pub fn truncate(&mut self, length: usize) {
+        self.links.truncate(length);
+    }
+
     /// As a save changes the log, and what is stored after it. The error is want of memory; the chain is then that of no log.
     pub fn change(&mut self, change: &Change) -> Result<Summary, AllocError> {
         self.links.truncate(change.kept);
