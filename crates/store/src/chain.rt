@@ -9,11 +9,13 @@ use std::alloc::{AllocError, Global};
 /// The client of requests that are made in the store's own name.
 pub const OWN_CLIENT: u16 = 65535;
 
-// What is known of a log up to an entry: its digest, and how many requests of the store's own client are executed in it.
+// What is known of a log up to an entry: its digest, how many requests of the store's own client are executed in it, and how many
+// requests it has.
 #[derive(Clone, Copy)]
 struct Link {
     digest: [u8; 32],
     own: u64,
+    requests: usize,
 }
 
 /// The digests of the beginnings of a log, from the first entry on.
@@ -85,6 +87,14 @@ impl Chain {
         }
     }
 
+    /// How many requests the first so many entries bear, or all where there are fewer.
+    pub fn requests_at(&self, length: usize) -> usize {
+        match length.min(self.len()).checked_sub(1) {
+            None => 0,
+            Some(last) => self.links.get(last).map_or(0, |link| link.requests),
+        }
+    }
+
     /// The digest of the whole log.
     pub fn digest(&self) -> [u8; 32] {
         match self.links.last() {
@@ -96,9 +106,14 @@ impl Chain {
     /// One entry more. The error is want of memory, and nothing changed then.
     pub fn push(&mut self, entry: &Entry) -> Result<(), AllocError> {
         let digest = self.digest();
+        let before = self.requests_at(self.len());
         let link = Link {
             digest: next_digest(self.alloc, &digest, entry)?,
             own: own_after(self.own(), entry),
+            requests: match &entry.request {
+                Some(_) => before.saturating_add(1),
+                None => before,
+            },
         };
         self.links.push(link)?;
         Ok(())

@@ -443,8 +443,9 @@ where
         Ok(())
     }
 
-    // The leader; one is elected where none is known and a majority is up. The members with the longest logs stand first.
-    fn lead(&mut self, reading: i64) -> Result<Option<Member>, StoreRefusal> {
+    /// The leader; one is elected where none is known and a majority is up: first a member with the longest log stands. None where there is
+    /// none. 38, 40 and 43 where the journal can't be written.
+    pub fn lead(&mut self, reading: i64) -> Result<Option<Member>, StoreRefusal> {
         let (up, longest) = self.strength();
         if up <= self.seats.len() / 2 {
             return Ok(None);
@@ -787,6 +788,18 @@ where
             applied: node.commit().unwrap_or(0),
             closed: node.closed_time(),
         }
+    }
+
+    /// How many requests are decided, as far as a member that is up has applied them.
+    pub fn decided(&self) -> usize {
+        let mut decided = 0;
+        for seat in &self.seats {
+            if let Some(node) = &seat.node {
+                let applied = node.commit().unwrap_or(0);
+                decided = decided.max(seat.chain.requests_at(applied));
+            }
+        }
+        decided
     }
 
     /// How each member stands, in their order. The error is want of memory.

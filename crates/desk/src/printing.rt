@@ -1,0 +1,124 @@
+//! What is printed of a store.
+use folder::Opened;
+use model::member::Member;
+use std::alloc::{AllocError, Global};
+use store::StoreRefusal;
+use store::status::{Standing, Status};
+
+/// The last name of a folder's path.
+pub(crate) fn name_of(dir: &str) -> &str {
+    let dir = dir.strip_suffix("/").unwrap_or(dir);
+    match dir.rsplit_once('/') {
+        Some((_, name)) => name,
+        None => dir,
+    }
+}
+
+/// A refusal as a line, and below it what to do, if that can be said.
+pub(crate) fn refusal_lines(
+    alloc: Global,
+    refusal: &StoreRefusal,
+) -> Result<String, AllocError> {
+    let mut text = format!(in alloc; "{refusal}\n")?;
+    if let Some(hint) = refusal.hint() {
+        write!(text, "        {hint}\n")?;
+    }
+    Ok(text)
+}
+
+/// How many, with the word for one or for several.
+pub(crate) fn counted(alloc: Global, count: usize, one: &str) -> Result<String, AllocError> {
+    if count == 1 {
+        format!(in alloc; "1 {one}")
+    } else {
+        format!(in alloc; "{count} {one}s")
+    }
+}
+
+/// Who leads.
+pub(crate) fn leads(alloc: Global, leader: Option<Member>) -> Result<String, AllocError> {
+    match leader {
+        Some(leader) => format!(in alloc; "node {leader} leads"),
+        None => format!(in alloc; "nobody leads"),
+    }
+}
+
+/// The line that a sitting begins with.
+pub(crate) fn banner(alloc: Global, dir: &str, opened: &Opened) -> Result<String, AllocError> {
+    let name = name_of(dir);
+    let members = counted(alloc, opened.store.members(), "member")?;
+    let leads = leads(alloc, opened.store.leader())?;
+    let decided = opened.store.decided();
+    if decided == 0 {
+        return format!(in alloc; "{name}: {members}, {leads}, nothing decided yet. .help tells what can be typed\n");
+    }
+    let requests = counted(alloc, decided, "request")?;
+    format!(in alloc; "{name}: {members}, {leads}, {requests} decided. .help tells what can be typed\n")
+}
+
+/// What was cut as the store was opened, and what is missing.
+pub(crate) fn warnings(alloc: Global, opened: &Opened) -> Result<String, AllocError> {
+    let mut text = String::new(alloc);
+    if let Some(cut) = opened.cut {
+        let journal = cut.journal;
+        let at = cut.at;
+        let bytes = cut.bytes;
+        if bytes > 0 {
+            write!(
+                text,
+                "journal {journal} was cut at byte {at}: its end was torn. Nothing that was told is lost\n"
+            )?;
+        }
+    }
+    for member in &opened.missing {
+        let member = *member;
+        write!(
+            text,
+            "the database of node {member} is missing: the store goes on without it\n"
+        )?;
+    }
+    Ok(text)
+}
+
+fn standing_word(standing: Standing) -> &'static str {
+    match standing {
+        Standing::Leads => "leads",
+        Standing::Follows => "follows",
+        Standing::Down => "down",
+        Standing::Missing => "missing",
+    }
+}
+
+// The line of a member.
+fn put_status(status: &Status, text: &mut String) -> Result<(), AllocError> {
+    let member = status.member;
+    let word = standing_word(status.standing);
+    write!(text, "node {member}  {word:<7}")?;
+    if matches!(status.standing, Standing::Down | Standing::Missing) {
+        return text.push_str("\n");
+    }
+    let term = status.term;
+    let entries = status.entries;
+    let applied = status.applied;
+    write!(text, "{term:>5}  {entries:>7}  {applied:>7}  ")?;
+    match status.closed {
+        Some(stamp) => {
+            let instant = stamp.instant();
+            write!(text, "{instant}\n")
+        }
+        None => text.push_str("nothing\n"),
+    }
+}
+
+/// How the members stand, as a table.
+pub(crate) fn status_lines(alloc: Global, all: &[Status]) -> Result<String, AllocError> {
+    let mut text = String::from_str(
+        alloc,
+        "member           term  entries  applied  time is closed to\n",
+    )?;
+    text.push_str("------           ----  -------  -------  --------------------------\n")?;
+    for status in all {
+        put_status(status, &mut text)?;
+    }
+    Ok(text)
+}
