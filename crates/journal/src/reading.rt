@@ -1,14 +1,17 @@
 //! Reading the lines of a journal.
-ghost use Rattle.std.specs.Prelude.{◌≡◌, IfOk, IfErr};
-ghost use Rattle.flight.specs.Reading.{Spells};
-ghost use Rattle.journal.specs.Spelling.{line_text, summary_text, taken_text, digest_text};
-ghost use Rattle.journal.specs.Ranges.{IsLine, IsSummary, IsTaken, IsDigest};
+ghost use Rattle.std.specs.Prelude.{◌≡◌, ◌++◌, IfSome, IfNone, IfOk, IfErr};
+ghost use Rattle.flight.specs.Reading.{Spells, SpellsOnly, SpellsOnlyTo, IsUnread, IsUnreadTo, IsAfter, IsNotBegun};
+ghost use Rattle.flight.specs.Courses.{IsNoOutcome};
+ghost use Rattle.journal.specs.Spelling.{digest_text, summary_text, taken_text, line_text};
+ghost use Rattle.journal.specs.Parts.{opens_text, held_text, takes_text, made_text, answer_text, printed_text, IsOpens, IsHeld, IsTakes, IsMade, IsAnswered, IsPrinted, IsOther};
+ghost use Rattle.journal.specs.Ranges.{IsDigest, IsSummary, IsTaken, IsLine};
 
 use crate::line::{Line, Taken};
 use crate::stored::Summary;
 use fault::{Refusal, Text};
 use flight::entries::read_request;
 use flight::flight::Version;
+use flight::outcome::Outcomes;
 use flight::parts::{
     past, read_block, read_client, read_floor, read_number, read_request_number, read_signed,
     read_vote,
@@ -17,15 +20,23 @@ use flight::steps::read_outcomes;
 use hex::FromHex;
 use keep::hard_state::HardState;
 use model::member::Member;
+use model::request::{Client, RequestNumber};
 use std::alloc::Global;
 
 // What follows this word, if the text begins with it.
-fn after<'a>(text: &'a str, word: &str) -> Option<&'a str> {
+fn after<'a>(text: &'a str, word: &str) -> Option<&'a str>
+    ensures some { IfSome result (λ rest. IsAfter word.now text.now rest.now) }
+    ensures none { IfNone result (IsNotBegun word.now text.now) }
+{
     text.strip_prefix(word)
 }
 
 // A digest in hex digits of lower case, up to the end of its line.
-fn read_digest(alloc: Global, text: &str) -> Result<([u8; 32], &str), Refusal> {
+fn read_digest(alloc: Global, text: &str) -> Result<([u8; 32], &str), Refusal>
+    ensures ok { IfOk result (λ p. Spells IsDigest digest_text text.now p.0 p.1.now) }
+    ensures only { IfOk result (λ p. SpellsOnly IsDigest digest_text text.now p.0 p.1.now) }
+    ensures err { IfErr result (IsUnread IsDigest digest_text text.now) }
+{
     let Some((word, rest)) = text.split_at_checked(64) else {
         return Err(Refusal::BadFlight);
     };
@@ -40,8 +51,12 @@ fn read_digest(alloc: Global, text: &str) -> Result<([u8; 32], &str), Refusal> {
     Ok((digest, rest))
 }
 
-// What `put_summary` writes.
-fn read_summary(alloc: Global, text: &str) -> Result<(Summary, &str), Refusal> {
+// What a member has stored, in short, up to the end of its line.
+fn read_summary(alloc: Global, text: &str) -> Result<(Summary, &str), Refusal>
+    ensures ok { IfOk result (λ p. Spells IsSummary summary_text text.now p.0 p.1.now) }
+    ensures only { IfOk result (λ p. SpellsOnly IsSummary summary_text text.now p.0 p.1.now) }
+    ensures err { IfErr result (IsUnread IsSummary summary_text text.now) }
+{
     let (term, rest) = read_number(text, ' ')?;
     let (vote, rest) = read_vote(rest)?;
     let (floor, rest) = read_floor(rest, ' ')?;
@@ -56,13 +71,21 @@ fn read_summary(alloc: Global, text: &str) -> Result<(Summary, &str), Refusal> {
 }
 
 // A member and what it has stored.
-fn read_stored(alloc: Global, text: &str) -> Result<((Member, Summary), &str), Refusal> {
+fn read_held(alloc: Global, text: &str) -> Result<((Member, Summary), &str), Refusal>
+    ensures ok { IfOk result (λ p. Spells IsHeld held_text text.now p.0 p.1.now) }
+    ensures only { IfOk result (λ p. SpellsOnly IsHeld held_text text.now p.0 p.1.now) }
+    ensures err { IfErr result (IsUnread IsHeld held_text text.now) }
+{
     let (member, rest) = read_number(text, ' ')?;
     let (stored, rest) = read_summary(alloc, rest)?;
     Ok(((member as usize, stored), rest))
 }
 
-fn read_taken(alloc: Global, text: &str) -> Result<(Taken, &str), Refusal> {
+fn read_taken(alloc: Global, text: &str) -> Result<(Taken, &str), Refusal>
+    ensures ok { IfOk result (λ p. Spells IsTaken taken_text text.now p.0 p.1.now) }
+    ensures only { IfOk result (λ p. SpellsOnly IsTaken taken_text text.now p.0 p.1.now) }
+    ensures err { IfErr result (IsUnread IsTaken taken_text text.now) }
+{
     if let Some(rest) = after(text, "timeout\n") {
         return Ok((Taken::Timeout, rest));
     }
@@ -84,97 +107,76 @@ fn read_taken(alloc: Global, text: &str) -> Result<(Taken, &str), Refusal> {
     Ok((Taken::Message(number as usize), rest))
 }
 
-fn read_opens(text: &str) -> Result<(Line, &str), Refusal> {
+// The number of a journal, the sum of the block before it, and how many marks were given out before.
+fn read_opens(text: &str) -> Result<((u64, u64, u64), &str), Refusal>
+    ensures ok { IfOk result (λ p. Spells IsOpens opens_text text.now p.0 p.1.now) }
+    ensures only { IfOk result (λ p. SpellsOnly IsOpens opens_text text.now p.0 p.1.now) }
+    ensures err { IfErr result (IsUnread IsOpens opens_text text.now) }
+{
     let (journal, rest) = read_number(text, ' ')?;
     let (sum, rest) = read_number(rest, ' ')?;
     let (marks, rest) = read_number(rest, '\n')?;
-    let line = Line::Opens {
-        journal,
-        sum,
-        marks,
-    };
-    Ok((line, rest))
+    Ok(((journal, sum, marks), rest))
 }
 
-fn read_takes(alloc: Global, text: &str) -> Result<(Line, &str), Refusal> {
+// A member and what it takes.
+fn read_takes(alloc: Global, text: &str) -> Result<((Member, Taken), &str), Refusal>
+    ensures ok { IfOk result (λ p. Spells IsTakes takes_text text.now p.0 p.1.now) }
+    ensures only { IfOk result (λ p. SpellsOnly IsTakes takes_text text.now p.0 p.1.now) }
+    ensures err { IfErr result (IsUnread IsTakes takes_text text.now) }
+{
     let (member, rest) = read_number(text, ' ')?;
     let (taken, rest) = read_taken(alloc, rest)?;
-    let line = Line::Takes {
-        member: member as usize,
-        taken,
-    };
-    Ok((line, rest))
+    Ok(((member as usize, taken), rest))
 }
 
-fn read_made(alloc: Global, text: &str) -> Result<(Line, &str), Refusal> {
+// A member and what its step told of requests.
+fn read_made(alloc: Global, text: &str) -> Result<((Member, Outcomes), &str), Refusal>
+    ensures ok { IfOk result (λ p. Spells IsMade made_text text.now p.0 p.1.now) }
+    ensures only { IfOk result (λ p. SpellsOnlyTo IsMade made_text IsNoOutcome text.now p.0 p.1.now) }
+    ensures err { IfErr result (IsUnreadTo IsMade made_text IsNoOutcome text.now) }
+{
     let (member, rest) = read_number(text, '\n')?;
     let (outcomes, rest) = read_outcomes(alloc, Version::Three, rest)?;
-    let line = Line::Made {
-        member: member as usize,
-        outcomes,
-    };
-    Ok((line, rest))
+    Ok(((member as usize, outcomes), rest))
 }
 
-fn read_answer(alloc: Global, text: &str) -> Result<(Line, &str), Refusal> {
+// A member, a question and its answer.
+fn read_answer(alloc: Global, text: &str) -> Result<((Member, Text, Text), &str), Refusal>
+    ensures ok { IfOk result (λ p. Spells IsAnswered answer_text text.now p.0 p.1.now) }
+    ensures only { IfOk result (λ p. SpellsOnly IsAnswered answer_text text.now p.0 p.1.now) }
+    ensures err { IfErr result (IsUnread IsAnswered answer_text text.now) }
+{
     let (member, rest) = read_number(text, '\n')?;
     let rest = past(rest, "query ")?;
     let (query, rest) = read_block(alloc, rest)?;
     let rest = past(rest, "text ")?;
     let (answer, rest) = read_block(alloc, rest)?;
-    let line = Line::Answer {
-        member: member as usize,
-        query,
-        answer,
-    };
-    Ok((line, rest))
+    Ok(((member as usize, query, answer), rest))
 }
 
-fn read_printed(alloc: Global, text: &str) -> Result<(Line, &str), Refusal> {
+// A client, its request's number, and the words that came of it.
+fn read_printed(
+    alloc: Global,
+    text: &str,
+) -> Result<((Client, RequestNumber, Text), &str), Refusal>
+    ensures ok { IfOk result (λ p. Spells IsPrinted printed_text text.now p.0 p.1.now) }
+    ensures only { IfOk result (λ p. SpellsOnly IsPrinted printed_text text.now p.0 p.1.now) }
+    ensures err { IfErr result (IsUnread IsPrinted printed_text text.now) }
+{
     let (client, rest) = read_client(text)?;
     let (number, rest) = read_request_number(rest, '\n')?;
     let rest = past(rest, "text ")?;
     let (words, rest) = read_block(alloc, rest)?;
-    let line = Line::Printed {
-        client,
-        number,
-        words,
-    };
-    Ok((line, rest))
+    Ok(((client, number, words), rest))
 }
 
-// A line of a member that has something stored.
-fn read_storing(alloc: Global, text: &str) -> Result<(Line, &str), Refusal> {
-    if let Some(rest) = after(text, "rests ") {
-        let ((member, stored), rest) = read_stored(alloc, rest)?;
-        return Ok((Line::Rests { member, stored }, rest));
-    }
-    if let Some(rest) = after(text, "life ") {
-        let ((member, stored), rest) = read_stored(alloc, rest)?;
-        return Ok((Line::Life { member, stored }, rest));
-    }
-    let rest = past(text, "saves ")?;
-    let ((member, stored), rest) = read_stored(alloc, rest)?;
-    Ok((Line::Saves { member, stored }, rest))
-}
-
-/// A line of a journal, and what follows it in the text. What is none is refused 50; want of memory is 43.
-pub fn read_line(alloc: Global, text: &str) -> Result<(Line, &str), Refusal> {
-    if let Some(rest) = after(text, "takes ") {
-        return read_takes(alloc, rest);
-    }
-    if let Some(rest) = after(text, "made ") {
-        return read_made(alloc, rest);
-    }
-    if let Some(rest) = after(text, "printed ") {
-        return read_printed(alloc, rest);
-    }
-    if let Some(rest) = after(text, "answer ") {
-        return read_answer(alloc, rest);
-    }
-    if let Some(rest) = after(text, "opens ") {
-        return read_opens(rest);
-    }
+// A line that tells of clocks, of what a member has stored, or of a member that is stopped.
+fn read_other(alloc: Global, text: &str) -> Result<(Line, &str), Refusal>
+    ensures ok { IfOk result (λ p. Spells IsOther line_text text.now p.0 p.1.now) }
+    ensures only { IfOk result (λ p. SpellsOnly IsOther line_text text.now p.0 p.1.now) }
+    ensures err { IfErr result (IsUnread IsOther line_text text.now) }
+{
     if let Some(rest) = after(text, "clock ") {
         let (reading, rest) = read_signed(rest, '\n')?;
         return Ok((Line::Clock { reading }, rest));
@@ -184,5 +186,60 @@ pub fn read_line(alloc: Global, text: &str) -> Result<(Line, &str), Refusal> {
         let member = member as usize;
         return Ok((Line::Ends { member }, rest));
     }
-    read_storing(alloc, text)
+    if let Some(rest) = after(text, "rests ") {
+        let ((member, stored), rest) = read_held(alloc, rest)?;
+        return Ok((Line::Rests { member, stored }, rest));
+    }
+    if let Some(rest) = after(text, "life ") {
+        let ((member, stored), rest) = read_held(alloc, rest)?;
+        return Ok((Line::Life { member, stored }, rest));
+    }
+    let rest = past(text, "saves ")?;
+    let ((member, stored), rest) = read_held(alloc, rest)?;
+    Ok((Line::Saves { member, stored }, rest))
+}
+
+/// A line of a journal, and what follows it in the text. What is none is refused 50; want of memory is 43.
+pub fn read_line(alloc: Global, text: &str) -> Result<(Line, &str), Refusal>
+    ensures ok { IfOk result (λ p. Spells IsLine line_text text.now p.0 p.1.now) }
+    ensures only { IfOk result (λ p. SpellsOnlyTo IsLine line_text IsNoOutcome text.now p.0 p.1.now) }
+    ensures err { IfErr result (IsUnreadTo IsLine line_text IsNoOutcome text.now) }
+{
+    if let Some(rest) = after(text, "takes ") {
+        let ((member, taken), rest) = read_takes(alloc, rest)?;
+        return Ok((Line::Takes { member, taken }, rest));
+    }
+    if let Some(rest) = after(text, "made ") {
+        let ((member, outcomes), rest) = read_made(alloc, rest)?;
+        return Ok((Line::Made { member, outcomes }, rest));
+    }
+    if let Some(rest) = after(text, "printed ") {
+        let ((client, number, words), rest) = read_printed(alloc, rest)?;
+        let line = Line::Printed {
+            client,
+            number,
+            words,
+        };
+        return Ok((line, rest));
+    }
+    if let Some(rest) = after(text, "answer ") {
+        let ((member, query, answer), rest) = read_answer(alloc, rest)?;
+        let line = Line::Answer {
+            member,
+            query,
+            answer,
+        };
+        return Ok((line, rest));
+    }
+    if let Some(rest) = after(text, "opens ") {
+        let ((journal, sum, marks), rest) = read_opens(rest)?;
+        let line = Line::Opens {
+            journal,
+            sum,
+            marks,
+        };
+        return Ok((line, rest));
+    }
+    let (line, rest) = read_other(alloc, text)?;
+    Ok((line, rest))
 }

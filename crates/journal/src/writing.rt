@@ -16,7 +16,10 @@ fn put_summary(alloc: Global, stored: &Summary, text: &mut String) -> Result<(),
     ensures { OnOk result (Adds (string_bytes text.old) (string_bytes text.new) (summary_text stored.now)) }
 {
     let term = stored.hard.term;
-    let vote = stored.hard.vote.unwrap_or(0);
+    let vote = match stored.hard.vote {
+        None => 0,
+        Some(member) => member,
+    };
     let floor = floor_number(stored.hard.floor);
     let length = stored.length;
     let digest = hex::encode(alloc, stored.digest.as_slice())?;
