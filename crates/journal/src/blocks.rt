@@ -1,6 +1,7 @@
 //! Blocks, of which a journal is made: what one write puts into its file.
-ghost use Rattle.std.specs.Prelude.{◌≡◌, ◌≢◌, ◌<◌, [], IfSome, IfOk, OnOk, string_bytes, length, Ok};
+ghost use Rattle.std.specs.Prelude.{◌≡◌, ◌++◌, IfSome, IfOk, OnOk, string_bytes, length};
 ghost use Rattle.flight.specs.Additions.{Adds};
+ghost use Rattle.flight.specs.Spelling.{spaced, ended};
 ghost use Rattle.journal.specs.Blocks.{sum_after, block_text};
 
 use crate::line::Line;
@@ -48,7 +49,9 @@ pub struct Block<'a> {
 }
 
 // The parts of a block that may stand here: its length fits.
-fn parts_of(text: &str) -> Option<Block<'_>> {
+fn parts_of(text: &str) -> Option<Block<'_>>
+    ensures { IfSome result (λ b. text.now ≡ spaced (length b.body.now) (ended b.sum (b.body.now ++ b.rest.now))) }
+{
     let Ok((length, rest)) = read_number(text, ' ') else {
         return None;
     };

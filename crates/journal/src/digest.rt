@@ -14,11 +14,7 @@ pub const BLANK_DIGEST: [u8; 32] = [0u8; 32];
 
 /// The digest of a log that has this entry after those of which `before` is the digest: SHA-256, of FIPS 180-4, of that digest and
 /// then the entry as a flight file spells it. The error is want of memory.
-pub fn next_digest(
-    alloc: Global,
-    before: &[u8; 32],
-    entry: &Entry,
-) -> Result<[u8; 32], AllocError>
+pub fn next_digest(alloc: Global, before: &[u8; 32], entry: &Entry) -> Result<[u8; 32], AllocError>
     ensures { IfOk result (λ digest. digest ≡ next_digest before.now entry.now) }
 {
     let mut text = String::new(alloc);

@@ -29,22 +29,38 @@ pub enum Line {
         marks: u64,
     },
     /// A member that is not up as the journal begins, and what its database has to hold.
-    Rests { member: Member, stored: Summary },
+    Rests {
+        member: Member,
+        stored: Summary,
+    },
     /// A member is started, with this stored. It takes the next mark.
-    Life { member: Member, stored: Summary },
+    Life {
+        member: Member,
+        stored: Summary,
+    },
     /// What clocks show from here on, in microseconds since 1970.
-    Clock { reading: i64 },
+    Clock {
+        reading: i64,
+    },
     /// A member begins a step. It takes the next mark.
-    Takes { member: Member, taken: Taken },
+    Takes {
+        member: Member,
+        taken: Taken,
+    },
     /// A member is about to store this.
-    Saves { member: Member, stored: Summary },
+    Saves {
+        member: Member,
+        stored: Summary,
+    },
     /// A member's step is over, and it told this of requests.
     Made {
         member: Member,
         outcomes: Outcomes,
     },
     /// A member is stopped.
-    Ends { member: Member },
+    Ends {
+        member: Member,
+    },
     /// A member answered a question: the answer's lines, or the line of a refusal, are about to be given out.
     Answer {
         member: Member,

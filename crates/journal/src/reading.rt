@@ -1,5 +1,6 @@
 //! Reading the lines of a journal.
-ghost use Rattle.std.specs.Prelude.{◌≡◌, ◌++◌, IfSome, IfNone, IfOk, IfErr};
+ghost use Rattle.std.specs.Prelude.{◌≡◌, ◌≢◌, ◌↔◌, ◌++◌, ℕ, List, Ok, IsTrue, IfSome, IfNone, IfOk, IfErr};
+ghost use Rattle.hex.specs.Hex.{decode_sized, encode_lower};
 ghost use Rattle.flight.specs.Reading.{Spells, SpellsOnly, SpellsOnlyTo, IsUnread, IsUnreadTo, IsAfter, IsNotBegun};
 ghost use Rattle.flight.specs.Courses.{IsNoOutcome};
 ghost use Rattle.journal.specs.Spelling.{digest_text, summary_text, taken_text, line_text};
@@ -21,7 +22,7 @@ use hex::FromHex;
 use keep::hard_state::HardState;
 use model::member::Member;
 use model::request::{Client, RequestNumber};
-use std::alloc::Global;
+use std::alloc::{AllocError, Global};
 
 // What follows this word, if the text begins with it.
 fn after<'a>(text: &'a str, word: &str) -> Option<&'a str>
@@ -29,6 +30,22 @@ fn after<'a>(text: &'a str, word: &str) -> Option<&'a str>
     ensures none { IfNone result (IsNotBegun word.now text.now) }
 {
     text.strip_prefix(word)
+}
+
+// The bytes that 64 hex digits stand for.
+fn read_hex(word: &str) -> Option<[u8; 32]>
+    ensures some { IfSome result (λ digest. (decode_sized word.now 32 ≡ Ok digest) × IsDigest digest) }
+    ensures none { IfNone result ((digest : List ℕ) → decode_sized word.now 32 ≢ Ok digest) }
+{
+    <[u8; 32] as FromHex>::from_hex(word).ok()
+}
+
+// Whether a word is how a digest is spelled.
+fn is_hex_of(alloc: Global, digest: &[u8; 32], word: &str) -> Result<bool, AllocError>
+    ensures { IfOk result (λ is. IsTrue is ↔ (encode_lower digest.now ≡ word.now)) }
+{
+    let spelled = hex::encode(alloc, digest.as_slice())?;
+    Ok(spelled.as_str() == word)
 }
 
 // A digest in hex digits of lower case, up to the end of its line.
@@ -41,11 +58,11 @@ fn read_digest(alloc: Global, text: &str) -> Result<([u8; 32], &str), Refusal>
         return Err(Refusal::BadFlight);
     };
     let rest = past(rest, "\n")?;
-    let Ok(digest) = <[u8; 32] as FromHex>::from_hex(word) else {
+    let Some(digest) = read_hex(word) else {
         return Err(Refusal::BadFlight);
     };
-    let spelled = hex::encode(alloc, digest.as_slice())?;
-    if spelled.as_str() != word {
+    let is_lower = is_hex_of(alloc, &digest, word)?;
+    if !is_lower {
         return Err(Refusal::BadFlight);
     }
     Ok((digest, rest))
@@ -156,10 +173,7 @@ fn read_answer(alloc: Global, text: &str) -> Result<((Member, Text, Text), &str)
 }
 
 // A client, its request's number, and the words that came of it.
-fn read_printed(
-    alloc: Global,
-    text: &str,
-) -> Result<((Client, RequestNumber, Text), &str), Refusal>
+fn read_printed(alloc: Global, text: &str) -> Result<((Client, RequestNumber, Text), &str), Refusal>
     ensures ok { IfOk result (λ p. Spells IsPrinted printed_text text.now p.0 p.1.now) }
     ensures only { IfOk result (λ p. SpellsOnly IsPrinted printed_text text.now p.0 p.1.now) }
     ensures err { IfErr result (IsUnread IsPrinted printed_text text.now) }

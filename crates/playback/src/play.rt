@@ -639,7 +639,8 @@ impl Play {
         let entry = if is_same {
             None
         } else {
-            self.first_difference(entries, &self.entries(member)?)?
+            let own = self.entries(member)?;
+            self.first_difference(entries, &own)?
         };
         let _ = self.happen(Event::Stop(member))?;
         if is_same {

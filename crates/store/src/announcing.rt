@@ -1,5 +1,5 @@
 //! A keeper that announces each save in a journal before it makes it.
-ghost use Rattle.std.specs.Prelude.{◌≡◌, ℕ, true, Option};
+ghost use Rattle.std.specs.Prelude.{◌≡◌, ◌≤◌, ◌⊎◌, ℕ, true, false, IfErr};
 ghost use Rattle.model.specs.Transactions.{Schema as Tables};
 
 use crate::chain::Chain;
@@ -24,7 +24,9 @@ pub struct Voice<J: Device> {
 
 impl<J: Device> Voice<J> {
     /// Writes what is in the journal's buffer, and then what the member is about to store.
-    fn announce(&mut self, change: &Change) -> Result<(), StoreError> {
+    fn announce(&mut self, change: &Change) -> Result<(), StoreError>
+        ensures { IfErr result (λ error. (error ≡ StoreError.NoMemory) ⊎ (error ≡ StoreError.StoreFault)) }
+    {
         let stored = self.chain.change(change)?;
         let line = Line::Saves {
             member: self.member,
@@ -35,7 +37,9 @@ impl<J: Device> Voice<J> {
     }
 }
 
-fn error_of(error: DeviceError) -> StoreError {
+fn error_of(error: DeviceError) -> StoreError
+    ensures { (result ≡ StoreError.NoMemory) ⊎ (result ≡ StoreError.StoreFault) }
+{
     match error {
         DeviceError::NoMemory => StoreError::NoMemory,
         DeviceError::Full | DeviceError::Failed => StoreError::StoreFault,
@@ -90,7 +94,14 @@ pub struct Announcing<K: Keeper, J: Device> {
 
 impl<K: Keeper, J: Device> Announcing<K, J> {
     // It is down from here on; a fault of the store is counted.
-    fn fail(&mut self, error: StoreError) -> StoreError {
+    fn fail(&mut self, error: StoreError) -> StoreError
+        ensures same { result ≡ error }
+        ensures down { self.new.is_up ≡ false }
+        ensures keeper { self.new.keeper ≡ self.old.keeper }
+        ensures asked { (self.new.asked ≡ self.old.asked) × (self.new.saved ≡ self.old.saved) }
+        ensures counts { self.old.failures ≤ 1 → self.old.failures ≤ self.new.failures }
+        ensures counted { error ≡ StoreError.StoreFault → self.new.failures ≡ 1 }
+    {
         self.is_up = false;
         if error == StoreError::StoreFault {
             self.failures = 1;
@@ -99,7 +110,11 @@ impl<K: Keeper, J: Device> Announcing<K, J> {
     }
 
     // Announces a change, where a voice was lent.
-    fn announce(&mut self, change: &Change) -> Result<(), StoreError> {
+    fn announce(&mut self, change: &Change) -> Result<(), StoreError>
+        ensures error { IfErr result (λ error. (error ≡ StoreError.NoMemory) ⊎ (error ≡ StoreError.StoreFault)) }
+        ensures keeper { self.new.keeper ≡ self.old.keeper }
+        ensures same { (self.new.asked ≡ self.old.asked) × (self.new.saved ≡ self.old.saved) × (self.new.failures ≡ self.old.failures) × (self.new.is_up ≡ self.old.is_up) }
+    {
         match &mut self.voice {
             Some(voice) => voice.announce(change),
             None => Ok(()),

@@ -217,11 +217,9 @@ impl Past {
     // A journal begins: all lives are over.
     fn open(&mut self, marks: u64) -> Result<(), StoreRefusal> {
         let may = self.sessions == 0 || self.marks == marks;
-        for at in 0..self.members.len() {
-            let mut tale = self.members[at];
+        for tale in self.members.iter_mut() {
             tale.is_up = false;
             tale.is_begun = false;
-            self.members[at] = tale;
         }
         self.sessions = self.sessions.saturating_add(1);
         self.marks = marks;

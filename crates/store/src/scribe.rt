@@ -2,7 +2,7 @@
 use crate::device::{Device, DeviceError};
 use journal::blocks::put_block;
 use journal::{Line, put_line};
-use std::alloc::{AllocError, Global};
+use std::alloc::Global;
 
 /// Writes a journal. Lines go to a buffer, which is written as one block right before a member saves and right before anything is
 /// given out, and at no other time. After an error it is spent: it writes nothing any more.
@@ -61,7 +61,7 @@ impl<J: Device> Scribe<J> {
         self.check()?;
         match put_line(self.alloc, line, &mut self.buffer) {
             Ok(()) => Ok(()),
-            Err(AllocError) => {
+            Err(_) => {
                 self.failure = Some(DeviceError::NoMemory);
                 Err(DeviceError::NoMemory)
             }

@@ -1,4 +1,6 @@
 //! A member's seat: what a store has of it.
+ghost use Rattle.std.specs.Prelude.{◌≤◌};
+
 use crate::announcing::{Announces, Voice};
 use crate::chain::Chain;
 use crate::past::Tale;
@@ -37,6 +39,8 @@ fn start_node<K: Announces>(
 ) -> Result<(Node<K>, Chain), (StoreRefusal, K::Image)>
 where
     K::Image: Drop,
+    requires few { members ≤ 7 }
+    requires member { (1 ≤ member) × (member ≤ members) }
 {
     let mut node = match Node::start(alloc, image, schema, members, member) {
         Ok(node) => node,

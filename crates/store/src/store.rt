@@ -846,6 +846,10 @@ where
                 let _ = images.push(image);
             }
         }
-        (images, scribe.map(Scribe::into_device), stopped)
+        let device = match scribe {
+            Some(scribe) => Some(scribe.into_device()),
+            None => None,
+        };
+        (images, device, stopped)
     }
 }
