@@ -17,8 +17,8 @@ returns-in_err-rest-clause-err c =
 pub returns-in_default-read_hex-clause-err : goal.returns-in_default-read_hex-clause-err
 returns-in_default-read_hex-clause-err c = inr (refl, λ w other is e. c.in_default-read_hex.ensures.none w (ap (λ l. decode_sized l 32) c.in-Some.ensures.front ∙ decodes c.args.text.now w other is e))
 
-pub returns-then-is_lower-clause-err : goal.returns-then-is_lower-clause-err
-returns-then-is_lower-clause-err c = inr (
+pub returns-then-not-is_lower-clause-err : goal.returns-then-not-is_lower-clause-err
+returns-then-not-is_lower-clause-err c = inr (
   refl,
   λ w other is e.
       let d : Ok c.in-Some-read_hex.digest ≡ Ok w = sym c.in-Some-read_hex.ensures.some.0 ∙ ap (λ l. decode_sized l 32) c.in-Some.ensures.front ∙ decodes c.args.text.now w other is e in
