@@ -30,10 +30,7 @@ fn own_after(own: u64, entry: &Entry) -> u64 {
     match &entry.request {
         Some(request)
             if request.client.get() == OWN_CLIENT
-                && request.number.get() == own.saturating_add(1) =>
-        {
-            own.saturating_add(1)
-        }
+                && request.number.get() == own.saturating_add(1) => { own.saturating_add(1) }
         _ => own,
     }
 }

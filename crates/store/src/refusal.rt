@@ -26,7 +26,10 @@ pub enum StoreRefusal {
         entry: Option<usize>,
     },
     /// 55: this journal spells nothing from this byte on, or lines that may not stand there, or it is missing.
-    BadJournal { journal: u64, at: usize },
+    BadJournal {
+        journal: u64,
+        at: usize,
+    },
     /// 56: the folder has something of a store or of a run in it.
     NotEmpty,
     /// 61: the script is of other members or other tables.
@@ -40,7 +43,9 @@ impl StoreRefusal {
     pub fn hint(&self) -> Option<&'static str> {
         match self {
             StoreRefusal::DiskFull => {
-                Some("Make room on the disk, and open the store again: nothing that was told is lost.")
+                Some(
+                    "Make room on the disk, and open the store again: nothing that was told is lost.",
+                )
             }
             StoreRefusal::TooFew => Some(
                 "More than half of the members need their database. Bring the files back, as from a backup of the whole folder.",
@@ -64,7 +69,9 @@ impl StoreRefusal {
                 Some("Name a folder that is empty, or one that is not there yet.")
             }
             StoreRefusal::OtherScript => {
-                Some("The script's members and schema have to be those that the store was made with.")
+                Some(
+                    "The script's members and schema have to be those that the store was made with.",
+                )
             }
             StoreRefusal::Refused(_) => None,
         }

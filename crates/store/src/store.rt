@@ -284,11 +284,7 @@ where
     }
 
     // Lends the journal to a member for a step.
-    fn lend(
-        &mut self,
-        member: Member,
-        work: Work,
-    ) -> Result<Result<Out, Fault>, StoreRefusal> {
+    fn lend(&mut self, member: Member, work: Work) -> Result<Result<Out, Fault>, StoreRefusal> {
         let Some(at) = member.checked_sub(1) else {
             return Ok(Err(Fault::Kept(Refusal::NodeDown)));
         };
@@ -678,11 +674,7 @@ where
     }
 
     /// Asks the leader, or where none is known the first member that is up: who was asked, and what `ask` gives.
-    pub fn ask_any(
-        &mut self,
-        reading: i64,
-        text: &str,
-    ) -> Result<(Member, Answer), StoreRefusal> {
+    pub fn ask_any(&mut self, reading: i64, text: &str) -> Result<(Member, Answer), StoreRefusal> {
         let member = self.first_asked();
         let answer = self.ask(reading, member, text)?;
         Ok((member, answer))
@@ -825,9 +817,7 @@ where
 
     /// Stops every member, and gives the databases back, in the order of the members that have one, and the journal's device. What
     /// could not be written to the journal is its refusal; the databases hold what was stored all the same.
-    pub fn close(
-        mut self,
-    ) -> (Vec<K::Image>, Option<K::Journal>, Result<(), StoreRefusal>) {
+    pub fn close(mut self) -> (Vec<K::Image>, Option<K::Journal>, Result<(), StoreRefusal>) {
         let stopped = self.stop_all();
         let Store {
             alloc,
