@@ -37,7 +37,7 @@ pub fn run_new(
         Ok(schema) => schema,
         Err(error) => return Err(unread(&error)),
     };
-    folder::make(rt, alloc, dir, members, schema.as_str().trim_end())?;
+    storefolder::make(rt, alloc, dir, members, schema.as_str().trim_end())?;
     let name = name_of(dir);
     let members = counted(alloc, members, "member")?;
     let line = format!(in alloc; "made {name}: {members}\n")?;
@@ -54,7 +54,7 @@ fn sit<R: Read + Drop>(
     syncs: bool,
 ) -> Result<u8, StoreRefusal> {
     let reading = reading_of(rt, None)?;
-    let opened = folder::open(rt, alloc, place.dir, syncs, reading)?;
+    let opened = storefolder::open(rt, alloc, place.dir, syncs, reading)?;
     let Ok(reader) = BufReader::new(alloc, reader) else {
         return Err(StoreRefusal::Refused(Refusal::NoMemory));
     };
@@ -103,7 +103,7 @@ pub fn run_open(
 
 /// `audit DIR`: judges the store in a folder. It gives the exit status: 0 where the audit says yes, else 1.
 pub fn run_audit(rt: &HostRuntime, alloc: Global, dir: &str) -> Result<u8, StoreRefusal> {
-    let audited = folder::audit(rt, alloc, dir)?;
+    let audited = storefolder::audit(rt, alloc, dir)?;
     match &audited.fault {
         Some(fault) => {
             let line = format!(in alloc; "audit: {fault}\n")?;
@@ -136,7 +136,7 @@ pub fn run_flights(
     dir: &str,
     out: &str,
 ) -> Result<u8, StoreRefusal> {
-    folder::flights(rt, alloc, dir, out)?;
+    storefolder::flights(rt, alloc, dir, out)?;
     Ok(0)
 }
 
@@ -159,7 +159,7 @@ fn decided_line(alloc: Global, decided: &Decided) -> Result<String, AllocError> 
 
 /// `log DIR`: lists the decided requests of the store in a folder. It gives the exit status.
 pub fn run_log(rt: &HostRuntime, alloc: Global, dir: &str) -> Result<u8, StoreRefusal> {
-    let play = folder::decided(rt, alloc, dir)?;
+    let play = storefolder::decided(rt, alloc, dir)?;
     for decided in play.decided() {
         let line = decided_line(alloc, decided)?;
         print(rt, line.as_str())?;

@@ -1,5 +1,5 @@
 //! What is printed of a store.
-use folder::Opened;
+use storefolder::Opened;
 use model::member::Member;
 use std::alloc::{AllocError, Global};
 use store::StoreRefusal;

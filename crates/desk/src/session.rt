@@ -5,7 +5,7 @@ use crate::printing::{banner, leads, name_of, refusal_lines, status_lines, warni
 use crate::typed::{Command, Kind, read_command, read_kind};
 use answertext::Lines;
 use fault::Refusal;
-use folder::Opened;
+use storefolder::Opened;
 use model::member::Member;
 use model::request::{Client, RequestNumber};
 use std::alloc::Global;
