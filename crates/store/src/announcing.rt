@@ -248,11 +248,21 @@ impl<K: Judging, J: Device> Announces for Announcing<K, J> {
 
     ghost takes_all = { λ image members tables. K.takes_all image members tables };
 
-    fn lend(&mut self, voice: Voice<J>) {
+    fn lend(&mut self, voice: Voice<J>)
+        ensures stored { K.stored self.new.keeper ≡ K.stored self.old.keeper }
+        ensures honest { (K.is_honest self.new.keeper → K.is_honest self.old.keeper) × (K.is_honest self.old.keeper → K.is_honest self.new.keeper) }
+        ensures up { self.new.is_up ≡ self.old.is_up }
+        ensures serves { (members : ℕ) (tables : Tables) → K.serves self.old.keeper members tables → K.serves self.new.keeper members tables }
+    {
         self.voice = Some(voice);
     }
 
-    fn take_back(&mut self) -> Option<Voice<J>> {
+    fn take_back(&mut self) -> Option<Voice<J>>
+        ensures stored { K.stored self.new.keeper ≡ K.stored self.old.keeper }
+        ensures honest { (K.is_honest self.new.keeper → K.is_honest self.old.keeper) × (K.is_honest self.old.keeper → K.is_honest self.new.keeper) }
+        ensures up { self.new.is_up ≡ self.old.is_up }
+        ensures serves { (members : ℕ) (tables : Tables) → K.serves self.old.keeper members tables → K.serves self.new.keeper members tables }
+    {
         self.voice.take()
     }
 }
