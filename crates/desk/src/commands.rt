@@ -45,21 +45,30 @@ pub fn run_new(
     Ok(0)
 }
 
+/// How a store is opened.
+#[derive(Clone, Copy, PartialEq, Eq, Debug)]
+pub struct How {
+    /// Whether each block of the journal is brought to the disk: where it isn't, a kill loses nothing, but a power cut may.
+    pub syncs: bool,
+    /// What clocks show, in microseconds since 1970, if not what the system's does.
+    pub clock: Option<i64>,
+}
+
 // A sitting over a reader.
 fn sit<R: Read + Drop>(
     rt: &HostRuntime,
     alloc: Global,
     place: Place<'_>,
     reader: R,
-    syncs: bool,
+    how: How,
 ) -> Result<u8, StoreRefusal> {
-    let reading = reading_of(rt, None)?;
-    let opened = storefolder::open(rt, alloc, place.dir, syncs, reading)?;
+    let reading = reading_of(rt, how.clock)?;
+    let opened = storefolder::open(rt, alloc, place.dir, how.syncs, reading)?;
     let Ok(reader) = BufReader::new(alloc, reader) else {
         return Err(StoreRefusal::Refused(Refusal::NoMemory));
     };
     let mut input = Input::new(alloc, reader);
-    let mut session = Session::new(alloc, place, opened);
+    let mut session = Session::new(alloc, place, opened, how.clock);
     session.greet(rt)?;
     let played = session.play(rt, &mut input);
     let ended = session.end();
@@ -75,7 +84,7 @@ pub fn run_open(
     alloc: Global,
     dir: &str,
     script: Option<&str>,
-    syncs: bool,
+    how: How,
 ) -> Result<u8, StoreRefusal> {
     match script {
         Some(name) => {
@@ -88,7 +97,7 @@ pub fn run_open(
                 name,
                 is_terminal: false,
             };
-            sit(rt, alloc, place, file, syncs)
+            sit(rt, alloc, place, file, how)
         }
         None => {
             let place = Place {
@@ -96,7 +105,7 @@ pub fn run_open(
                 name: "-",
                 is_terminal: rt.stdin().is_terminal(),
             };
-            sit(rt, alloc, place, rt.reader(), syncs)
+            sit(rt, alloc, place, rt.reader(), how)
         }
     }
 }

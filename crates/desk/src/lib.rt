@@ -8,4 +8,4 @@ mod printing;
 mod session;
 mod typed;
 
-pub use commands::{run_audit, run_flights, run_log, run_new, run_open};
+pub use commands::{How, run_audit, run_flights, run_log, run_new, run_open};

@@ -60,12 +60,17 @@ fn print(rt: &HostRuntime, text: &str) -> Result<(), StoreRefusal> {
 }
 
 impl<'a> Session<'a> {
-    pub fn new(alloc: Global, place: Place<'a>, opened: Opened) -> Session<'a> {
+    pub fn new(
+        alloc: Global,
+        place: Place<'a>,
+        opened: Opened,
+        clock: Option<i64>,
+    ) -> Session<'a> {
         Session {
             alloc,
             place,
             opened,
-            clock: None,
+            clock,
             is_refused: false,
         }
     }

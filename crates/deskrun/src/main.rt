@@ -1,7 +1,7 @@
 //! The commands over a store that is kept in a folder, by themselves.
 #![tactic(auto)]
 
-use desk::{run_audit, run_flights, run_log, run_new, run_open};
+use desk::{How, run_audit, run_flights, run_log, run_new, run_open};
 use std::alloc::Global;
 use std::env;
 use std::process::ExitCode;
@@ -59,7 +59,11 @@ fn run(rt: &HostRuntime) -> Result<u8, StoreRefusal> {
                 Some(name) if name != "-" && !name.starts_with("--") => Some(name),
                 _ => None,
             };
-            run_open(rt, alloc, dir, script, syncs)
+            let clock = match after(&words, "--clock") {
+                Some(text) => lines::number::read_signed(text),
+                None => None,
+            };
+            run_open(rt, alloc, dir, script, How { syncs, clock })
         }
         "audit" => run_audit(rt, alloc, dir),
         "flights" => match word(&words, 3) {
