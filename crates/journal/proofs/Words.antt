@@ -1,9 +1,9 @@
 -- Lines by their first word.
-use Rattle.std.proofs.Common.{◌≡◌, ◌∙◌, ℕ, ℤ, List, ◌++◌, refl, sym, ap, arith, inl, inr, get_or, drop}
+use Rattle.std.proofs.Common.{◌≡◌, ℕ, ℤ, List, ◌++◌, refl, sym, ap, arith, inl, inr, get_or, drop}
 use Rattle.std.specs.Prelude.{codes}
 use Rattle.fault.specs.declared.refusal.Refusal.{Refusal}
 use Rattle.lines.specs.Number.{IsSigned}
-use Rattle.flight.specs.Spelling.{signed_text, ended, number_text, request_text}
+use Rattle.flight.specs.Spelling.{signed_text, number_text, request_text}
 use Rattle.flight.specs.Ranges.{IsNumber, IsRequest}
 use Rattle.flight.specs.Reading.{SpellsOnly, SpellsOnlyTo, IsUnread, IsUnreadTo, IsNotBegun}
 use Rattle.flight.specs.declared.outcome.Outcome.{Outcome}

@@ -1,6 +1,6 @@
 -- What follows the first word of a line.
-use Rattle.std.specs.Prelude.{ℕ, List, ◌++◌, codes, ⊤}
-use Rattle.flight.specs.Spelling.{spaced, ended, block_text, outcomes_text}
+use Rattle.std.specs.Prelude.{ℕ, List, codes, ⊤}
+use Rattle.flight.specs.Spelling.{spaced, ended, outcomes_text}
 use Rattle.flight.specs.Ranges.{IsNumber, IsClient, IsRequestNumber, AreOutcomes}
 use Rattle.flight.specs.declared.flight.Version.TheVariants.{Three}
 use Rattle.flight.specs.declared.outcome.Outcome.{Outcome}

@@ -6,13 +6,13 @@ use crate::chain::Chain;
 use crate::past::Tale;
 use crate::refusal::StoreRefusal;
 use crate::scribe::Scribe;
-use core::mem::replace;
 use fault::Refusal;
 use journal::{Line, Summary};
 use model::member::Member;
 use node::{Fault, Node, Out, Work};
 use schema::Schema;
 use std::alloc::Global;
+use std::mem::replace;
 
 /// A member: up, or at rest with its database, or with its database missing.
 #[derive(Drop)]

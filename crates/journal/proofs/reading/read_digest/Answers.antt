@@ -1,4 +1,4 @@
-use Rattle.std.proofs.Common.{rules, ◌≡◌, ◌∙◌, ℕ, List, refl, sym, ap, inr, Ok}
+use Rattle.std.proofs.Common.{rules, ◌≡◌, ◌∙◌, refl, sym, ap, inr, Ok}
 use Rattle.hex.specs.Hex.{decode_sized, encode_lower}
 use Rattle.flight.specs.Reading.{IsUnread}
 use Rattle.journal.specs.Spelling.{digest_text}
