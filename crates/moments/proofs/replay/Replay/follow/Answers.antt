@@ -34,7 +34,7 @@ returns-in-Some-get-2-clause-ok c =
     let a = c.in-Some-get-2.recorded.now in
     let h = c.in-Some-get-2.ensures.lookup in
     let found = slice_get_read r.answers (length r.answers) c.in-Answers.answer a refl h.3.0 h.1 in
-    answered_so r (members_in old.world) (past_of old) m c.in-Answers.answer a c.answer.result old c.answer.new.self c.in-Answers.is found c.answer.ensures.ok
+    answered_so r (members_in old.world) (past_of old) m c.in-Answers.answer a c.answer_marked.result old c.answer_marked.new.self c.in-Answers.is found c.answer_marked.ensures.ok
 
 pub returns-in-Some-get-2-clause-fault : goal.returns-in-Some-get-2-clause-fault
 returns-in-Some-get-2-clause-fault c =
@@ -44,7 +44,7 @@ returns-in-Some-get-2-clause-fault c =
     let a = c.in-Some-get-2.recorded.now in
     let h = c.in-Some-get-2.ensures.lookup in
     let found = slice_get_read r.answers (length r.answers) c.in-Answers.answer a refl h.3.0 h.1 in
-    answered_fault r (members_in old.world) (past_of old) m c.in-Answers.answer a c.answer.result c.in-Answers.is found c.answer.ensures.fault
+    answered_fault r (members_in old.world) (past_of old) m c.in-Answers.answer a c.answer_marked.result c.in-Answers.is found c.answer_marked.ensures.fault
 
 pub returns-in-None-get-2-clause-fault : goal.returns-in-None-get-2-clause-fault
 returns-in-None-get-2-clause-fault c =
