@@ -1,12 +1,12 @@
 //! The command `live`.
-ghost use Rattle.std.specs.Prelude.{◌≡◌, ◌≤◌, ℕ, List, IfOk, OnOk, vec_len};
+ghost use Rattle.std.specs.Prelude.{◌≡◌, ◌≤◌, ◌⊎◌, ℕ, List, IfOk, OnErr, OnOk, vec_len};
 ghost use Rattle.std.specs.Io.KnownBytes.{Appends};
 ghost use Rattle.flight.specs.declared.flight.Version.TheVariants.{Three};
-ghost use Rattle.shell.specs.Audit.{Grows, IsSaid, records_of};
+ghost use Rattle.shell.specs.Audit.{BeginsSaid, Grows, IsSaid, records_of};
 ghost use Rattle.shell.specs.Live.{EndsRun};
 ghost use Rattle.shell.specs.Sim.{IsOfText};
 
-use crate::audit::audit_line;
+use crate::audit::{audit_line, write_line};
 use crate::command::Live;
 use crate::databases::{databases_in, databases_in_memory};
 use crate::flights::{Flown, write_flights};
@@ -142,14 +142,14 @@ fn end_run<R: AllocGlobal + Files, W: io::Write>(
     writer: &mut W,
 ) -> Result<u8, RunFault>
     ensures said { IfOk result (λ status. (line : List ℕ) × IsSaid (records_of Three script.now.schema flown.lives.items flown.answers.items) status line × Appends (W.contents writer.old) (W.contents writer.new) line) }
+    ensures begun { OnErr result ((writer.new ≡ writer.old) ⊎ BeginsSaid (records_of Three script.now.schema flown.lives.items flown.answers.items) (W.contents writer.old) (W.contents writer.new)) }
 {
     let alloc: Global = rt.alloc();
     let (status, line) = audit_line(alloc, Version::Three, &script.schema, &flown)?;
     if let Some(dir) = dir {
         write_flights(rt, alloc, dir, &script.schema_text, flown)?;
     }
-    writer.write_all(line.as_bytes())?;
-    writer.flush()?;
+    write_line(line.as_str(), writer)?;
     Ok(status)
 }
 
