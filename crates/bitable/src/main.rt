@@ -48,9 +48,7 @@ where
     R: Wait + Threads + Copy + Send + Drop + 'static,
 {
     match read_command(rt.alloc(), words) {
-        Ok(Command::PlayInput) => {
-            play(rt, &mut rt.reader()).map_err(|stop| stop.of_script(Name::Input, SIM))
-        }
+        Ok(Command::PlayInput) => { script_ended(play(rt, &mut rt.reader()), Name::Input, SIM) }
         Ok(Command::PlayFile(path)) => play_file(rt, path),
         Ok(Command::Live(live)) => play_live(rt, host, live),
         Ok(Command::Audit(names)) => audit(rt, names.as_slice()),
@@ -85,6 +83,18 @@ fn open_script<'a, R: Files>(rt: &R, path: &'a str) -> Result<R::File, Trouble<'
     })
 }
 
+// What a played script came to: a refusal of the script has its file and what was tried as its cause.
+fn script_ended<'a>(
+    ended: Result<u8, Stop<'a>>,
+    file: Name<'a>,
+    tried: &'static str,
+) -> Result<u8, Stop<'a>> {
+    match ended {
+        Ok(status) => Ok(status),
+        Err(stop) => Err(stop.of_script(file, tried)),
+    }
+}
+
 // Plays the script that the reader has, on standard output.
 fn play<'a, R: AllocGlobal + Print, I: Read>(rt: &R, reader: &mut I) -> Result<u8, Stop<'a>> {
     let alloc: Global = rt.alloc();
@@ -96,7 +106,7 @@ fn play<'a, R: AllocGlobal + Print, I: Read>(rt: &R, reader: &mut I) -> Result<u
 
 fn play_file<'a, R: AllocGlobal + Files + Print>(rt: &R, path: &'a str) -> Result<u8, Stop<'a>> {
     let mut script = open_script(rt, path)?;
-    play(rt, &mut script).map_err(|stop| stop.of_script(Name::Given(path), SIM))
+    script_ended(play(rt, &mut script), Name::Given(path), SIM)
 }
 
 // Plays a script on nodes that run on threads of their own.
@@ -110,7 +120,7 @@ where
         Ok(mut writer) => run_live(rt, host, live, &mut script, &mut writer),
         Err(_) => Err(Stop::from(Refusal::NoMemory)),
     };
-    ended.map_err(|stop| stop.of_script(file, "playing the script with live"))
+    script_ended(ended, file, "playing the script with live")
 }
 
 // The texts of the files of these names.
