@@ -26,7 +26,7 @@ use Rattle.moments.specs.declared.moment.Deed.TheVariants.{Opens, Takes, Tears, 
 use Rattle.moments.specs.declared.moment.Moment.{Moment}
 use Rattle.moments.specs.declared.recorded.Recorded.{Recorded}
 use Rattle.moments.specs.Past.{Past, IsSent, grown, after}
-use Rattle.moments.specs.Behind.{Records, life_at, step_at, job_event, IsJob, IsTaken, IsLeftBy, IsCut, IsAnswered, IsLifeBegun, IsLifeCut, IsBehindDeed, IsBehind}
+use Rattle.moments.specs.Behind.{Records, life_at, step_at, job_event, IsJob, IsTaken, IsLeftBy, IsCut, IsAnsweredBy, IsLifeBegun, IsLifeCut, IsBehindDeed, IsBehind}
 
 -- ---- one message that was sent twice
 
@@ -92,15 +92,15 @@ life_cut r s n p node k None a b x y = absurd x
 life_cut r s n p node k (Some life) a b x y = cut s n p node (life_at r.lives node (k + 1)) life.ending a b x y
 
 -- a question changes nothing
-asked : (t : Tables) (s : Schema) (n : ℕ) (p : Past) (node : ℕ) (o : Option Recorded) (a : List Event) → IsAnswered t n p node o a → run s n p.world a ≡ p.world
-asked t s n p node None a x = absurd x
-asked t s n p node (Some answer) a x = ap (run s n p.world) x.5
+asked : (r : Records) (s : Schema) (n : ℕ) (p : Past) (node : ℕ) (o : Option Recorded) (a : List Event) → IsAnsweredBy r n p node o a → run s n p.world a ≡ p.world
+asked r s n p node None a x = absurd x
+asked r s n p node (Some answer) a x = ap (run s n p.world) x.1.5
 
 same_run : (r : Records) (s : Schema) (n : ℕ) (p : Past) (node : ℕ) (d : Deed) (a b : List Event) → IsBehindDeed r n p node d a → IsBehindDeed r n p node d b → run s n p.world a ≡ run s n p.world b
 same_run r s n p node (Opens k) a b x y = ap (run s n p.world) (begun r n p node k (life_at r.lives node k) a b x y)
 same_run r s n p node (Takes k step) a b x y = taken r.version r.tables s n p node (step_at r.lives node k step) a b x y
 same_run r s n p node (Tears k) a b x y = life_cut r s n p node k (life_at r.lives node k) a b x y
-same_run r s n p node (Answers k) a b x y = asked r.tables s n p node (slice_get r.answers k) a x ∙ sym (asked r.tables s n p node (slice_get r.answers k) b y)
+same_run r s n p node (Answers k) a b x y = asked r s n p node (slice_get r.answers k) a x ∙ sym (asked r s n p node (slice_get r.answers k) b y)
 same_run r s n p node (Stops k) a b x y = ap (run s n p.world) (x ∙ sym y)
 
 pub same_after : (r : Records) (n : ℕ) (p : Past) (m : Moment) (a b : List Event) → IsBehind r n p m a → IsBehind r n p m b → after (schema_of r.tables) n p m.mark a ≡ after (schema_of r.tables) n p m.mark b

@@ -1,12 +1,10 @@
 -- The join of the lives is one, and what it leads to is one: where a moment has no events, nothing explains the lives.
-use Rattle.std.proofs.Common.{◌≡◌, ◌∙◌, ℕ, List, [], ◌∷◌, ◌++◌, length, sym, subst, inl, inr}
-use Rattle.std.proofs.lemmas.List.Elements.{All-contains}
+use Rattle.std.proofs.Common.{◌≡◌, ◌∙◌, ℕ, List, [], ◌∷◌, ◌++◌, length, sym, subst}
 use Rattle.model.specs.Worlds.{Event}
 use Rattle.sqlread.specs.Meaning.{schema_of}
 use Rattle.moments.specs.declared.moment.Moment.{Moment}
 use Rattle.moments.specs.declared.recorded.AuditFault.{AuditFault}
-use Rattle.moments.specs.Rising.{IsMarked, IsUnmarked}
-use Rattle.moments.specs.Moments.{listed, IsTimeline}
+use Rattle.moments.specs.Moments.{all_moments, IsTimeline}
 use Rattle.moments.specs.Past.{Past, beginning, after}
 use Rattle.moments.specs.Behind.{Records, IsBehind}
 use Rattle.moments.specs.Faults.{NoneAre}
@@ -27,13 +25,9 @@ not_past r n p q past (k ∷ before) later m es events led none goes =
 by_moment : (r : Records) (moments : List Moment) (f : AuditFault) → IsTimeline r.lives r.answers moments → IsStuck r (length r.lives) (beginning (length r.lives)) moments f → NoneAre (Explains r)
 by_moment r moments f timeline stuck events e =
     let same : e.moments ≡ stuck.before ++ stuck.moment ∷ stuck.later =
-    sorted_once (λ (m : Moment). m.mark) (listed r.answers 1 r.lives) e.moments moments e.timeline.rises e.timeline.stays timeline.rises timeline.stays ∙ stuck.is in
+    sorted_once (λ (m : Moment). m.mark) (all_moments r.lives r.answers) e.moments moments e.timeline.rises e.timeline.stays timeline.rises timeline.stays ∙ stuck.is in
     let L : List Moment → Type 0 = λ ms. Leads r (length r.lives) (beginning (length r.lives)) ms events e.end in
     not_past r (length r.lives) (beginning (length r.lives)) e.end stuck.past stuck.before stuck.later stuck.moment stuck.events events stuck.leads stuck.none (subst L same e.leads)
 
-by_answer : (r : Records) (f : AuditFault) → IsUnmarked r.lives r.answers f → NoneAre (Explains r)
-by_answer r f (a, among, none, named) events e = none (All-contains (IsMarked r.lives) r.answers a e.marked among)
-
 pub unexplained : (r : Records) (f : AuditFault) → IsFirst r f → NoneAre (Explains r)
-unexplained r f (inl h) = by_answer r f h
-unexplained r f (inr (moments, marked, timeline, stuck)) = by_moment r moments f timeline stuck
+unexplained r f (moments, timeline, stuck) = by_moment r moments f timeline stuck

@@ -1,5 +1,5 @@
 -- Moments that happened, one more at a time.
-use Rattle.std.proofs.Common.{◌≡◌, ◌∙◌, ℕ, List, [], ◌∷◌, ◌++◌, refl, sym, ap, subst, append-nil, append_assoc, ◌<◌, suc, length, take, drop, get_or, inr, Result, Ok, Err}
+use Rattle.std.proofs.Common.{◌≡◌, ◌∙◌, ℕ, List, [], ◌∷◌, ◌++◌, refl, sym, ap, subst, append-nil, append_assoc, ◌<◌, suc, length, take, drop, get_or, Result, Ok, Err}
 use Rattle.std.specs.Prelude.{IfErr}
 use Rattle.std.specs.declared.vec.Vec.{Vec}
 use Rattle.std.specs.declared.alloc.Global.{Global}
@@ -16,8 +16,6 @@ use Rattle.moments.specs.Past.{Past, after, beginning}
 use Rattle.moments.specs.Behind.{Records, IsBehind}
 use Rattle.auditor.specs.Audited.{Leads, IsFirst, IsStuck}
 use Rattle.moments.specs.Faults.{IsFaultAt, IsNo, Lacks, NoneAre}
-use Rattle.std.specs.List.{All}
-use Rattle.moments.specs.Rising.{IsMarked}
 use Rattle.moments.specs.Moments.{IsTimeline}
 use Rattle.moments.specs.declared.recorded.AuditFault.{AuditFault}
 use Rattle.auditor.proofs.Judging.{no_weaker}
@@ -89,11 +87,11 @@ stuck_if {T} v lives answers old cur all i m es (Err f) led within is said = stu
 
 -- a replay that began with these tables and so many members
 pub first_from : (r : Records) (x : Replay) (moments : List Moment) (f : AuditFault) → tables_in x.world ≡ r.tables → members_in x.world ≡ length r.lives → past_of x ≡ beginning (length r.lives) →
-    All (IsMarked r.lives) r.answers → IsTimeline r.lives r.answers moments →
+    IsTimeline r.lives r.answers moments →
     IsNo (IsStuck (record { version = r.version; tables = tables_in x.world; lives = r.lives; answers = r.answers }) (members_in x.world) (past_of x) moments) f → IsNo (IsFirst r) f
-first_from r x moments f tables members past marked timeline said =
+first_from r x moments f tables members past timeline said =
     no_weaker (IsStuck (record { version = r.version; tables = tables_in x.world; lives = r.lives; answers = r.answers }) (members_in x.world) (past_of x) moments) (IsFirst r) f (λ g stuck.
     let A : Tables → Type 0 = λ t. IsStuck (record { version = r.version; tables = t; lives = r.lives; answers = r.answers }) (members_in x.world) (past_of x) moments g in
     let B : ℕ → Type 0 = λ n. IsStuck r n (past_of x) moments g in
     let C : Past → Type 0 = λ p. IsStuck r (length r.lives) p moments g in
-    inr (moments, marked, timeline, subst C past (subst B members (subst A tables stuck)))) said
+    (moments, timeline, subst C past (subst B members (subst A tables stuck)))) said

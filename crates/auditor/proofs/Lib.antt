@@ -3,3 +3,5 @@ pub mod Alone
 pub mod Judging
 pub mod Leading
 pub mod Sorting
+pub mod Listing
+pub mod Upholding

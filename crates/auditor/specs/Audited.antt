@@ -1,11 +1,9 @@
 -- When a run explains what was recorded, and where none does.
-use Rattle.std.specs.Prelude.{◌≡◌, ℕ, List, [], ◌∷◌, ◌++◌, ◌⊎◌, length}
-use Rattle.std.specs.List.{All}
+use Rattle.std.specs.Prelude.{◌≡◌, ℕ, List, [], ◌∷◌, ◌++◌, length}
 use Rattle.model.specs.Worlds.{Event}
 use Rattle.sqlread.specs.Meaning.{schema_of}
 use Rattle.moments.specs.declared.moment.Moment.{Moment}
 use Rattle.moments.specs.declared.recorded.AuditFault.{AuditFault}
-use Rattle.moments.specs.Rising.{IsMarked, IsUnmarked}
 use Rattle.moments.specs.Moments.{IsTimeline}
 use Rattle.moments.specs.Past.{Past, beginning, after}
 use Rattle.moments.specs.Behind.{Records, IsBehind}
@@ -19,7 +17,6 @@ Leads r n p (m ∷ moments) events q = (now : List Event) × (later : List Event
 -- The join of the lives is whole, and these are its events; in the run over them each node begins, takes and tells, is cut
 -- short, answers and ends as was recorded
 pub record Explains (r : Records) (events : List Event) : Type 0 where
-  pub marked : All (IsMarked r.lives) r.answers
   pub moments : List Moment
   pub timeline : IsTimeline r.lives r.answers moments
   pub end : Past
@@ -37,6 +34,6 @@ pub record IsStuck (r : Records) (n : ℕ) (p : Past) (moments : List Moment) (f
   pub none : NoneAre (IsBehind r n past moment)
   pub named : IsFaultAt r.lives past moment fault
 
--- the fault of an answer that rests on no mark; where each rests on one, of the first moment of the join that has no events
+-- the fault of the first moment of the join that has no events
 abbrev pub IsFirst : Records → AuditFault → Type 0
-IsFirst r fault = IsUnmarked r.lives r.answers fault ⊎ ((moments : List Moment) × All (IsMarked r.lives) r.answers × IsTimeline r.lives r.answers moments × IsStuck r (length r.lives) (beginning (length r.lives)) moments fault)
+IsFirst r fault = (moments : List Moment) × IsTimeline r.lives r.answers moments × IsStuck r (length r.lives) (beginning (length r.lives)) moments fault

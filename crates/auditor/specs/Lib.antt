@@ -1,3 +1,4 @@
 pub mod Faults
 pub mod Audited
 pub mod View
+pub mod Upheld

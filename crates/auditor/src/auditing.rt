@@ -11,13 +11,13 @@ ghost use Rattle.moments.specs.Rising.{Rise};
 ghost use Rattle.moments.specs.View.{past_of, IsLive};
 ghost use Rattle.auditor.specs.Audited.{Explains, IsFirst, IsStuck};
 ghost use Rattle.auditor.specs.Faults.{IsOrderFault, OfRun};
+ghost use Rattle.auditor.specs.Upheld.{Upholds};
 ghost use Rattle.auditor.specs.View.{IsLed};
 
 use flight::flight::Version;
 use flight::life::Life;
-use moments::{
-    AuditFault, Moment, Recorded, Replay, check_marked, check_order, events_in, timeline,
-};
+use moments::laws::one_text;
+use moments::{AuditFault, Moment, Recorded, Replay, check_order, events_in, timeline};
 use schema::Schema;
 use std::alloc::Global;
 use world::event::Event;
@@ -55,7 +55,6 @@ fn explain(
     ensures ok { IfOk result (λ events. Explains (record { version = version; tables = schema.now; lives = lives.now; answers = answers.now }) (map event_of events.items)) }
     ensures fault { IfErr result (IsNo (IsFirst (record { version = version; tables = schema.now; lives = lives.now; answers = answers.now }))) }
 {
-    check_marked(lives, answers)?;
     let moments = timeline(alloc, lives, answers)?;
     let mut replay = Replay::new(alloc, lives.len(), schema.clone()?)?;
     follow_all(&mut replay, version, schema, lives, answers, &moments)?;
@@ -70,13 +69,17 @@ fn explain(
 /// is cut short, answers and ends as was recorded. Of flights of version 1 it is not known what the steps told, and
 /// their outcomes are not looked at. What a life begins with is its term, vote, floor and log; of versions 1 and 2 it has
 /// no floor. All members agree about the events, and one list of requests explains all that they told and answered in
-/// it, in order, as `World::run` says.
+/// it, in order, as `World::run` says. So, of all that was recorded: each outcome that a step told is that of its request
+/// in the one list of decided entries, run one at a time; each answer is what that list gives, and nothing that was decided
+/// later bears an instant that it asked about, or it says that the question was not closed; and answers to one question
+/// are equal, whichever nodes gave them and whenever.
 ///
 /// A fault is 53 exactly where the marks of a node do not rise over its openings and steps, or a message's is not
-/// below that of the step that takes it; 43 aside. Else no events explain what was recorded. It is then 54 of an answer
-/// that rests on no mark of its node; where there is none, the fault of the first moment that the run does not have:
-/// 51 of a life that begins with what the run does not have there, 52 of a message that was not sent then, or 54 of a
-/// step that tells other outcomes than those that were recorded, or an answer that the run does not give.
+/// below that of the step that takes it; 43 aside. Else no events explain what was recorded, and it is the fault of the
+/// first moment that the run does not have: 51 of a life that begins with what the run does not have there, 52 of a message
+/// that was not sent then, or 54 of a step that tells other outcomes than those that were recorded, of one that was cut short
+/// and tells any, or of an answer that rests on no mark of its node or that the run does not give. A moment of an answer
+/// stands after what its node does at the mark that it names, whether the node has that mark or not.
 pub fn audit(
     alloc: Global,
     version: Version,
@@ -90,11 +93,14 @@ pub fn audit(
     ensures ok { IfOk result (λ events. Explains (record { version = version; tables = schema.now; lives = lives.now; answers = answers.now }) (map event_of events.items)) }
     ensures agree { IfOk result (λ events. Agree (schema_of schema.now) (length lives.now) (new_world (length lives.now)) (map event_of events.items)) }
     ensures explained { IfOk result (λ events. IsExplained (schema_of schema.now) (length lives.now) (new_world (length lives.now)) (map event_of events.items)) }
+    ensures upholds { IfOk result (λ events. Upholds (record { version = version; tables = schema.now; lives = lives.now; answers = answers.now }) (map event_of events.items)) }
     ensures order { IfErr result (IsOrderFault lives.now) }
     ensures no { IfErr result (OfRun (λ _. NoneAre (Explains (record { version = version; tables = schema.now; lives = lives.now; answers = answers.now })))) }
     ensures first { IfErr result (OfRun (IsFirst (record { version = version; tables = schema.now; lives = lives.now; answers = answers.now }))) }
 {
     safety::agreement();
+    safety::one_answer();
+    one_text();
     onelist::one_list_explains();
     check_order(lives)?;
     explain(alloc, version, schema, lives, answers)

@@ -4,15 +4,17 @@
 use causes::{Name, Trouble};
 use clap::error::ErrorKind;
 use fault::Refusal;
+use forms::{Canvas, Drawing, Form, Look};
 use shell::audit::run_audit;
-use shell::command::{Command, Live};
+use shell::command::{Beliefs, Command, Live, Sim};
 use shell::command_line::read_command;
 use shell::live_run::run_live;
+use shell::shown_run::{run_beliefs, run_shown};
 use shell::sim::run_sim;
 use shell::stop::Stop;
 use std::alloc::Global;
 use std::fs::File;
-use std::io::{BufWriter, Read};
+use std::io::{BufWriter, IsTerminal, Read, Write};
 use std::process::ExitCode;
 use std::rt::{Env, Files};
 use std::sync::Wait;
@@ -20,6 +22,9 @@ use std::thread::Threads;
 use std::{env, fs, io};
 
 const SIM: &str = "playing the script";
+
+// How many columns a terminal has.
+const TERMINAL: usize = 80;
 
 fn main(rt: HostRuntime) -> ExitCode {
     match words_given(&rt) {
@@ -44,12 +49,13 @@ fn end(rt: &impl Eprint, ended: Result<u8, Stop<'_>>) -> ExitCode {
 
 fn run<'a, R>(rt: &R, host: &HostRuntime, words: &'a [String]) -> Result<u8, Stop<'a>>
 where
-    R: AllocGlobal + Files + Input + Print + Eprint,
+    R: AllocGlobal + Env + Files + Input + Print + Eprint,
     R: Wait + Threads + Copy + Send + Drop + 'static,
 {
     match read_command(rt.alloc(), words) {
         Ok(Command::PlayInput) => { script_ended(play(rt, &mut rt.reader()), Name::Input, SIM) }
-        Ok(Command::PlayFile(path)) => play_file(rt, path),
+        Ok(Command::Sim(sim)) => play_sim(rt, host, sim),
+        Ok(Command::Beliefs(beliefs)) => draw(rt, beliefs),
         Ok(Command::Live(live)) => play_live(rt, host, live),
         Ok(Command::Audit(names)) => audit(rt, names.as_slice()),
         Err(error) if error.kind() == ErrorKind::OutOfMemory => Err(Stop::from(Refusal::NoMemory)),
@@ -104,9 +110,135 @@ fn play<'a, R: AllocGlobal + Print, I: Read>(rt: &R, reader: &mut I) -> Result<u
     }
 }
 
-fn play_file<'a, R: AllocGlobal + Files + Print>(rt: &R, path: &'a str) -> Result<u8, Stop<'a>> {
-    let mut script = open_script(rt, path)?;
-    script_ended(play(rt, &mut script), Name::Given(path), SIM)
+fn form_of(name: &str) -> Option<Form> {
+    match name {
+        "lines" => Some(Form::Lines),
+        "table" => Some(Form::Table),
+        "csv" => Some(Form::Csv),
+        "json" => Some(Form::Json),
+        _ => None,
+    }
+}
+
+// That no form has this name, in the words that the command line has for a value that it does not take.
+fn refuse_form(rt: &impl Eprint, name: &str) -> Result<u8, Stop<'static>> {
+    let _ = eprintln!(rt;
+        "error: invalid value '{name}' for '--format <FORM>'\n  [possible values: lines, table, csv, json]\n\nFor more information, try '--help'."
+    );
+    Ok(2)
+}
+
+// How many columns a line may have: what COLUMNS says, else 80.
+fn columns<R: AllocGlobal + Env>(rt: &R) -> usize {
+    match env::var(rt, "COLUMNS") {
+        Ok(text) => text.as_str().parse::<usize>().unwrap_or(TERMINAL),
+        Err(_) => TERMINAL,
+    }
+}
+
+// Plays a script as it is asked for.
+fn play_sim<'a, R>(rt: &R, host: &HostRuntime, sim: Sim<'a>) -> Result<u8, Stop<'a>>
+where
+    R: AllocGlobal + Env + Files + Print + Eprint,
+{
+    let name = sim.format.unwrap_or("lines");
+    let Some(form) = form_of(name) else {
+        return refuse_form(rt, name);
+    };
+    let mut script = open_script(rt, sim.script)?;
+    let ended = if form == Form::Lines && !sim.is_quiet && !sim.is_strict {
+        play(rt, &mut script)
+    } else {
+        let look = Look {
+            form,
+            is_quiet: sim.is_quiet,
+            width: if host.stdout().is_terminal() {
+                Some(columns(rt))
+            } else {
+                None
+            },
+        };
+        show(rt, host, look, sim.is_strict, &mut script)
+    };
+    script_ended(ended, Name::Given(sim.script), SIM)
+}
+
+// Plays the script that the reader has, shows it so, and, where it is strict, says what was refused.
+fn show<'a, R, I>(
+    rt: &R,
+    host: &HostRuntime,
+    look: Look,
+    is_strict: bool,
+    reader: &mut I,
+) -> Result<u8, Stop<'a>>
+where
+    R: AllocGlobal + Print + Eprint,
+    I: Read,
+{
+    let alloc: Global = rt.alloc();
+    let errors = host.stderr();
+    let Ok(writer) = BufWriter::new(alloc, io::writer(rt)) else {
+        return Err(Stop::from(Refusal::NoMemory));
+    };
+    let tally = run_shown(alloc, look, reader, writer, io::writer(&errors))?;
+    if !is_strict || tally.is_clean() {
+        return Ok(0);
+    }
+    let _ = eprintln!(rt; "{tally}");
+    Ok(1)
+}
+
+// Draws the last answer of a script, on standard output or into a file.
+fn draw<'a, R>(rt: &R, beliefs: Beliefs<'a>) -> Result<u8, Stop<'a>>
+where
+    R: AllocGlobal + Env + Files + Print + Eprint,
+{
+    let mut script = open_script(rt, beliefs.script)?;
+    let canvas = match beliefs.svg {
+        Some(_) => Canvas::Page,
+        None => Canvas::Text(columns(rt)),
+    };
+    let ended = match run_beliefs(rt.alloc(), canvas, &mut script) {
+        Ok(Drawing::Drawn(picture)) => hand_out(rt, beliefs.svg, picture.as_slice()),
+        Ok(Drawing::NoAnswer) => refuse_drawing(rt, "nothing in the script is answered"),
+        Ok(Drawing::TooMuch) => {
+            refuse_drawing(
+                rt,
+                "more than 200 versions: ask about fewer days, instants or keys",
+            )
+        }
+        Err(fault) => Err(Stop::from(fault)),
+    };
+    script_ended(ended, Name::Given(beliefs.script), SIM)
+}
+
+// That nothing is drawn, and why.
+fn refuse_drawing<'a>(rt: &impl Eprint, why: &str) -> Result<u8, Stop<'a>> {
+    let _ = eprintln!(rt; "{why}");
+    Ok(1)
+}
+
+// Writes a picture into the file of this name, or where there is none on standard output.
+fn hand_out<'a, R>(rt: &R, path: Option<&str>, picture: &[u8]) -> Result<u8, Stop<'a>>
+where
+    R: AllocGlobal + Files + Print + Eprint,
+{
+    let Some(path) = path else {
+        let mut writer = io::writer(rt);
+        writer.write_all(picture)?;
+        writer.flush()?;
+        return Ok(0);
+    };
+    match fs::write(rt, path, picture) {
+        Ok(()) => Ok(0),
+        Err(error) if error.kind() == io::ErrorKind::OutOfMemory => {
+            Err(Stop::from(Refusal::NoMemory))
+        }
+        Err(error) => {
+            let _ = eprintln!(rt; "{path}: writing the picture: {error}");
+            Ok(1)
+        }
+    }
 }
 
 // Plays a script on nodes that run on threads of their own.

@@ -13,6 +13,7 @@ use flight::life::{Ending, Life, Packet};
 use keep::{MemImage, MemKeeper};
 use model::member::Member;
 use nodes::cluster::{Cluster, Config};
+use nodes::desk::NotSent;
 use schema::Schema;
 use sqlread::query::{Query, read_query};
 use std::alloc::{AllocError, Global};
@@ -24,6 +25,9 @@ use view::View;
 
 // What the clocks of all nodes show.
 const READING: i64 = 100;
+
+// How many packets node 3 is sent before it is stopped.
+const BEATS: u64 = 1_000;
 
 const QUESTION: &str =
     "SELECT * FROM Dept FOR SYSTEM_TIME AS OF TIMESTAMP '1970-01-01 00:00:00.000100';";
@@ -37,7 +41,7 @@ fn hold<R: Wait>(rt: &R, cluster: &Cluster, door: &Door) -> Result<bool, Refusal
 // Whether the next feed of a node was made.
 fn is_fed<R: Wait>(rt: &R, cluster: &Cluster, node: Member) -> Result<bool, Refusal> {
     let report = cluster.report(rt, node)?;
-    Ok(report.is_ok())
+    Ok(report.outcome.is_ok())
 }
 
 // Whether node 1 feeds.
@@ -80,17 +84,40 @@ fn held<R: Wait + Abort>(
     while_held(rt, cluster, door, &mut seen, query)
 }
 
+// Whether a packet was refused since the node does not run.
+fn is_refused(sent: Result<u64, NotSent>) -> bool {
+    match sent {
+        Ok(_) => false,
+        Err(unsent) => unsent.refusal == Refusal::NodeDown,
+    }
+}
+
 // Node 1 is stopped, which sends it no packet any more.
-fn stops<R: Wait + Abort>(rt: &R, cluster: &mut Cluster) -> Result<(), Refusal> {
-    cluster.stop_node(rt, 1)?;
-    let sent = cluster.send(rt, 1, READING, beat());
-    let stopped = cluster.stop_node(rt, 1);
-    assert!(rt; sent == Err(Refusal::NodeDown) && stopped == Err(Refusal::NodeDown));
+fn stops<R: Wait + Abort>(rt: &R, cluster: &Cluster) -> Result<(), Refusal> {
+    let left = cluster.stop_node(rt, 1)?;
+    let is_unsent = is_refused(cluster.send(rt, 1, READING, beat()));
+    let is_down = matches!(cluster.stop_node(rt, 1), Err(Refusal::NodeDown));
+    assert!(rt; left.unfed.is_empty() && left.lost == 0 && is_unsent && is_down);
     Ok(())
 }
 
+// Sends node 3 a thousand beats, and stops it at once. Each was fed, in the order in which they were sent.
+fn all_fed<R: Wait>(rt: &R, cluster: &Cluster) -> Result<bool, Refusal> {
+    for _ in 0..BEATS {
+        let _ = cluster.send(rt, 3, READING, beat())?;
+    }
+    let left = cluster.stop_node(rt, 3)?;
+    for number in 1..=BEATS {
+        match left.report(rt) {
+            Some(report) if report.number == number => {}
+            _ => return Ok(false),
+        }
+    }
+    Ok(left.unfed.is_empty() && left.report(rt).is_none())
+}
+
 // It starts again.
-fn starts<R: Wait + Abort>(rt: &R, cluster: &mut Cluster) -> Result<(), Refusal> {
+fn starts<R: Wait + Abort>(rt: &R, cluster: &Cluster) -> Result<(), Refusal> {
     cluster.start_node(rt, 1)?;
     cluster.start_node(rt, 1)?;
     assert!(rt; feeds(rt, cluster, beat())?);
@@ -100,13 +127,15 @@ fn starts<R: Wait + Abort>(rt: &R, cluster: &mut Cluster) -> Result<(), Refusal>
 // The one and then the others.
 fn held_and_restarted<R: Wait + Abort>(
     rt: &R,
-    cluster: &mut Cluster,
+    cluster: &Cluster,
     door: &Door,
     query: &Query,
 ) -> Result<(), Refusal> {
     held(rt, cluster, door, query)?;
     stops(rt, cluster)?;
-    starts(rt, cluster)
+    starts(rt, cluster)?;
+    assert!(rt; all_fed(rt, cluster)?);
+    Ok(())
 }
 
 // The opening's mark of a life, how many steps it has, and whether it was stopped.
@@ -171,14 +200,14 @@ fn text_of(alloc: Global, nodes: &[Vec<Life>]) -> Result<String, AllocError> {
 // Holds node 2 at the closed door, stops and starts node 1, and ends all nodes. Their lives.
 fn lead_all<R: Wait + Abort + Threads>(
     rt: &R,
-    mut cluster: Cluster,
+    cluster: Cluster,
     closed: &Door,
     query: &Query,
 ) -> Result<Vec<Vec<Life>>, Refusal> {
-    let tried = held_and_restarted(rt, &mut cluster, closed, query);
-    let lives = cluster.stop(rt);
+    let tried = held_and_restarted(rt, &cluster, closed, query);
+    let ended = cluster.stop(rt);
     match tried {
-        Ok(()) => Ok(lives),
+        Ok(()) => Ok(ended.lives),
         Err(refusal) => Err(refusal),
     }
 }
@@ -232,7 +261,7 @@ fn two_at_once(rt: HostRuntime) -> Result<(), Fail> {
         let told = told(&rt, alloc, in_save)?;
         assert_eq!(rt;
             told.as_str(),
-            "[[(1, 1, true), (3, 1, false)], [(1, 1, false)], [(1, 0, false)]]"
+            "[[(1, 1, true), (3, 1, false)], [(1, 1, false)], [(1, 1000, true)]]"
         );
     }
     Ok(())

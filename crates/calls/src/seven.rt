@@ -285,8 +285,9 @@ fn fly<R: Threads + Wait + Clock + Sync>(
 ) -> Flown {
     let (played, asked) = play_and_ask(rt, &mut driver, lines, schema, askers);
     let (cluster, _stations) = driver.into_parts();
+    let ended = cluster.stop(rt);
     Flown {
-        lives: cluster.stop(rt),
+        lives: ended.lives,
         played,
         asked,
     }

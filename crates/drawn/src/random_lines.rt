@@ -357,20 +357,6 @@ impl Draws {
     }
 }
 
-/// The last lines: all members are up, and each stands for election.
-pub fn end(alloc: Global, members: usize) -> Result<String, AllocError> {
-    let mut lines = String::new(alloc);
-    for place in 0..members {
-        let node = place.wrapping_add(1);
-        write!(lines, "start {node}\n")?;
-    }
-    for place in 0..members {
-        let node = place.wrapping_add(1);
-        write!(lines, "timeout {node}\nsettle\n")?;
-    }
-    Ok(lines)
-}
-
 /// The same question at each member.
 pub fn round(alloc: Global, members: usize, question: &str) -> Result<String, AllocError> {
     let mut lines = String::new(alloc);

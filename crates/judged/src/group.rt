@@ -41,6 +41,8 @@ pub(crate) struct Group {
     applied: Vec<usize>,
     pub told: Vec<Told>,
     pub asked: Vec<Asked>,
+    /// How often all came to have applied what was decided.
+    pub recovered: u32,
     /// All lines that were played.
     pub script: String,
 }
@@ -52,6 +54,15 @@ fn new_player(alloc: Global, members: usize) -> Result<Player>
 {
     let schema = read_schema(alloc, STAFF)?;
     Ok(Player::new(alloc, members, schema)?)
+}
+
+/// Whether a member says that no stamp, no entry or no term is left.
+fn is_room_gone(printed: &str) -> bool {
+    printed.lines().any(|line| {
+        line.ends_with("refused 35 time is full")
+            || line.ends_with("refused 36 log is full")
+            || line.ends_with("refused 37 term is full")
+    })
 }
 
 impl Group {
@@ -72,6 +83,7 @@ impl Group {
             applied,
             told: Vec::new(alloc),
             asked: Vec::new(alloc),
+            recovered: 0,
             script,
         })
     }
@@ -326,21 +338,57 @@ impl Group {
         Ok(())
     }
 
+    /// Brings all members to where one leads and all have applied its log. No seal is made by it, and what is still on
+    /// its way then is lost.
+    fn recover(&mut self) -> Result<String> {
+        let printed = self.bring(&Line::Recover)?;
+        let sent = self.known.letters.len();
+        self.known.take_all(sent);
+        Ok(printed)
+    }
+
+    /// Checks that each member has applied all that was decided, and has no entry beyond it.
+    fn check_recovered(&mut self) -> Result<()> {
+        let decided = self.known.decided.len();
+        for place in 0..self.known.members {
+            let node = place.wrapping_add(1);
+            let applied = self.player.commit(node);
+            ensure!(
+                applied == Some(decided),
+                "node {node} has applied {applied:?}, not {decided} entries"
+            );
+            let more = self.player.entry(node, decided.wrapping_add(1))?;
+            ensure!(more.is_none(), "node {node} has also {more:?}");
+        }
+        Ok(())
+    }
+
+    /// Plays a line, and gives what it prints.
+    fn print_line(&mut self, line: &Line) -> Result<String> {
+        match line {
+            Line::Settle { rounds } => self.settle(rounds.unwrap_or(ROUNDS_MOST)),
+            Line::Recover => self.recover(),
+            _ => self.bring(line),
+        }
+    }
+
     /// Plays a line, looks at each member after it, and notes what was told or answered.
     fn play_line(&mut self, line: &Line) -> Result<()> {
-        let printed = match line {
-            Line::Settle { rounds } => self.settle(rounds.unwrap_or(ROUNDS_MOST))?,
-            _ => self.bring(line)?,
-        };
+        let printed = self.print_line(line)?;
         let mut told = read_told(self.alloc, printed.as_str())?;
         for place in 0..self.known.members {
             self.look(told.as_slice(), place)?;
         }
         self.told.append(&mut told)?;
-        if let Line::Ask { node, text } = line {
-            self.note_asked(*node, text.as_str(), printed)?;
+        match line {
+            Line::Ask { node, text } => self.note_asked(*node, text.as_str(), printed),
+            Line::Recover if is_room_gone(printed.as_str()) => Ok(()),
+            Line::Recover => {
+                self.recovered = self.recovered.saturating_add(1);
+                self.check_recovered()
+            }
+            _ => Ok(()),
         }
-        Ok(())
     }
 
     /// Plays lines of a script.

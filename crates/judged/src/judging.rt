@@ -154,6 +154,7 @@ pub(crate) fn check(group: &Group, tally: &mut Tally) -> Result<()> {
     let requests = group.known.requests(alloc, 0, decided.len())?;
     tally.script(requests.len(), group.known.terms(), group.told.len());
     tally.sealed = tally.sealed.saturating_add(group.seals.counted.len());
+    tally.recovered = tally.recovered.saturating_add(group.recovered);
     tally.overruled = tally.overruled.saturating_add(group.known.overruled());
     Ok(())
 }

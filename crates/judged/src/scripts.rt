@@ -5,7 +5,7 @@ use crate::tally::Tally;
 use anyhow::Result;
 use drawn::draws::Draws;
 use drawn::questions::whole_history;
-use drawn::random_lines::{self, round};
+use drawn::random_lines::round;
 use drawn::staff::{DEPT, EMP};
 use model::stamp::Stamp;
 use std::alloc::Global;
@@ -27,10 +27,9 @@ fn ask_all(group: &mut Group, question: &str) -> Result<()> {
     group.play(lines.as_str())
 }
 
-/// All members come up, and all are asked about all that was ever believed, and one more question.
+/// The group recovers, and all members are asked about all that was ever believed, and one more question.
 fn end(draws: &mut Draws, group: &mut Group) -> Result<()> {
-    let lines = random_lines::end(group.alloc, group.known.members)?;
-    group.play(lines.as_str())?;
+    group.play("recover\n")?;
     let last = group.known.decided.last();
     let last = last.map_or(Stamp::new(0), |entry| entry.stamp).instant();
     for names in [DEPT, EMP] {

@@ -33,6 +33,8 @@ pub(crate) struct Tally {
     pub told: usize,
     /// Times that a seal raised what a member has sealed.
     pub sealed: usize,
+    /// Times that all members came to have applied what was decided.
+    pub recovered: u32,
 }
 
 fn add_one(counter: &mut u32) {

@@ -136,7 +136,8 @@ impl Driver {
         match self.stations.get_mut(node.saturating_sub(1)) {
             Some(station) if station.runs => {
                 station.stopped();
-                self.cluster.stop_node(rt, node)
+                drop(self.cluster.stop_node(rt, node)?);
+                Ok(())
             }
             _ => Ok(()),
         }

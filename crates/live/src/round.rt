@@ -68,12 +68,14 @@ impl Driver {
             return Ok(());
         };
         match self.cluster.send(rt, node, reading, packet) {
-            Ok(()) => {
+            Ok(_) => {
                 sent.push(Sent { node, note })?;
                 Ok(())
             }
-            Err(Refusal::NoMemory) => Err(Refusal::NoMemory),
-            Err(_) => Ok(()),
+            Err(unsent) => match unsent.refusal {
+                Refusal::NoMemory => Err(Refusal::NoMemory),
+                _ => Ok(()),
+            },
         }
     }
 
@@ -194,7 +196,7 @@ impl Driver {
 
     fn take_report(&mut self, node: Member, note: Note, report: Report) -> Result<(), Refusal> {
         let members = self.stations.len().max(1);
-        let refusal = match report {
+        let refusal = match report.outcome {
             Ok(out) => return self.take_out(node, note, out),
             Err(Fault::Kept(refusal)) => refusal,
             Err(Fault::Down(_)) => {
@@ -242,7 +244,8 @@ impl Driver {
         match self.stations.get_mut(at) {
             Some(station) if station.fell => {
                 station.stopped();
-                self.cluster.stop_node(rt, at.saturating_add(1))
+                drop(self.cluster.stop_node(rt, at.saturating_add(1))?);
+                Ok(())
             }
             _ => Ok(()),
         }

@@ -9,7 +9,7 @@ use Rattle.flight.specs.declared.life.Step.{Step}
 use Rattle.moments.specs.declared.moment.Deed.TheVariants.{Takes}
 use Rattle.moments.specs.declared.moment.Moment.{Moment}
 use Rattle.moments.specs.declared.recorded.Recorded.{Recorded}
-use Rattle.moments.specs.Moments.{step_moments, life_moments, deed_moments, answer_moment, answer_moments, end_moments, stop_moments, node_moments, listed}
+use Rattle.moments.specs.Moments.{step_moments, life_moments, deed_moments, answer_moment, answer_moments, end_moments, stop_moments, node_moments, listed, stray_moment, stray_moments}
 
 pub steps_more : (node life k : ℕ) (xs : List Step) (x : Step) → step_moments node life k (xs ++ x ∷ []) ≡ step_moments node life k xs ++ record { mark = x.mark; node = node; deed = Takes life (k + length xs) } ∷ []
 steps_more node life k [] x = ap (λ i. record { mark = x.mark; node = node; deed = Takes life i } ∷ []) (omega arith)
@@ -34,6 +34,10 @@ listed_more answers node [] x = append-nil (node_moments answers node x.items) �
 listed_more answers node (y ∷ xs) x =
     let first = node_moments answers node y.items in
     ap (λ ms. first ++ ms) (listed_more answers (node + 1) xs x ∙ ap (λ i. listed answers (node + 1) xs ++ node_moments answers i x.items) (omega arith)) ∙ sym (append_assoc first (listed answers (node + 1) xs) (node_moments answers (node + length (y ∷ xs)) x.items))
+
+pub strays_more : (n k : ℕ) (xs : List Recorded) (x : Recorded) → stray_moments n k (xs ++ x ∷ []) ≡ stray_moments n k xs ++ stray_moment n (k + length xs) x
+strays_more n k [] x = append-nil (stray_moment n k x) ∙ ap (λ i. stray_moment n i x) (omega arith)
+strays_more n k (y ∷ xs) x = ap (λ ms. stray_moment n k y ++ ms) (strays_more n (k + 1) xs x ∙ ap (λ i. stray_moments n (k + 1) xs ++ stray_moment n i x) (omega arith)) ∙ sym (append_assoc (stray_moment n k y) (stray_moments n (k + 1) xs) (stray_moment n (k + length (y ∷ xs)) x))
 
 -- a loop that lists the piece of one more element
 pub one_more : {X : Type 0} (f : List X → List Moment) (i : ℕ) (xs : List X) (x : X) (piece start cur new : List Moment) → i < length xs → x ≡ get_or xs i x →

@@ -1,5 +1,5 @@
 -- Messages that are posted with the mark at which they were sent.
-use Rattle.std.proofs.Common.{◌≡◌, ◌∙◌, ℕ, zero, suc, ◌+◌, ◌<◌, false, List, [], ◌∷◌, ◌++◌, map, take, drop, length, refl, sym, ap, append-nil, append_assoc, Option, Some, None, ℤ, subst}
+use Rattle.std.proofs.Common.{◌≡◌, ◌∙◌, ℕ, zero, suc, ◌+◌, ◌<◌, false, List, [], ◌∷◌, ◌++◌, map, take, drop, length, refl, sym, ap, append-nil, append_assoc, Option, Some, None, ℤ, subst, inl, inr}
 use Rattle.std.specs.Prelude.{slice_index_or, option_map, slice_get}
 use Rattle.std.proofs.Math.Seq.{drop-length}
 use Rattle.std.proofs.lemmas.List.{take_more, map-append}
@@ -24,7 +24,8 @@ use Rattle.flight.specs.declared.life.Step.{Step}
 use Rattle.flight.specs.declared.life.Life.{Life}
 use Rattle.flight.specs.declared.life.Ending.{Ending}
 use Rattle.flight.specs.declared.life.Ending.TheVariants.{Torn}
-use Rattle.moments.specs.Faults.{NoneAre}
+use Rattle.moments.specs.Faults.{IsEndFault, Lacks}
+use Rattle.moments.specs.declared.recorded.AuditFault.TheVariants.{Unsent, Wrong}
 use Rattle.moments.specs.Behind.{IsJob, IsCut}
 use Rattle.moments.specs.View.{past_of, Happened, IsLive, IsSameRun}
 use Rattle.moments.proofs.Sending.{messages_append, messages_are, sent_by, sent_after}
@@ -86,11 +87,18 @@ no_job x posts mark node reading message packet live same is none job h =
     let Q : List Post → Type 0 = λ ps. IsPosted ps mark node message found.0 in
     none found.0 (subst Q (sym same) (is_posted x mark node message found.0 live found.1))
 
-pub nothing_cut : (p : Past) (node : ℕ) (next : Option Life) (ending : Ending) (s : Step) → ending ≡ Torn s → ((job : ModelJob) → IsJob p node s.packet job → ⊥) → NoneAre (IsCut p node next ending)
-nothing_cut p node next ending s is none events h =
-    let P : Ending → Type 0 = λ e. IsCut p node next e events in
-    let cut = subst P is h in
-    none cut.0 cut.2
+-- a step that is cut short has no events where its packet makes no job, or where it told anything
+pub nothing_cut : (p : Past) (node mark : ℕ) (next : Option Life) (ending : Ending) (s : Step) → ending ≡ Torn s → ((job : ModelJob) → IsJob p node s.packet job → ⊥) →
+    Lacks (IsEndFault p node mark ending) (IsCut p node next ending) (Unsent node mark)
+nothing_cut p node mark next ending s is none =
+    let P : Ending → Type 0 = λ e. Lacks (IsEndFault p node mark e) (IsCut p node next e) (Unsent node mark) in
+    subst P (sym is) (inl (refl, none), λ events h. none h.0 h.2)
+
+pub cut_told : (p : Past) (node mark : ℕ) (next : Option Life) (ending : Ending) (s : Step) (job : ModelJob) → ending ≡ Torn s → IsJob p node s.packet job → (s.outcomes ≡ [] → ⊥) →
+    Lacks (IsEndFault p node mark ending) (IsCut p node next ending) (Wrong node mark)
+cut_told p node mark next ending s job is there told =
+    let P : Ending → Type 0 = λ e. Lacks (IsEndFault p node mark e) (IsCut p node next e) (Wrong node mark) in
+    subst P (sym is) (inr (refl, (job, there)), λ events h. told h.5)
 
 -- ---- events
 

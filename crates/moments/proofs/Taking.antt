@@ -12,7 +12,7 @@ use Rattle.model.specs.declared.message.Message.{Message}
 use Rattle.model.specs.Worlds as model
 use Rattle.model.specs.Worlds.{World, Event, Output, Gives, effect_gives, step_gives, delivery_gives}
 use Rattle.model.specs.declared.event.Job.{Job}
-use Rattle.model.specs.declared.event.Job.TheVariants.{Local, Delivery}
+use Rattle.model.specs.declared.event.Job.TheVariants.{Delivery}
 use Rattle.flight.specs.declared.flight.Version.{Version}
 use Rattle.flight.specs.declared.life.Step.{Step}
 use Rattle.flight.specs.declared.life.Packet.{Packet}

@@ -28,7 +28,7 @@ told_answer t table m answer output text is same has =
     subst P (sym is) (λ columns. (answer, refl, columns, same)) has
 
 pub answered : (t s : Tables) (n : ℕ) (p : Past) (node : ℕ) (a : Recorded) (q : QueryShape) (outs : List Out) → s ≡ t → query_in s a.query ≡ Ok q → Gives (schema_of t) n p.world (Ask node (select_of q)) (outputs_of outs) →
-    IsText t q.table (outputs_of outs) a.answer → IsAnswered t n p node (Some a) (Ask node (select_of q) ∷ [])
+    IsText t q.table (outputs_of outs) a.answer → IsAnswered t n p node a (Ask node (select_of q) ∷ [])
 answered t s n p node a q outs tables read gives text = (q, outputs_of outs, subst (λ (x : Tables). query_in x a.query ≡ Ok q) tables read, gives, text, refl)
 
 pub told_only : (t : Tables) (table m : ℕ) (answer : Answer) (output : Out) (text : List ℕ) → output ≡ AnsweredOut m answer → HasColumns t table output → IsText t table (output_of output ∷ []) text → text ≡ answer_text answer
@@ -51,12 +51,12 @@ given_at one s m q None a b p r = p ∙ sym r
 given_at one s m q (Some x) a b p r = given_by one s m q x x.up a b p r
 
 pub untold : OneAnswer → (t s : Tables) (n : ℕ) (p : Past) (node : ℕ) (a : Recorded) (q : QueryShape) (outs : List Out) → s ≡ t → query_in s a.query ≡ Ok q → Gives (schema_of t) n p.world (Ask node (select_of q)) (outputs_of outs) →
-    (IsText t q.table (outputs_of outs) a.answer → ⊥) → NoneAre (IsAnswered t n p node (Some a))
+    (IsText t q.table (outputs_of outs) a.answer → ⊥) → NoneAre (IsAnswered t n p node a)
 untold one t s n p node a q outs tables read gives text events (other, out, others, given, told, is) =
     let same : q ≡ other = cc (sym read, ap (λ (x : Tables). query_in x a.query) tables, others) in
     let G : QueryShape → Type 0 = λ x. Gives (schema_of t) n p.world (Ask node (select_of x)) out in
     let alike = given_at one (schema_of t) node (select_of q) (nth p.world.nodes node) out (outputs_of outs) (subst G (sym same) given) gives in
     text ((λ (k : IsText t other.table out a.answer). subst (λ (xs : List Output). IsText t q.table xs a.answer) alike (subst (λ (x : QueryShape). IsText t x.table out a.answer) (sym same) k)) told)
 
-pub unread : (t s : Tables) (n : ℕ) (p : Past) (node : ℕ) (a : Recorded) (r : Refusal) → s ≡ t → query_in s a.query ≡ Err r → NoneAre (IsAnswered t n p node (Some a))
+pub unread : (t s : Tables) (n : ℕ) (p : Past) (node : ℕ) (a : Recorded) (r : Refusal) → s ≡ t → query_in s a.query ≡ Err r → NoneAre (IsAnswered t n p node a)
 unread t s n p node a r tables read events (other, out, others, given, told, is) = absurd (cc (sym read, ap (λ (x : Tables). query_in x a.query) tables, others))

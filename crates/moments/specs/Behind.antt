@@ -41,6 +41,7 @@ use Rattle.moments.specs.declared.moment.Deed.TheVariants.{Opens, Takes, Tears, 
 use Rattle.moments.specs.declared.moment.Moment.{Moment}
 use Rattle.moments.specs.declared.recorded.Recorded.{Recorded}
 use Rattle.moments.specs.Past.{Past, IsSent}
+use Rattle.moments.specs.Rising.{IsMarked}
 
 -- what was recorded of a group with these tables, in flights of this version: the lives of each node, and the answers
 pub record Records : Type 0 where
@@ -121,10 +122,11 @@ abbrev pub IsLeftBy : Option Life → Option Node → Left → Type 0
 IsLeftBy None x left = left ≡ New
 IsLeftBy (Some next) x left = (left ≡ Old) ↔ HasStored x next.opening
 
+-- the packet is one that was there to be taken, and the step, which was cut short, told nothing
 abbrev pub IsCut : Past → ℕ → Option Life → Ending → List Event → Type 0
 IsCut p node next ending.Up events = ⊥
 IsCut p node next ending.Stopped events = ⊥
-IsCut p node next (ending.Torn s) events = (job : Job) × (left : Left) × IsJob p node s.packet job × IsLeftBy next (nth p.world.nodes node) left × (events ≡ Torn node job left ∷ [])
+IsCut p node next (ending.Torn s) events = (job : Job) × (left : Left) × IsJob p node s.packet job × IsLeftBy next (nth p.world.nodes node) left × (events ≡ Torn node job left ∷ []) × (s.outcomes ≡ [])
 
 -- ---- what is answered
 
@@ -140,11 +142,15 @@ IsText tables table (Refused m refusal ∷ []) text = IsRefusalText refusal text
 IsText tables table _ text = ⊥
 
 -- the query is asked, and the run answers so
-abbrev pub IsAnswered : Tables → ℕ → Past → ℕ → Option Recorded → List Event → Type 0
-IsAnswered t n p node None events = ⊥
-IsAnswered t n p node (Some a) events = (q : QueryShape) × (out : List Output) × (query_in t a.query ≡ Ok q) × Gives (schema_of t) n p.world (Ask node (select_of q)) out × IsText t q.table out a.answer × (events ≡ Ask node (select_of q) ∷ [])
+abbrev pub IsAnswered : Tables → ℕ → Past → ℕ → Recorded → List Event → Type 0
+IsAnswered t n p node a events = (q : QueryShape) × (out : List Output) × (query_in t a.query ≡ Ok q) × Gives (schema_of t) n p.world (Ask node (select_of q)) out × IsText t q.table out a.answer × (events ≡ Ask node (select_of q) ∷ [])
 
 -- ---- each moment
+
+-- the answer rests on a mark of its node, and the run answers so
+abbrev pub IsAnsweredBy : Records → ℕ → Past → ℕ → Option Recorded → List Event → Type 0
+IsAnsweredBy r n p node None events = ⊥
+IsAnsweredBy r n p node (Some a) events = IsMarked r.lives a × IsAnswered r.tables n p node a events
 
 abbrev pub IsLifeBegun : Records → ℕ → Past → ℕ → ℕ → Option Life → List Event → Type 0
 IsLifeBegun r n p node k None events = ⊥
@@ -158,7 +164,7 @@ abbrev pub IsBehindDeed : Records → ℕ → Past → ℕ → Deed → List Eve
 IsBehindDeed r n p node (Opens k) events = IsLifeBegun r n p node k (life_at r.lives node k) events
 IsBehindDeed r n p node (Takes k step) events = IsTaken r.version r.tables n p node (step_at r.lives node k step) events
 IsBehindDeed r n p node (Tears k) events = IsLifeCut r p node k (life_at r.lives node k) events
-IsBehindDeed r n p node (Answers k) events = IsAnswered r.tables n p node (slice_get r.answers k) events
+IsBehindDeed r n p node (Answers k) events = IsAnsweredBy r n p node (slice_get r.answers k) events
 IsBehindDeed r n p node (Stops k) events = events ≡ Stop node ∷ []
 
 -- these events of a run with this past are what happened at the moment

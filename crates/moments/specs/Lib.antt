@@ -5,3 +5,4 @@ pub mod Past
 pub mod Behind
 pub mod Faults
 pub mod View
+pub mod Texts

@@ -1,5 +1,5 @@
 -- What the nodes did, moment by moment.
-use Rattle.std.specs.Prelude.{ℕ, ◌+◌, ◌==◌, List, [], ◌∷◌, ◌++◌, if◌then◌else◌}
+use Rattle.std.specs.Prelude.{ℕ, ◌+◌, ◌==◌, ◌||◌, nat_lt, List, [], ◌∷◌, ◌++◌, length, if◌then◌else◌}
 use Rattle.std.specs.List.Sorted.{IsPermutation, IsNonDecreasingBy, IsStableByKey}
 use Rattle.std.specs.Ordering.{nat_cmp}
 use Rattle.std.specs.declared.vec.Vec.{Vec}
@@ -64,8 +64,21 @@ abbrev pub listed : List Recorded → ℕ → List (Vec Life Global) → List Mo
 listed answers node [] = []
 listed answers node (lives ∷ more) = node_moments answers node lives.items ++ listed answers (node + 1) more
 
+-- an answer of a node that is not there, of so many
+abbrev pub stray_moment : ℕ → ℕ → Recorded → List Moment
+stray_moment n k a = if (a.node == 0) || nat_lt n a.node then record { mark = a.mark; node = a.node; deed = Answers k } ∷ [] else []
+
+-- those among all answers from this place on
+abbrev pub stray_moments : ℕ → ℕ → List Recorded → List Moment
+stray_moments n k [] = []
+stray_moments n k (a ∷ answers) = stray_moment n k a ++ stray_moments n (k + 1) answers
+
+-- node by node, and at last what nodes that are not there answered
+abbrev pub all_moments : List (Vec Life Global) → List Recorded → List Moment
+all_moments lives answers = listed answers 1 lives ++ stray_moments (length lives) 0 answers
+
 -- the same moments in order of their marks; those of one mark stay as they are listed
 pub record IsTimeline (lives : List (Vec Life Global)) (answers : List Recorded) (moments : List Moment) : Type 0 where
-  pub all : IsPermutation (listed answers 1 lives) moments
+  pub all : IsPermutation (all_moments lives answers) moments
   pub rises : IsNonDecreasingBy (λ m. m.mark) moments
-  pub stays : IsStableByKey (λ m. m.mark) nat_cmp (listed answers 1 lives) moments
+  pub stays : IsStableByKey (λ m. m.mark) nat_cmp (all_moments lives answers) moments

@@ -1,6 +1,6 @@
 -- Marks that rise as they should, and the marks that a node has.
 use Rattle.std.specs.Prelude.{◌≡◌, ℕ, Bool, true, false, nat_lt, ◌&&◌, ◌||◌, ◌==◌, Option, Some, None, List, [], ◌∷◌}
-use Rattle.std.specs.List.{All, Contains, list_any}
+use Rattle.std.specs.List.{All, list_any}
 use Rattle.std.specs.declared.vec.Vec.{Vec}
 use Rattle.std.specs.declared.alloc.Global.{Global}
 use Rattle.model.specs.Lists.{nth}
@@ -11,7 +11,7 @@ use Rattle.flight.specs.declared.life.Ending.{Ending}
 use Rattle.flight.specs.declared.life.Ending.TheVariants.{Up, Stopped, Torn}
 use Rattle.moments.specs.declared.recorded.Recorded.{Recorded}
 use Rattle.moments.specs.declared.recorded.AuditFault.{AuditFault}
-use Rattle.moments.specs.declared.recorded.AuditFault.TheVariants.{OutOfOrder, Wrong}
+use Rattle.moments.specs.declared.recorded.AuditFault.TheVariants.{OutOfOrder}
 
 -- each step's mark is above the one before it, and above that of the message that it brings
 unfoldable pub marks_rise : ℕ → List Step → Bool
@@ -49,7 +49,3 @@ IsMarkOf (Some lives) mark = list_any (has_mark mark) lives.items ≡ true
 -- the answer rests on an opening or a step of its node
 abbrev pub IsMarked : List (Vec Life Global) → Recorded → Type 0
 IsMarked lives a = IsMarkOf (nth lives a.node) a.mark
-
--- an answer rests on no mark of its node, and this is its fault
-abbrev pub IsUnmarked : List (Vec Life Global) → List Recorded → AuditFault → Type 0
-IsUnmarked lives answers fault = (a : Recorded) × Contains answers a × (IsMarked lives a → ⊥) × (fault ≡ Wrong a.node a.mark)

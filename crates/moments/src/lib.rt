@@ -1,6 +1,7 @@
 //! The moments of what nodes recorded: their order, and each of them played again on a `World`.
 #![tactic(auto)]
 
+pub mod laws;
 mod listing;
 mod moment;
 mod order;
@@ -13,7 +14,7 @@ mod told;
 
 pub use listing::timeline;
 pub use moment::{Deed, Moment};
-pub use order::{check_marked, check_order};
+pub use order::check_order;
 pub use recorded::{AuditFault, Recorded};
 pub use replay::Replay;
 pub use running::events_in;

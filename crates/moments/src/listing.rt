@@ -1,7 +1,7 @@
 //! The moments as they are listed: node by node, its openings and steps, its answers, the ends of its lives.
 ghost use Rattle.std.specs.Prelude.{◌≡◌, ◌++◌, ◌+◌, IfOk, OnOk};
 ghost use Rattle.flight.specs.Lives.{last_mark};
-ghost use Rattle.moments.specs.Moments.{answer_moment, answer_moments, deed_moments, end_moments, life_moments, listed, node_moments, step_moments, stop_moments, IsTimeline};
+ghost use Rattle.moments.specs.Moments.{answer_moment, answer_moments, deed_moments, end_moments, life_moments, listed, node_moments, step_moments, stop_moments, stray_moment, stray_moments, IsTimeline};
 
 use crate::moment::{Deed, Moment};
 use crate::recorded::Recorded;
@@ -137,9 +137,42 @@ fn list_all(
     Ok(moments)
 }
 
+fn list_stray(
+    moments: &mut Vec<Moment>,
+    members: usize,
+    place: usize,
+    answer: &Recorded,
+) -> Result<(), AllocError>
+    ensures { OnOk result (moments.new.items ≡ moments.old.items ++ stray_moment members place answer.now) }
+{
+    if answer.node == 0 || members < answer.node {
+        moments.push(Moment {
+            mark: answer.mark,
+            node: answer.node,
+            deed: Deed::Answers { answer: place },
+        })?;
+    }
+    Ok(())
+}
+
+// The answers of nodes that are not there.
+fn list_strays(
+    moments: &mut Vec<Moment>,
+    members: usize,
+    answers: &[Recorded],
+) -> Result<(), AllocError>
+    ensures { OnOk result (moments.new.items ≡ moments.old.items ++ stray_moments members 0 answers.now) }
+{
+    for (place, answer) in answers.iter().enumerate() {
+        list_stray(moments, members, place, answer)?;
+    }
+    Ok(())
+}
+
 /// All moments of what was recorded of a group, in the order in which they are joined: that of marks and, where these are
 /// equal, that of nodes; of one node first its opening or its step, then its answers, then the end of its life. Lives are
-/// given in the order of the nodes, so the first are those of node 1. An answer of a node that is not there has no moment.
+/// given in the order of the nodes, so the first are those of node 1. What nodes that are not there answered stands after
+/// what all others do at its mark.
 ///
 /// The one error is want of memory.
 pub fn timeline(
@@ -150,6 +183,7 @@ pub fn timeline(
     ensures { IfOk result (λ moments. IsTimeline lives.now answers.now moments.items) }
 {
     let mut moments = list_all(alloc, lives, answers)?;
+    list_strays(&mut moments, lives.len(), answers)?;
     moments.sort_by_key(|moment| moment.mark.number())?;
     Ok(moments)
 }

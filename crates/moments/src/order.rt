@@ -1,11 +1,9 @@
 //! Whether marks rise, and which marks a node has.
 ghost use Rattle.std.specs.Prelude.{◌≡◌, ◌↔◌, ◌&&◌, ◌==◌, true, nat_lt, Some, None, IsNone, IsTrue, IfErr, OnOk, MatchOption};
-ghost use Rattle.std.specs.List.{All, list_any};
+ghost use Rattle.std.specs.List.{list_any};
 ghost use Rattle.model.specs.Lists.{nth};
 ghost use Rattle.flight.specs.Lives.{all_steps, last_mark, sent_at};
-ghost use Rattle.moments.specs.Faults.{IsNo};
-ghost use Rattle.moments.specs.declared.recorded.AuditFault.TheVariants.{NoMemory};
-ghost use Rattle.moments.specs.Rising.{has_mark, is_torn_at, lives_rise, marks_rise, IsFallen, IsMarked, IsUnmarked, Rise};
+ghost use Rattle.moments.specs.Rising.{has_mark, is_torn_at, lives_rise, marks_rise, IsFallen, IsMarked, Rise};
 
 use crate::recorded::{AuditFault, Recorded};
 use flight::life::{Ending, Life, Packet, Step};
@@ -130,32 +128,13 @@ pub(crate) fn lives_of(lives: &[Vec<Life>], node: Member) -> Option<&Vec<Life>>
     lives.get(node.checked_sub(1)?)
 }
 
-// Whether the answer rests on an opening or a step of its node.
-fn is_marked(lives: &[Vec<Life>], answer: &Recorded) -> bool
+/// Whether the answer rests on an opening or a step of its node. One of a node that is not there rests on none. Takes no
+/// memory.
+pub(crate) fn is_marked(lives: &[Vec<Life>], answer: &Recorded) -> bool
     ensures { IsTrue result ↔ IsMarked lives.now answer.now }
 {
     match lives_of(lives, answer.node) {
         Some(own) => have_mark(own, answer.mark),
         None => false,
     }
-}
-
-/// Whether each answer rests on an opening or a step of its node.
-///
-/// The one fault is 54, of an answer that rests on none, with the answer's node and mark. An answer of a node that is not
-/// there rests on none. Takes no memory.
-pub fn check_marked(lives: &[Vec<Life>], answers: &[Recorded]) -> Result<(), AuditFault>
-    ensures ok { OnOk result (All (IsMarked lives.now) answers.now) }
-    ensures fault { IfErr result (IsNo (IsUnmarked lives.now answers.now)) }
-    ensures memory { IfErr result (λ f. f ≡ NoMemory → ⊥) }
-{
-    for answer in answers {
-        if !is_marked(lives, answer) {
-            return Err(AuditFault::Wrong {
-                node: answer.node,
-                mark: answer.mark,
-            });
-        }
-    }
-    Ok(())
 }

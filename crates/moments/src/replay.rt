@@ -11,11 +11,12 @@ ghost use Rattle.world.specs.View.{durable_in, event_of, output_of, outputs_of, 
 ghost use Rattle.moments.specs.Past.{beginning};
 ghost use Rattle.keep.specs.Durable.{blank};
 ghost use Rattle.moments.specs.Behind.{job_event, life_at, log_in, opened_with, HasStored, IsJob, IsTaken, IsCut, IsOpened, IsAnswered, IsLeftBy, IsText, IsBehind};
-ghost use Rattle.moments.specs.Faults.{IsFaultAt, IsNo, IsStepFault, Lacks};
+ghost use Rattle.moments.specs.Rising.{IsMarked};
+ghost use Rattle.moments.specs.Faults.{IsEndFault, IsFaultAt, IsNo, IsStepFault, Lacks};
 ghost use Rattle.moments.specs.declared.recorded.AuditFault.TheVariants.{Broken, Unsent, Wrong};
 
 use crate::moment::{Deed, Moment};
-use crate::order::lives_of;
+use crate::order::{is_marked, lives_of};
 use crate::posts::{Post, number_of, post_all};
 use crate::recorded::{AuditFault, Recorded};
 use crate::running::happens;
@@ -290,8 +291,8 @@ impl Replay {
         }
     }
 
-    // A step of a node is cut short.
-    #[tactic(auto, using(crate::proofs::Posting::nothing_cut))]
+    // A step of a node is cut short, which told nothing.
+    #[tactic(auto, using(crate::proofs::Posting::nothing_cut, crate::proofs::Posting::cut_told))]
     fn tear(
         &mut self,
         mark: Mark,
@@ -301,7 +302,7 @@ impl Replay {
     ) -> Result<(), AuditFault>
         requires live { IsLive self.old }
         ensures ok { OnOk result (Follows (IsCut (past_of self.old) node (option_copied next.entry) ending.now) self.old self.new mark) }
-        ensures fault { IfErr result (IsNo (Lacks (λ f. f ≡ Unsent node mark) (IsCut (past_of self.old) node (option_copied next.entry) ending.now))) }
+        ensures fault { IfErr result (IsNo (Lacks (IsEndFault (past_of self.old) node mark ending.now) (IsCut (past_of self.old) node (option_copied next.entry) ending.now))) }
     {
         let Ending::Torn(step) = ending else {
             return Err(AuditFault::Unsent { node, mark });
@@ -309,6 +310,9 @@ impl Replay {
         let Some(job) = self.job(node, &step.packet)? else {
             return Err(AuditFault::Unsent { node, mark });
         };
+        if !step.outcomes.as_slice().is_empty() {
+            return Err(AuditFault::Wrong { node, mark });
+        }
         let left = self.left_by(node, next)?;
         self.happen(mark, Event::Torn(node, job, left))?;
         Ok(())
@@ -325,8 +329,8 @@ impl Replay {
     ) -> Result<(), AuditFault>
         requires live { IsLive self.old }
         requires tables { schema.now ≡ tables_in self.old.world }
-        ensures ok { OnOk result (Follows (IsAnswered (tables_in self.old.world) (members_in self.old.world) (past_of self.old) node (Some recorded.now)) self.old self.new mark) }
-        ensures fault { IfErr result (IsNo (Lacks (λ f. f ≡ Wrong node mark) (IsAnswered (tables_in self.old.world) (members_in self.old.world) (past_of self.old) node (Some recorded.now)))) }
+        ensures ok { OnOk result (Follows (IsAnswered (tables_in self.old.world) (members_in self.old.world) (past_of self.old) node recorded.now) self.old self.new mark) }
+        ensures fault { IfErr result (IsNo (Lacks (λ f. f ≡ Wrong node mark) (IsAnswered (tables_in self.old.world) (members_in self.old.world) (past_of self.old) node recorded.now))) }
     {
         safety::one_answer();
         let query = match read_query(self.alloc, schema, recorded.query.as_str()) {
@@ -339,6 +343,26 @@ impl Replay {
             return Err(AuditFault::Wrong { node, mark });
         }
         Ok(())
+    }
+
+    // The same of an answer that has to rest on a mark of its node.
+    fn answer_marked(
+        &mut self,
+        mark: Mark,
+        node: Member,
+        schema: &Schema,
+        lives: &[Vec<Life>],
+        recorded: &Recorded,
+    ) -> Result<(), AuditFault>
+        requires live { IsLive self.old }
+        requires tables { schema.now ≡ tables_in self.old.world }
+        ensures ok { OnOk result (Follows (λ events. IsMarked lives.now recorded.now × IsAnswered (tables_in self.old.world) (members_in self.old.world) (past_of self.old) node recorded.now events) self.old self.new mark) }
+        ensures fault { IfErr result (IsNo (Lacks (λ f. f ≡ Wrong node mark) (λ events. IsMarked lives.now recorded.now × IsAnswered (tables_in self.old.world) (members_in self.old.world) (past_of self.old) node recorded.now events))) }
+    {
+        if !is_marked(lives, recorded) {
+            return Err(AuditFault::Wrong { node, mark });
+        }
+        self.answer(mark, node, schema, recorded)
     }
 
     // A node is stopped.
@@ -359,9 +383,9 @@ impl Replay {
     /// mark. It is 51 where a life begins: the first one with something stored, another one of a node that is up, or with other
     /// than what the node has stored as it starts. It is 52 where a step takes a message that was not sent to the node at the
     /// mark of its envelope, or where such a step is cut short. It is 54 where a step tells other outcomes than those that were
-    /// recorded (version 1 records none, and they are not looked at), and where the query of an answer cannot be read or the
-    /// run answers otherwise. A moment of a life, a step or an answer that is not there has the fault of its kind: 51 of a life
-    /// that begins, 52 of a step, 54 of an answer.
+    /// recorded (version 1 records none, and they are not looked at) or one that was cut short tells any; and of an answer that
+    /// rests on no mark of its node, whose query cannot be read, or where the run answers otherwise. A moment of a life, a step
+    /// or an answer that is not there has the fault of its kind: 51 of a life that begins, 52 of a step, 54 of an answer.
     pub fn follow(
         &mut self,
         version: Version,
@@ -395,7 +419,7 @@ impl Replay {
                 None => Err(AuditFault::Unsent { node, mark }),
             },
             Deed::Answers { answer } => match answers.get(answer) {
-                Some(recorded) => self.answer(mark, node, schema, recorded),
+                Some(recorded) => self.answer_marked(mark, node, schema, lives, recorded),
                 None => Err(AuditFault::Wrong { node, mark }),
             },
             Deed::Stops { life: _ } => self.stop(mark, node),

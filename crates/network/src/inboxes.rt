@@ -1,4 +1,7 @@
 //! Inboxes, by which threads hand things to one another.
+ghost use Rattle.std.specs.Prelude.{◌≡◌, IfErr};
+ghost use Rattle.network.specs.Sending.{thing_in};
+
 use crossbeam_channel::{Receiver, SendError, Sender, bounded, unbounded};
 use std::alloc::{AllocError, Global};
 use std::sync::Wait;
@@ -15,12 +18,12 @@ pub struct Address<T: Drop> {
     inbox: Sender<T, Global>,
 }
 
-/// Why a thing was not put in.
-#[derive(Clone, Copy, PartialEq, Eq, Debug)]
-pub enum Unsent {
+/// A thing that was not put in, and why.
+#[derive(Debug, Drop)]
+pub enum Unsent<T> {
     /// The other end is gone.
-    Closed,
-    NoMemory,
+    Closed(T),
+    NoMemory(T),
 }
 
 /// An inbox for any number of things. The error is want of memory.
@@ -36,13 +39,15 @@ pub fn open_inbox_of_one<T: Drop>(alloc: Global) -> Result<(Address<T>, Inbox<T>
 }
 
 impl<T: Drop> Address<T> {
-    /// Puts a thing in; it waits while there is no room. A thing that is refused is dropped: `Closed` where the other end
+    /// Puts a thing in; it waits while there is no room. A thing that is refused comes back: `Closed` where the other end
     /// is gone, `NoMemory` where there is no memory for it.
-    pub fn send<R: Wait>(&self, rt: &R, thing: T) -> Result<(), Unsent> {
+    pub fn send<R: Wait>(&self, rt: &R, thing: T) -> Result<(), Unsent<T>>
+        ensures back { IfErr result (λ unsent. thing_in unsent ≡ thing) }
+    {
         match self.inbox.send(rt, thing) {
             Ok(()) => Ok(()),
-            Err(SendError::Disconnected(_)) => Err(Unsent::Closed),
-            Err(SendError::OutOfMemory(_)) => Err(Unsent::NoMemory),
+            Err(SendError::Disconnected(thing)) => Err(Unsent::Closed(thing)),
+            Err(SendError::OutOfMemory(thing)) => Err(Unsent::NoMemory(thing)),
         }
     }
 }

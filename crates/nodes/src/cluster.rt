@@ -1,18 +1,20 @@
 //! Nodes on threads of their own.
-ghost use Rattle.std.specs.Prelude.{◌≡◌, ◌≤◌, All, vec_len};
+ghost use Rattle.std.specs.Prelude.{◌≡◌, ◌≤◌, All, IfOk, IfErr, vec_len};
 ghost use Rattle.sqlread.specs.Meaning.{schema_of};
+ghost use Rattle.nodes.specs.Sending.{IsUnsentRefusal};
 
+use crate::desk::{Desk, NotSent, Stopped};
 use crate::gate::Gate;
-use crate::seat::{Control, Order, Post, Report, Start, tend};
+use crate::handle::ClusterHandle;
+use crate::seat::{Control, Post, Report, tend};
 use fault::Refusal;
 use flight::life::{Life, Packet};
 use keep::keeper::Keeper;
 use model::member::Member;
-use network::inboxes::{open_inbox, open_inbox_of_one};
-use network::{Address, Inbox, Unsent};
+use network::inboxes::open_inbox_of_one;
 use schema::Schema;
 use std::alloc::{AllocError, Global};
-use std::sync::{Arc, Wait};
+use std::sync::{Arc, Mutex, Wait};
 use std::thread;
 use std::thread::{JoinHandle, Threads};
 use view::View;
@@ -24,29 +26,27 @@ pub struct Config<I: Drop> {
     pub images: Vec<I>,
 }
 
-// A node that runs: what it is sent, and what comes of it.
+/// What is left of a cluster that ended, for each node from the first on.
 #[derive(Drop)]
-struct Running {
-    orders: Address<Order>,
-    reports: Inbox<Report>,
-    // Whether its life opened; closed once that has ended.
-    opened: Inbox<Result<(), Refusal>>,
+pub struct Ended {
+    pub lives: Vec<Vec<Life>>,
+    /// What the life leaves that ran as the cluster ended, if one did.
+    pub stopped: Vec<Option<Stopped>>,
 }
 
-// A node's thread, and what runs on it, if anything does.
+// A node's thread, and the desk by which it is told what to do.
 #[derive(Drop)]
 struct Seat {
-    control: Address<Control>,
-    running: Option<Running>,
+    desk: Desk,
     thread: JoinHandle<Vec<Life>>,
 }
 
-// Why a node was sent nothing.
-fn refusal_of(unsent: Unsent) -> Refusal {
-    match unsent {
-        Unsent::Closed => Refusal::NodeDown,
-        Unsent::NoMemory => Refusal::NoMemory,
-    }
+// The threads of nodes, and their desks.
+struct Crew {
+    desks: Vec<Mutex<Desk>>,
+    threads: Vec<JoinHandle<Vec<Life>>>,
+    // In whose places comes what each node leaves.
+    ended: Ended,
 }
 
 // A thread for a node, on which nothing runs. The error is want of memory, or that no thread can be made.
@@ -71,109 +71,35 @@ where
     { tend::<K, G, R>(&own, alloc, &post, image, &told, &*gate) };
     let thread = thread::spawn(rt, work)?;
     Ok(Seat {
-        control,
-        running: None,
+        desk: Desk::new(control),
         thread,
     })
 }
 
-impl Seat {
-    // Opens a life, unless one runs.
-    fn start<R: Wait>(&mut self, rt: &R, alloc: Global) -> Result<(), Refusal> {
-        if self.running.is_some() {
-            return Ok(());
-        }
-        let (orders, taken) = open_inbox::<Order>(alloc)?;
-        let (given, reports) = open_inbox::<Report>(alloc)?;
-        let (answer, opened) = open_inbox_of_one::<Result<(), Refusal>>(alloc)?;
-        let start = Start {
-            orders: taken,
-            reports: given,
-            opened: answer,
-        };
-        self.control
-            .send(rt, Control::Start(start))
-            .map_err(refusal_of)?;
-        match opened.next(rt) {
-            Some(answer) => answer?,
-            None => return Err(Refusal::NodeDown),
-        }
-        self.running = Some(Running {
-            orders,
-            reports,
-            opened,
-        });
-        Ok(())
-    }
+// A value that other threads may have and share.
+fn shared<T: Send + Sync>(value: T) -> T
+    ensures { result ≡ value }
+{
+    value
+}
 
-    // Ends the life that runs as stopped, once it has done what it was ordered.
-    fn stop<R: Wait>(&mut self, rt: &R) -> Result<(), Refusal> {
-        let Some(running) = self.running.take() else {
-            return Err(Refusal::NodeDown);
-        };
-        let Running {
-            orders,
-            reports: _reports,
-            opened,
-        } = running;
-        let told = self.control.send(rt, Control::Stop);
-        drop(orders);
-        let _ = opened.next(rt);
-        told.map_err(refusal_of)
-    }
-
-    // Ends the thread: a life that runs ends as it is.
-    fn end<R: Threads>(self, rt: &R) -> Vec<Life> {
-        let Seat {
-            control,
-            running,
-            thread,
-        } = self;
-        drop(running);
-        drop(control);
-        thread.join(rt)
+// Waits for the threads to end.
+fn join_all<R: Threads>(rt: &R, threads: Vec<JoinHandle<Vec<Life>>>) {
+    for thread in threads {
+        drop(thread.join(rt));
     }
 }
 
-/// Nodes, each on a thread of its own that feeds its cell what the node is sent. It is ended by `stop`, which joins each
-/// thread; it can't be dropped.
-pub struct Cluster {
-    alloc: Global,
-    seats: Vec<Seat>,
-    // For each node an empty list, in whose place its lives come.
-    lives: Vec<Vec<Life>>,
-}
-
-impl Cluster {
-    /// Starts a node for each image, with a thread of its own that passes the gate right before and right after each feed.
-    /// The caller sees to it that there are up to seven, and to what the keeper asks of an image. 40, 43 or 44 where one of
-    /// them does not start; no thread is left then.
-    pub fn start<K, G, R>(
-        rt: &R,
-        alloc: Global,
-        config: Config<K::Image>,
-        gate: Arc<G>,
-    ) -> Result<Cluster, Refusal>
-    where
-        K: Keeper + Send + 'static,
-        K::Image: Send + Drop + 'static,
-        G: Gate + Send + Sync + Drop + 'static,
-        R: Wait + Threads + Copy + Send + Drop + 'static,
-        requires few { vec_len config.images ≤ 7 }
-        requires suits { All (λ image. K.suits image (vec_len config.images) (schema_of config.schema)) config.images.items }
-    {
-        let mut cluster = Cluster {
-            alloc,
-            seats: Vec::new(alloc),
-            lives: Vec::new(alloc),
-        };
-        let Config { schema, images } = config;
-        match cluster.add_all::<K, G, R>(rt, &schema, images, gate) {
-            Ok(()) => Ok(cluster),
-            Err(refusal) => {
-                drop(cluster.stop(rt));
-                Err(refusal)
-            }
+impl Crew {
+    // Of nobody.
+    fn new(alloc: Global) -> Crew {
+        Crew {
+            desks: Vec::new(alloc),
+            threads: Vec::new(alloc),
+            ended: Ended {
+                lives: Vec::new(alloc),
+                stopped: Vec::new(alloc),
+            },
         }
     }
 
@@ -181,6 +107,7 @@ impl Cluster {
     fn add<K, G, R>(
         &mut self,
         rt: &R,
+        alloc: Global,
         post: Post,
         image: K::Image,
         gate: Arc<G>,
@@ -192,11 +119,14 @@ impl Cluster {
         R: Wait + Threads + Copy + Send + Drop + 'static,
         requires { K.suits image post.members (schema_of post.schema) }
     {
-        self.lives.push(Vec::new(self.alloc))?;
-        self.seats.reserve(1)?;
-        let mut seat = open_seat::<K, G, R>(rt, self.alloc, post, image, gate)?;
-        let started = seat.start(rt, self.alloc);
-        self.seats.push_reserved(seat);
+        self.ended.lives.push(Vec::new(alloc))?;
+        self.ended.stopped.push(None)?;
+        self.threads.reserve(1)?;
+        self.desks.reserve(1)?;
+        let Seat { mut desk, thread } = open_seat::<K, G, R>(rt, alloc, post, image, gate)?;
+        self.threads.push_reserved(thread);
+        let started = desk.start(rt, alloc);
+        self.desks.push_reserved(Mutex::new(desk));
         started
     }
 
@@ -205,6 +135,7 @@ impl Cluster {
     fn add_all<K, G, R>(
         &mut self,
         rt: &R,
+        alloc: Global,
         schema: &Schema,
         images: Vec<K::Image>,
         gate: Arc<G>,
@@ -228,100 +159,131 @@ impl Cluster {
                 me,
             };
             let gate = Arc::try_clone(&gate)?;
-            self.add::<K, G, R>(rt, post, image, gate)?;
+            self.add::<K, G, R>(rt, alloc, post, image, gate)?;
         }
         Ok(())
     }
 
-    // The node that runs.
-    fn running(&self, node: Member) -> Result<&Running, Refusal> {
-        let Some(at) = node.checked_sub(1) else {
-            return Err(Refusal::NodeDown);
-        };
-        let Some(seat) = self.seats.get(at) else {
-            return Err(Refusal::NodeDown);
-        };
-        match &seat.running {
-            Some(running) => Ok(running),
-            None => Err(Refusal::NodeDown),
+    // Ends the threads.
+    fn disband<R: Threads>(self, rt: &R) {
+        let Crew {
+            desks,
+            threads,
+            ended: _ended,
+        } = self;
+        drop(desks);
+        join_all(rt, threads);
+    }
+}
+
+/// Nodes, each on a thread of its own that feeds its cell what the node is sent. It is ended by `stop`, which joins each
+/// thread; it can't be dropped, and stays on the thread that started it. Other threads have a handle for its calls.
+pub struct Cluster {
+    handle: ClusterHandle,
+    threads: Vec<JoinHandle<Vec<Life>>>,
+    // In whose places comes what each node leaves.
+    ended: Ended,
+}
+
+impl Cluster {
+    /// Starts a node for each image, with a thread of its own that passes the gate right before and right after each feed.
+    /// The caller sees to it that there are up to seven, and to what the keeper asks of an image. 40, 43 or 44 where one of
+    /// them does not start; no thread is left then.
+    pub fn start<K, G, R>(
+        rt: &R,
+        alloc: Global,
+        config: Config<K::Image>,
+        gate: Arc<G>,
+    ) -> Result<Cluster, Refusal>
+    where
+        K: Keeper + Send + 'static,
+        K::Image: Send + Drop + 'static,
+        G: Gate + Send + Sync + Drop + 'static,
+        R: Wait + Threads + Copy + Send + Drop + 'static,
+        requires few { vec_len config.images ≤ 7 }
+        requires suits { All (λ image. K.suits image (vec_len config.images) (schema_of config.schema)) config.images.items }
+    {
+        let mut crew = Crew::new(alloc);
+        let Config { schema, images } = config;
+        if let Err(refusal) = crew.add_all::<K, G, R>(rt, alloc, &schema, images, gate) {
+            crew.disband(rt);
+            return Err(refusal);
+        }
+        let Crew {
+            desks,
+            threads,
+            ended,
+        } = crew;
+        match ClusterHandle::new(alloc, desks) {
+            Ok(handle) => Ok(Cluster {
+                handle: shared(handle),
+                threads,
+                ended,
+            }),
+            Err(error) => {
+                join_all(rt, threads);
+                Err(Refusal::from(error))
+            }
         }
     }
 
-    /// Sends a packet to a node. `reading` is what the node's clock shows, which is recorded of a packet that bears no reading
-    /// itself. 41 where the node does not run, 43 where there is no memory.
+    /// A handle for the calls of this cluster, from another thread. The error is want of memory.
+    pub fn handle(&self) -> Result<ClusterHandle, AllocError> {
+        self.handle.try_clone()
+    }
+
+    /// `ClusterHandle::send`.
     pub fn send<R: Wait>(
         &self,
         rt: &R,
         node: Member,
         reading: i64,
         packet: Packet,
-    ) -> Result<(), Refusal> {
-        let running = self.running(node)?;
-        running
-            .orders
-            .send(rt, Order::Feed(reading, packet))
-            .map_err(refusal_of)
+    ) -> Result<u64, NotSent>
+        ensures number { IfOk result (λ number. 1 ≤ number) }
+        ensures back { IfErr result (λ e. e.packet ≡ packet) }
+        ensures refused { IfErr result (λ e. IsUnsentRefusal e.refusal) }
+    {
+        self.handle.send(rt, node, reading, packet)
     }
 
-    /// What came of the next feed of a node, for which it waits. 41 where the node does not run.
+    /// `ClusterHandle::report`.
     pub fn report<R: Wait>(&self, rt: &R, node: Member) -> Result<Report, Refusal> {
-        let running = self.running(node)?;
-        running.reports.next(rt).ok_or(Refusal::NodeDown)
+        self.handle.report(rt, node)
     }
 
-    /// `Cell::take_view` of a node, once it has done what it was sent before. 41 where the node does not run, 43, 45.
+    /// `ClusterHandle::view`.
     pub fn view<R: Wait>(&self, rt: &R, node: Member) -> Result<View, Refusal> {
-        let running = self.running(node)?;
-        let (reply, answer) = open_inbox_of_one::<Result<View, Refusal>>(self.alloc)?;
-        running
-            .orders
-            .send(rt, Order::View(reply))
-            .map_err(refusal_of)?;
-        match answer.next(rt) {
-            Some(view) => view,
-            None => Err(Refusal::NodeDown),
-        }
+        self.handle.view(rt, node)
     }
 
-    /// Stops a node, once it has done what it was sent. What came of it and was not asked for is lost. 41 where it does
-    /// not run.
-    pub fn stop_node<R: Wait>(&mut self, rt: &R, node: Member) -> Result<(), Refusal> {
-        let Some(at) = node.checked_sub(1) else {
-            return Err(Refusal::NodeDown);
-        };
-        match self.seats.get_mut(at) {
-            Some(seat) => seat.stop(rt),
-            None => Err(Refusal::NodeDown),
-        }
+    /// `ClusterHandle::stop_node`.
+    pub fn stop_node<R: Wait>(&self, rt: &R, node: Member) -> Result<Stopped, Refusal> {
+        self.handle.stop_node(rt, node)
     }
 
-    /// Starts a node again: a new life over the store that it left. 40, 42, 43 or 44 where it does not start; 41 where there
-    /// is no such node. Nothing changes where it runs, or does not start.
-    pub fn start_node<R: Wait>(&mut self, rt: &R, node: Member) -> Result<(), Refusal> {
-        let Some(at) = node.checked_sub(1) else {
-            return Err(Refusal::NodeDown);
-        };
-        let alloc = self.alloc;
-        match self.seats.get_mut(at) {
-            Some(seat) => seat.start(rt, alloc),
-            None => Err(Refusal::NodeDown),
-        }
+    /// `ClusterHandle::start_node`.
+    pub fn start_node<R: Wait>(&self, rt: &R, node: Member) -> Result<(), Refusal> {
+        self.handle.start_node(rt, node)
     }
 
-    /// Ends all nodes once they have done what they were sent, joins their threads, and gives the lives of each node. The
-    /// last life of a node that runs and is up ends `Up`.
-    pub fn stop<R: Threads>(self, rt: &R) -> Vec<Vec<Life>> {
+    /// Ends all nodes once they have done what they were sent, joins their threads, and gives what is left of each node. The
+    /// last life of a node that runs and is up ends `Up`. From then on each call of a handle is refused 41.
+    pub fn stop<R: Threads + Wait>(self, rt: &R) -> Ended {
         let Cluster {
-            alloc: _,
-            seats,
-            mut lives,
+            handle,
+            threads,
+            mut ended,
         } = self;
-        for (at, seat) in seats.into_iter().enumerate() {
-            let ended = seat.end(rt);
-            if let Some(place) = lives.get_mut(at) {
-                *place = ended;
+        for (at, thread) in threads.into_iter().enumerate() {
+            let (lives, stopped) = handle.end_one(rt, at, thread);
+            if let Some(place) = ended.lives.get_mut(at) {
+                *place = lives;
+            }
+            if let Some(place) = ended.stopped.get_mut(at) {
+                *place = stopped;
             }
         }
-        lives
+        ended
     }
 }

@@ -1,8 +1,10 @@
 //! What databases of a member hold, and why they are refused.
 use anyhow::{Result, bail};
+use causes::find_wrong;
 use durable::SqlKeeper;
 use keep::{HardState, Keeper, Shelf};
 use model::entry::Entry;
+use schema::Schema;
 use schemaread::schemas::read_schema;
 use sqlite::{Connection, MemStore};
 use std::alloc::{AllocError, Global};
@@ -21,8 +23,25 @@ pub fn tell_database(alloc: Global, schema: &str, statements: &str) -> Result<St
     database.execute_batch(statements)?;
     match SqlKeeper::open(alloc, database, MEMBERS, &schema) {
         Ok(mut keeper) => tell_stored(alloc, &mut keeper),
-        Err((error, _)) => Ok(format!(in alloc; "{error}\n")?),
+        Err((error, mut database)) => {
+            let told = format!(in alloc; "{error}\n")?;
+            tell_wrong(alloc, &mut database, &schema, told)
+        }
     }
+}
+
+// What is wrong first in a database, if anything is, behind what was told.
+fn tell_wrong(
+    alloc: Global,
+    database: &mut Connection<MemStore>,
+    schema: &Schema,
+    told: String,
+) -> Result<String> {
+    let mut told = told;
+    if let Some(wrong) = find_wrong(alloc, database, MEMBERS, schema)? {
+        write!(told, "  {wrong}\n")?;
+    }
+    Ok(told)
 }
 
 // The hard state and the log that a keeper holds.

@@ -1,6 +1,7 @@
 //! A group's flight files, and what is said of them where one is another.
 use anyhow::{Result, bail};
 use auditor::{AuditFault, Recorded as Judged, audit};
+use causes::{Found, find_heading};
 use fault::Refusal;
 use flight::life::Life;
 use flight::{Flight, Recorded, Version};
@@ -54,7 +55,8 @@ impl Group {
         let Ok(text) = str::from_utf8(bytes) else {
             return Ok(Verdict::NoText);
         };
-        if !is_flight(self.alloc, text)? {
+        let own = self.texts.get(place).map_or("", |own| own.as_str());
+        if !is_flight(self.alloc, own, text)? {
             return Ok(Verdict::NoFlight);
         }
         let mut texts = Vec::new(self.alloc);
@@ -65,12 +67,40 @@ impl Group {
     }
 }
 
-fn is_flight(alloc: Global, text: &str) -> Result<bool> {
+// Whether a text is a flight. Where a flight stops to be one is found exactly where it is none.
+fn is_flight(alloc: Global, own: &str, text: &str) -> Result<bool> {
+    let found = find_heading(alloc, text);
     match read_flight(alloc, text) {
-        Ok(_) => Ok(true),
-        Err(Refusal::BadFlight) => Ok(false),
+        Ok(_) => match found {
+            Ok(_) => Ok(true),
+            Err(found) => bail!("a flight is said to be none: {found}"),
+        },
+        Err(Refusal::BadFlight) => match found {
+            Err(Found::NoFlight(place)) if may_end(own, text, place.byte) => Ok(false),
+            Err(found) => bail!("a flight that is changed does not end there: {found}"),
+            Ok(_) => bail!("what is no flight is said to be one"),
+        },
         Err(refusal) => Err(refusal.into()),
     }
+}
+
+// Whether a flight that was changed can stop at this byte: at its end where it was cut, else not before the line in which
+// it was changed, or where the schema begins.
+fn may_end(own: &str, text: &str, byte: usize) -> bool {
+    let pairs = own.as_bytes().iter().zip(text.as_bytes());
+    let same = pairs.take_while(|(one, other)| *one == *other).count();
+    if same == text.len() {
+        return byte == same;
+    }
+    let before = text.as_bytes().get(..same).unwrap_or_default();
+    let line = before.iter().rposition(|it| *it == b'\n');
+    let line = line.map_or(0, |at| at.saturating_add(1));
+    let heads = text.lines().take(3);
+    let schema = heads.fold(
+        0usize,
+        |sum, it| sum.saturating_add(it.len()).saturating_add(1),
+    );
+    byte >= line || byte == schema
 }
 
 /// What is said of these files, each of which is a flight.

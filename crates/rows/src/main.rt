@@ -14,7 +14,7 @@
 //! - `.queries`: each text is a query, which is read or refused.
 //! - `.days`, `.instants`: each text names a day or an instant, whose number and text are written.
 //! - `.databases`: each text is a list of SQL statements, which are made on the database of a member that has nothing
-//!   stored. It is then opened: what it holds is told, or why it is refused.
+//!   stored. It is then opened: what it holds is told, or why it is refused and what is wrong first.
 //!
 //! All but a `.script` have a text in each line; a line that begins with `#` is a comment. The first line of
 //! `.scripts`, `.audits`, `.changes`, `.transactions`, `.queries` and `.databases` names another file: the beginning of the

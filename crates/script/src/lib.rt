@@ -5,6 +5,7 @@ pub mod laws;
 mod mail;
 mod play;
 pub mod player;
+pub mod printer;
 pub mod printing;
 mod recovery;
 pub mod run_fault;

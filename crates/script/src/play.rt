@@ -10,6 +10,7 @@ ghost use Rattle.script.specs.declared.sent.Sent.{Sent as AnySent};
 ghost use Rattle.script.specs.Stage.{left_in};
 
 use crate::mail::Mail;
+use crate::printer::Printer;
 use crate::run_fault::RunFault;
 use crate::writing::{print_outputs, print_refusal};
 use fault::Text;
@@ -21,7 +22,6 @@ use model::request::{Client, RequestNumber};
 use schema::Schema;
 use sqlread::query::{Query, read_query};
 use std::alloc::{AllocError, Global};
-use std::io;
 use world::event::{self, Event};
 use world::history::World;
 use world::output::Output;
@@ -101,32 +101,32 @@ impl Play {
 
     // Lets an event happen, and prints what it gives.
     #[tactic(auto, using(crate::proofs::Playing::nothing_yet))]
-    pub(crate) fn happen<W: io::Write>(
+    pub(crate) fn happen<P: Printer>(
         &mut self,
         event: Event,
-        writer: &mut W,
+        printer: &mut P,
     ) -> Result<(), RunFault>
         requires live { self.old.world.is_spent ≡ false }
-        ensures { Plays self.old.world result self.new (event_at (tables_of self.old) (members_of self.old) (stage_of self.old) (event_of event)) (W.contents writer.old) (W.contents writer.new) }
+        ensures { Plays self.old.world result self.new (event_at (tables_of self.old) (members_of self.old) (stage_of self.old) (event_of event)) (P.printed printer.old) (P.printed printer.new) }
     {
         let outputs = self.happens(event)?;
         self.mail.note_all(&outputs)?;
-        print_outputs(&outputs, writer)
+        print_outputs(&outputs, printer)
     }
 
     // Asks a question, and prints what it gives.
     #[tactic(auto, using(crate::proofs::Playing::nothing_yet))]
-    fn put<W: io::Write>(
+    fn put<P: Printer>(
         &mut self,
         node: Member,
         question: Query,
-        writer: &mut W,
+        printer: &mut P,
     ) -> Result<(), RunFault>
         requires live { self.old.world.is_spent ≡ false }
-        ensures { Plays self.old.world result self.new (asked (tables_of self.old) (members_of self.old) (stage_of self.old) node (Ok (query_of question))) (W.contents writer.old) (W.contents writer.new) }
+        ensures { Plays self.old.world result self.new (asked (tables_of self.old) (members_of self.old) (stage_of self.old) node (Ok (query_of question))) (P.printed printer.old) (P.printed printer.new) }
     {
         let outputs = self.happens(Event::Ask(node, question))?;
-        print_outputs(&outputs, writer)
+        print_outputs(&outputs, printer)
     }
 
     fn set_clock(&mut self, node: Member, reading: i64)
@@ -196,44 +196,44 @@ impl Play {
 
     // Submits a client's request at a member.
     #[tactic(auto, using(crate::proofs::Playing::nothing_yet))]
-    fn submit<W: io::Write>(
+    fn submit<P: Printer>(
         &mut self,
         node: Member,
         client: Client,
         number: RequestNumber,
         text: &Text,
-        writer: &mut W,
+        printer: &mut P,
     ) -> Result<(), RunFault>
         requires live { self.old.world.is_spent ≡ false }
-        ensures { Plays self.old.world result self.new (played_by (tables_of self.old) (members_of self.old) (stage_of self.old) (Line.Submit node client number text.now)) (W.contents writer.old) (W.contents writer.new) }
+        ensures { Plays self.old.world result self.new (played_by (tables_of self.old) (members_of self.old) (stage_of self.old) (Line.Submit node client number text.now)) (P.printed printer.old) (P.printed printer.new) }
     {
         let input = self.submission(node, client, number, text)?;
-        self.happen(Event::Hand(node, input), writer)
+        self.happen(Event::Hand(node, input), printer)
     }
 
     // Delivers the message at this place among those sent.
-    pub(crate) fn deliver_at<W: io::Write>(
+    pub(crate) fn deliver_at<P: Printer>(
         &mut self,
         place: usize,
-        writer: &mut W,
+        printer: &mut P,
     ) -> Result<(), RunFault>
         requires live { self.old.world.is_spent ≡ false }
         requires sent { place < length self.old.mail }
-        ensures { Plays self.old.world result self.new (delivery (tables_of self.old) (members_of self.old) (stage_of self.old) (suc place) (nth self.old.mail (suc place))) (W.contents writer.old) (W.contents writer.new) }
+        ensures { Plays self.old.world result self.new (delivery (tables_of self.old) (members_of self.old) (stage_of self.old) (suc place) (nth self.old.mail (suc place))) (P.printed printer.old) (P.printed printer.new) }
     {
         let addressee = self.mark_delivered(place);
         let reading = self.reading_of(addressee);
         let message = place + 1;
-        self.happen(Event::Deliver { message, reading }, writer)
+        self.happen(Event::Deliver { message, reading }, printer)
     }
 
     // Delivers the message of this number, if one was sent.
-    fn deliver<W: io::Write>(&mut self, number: u64, writer: &mut W) -> Result<(), RunFault>
+    fn deliver<P: Printer>(&mut self, number: u64, printer: &mut P) -> Result<(), RunFault>
         requires live { self.old.world.is_spent ≡ false }
-        ensures { Plays self.old.world result self.new (delivery (tables_of self.old) (members_of self.old) (stage_of self.old) number (nth self.old.mail number)) (W.contents writer.old) (W.contents writer.new) }
+        ensures { Plays self.old.world result self.new (delivery (tables_of self.old) (members_of self.old) (stage_of self.old) number (nth self.old.mail number)) (P.printed printer.old) (P.printed printer.new) }
     {
         match self.mail.place_of(number) {
-            Some(place) => self.deliver_at(place, writer),
+            Some(place) => self.deliver_at(place, printer),
             None => Ok(()),
         }
     }
@@ -286,66 +286,66 @@ impl Play {
 
     // A step that is cut short. One of a member that is down changes nothing.
     #[tactic(auto, using(crate::proofs::Playing::quiet, crate::proofs::Playing::nothing_yet))]
-    fn tear<W: io::Write>(
+    fn tear<P: Printer>(
         &mut self,
         node: Member,
         left: Left,
         job: &Job,
-        writer: &mut W,
+        printer: &mut P,
     ) -> Result<(), RunFault>
         requires live { self.old.world.is_spent ≡ false }
-        ensures { Plays self.old.world result self.new (played_by (tables_of self.old) (members_of self.old) (stage_of self.old) (Line.Torn node left job.now)) (W.contents writer.old) (W.contents writer.new) }
+        ensures { Plays self.old.world result self.new (played_by (tables_of self.old) (members_of self.old) (stage_of self.old) (Line.Torn node left job.now)) (P.printed printer.old) (P.printed printer.new) }
     {
         if !self.is_up(node) {
             return Ok(());
         }
         match self.torn_job(node, job)? {
-            Some(job) => self.happen(Event::Torn(node, job, kept(left)), writer),
+            Some(job) => self.happen(Event::Torn(node, job, kept(left)), printer),
             None => Ok(()),
         }
     }
 
     // A text that is no question is refused before the group is asked.
     #[tactic(auto, using(crate::proofs::Playing::quiet, crate::proofs::Playing::nothing_yet))]
-    fn ask<W: io::Write>(
+    fn ask<P: Printer>(
         &mut self,
         node: Member,
         text: &Text,
-        writer: &mut W,
+        printer: &mut P,
     ) -> Result<(), RunFault>
         requires live { self.old.world.is_spent ≡ false }
-        ensures { Plays self.old.world result self.new (played_by (tables_of self.old) (members_of self.old) (stage_of self.old) (Line.Ask node text.now)) (W.contents writer.old) (W.contents writer.new) }
+        ensures { Plays self.old.world result self.new (played_by (tables_of self.old) (members_of self.old) (stage_of self.old) (Line.Ask node text.now)) (P.printed printer.old) (P.printed printer.new) }
     {
         match read_query(self.alloc, self.world.schema(), text.as_str()) {
-            Ok(question) => self.put(node, question, writer),
-            Err(refusal) => print_refusal(node, refusal, writer),
+            Ok(question) => self.put(node, question, printer),
+            Err(refusal) => print_refusal(node, refusal, printer),
         }
     }
 
     // Delivers the message at this place within a round. One to a member that is down counts as delivered, and
     // nothing is printed.
-    fn settle_at<W: io::Write>(&mut self, place: usize, writer: &mut W) -> Result<(), RunFault>
+    fn settle_at<P: Printer>(&mut self, place: usize, printer: &mut P) -> Result<(), RunFault>
         requires live { self.old.world.is_spent ≡ false }
         requires sent { place < length self.old.mail }
-        ensures { Plays self.old.world result self.new (delivery_in_round (tables_of self.old) (members_of self.old) (stage_of self.old) (suc place) (nth self.old.mail (suc place))) (W.contents writer.old) (W.contents writer.new) }
+        ensures { Plays self.old.world result self.new (delivery_in_round (tables_of self.old) (members_of self.old) (stage_of self.old) (suc place) (nth self.old.mail (suc place))) (P.printed printer.old) (P.printed printer.new) }
     {
         let addressee = self.mail.message_at(place).addressee;
         if self.is_up(addressee) {
-            return self.deliver_at(place, writer);
+            return self.deliver_at(place, printer);
         }
         self.mark_delivered(place);
         Ok(())
     }
 
     // Delivers each message that was sent before now, was never delivered and is not lost.
-    fn play_round<W: io::Write>(&mut self, writer: &mut W) -> Result<(), RunFault>
+    fn play_round<P: Printer>(&mut self, printer: &mut P) -> Result<(), RunFault>
         requires live { self.old.world.is_spent ≡ false }
-        ensures { Plays self.old.world result self.new (round (tables_of self.old) (members_of self.old) (stage_of self.old)) (W.contents writer.old) (W.contents writer.new) }
+        ensures { Plays self.old.world result self.new (round (tables_of self.old) (members_of self.old) (stage_of self.old)) (P.printed printer.old) (P.printed printer.new) }
     {
         let count = self.mail.len();
         for place in self.mail.first_left()..count {
             if self.mail.is_left(place) {
-                if let Err(fault) = self.settle_at(place, writer) {
+                if let Err(fault) = self.settle_at(place, printer) {
                     return Err(fault);
                 }
             }
@@ -355,15 +355,15 @@ impl Play {
     }
 
     // Plays so many rounds, or fewer, until no message is left.
-    fn settle<W: io::Write>(&mut self, most: u8, writer: &mut W) -> Result<(), RunFault>
+    fn settle<P: Printer>(&mut self, most: u8, printer: &mut P) -> Result<(), RunFault>
         requires live { self.old.world.is_spent ≡ false }
-        ensures { Plays self.old.world result self.new (rounds (tables_of self.old) (members_of self.old) most (stage_of self.old)) (W.contents writer.old) (W.contents writer.new) }
+        ensures { Plays self.old.world result self.new (rounds (tables_of self.old) (members_of self.old) most (stage_of self.old)) (P.printed printer.old) (P.printed printer.new) }
     {
         for played in 0..most {
             if self.mail.first_left() == self.mail.len() {
                 return Ok(());
             }
-            if let Err(fault) = self.play_round(writer) {
+            if let Err(fault) = self.play_round(printer) {
                 return Err(fault);
             }
         }
@@ -372,13 +372,13 @@ impl Play {
 
     // Plays one line, and prints what it gives.
     #[tactic(auto, using(crate::proofs::Playing::quiet, crate::proofs::Playing::nothing_yet))]
-    pub(crate) fn play_line<W: io::Write>(
+    pub(crate) fn play_line<P: Printer>(
         &mut self,
         line: &Line,
-        writer: &mut W,
+        printer: &mut P,
     ) -> Result<(), RunFault>
         requires live { self.old.world.is_spent ≡ false }
-        ensures { Plays self.old.world result self.new (played_by (tables_of self.old) (members_of self.old) (stage_of self.old) line.now) (W.contents writer.old) (W.contents writer.new) }
+        ensures { Plays self.old.world result self.new (played_by (tables_of self.old) (members_of self.old) (stage_of self.old) line.now) (P.printed printer.old) (P.printed printer.new) }
     {
         match line {
             Line::Clock { node, reading } => {
@@ -402,38 +402,38 @@ impl Play {
                 client,
                 number,
                 text,
-            } => self.submit(*node, *client, *number, text, writer),
-            Line::Timeout { node } => self.happen(Event::Hand(*node, Input::Timeout), writer),
-            Line::Beat { node } => self.happen(Event::Hand(*node, Input::Beat), writer),
+            } => self.submit(*node, *client, *number, text, printer),
+            Line::Timeout { node } => self.happen(Event::Hand(*node, Input::Timeout), printer),
+            Line::Beat { node } => self.happen(Event::Hand(*node, Input::Beat), printer),
             Line::Close { node } => {
                 let reading = self.reading_of(*node);
-                self.happen(Event::Hand(*node, Input::Close { reading }), writer)
+                self.happen(Event::Hand(*node, Input::Close { reading }), printer)
             }
             Line::Floor { node } => {
                 let reading = self.reading_of(*node);
-                self.happen(Event::Hand(*node, Input::Floor { reading }), writer)
+                self.happen(Event::Hand(*node, Input::Floor { reading }), printer)
             }
-            Line::Deliver { message } => self.deliver(*message, writer),
-            Line::Settle { rounds } => self.settle(rounds.unwrap_or(ROUNDS_MOST), writer),
-            Line::Recover => self.recover(writer),
-            Line::Stop { node } => self.happen(Event::Stop(*node), writer),
-            Line::Start { node } => self.happen(Event::Start(*node), writer),
-            Line::Torn { node, left, job } => self.tear(*node, *left, job, writer),
-            Line::Ask { node, text } => self.ask(*node, text, writer),
+            Line::Deliver { message } => self.deliver(*message, printer),
+            Line::Settle { rounds } => self.settle(rounds.unwrap_or(ROUNDS_MOST), printer),
+            Line::Recover => self.recover(printer),
+            Line::Stop { node } => self.happen(Event::Stop(*node), printer),
+            Line::Start { node } => self.happen(Event::Start(*node), printer),
+            Line::Torn { node, left, job } => self.tear(*node, *left, job, printer),
+            Line::Ask { node, text } => self.ask(*node, text, printer),
         }
     }
 
     // Plays lines, each after the one before.
-    pub(crate) fn play_lines<W: io::Write>(
+    pub(crate) fn play_lines<P: Printer>(
         &mut self,
         lines: &[Line],
-        writer: &mut W,
+        printer: &mut P,
     ) -> Result<(), RunFault>
         requires live { self.old.world.is_spent ≡ false }
-        ensures { Plays self.old.world result self.new (played_all (tables_of self.old) (members_of self.old) lines.now (stage_of self.old)) (W.contents writer.old) (W.contents writer.new) }
+        ensures { Plays self.old.world result self.new (played_all (tables_of self.old) (members_of self.old) lines.now (stage_of self.old)) (P.printed printer.old) (P.printed printer.new) }
     {
         for line in lines {
-            if let Err(fault) = self.play_line(line, writer) {
+            if let Err(fault) = self.play_line(line, printer) {
                 return Err(fault);
             }
         }

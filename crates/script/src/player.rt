@@ -8,6 +8,7 @@ ghost use Rattle.world.specs.Run.{events_of, members_in, now_of, tables_in};
 ghost use Rattle.world.specs.View.{entry_in};
 
 use crate::play::Play;
+use crate::printer::Printer;
 use crate::run_fault::RunFault;
 use fault::Refusal;
 use lines::line::Line;
@@ -49,20 +50,20 @@ impl Player {
 
     /// Plays one line: lets exactly the events happen that it brings, and prints what comes of them.
     ///
-    /// It fails by want of memory or by the writer's fault, and what it printed then is a beginning of what the line
+    /// It fails by want of memory or by the printer's fault, and what it printed then is a beginning of what the line
     /// prints. After either it answers only want of memory, and prints nothing.
-    pub fn play<W: io::Write>(&mut self, line: &Line, writer: &mut W) -> Result<(), RunFault>
-        ensures plays { has_failed self.old ≡ false → Plays self.old result self.new (played (tables_in (group_of self.old)) (members_in (group_of self.old)) (standing_of self.old) line.now) (W.contents writer.old) (W.contents writer.new) }
+    pub fn play<P: Printer>(&mut self, line: &Line, printer: &mut P) -> Result<(), RunFault>
+        ensures plays { has_failed self.old ≡ false → Plays self.old result self.new (played (tables_in (group_of self.old)) (members_in (group_of self.old)) (standing_of self.old) line.now) (P.printed printer.old) (P.printed printer.new) }
         ensures err { IfErr result IsPlayFault }
         ensures fails { OnErr result (IsTrue (has_failed self.new)) }
         ensures goes_on { OnOk result (has_failed self.new ≡ false) }
-        ensures stays { IsTrue (has_failed self.old) → (result ≡ Err (RunFault.Refused NoMemory)) × (writer.new ≡ writer.old) }
+        ensures stays { IsTrue (has_failed self.old) → (result ≡ Err (RunFault.Refused NoMemory)) × (printer.new ≡ printer.old) }
     {
         if self.has_failed {
             return Err(RunFault::Refused(Refusal::NoMemory));
         }
         self.has_failed = true;
-        match self.play.play_line(line, writer) {
+        match self.play.play_line(line, printer) {
             Ok(()) => {
                 self.has_failed = false;
                 Ok(())

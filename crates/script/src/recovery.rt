@@ -7,13 +7,13 @@ ghost use Rattle.script.specs.Standing.{foremost, is_well, longest, standing_at}
 ghost use Rattle.script.specs.Stage.{all_led_on, deliveries_from, led_by, led_on, recovery, spread_or_said, starts, stirred, turn, turns};
 
 use crate::play::Play;
+use crate::printer::Printer;
 use crate::run_fault::RunFault;
 use crate::standing::Standing;
 use fault::Refusal;
 use model::member::Member;
 use model::message::Input;
 use std::alloc::AllocError;
-use std::io;
 use world::event::Event;
 
 // How many turns a member takes at most to be elected.
@@ -117,13 +117,13 @@ impl Play {
     }
 
     // Starts all members.
-    fn start_all<W: io::Write>(&mut self, writer: &mut W) -> Result<(), RunFault>
+    fn start_all<P: Printer>(&mut self, printer: &mut P) -> Result<(), RunFault>
         requires live { self.old.world.is_spent ≡ false }
-        ensures { Plays self.old.world result self.new (starts (tables_of self.old) (members_of self.old) (length (stage_of self.old).clocks) 1 (stage_of self.old)) (W.contents writer.old) (W.contents writer.new) }
+        ensures { Plays self.old.world result self.new (starts (tables_of self.old) (members_of self.old) (length (stage_of self.old).clocks) 1 (stage_of self.old)) (P.printed printer.old) (P.printed printer.new) }
     {
         let members = self.clocks.len();
         for place in 0..members {
-            if let Err(fault) = self.happen(Event::Start(place + 1), writer) {
+            if let Err(fault) = self.happen(Event::Start(place + 1), printer) {
                 return Err(fault);
             }
         }
@@ -131,14 +131,14 @@ impl Play {
     }
 
     // Delivers so many messages from this place on, or fewer, until none is left.
-    fn deliver_from<W: io::Write>(
+    fn deliver_from<P: Printer>(
         &mut self,
         first: usize,
         most: u128,
-        writer: &mut W,
+        printer: &mut P,
     ) -> Result<(), RunFault>
         requires live { self.old.world.is_spent ≡ false }
-        ensures { Plays self.old.world result self.new (deliveries_from (tables_of self.old) (members_of self.old) most (suc first) (stage_of self.old)) (W.contents writer.old) (W.contents writer.new) }
+        ensures { Plays self.old.world result self.new (deliveries_from (tables_of self.old) (members_of self.old) most (suc first) (stage_of self.old)) (P.printed printer.old) (P.printed printer.new) }
     {
         let mut place = first;
         for delivered in 0..most {
@@ -146,7 +146,7 @@ impl Play {
             if sent <= place {
                 return Ok(());
             }
-            if let Err(fault) = self.deliver_at(place, writer) {
+            if let Err(fault) = self.deliver_at(place, printer) {
                 return Err(fault);
             }
             place += 1;
@@ -155,47 +155,47 @@ impl Play {
     }
 
     // The timer of a member goes off, and it is told to send its heartbeats.
-    fn stir<W: io::Write>(&mut self, node: Member, writer: &mut W) -> Result<(), RunFault>
+    fn stir<P: Printer>(&mut self, node: Member, printer: &mut P) -> Result<(), RunFault>
         requires live { self.old.world.is_spent ≡ false }
-        ensures { Plays self.old.world result self.new (stirred (tables_of self.old) (members_of self.old) node (stage_of self.old)) (W.contents writer.old) (W.contents writer.new) }
+        ensures { Plays self.old.world result self.new (stirred (tables_of self.old) (members_of self.old) node (stage_of self.old)) (P.printed printer.old) (P.printed printer.new) }
     {
-        if let Err(fault) = self.happen(Event::Hand(node, Input::Timeout), writer) {
+        if let Err(fault) = self.happen(Event::Hand(node, Input::Timeout), printer) {
             return Err(fault);
         }
-        self.happen(Event::Hand(node, Input::Beat), writer)
+        self.happen(Event::Hand(node, Input::Beat), printer)
     }
 
     // A member is stirred, and of what is sent then two messages for each member are delivered: to each other one, and
     // back.
-    fn turn<W: io::Write>(&mut self, node: Member, writer: &mut W) -> Result<(), RunFault>
+    fn turn<P: Printer>(&mut self, node: Member, printer: &mut P) -> Result<(), RunFault>
         requires live { self.old.world.is_spent ≡ false }
-        ensures { Plays self.old.world result self.new (turn (tables_of self.old) (members_of self.old) node (stage_of self.old)) (W.contents writer.old) (W.contents writer.new) }
+        ensures { Plays self.old.world result self.new (turn (tables_of self.old) (members_of self.old) node (stage_of self.old)) (P.printed printer.old) (P.printed printer.new) }
     {
         let sent = self.mail.len();
         let members = self.clocks.len();
-        if let Err(fault) = self.stir(node, writer) {
+        if let Err(fault) = self.stir(node, printer) {
             return Err(fault);
         }
-        self.deliver_from(sent, 2 * (members as u128), writer)
+        self.deliver_from(sent, 2 * (members as u128), printer)
     }
 
     // So many turns, or fewer, until all is well.
     #[tactic(auto, using(crate::proofs::Recovering::so_far_gives_up))]
-    fn take_turns<W: io::Write>(
+    fn take_turns<P: Printer>(
         &mut self,
         node: Member,
         most: u128,
-        writer: &mut W,
+        printer: &mut P,
     ) -> Result<(), RunFault>
         requires live { self.old.world.is_spent ≡ false }
-        ensures { Plays self.old.world result self.new (turns (tables_of self.old) (members_of self.old) most node (stage_of self.old)) (W.contents writer.old) (W.contents writer.new) }
+        ensures { Plays self.old.world result self.new (turns (tables_of self.old) (members_of self.old) most node (stage_of self.old)) (P.printed printer.old) (P.printed printer.new) }
     {
         for taken in 0..most {
             let well = self.is_well(node)?;
             if well {
                 return Ok(());
             }
-            if let Err(fault) = self.turn(node, writer) {
+            if let Err(fault) = self.turn(node, printer) {
                 return Err(fault);
             }
         }
@@ -204,50 +204,50 @@ impl Play {
 
     // A member that was to be elected brings its log to all, or says why it cannot append an entry.
     #[tactic(auto, using(crate::proofs::Playing::nothing_yet))]
-    fn spread_or_say<W: io::Write>(
+    fn spread_or_say<P: Printer>(
         &mut self,
         node: Member,
         longest: usize,
-        writer: &mut W,
+        printer: &mut P,
     ) -> Result<(), RunFault>
         requires live { self.old.world.is_spent ≡ false }
-        ensures { Plays self.old.world result self.new (spread_or_said (tables_of self.old) (members_of self.old) node longest (stage_of self.old)) (W.contents writer.old) (W.contents writer.new) }
+        ensures { Plays self.old.world result self.new (spread_or_said (tables_of self.old) (members_of self.old) node longest (stage_of self.old)) (P.printed printer.old) (P.printed printer.new) }
     {
         let standing = self.standing(node)?;
         if standing.ends_own() {
-            return self.take_turns(node, 2 * (longest as u128) + 4, writer);
+            return self.take_turns(node, 2 * (longest as u128) + 4, printer);
         }
         let reading = self.reading_of(node);
-        self.happen(Event::Hand(node, Input::Close { reading }), writer)
+        self.happen(Event::Hand(node, Input::Close { reading }), printer)
     }
 
     // A member leads the others on, whose logs have at most so many entries.
-    fn lead_on<W: io::Write>(
+    fn lead_on<P: Printer>(
         &mut self,
         node: Member,
         longest: usize,
-        writer: &mut W,
+        printer: &mut P,
     ) -> Result<(), RunFault>
         requires live { self.old.world.is_spent ≡ false }
-        ensures { Plays self.old.world result self.new (led_on (tables_of self.old) (members_of self.old) node longest (stage_of self.old)) (W.contents writer.old) (W.contents writer.new) }
+        ensures { Plays self.old.world result self.new (led_on (tables_of self.old) (members_of self.old) node longest (stage_of self.old)) (P.printed printer.old) (P.printed printer.new) }
     {
-        if let Err(fault) = self.take_turns(node, TURNS_TO_LEAD, writer) {
+        if let Err(fault) = self.take_turns(node, TURNS_TO_LEAD, printer) {
             return Err(fault);
         }
-        self.spread_or_say(node, longest, writer)
+        self.spread_or_say(node, longest, printer)
     }
 
     // A member leads the others on, and messages that are still on their way are lost.
-    fn lead_by<W: io::Write>(
+    fn lead_by<P: Printer>(
         &mut self,
         node: Member,
         longest: usize,
-        writer: &mut W,
+        printer: &mut P,
     ) -> Result<(), RunFault>
         requires live { self.old.world.is_spent ≡ false }
-        ensures { Plays self.old.world result self.new (led_by (tables_of self.old) (members_of self.old) node longest (stage_of self.old)) (W.contents writer.old) (W.contents writer.new) }
+        ensures { Plays self.old.world result self.new (led_by (tables_of self.old) (members_of self.old) node longest (stage_of self.old)) (P.printed printer.old) (P.printed printer.new) }
     {
-        if let Err(fault) = self.lead_on(node, longest, writer) {
+        if let Err(fault) = self.lead_on(node, longest, printer) {
             return Err(fault);
         }
         self.lose_all();
@@ -255,24 +255,24 @@ impl Play {
     }
 
     // So does one whose log is most up to date.
-    fn lead_all<W: io::Write>(&mut self, writer: &mut W) -> Result<(), RunFault>
+    fn lead_all<P: Printer>(&mut self, printer: &mut P) -> Result<(), RunFault>
         requires live { self.old.world.is_spent ≡ false }
-        ensures { Plays self.old.world result self.new (all_led_on (tables_of self.old) (members_of self.old) (stage_of self.old)) (W.contents writer.old) (W.contents writer.new) }
+        ensures { Plays self.old.world result self.new (all_led_on (tables_of self.old) (members_of self.old) (stage_of self.old)) (P.printed printer.old) (P.printed printer.new) }
     {
         match self.survey() {
-            Ok((node, longest)) => self.lead_by(node, longest, writer),
+            Ok((node, longest)) => self.lead_by(node, longest, printer),
             Err(_) => Err(RunFault::Refused(Refusal::NoMemory)),
         }
     }
 
     // Starts all members, and one whose log is most up to date leads them on.
-    pub(crate) fn recover<W: io::Write>(&mut self, writer: &mut W) -> Result<(), RunFault>
+    pub(crate) fn recover<P: Printer>(&mut self, printer: &mut P) -> Result<(), RunFault>
         requires live { self.old.world.is_spent ≡ false }
-        ensures { Plays self.old.world result self.new (recovery (tables_of self.old) (members_of self.old) (stage_of self.old)) (W.contents writer.old) (W.contents writer.new) }
+        ensures { Plays self.old.world result self.new (recovery (tables_of self.old) (members_of self.old) (stage_of self.old)) (P.printed printer.old) (P.printed printer.new) }
     {
-        if let Err(fault) = self.start_all(writer) {
+        if let Err(fault) = self.start_all(printer) {
             return Err(fault);
         }
-        self.lead_all(writer)
+        self.lead_all(printer)
     }
 }

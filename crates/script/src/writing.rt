@@ -6,6 +6,7 @@ ghost use Rattle.answertext.specs.Sinks.{WritesOrBegins};
 ghost use Rattle.script.specs.Faults.{IsPlayFault};
 ghost use Rattle.script.specs.Printing.{output_text};
 
+use crate::printer::Printer;
 use crate::printing::Printed;
 use crate::run_fault::RunFault;
 use answertext::sink::{Pen, Sink};
@@ -55,31 +56,28 @@ pub(crate) fn print_output<W: io::Write>(output: &Output, writer: &mut W) -> Res
 }
 
 // Prints that a member refuses. Want of memory is no member's refusal: it ends the playing, and nothing is printed.
-pub(crate) fn print_refusal<W: io::Write>(
+pub(crate) fn print_refusal<P: Printer>(
     node: Member,
     refusal: Refusal,
-    writer: &mut W,
+    printer: &mut P,
 ) -> Result<(), RunFault>
-    ensures text { WritesOrBegins (W.contents writer.old) (W.contents writer.new) result (output_text (Output.Refused node refusal)) }
-    ensures memory { refusal ≡ NoMemory → (result ≡ Err (RunFault.Refused NoMemory)) × (writer.new ≡ writer.old) }
+    ensures text { WritesOrBegins (P.printed printer.old) (P.printed printer.new) result (output_text (Output.Refused node refusal)) }
+    ensures memory { refusal ≡ NoMemory → (result ≡ Err (RunFault.Refused NoMemory)) × (printer.new ≡ printer.old) }
     ensures err { IfErr result IsPlayFault }
 {
     match refusal {
         Refusal::NoMemory => Err(RunFault::Refused(Refusal::NoMemory)),
-        refusal => print_output(&Output::Refused(node, refusal), writer),
+        refusal => printer.print(&Output::Refused(node, refusal)),
     }
 }
 
-// Writes outputs in their order.
-pub(crate) fn print_outputs<W: io::Write>(
-    outputs: &[Output],
-    writer: &mut W,
-) -> Result<(), RunFault>
-    ensures text { WritesOrBegins (W.contents writer.old) (W.contents writer.new) result (flat_map output_text outputs.now) }
+// Prints outputs in their order.
+pub(crate) fn print_outputs<P: Printer>(outputs: &[Output], printer: &mut P) -> Result<(), RunFault>
+    ensures text { WritesOrBegins (P.printed printer.old) (P.printed printer.new) result (flat_map output_text outputs.now) }
     ensures err { IfErr result IsPlayFault }
 {
     for output in outputs {
-        match print_output(output, writer) {
+        match printer.print(output) {
             Ok(()) => {}
             Err(fault) => return Err(fault),
         }

@@ -11,6 +11,8 @@ use Rattle.moments.specs.declared.recorded.AuditFault.TheVariants.{NoMemory}
 use Rattle.moments.specs.declared.recorded.Recorded.{Recorded as Judged}
 use Rattle.auditor.specs.Audited.{Explains, IsFirst}
 use Rattle.auditor.specs.Faults.{IsOrderFault, OfRun}
+use Rattle.auditor.specs.Upheld.{Upholds}
+use Rattle.answertext.specs.Sinks.{AppendsBeginning}
 use Rattle.fault.specs.Refusal.{shown}
 use Rattle.flight.specs.declared.flight.Recorded.{Recorded}
 use Rattle.flight.specs.declared.flight.Version.{Version}
@@ -38,9 +40,10 @@ records_of version tables lives answers = record { version = version; tables = t
 
 -- ---- what an audit says
 
--- Marks rise, and the events of one run explain what was recorded; all members agree about these events.
+-- Marks rise, and the events of one run explain what was recorded; all members agree about these events, and the run upholds each
+-- outcome and each answer that was recorded.
 abbrev pub IsExplained : Records → Type 0
-IsExplained r = Rise r.lives × ((events : List Event) × Explains r events × Agree (schema_of r.tables) (length r.lives) (new_world (length r.lives)) events)
+IsExplained r = Rise r.lives × ((events : List Event) × Explains r events × Agree (schema_of r.tables) (length r.lives) (new_world (length r.lives)) events × Upholds r events)
 
 -- The fault is 53, and marks do not rise; or they do, no events explain what was recorded, and it is the first fault.
 pub record IsFaultOf (r : Records) (fault : AuditFault) : Type 0 where
@@ -67,6 +70,14 @@ pub record IsJudged (texts : List (List ℕ)) (status : ℕ) (line : List ℕ) :
   pub answers : List (Vec Recorded Global)
   pub run : IsRunIn texts version tables lives answers
   pub said : IsSaid (records_of version tables lives answers) status line
+
+-- known bytes grow by a beginning of what is said of what was recorded
+abbrev pub BeginsSaid : Records → Option (List ℕ) → Option (List ℕ) → Type 0
+BeginsSaid r old new = (status : ℕ) × (line : List ℕ) × IsSaid r status line × AppendsBeginning old new line
+
+-- known bytes grow by a beginning of what is said of the flight files in these texts
+abbrev pub BeginsJudged : List (List ℕ) → Option (List ℕ) → Option (List ℕ) → Type 0
+BeginsJudged texts old new = (status : ℕ) × (line : List ℕ) × IsJudged texts status line × AppendsBeginning old new line
 
 -- known bytes grow by some text
 abbrev pub Grows : Option (List ℕ) → Option (List ℕ) → Type 0

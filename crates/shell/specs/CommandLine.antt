@@ -1,14 +1,16 @@
 -- The command lines of the program, in the words of `clap`'s own definitions: what its arguments and subcommands are, and what a
 -- command line asks for.
-use Rattle.std.specs.Prelude.{◌≡◌, ◌<◌, ◌^◌, ⊤, ℕ, List, Option, Some, None, pos, codes, map, option_map, true}
+use Rattle.std.specs.Prelude.{◌≡◌, ◌<◌, ◌^◌, ⊤, ℕ, Bool, List, Option, Some, None, pos, codes, map, option_map, true, false}
 use Rattle.std.specs.Str.Parse.{IsNumeral, digits_value, without_leading_plus}
 use Rattle.clap.specs.Lexer.{usize_max}
 use Rattle.clap.specs.Walk.{Row, Rule, Text, all_of, first_of, one_of}
-use Rattle.clap.specs.Simple.{App, new_app, new_rule, with_rule, with_subcommand}
-use Rattle.clap.specs.declared.builder.action.ArgAction.TheVariants.{Set, Append}
+use Rattle.clap.specs.Simple.{App, new_app, new_rule, on_top, with_rule, with_subcommand}
+use Rattle.clap.specs.declared.builder.action.ArgAction.TheVariants.{Set, SetTrue, Append}
 use Rattle.clap.specs.declared.builder.value_parser.ValueParser.TheVariants as parser
 use Rattle.shell.specs.declared.command.Command.{Command}
-use Rattle.shell.specs.declared.command.Command.TheVariants.{PlayInput, PlayFile, Live, Audit}
+use Rattle.shell.specs.declared.command.Command.TheVariants.{PlayInput, Sim, Beliefs, Live, Audit}
+use Rattle.shell.specs.declared.command.Sim.{Sim as SimValues}
+use Rattle.shell.specs.declared.command.Beliefs.{Beliefs as BeliefsValues}
 use Rattle.shell.specs.declared.command.Live.{Live as LiveValues}
 
 -- SCRIPT
@@ -59,9 +61,44 @@ files_rule = record (new_rule (codes "FILE")) {
   action = Some Append;
 }
 
--- sim SCRIPT
+-- [--format FORM]
+abbrev pub format_rule : Rule
+format_rule = record (new_rule (codes "format")) {
+  long = Some (codes "format");
+  value_names = 1;
+  action = Some Set;
+}
+
+-- [--quiet]
+abbrev pub quiet_rule : Rule
+quiet_rule = record (new_rule (codes "quiet")) {
+  long = Some (codes "quiet");
+  action = Some SetTrue;
+}
+
+-- [--strict]
+abbrev pub strict_rule : Rule
+strict_rule = record (new_rule (codes "strict")) {
+  long = Some (codes "strict");
+  action = Some SetTrue;
+}
+
+-- [--svg FILE], not empty
+abbrev pub svg_rule : Rule
+svg_rule = record (new_rule (codes "svg")) {
+  long = Some (codes "svg");
+  value_names = 1;
+  action = Some Set;
+  parser = Some parser.NonEmptyString;
+}
+
+-- sim [--format FORM] [--quiet] [--strict] SCRIPT
 abbrev pub sim_app : App
-sim_app = with_rule (new_app (codes "sim")) script_rule
+sim_app = with_rule (with_rule (with_rule (with_rule (new_app (codes "sim")) format_rule) quiet_rule) strict_rule) script_rule
+
+-- beliefs [--svg FILE] SCRIPT
+abbrev pub beliefs_app : App
+beliefs_app = with_rule (with_rule (new_app (codes "beliefs")) svg_rule) script_rule
 
 -- live --nodes N --seed S --loss P [--dir DIR] SCRIPT
 abbrev pub live_app : App
@@ -71,9 +108,13 @@ live_app = with_rule (with_rule (with_rule (with_rule (with_rule (new_app (codes
 abbrev pub audit_app : App
 audit_app = with_rule (new_app (codes "audit")) files_rule
 
+-- a command that tells its version
+abbrev pub versioned : App → App
+versioned app = on_top (λ top. record top { has_version = true }) app
+
 -- the whole command line
 abbrev pub bitable_app : App
-bitable_app = with_subcommand (with_subcommand (with_subcommand (new_app (codes "bitable")) sim_app.top) live_app.top) audit_app.top
+bitable_app = with_subcommand (with_subcommand (with_subcommand (with_subcommand (versioned (new_app (codes "bitable"))) sim_app.top) live_app.top) audit_app.top) beliefs_app.top
 
 -- the matches give the option a decimal numeral of this number
 pub record GivesNumber (id : Text) (rows : List Row) (n : ℕ) : Type 0 where
@@ -91,13 +132,33 @@ pub record AsksLive (rows : List Row) (live : LiveValues) : Type 0 where
   pub dir : option_map (λ text. text.now) live.dir ≡ first_of (codes "dir") rows
   pub script : Some live.script.now ≡ first_of (codes "SCRIPT") rows
 
+-- the matches give the flag this value: it is on where it is used
+pub record GivesFlag (id : Text) (rows : List Row) (is_on : Bool) : Type 0 where
+  pub unused : one_of id rows ≡ None → is_on ≡ false
+  pub off : one_of id rows ≡ Some (codes "false") → is_on ≡ false
+  pub on : one_of id rows ≡ Some (codes "true") → is_on ≡ true
+
+-- the matches of `sim` give these values
+pub record AsksSim (rows : List Row) (sim : SimValues) : Type 0 where
+  pub format : option_map (λ text. text.now) sim.format ≡ first_of (codes "format") rows
+  pub quiet : GivesFlag (codes "quiet") rows sim.is_quiet
+  pub strict : GivesFlag (codes "strict") rows sim.is_strict
+  pub script : Some sim.script.now ≡ first_of (codes "SCRIPT") rows
+
+-- the matches of `beliefs` give these values
+pub record AsksBeliefs (rows : List Row) (beliefs : BeliefsValues) : Type 0 where
+  pub svg : option_map (λ text. text.now) beliefs.svg ≡ first_of (codes "svg") rows
+  pub script : Some beliefs.script.now ≡ first_of (codes "SCRIPT") rows
+
 -- What the subcommand that was found, with its matches, asks for: without one, to play the input.
 abbrev pub AsksFor : Option (Text × List Row) → Command → Type 0
 AsksFor None PlayInput = ⊤
-AsksFor None (PlayFile path) = ⊥
+AsksFor None (Sim sim) = ⊥
+AsksFor None (Beliefs beliefs) = ⊥
 AsksFor None (Live live) = ⊥
 AsksFor None (Audit names) = ⊥
 AsksFor (Some (name, rows)) PlayInput = ⊥
-AsksFor (Some (name, rows)) (PlayFile path) = (name ≡ codes "sim") × (Some path.now ≡ first_of (codes "SCRIPT") rows)
+AsksFor (Some (name, rows)) (Sim sim) = (name ≡ codes "sim") × AsksSim rows sim
+AsksFor (Some (name, rows)) (Beliefs beliefs) = (name ≡ codes "beliefs") × AsksBeliefs rows beliefs
 AsksFor (Some (name, rows)) (Live live) = (name ≡ codes "live") × AsksLive rows live
 AsksFor (Some (name, rows)) (Audit names) = (name ≡ codes "audit") × (Some (map (λ text. text.now) names.items) ≡ all_of (codes "FILE") rows)

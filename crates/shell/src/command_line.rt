@@ -5,20 +5,84 @@ ghost use Rattle.clap.specs.Words.{app_of, fault_of, found_of, rows_of, rule_of,
 ghost use Rattle.clap.specs.Words.{all_of, first_of};
 ghost use Rattle.shell.specs.declared.command.Command.{Command as Asked};
 ghost use Rattle.shell.specs.declared.command.Live.{Live as Run};
-ghost use Rattle.shell.specs.CommandLine.{AsksFor, AsksLive, script_rule, nodes_rule, seed_rule, loss_rule, dir_rule, files_rule, sim_app, live_app, audit_app, bitable_app};
+ghost use Rattle.shell.specs.declared.command.Sim.{Sim as Shown};
+ghost use Rattle.shell.specs.declared.command.Beliefs.{Beliefs as Picture};
+ghost use Rattle.shell.specs.CommandLine.{AsksBeliefs, AsksFor, AsksLive, AsksSim, GivesFlag, script_rule, format_rule, quiet_rule, strict_rule, svg_rule, nodes_rule, seed_rule, loss_rule, dir_rule, files_rule, sim_app, beliefs_app, live_app, audit_app, bitable_app};
 
-use crate::command::{Command, Live};
+use crate::command::{Beliefs, Command, Live, Sim};
 use clap::builder::ValueParser;
 use clap::error::ErrorKind;
 use clap::{Arg, ArgAction, ArgMatches, Command as Parser, Error, value_parser};
 use std::alloc::{AllocError, Global};
 
+/// The program's version, and the kit that proves it.
+pub const VERSION: &str = "0.2.0 (rattle-kit-13f)";
+
 const EXAMPLES: &str = "Examples:
   bitable sim examples/payroll.script
-  bitable live --nodes 3 --seed 1 --loss 20 examples/insurance.script
+  bitable sim --quiet --format table examples/payroll.script
+  bitable sim --strict examples/failover.script
   bitable live --nodes 3 --seed 1 --loss 20 --dir run examples/insurance.script
   bitable audit run/node1.flight run/node2.flight run/node3.flight
+  bitable beliefs examples/payroll.script
 Without a command it plays the script on standard input, as sim does.";
+
+const SIM_END: &str = "Example:
+  bitable sim --quiet --format json examples/payroll.script
+
+  {\"node\":1,\"entry\":2,\"client\":7,\"request\":1,\"accepted\":\"2026-01-05 09:00:00.000001\"}
+  ..
+
+Exit status:
+  0  the script was played
+  1  the script is refused, or, with --strict, something in it was: on standard error
+  2  the command line is not one of these";
+
+const LIVE_END: &str = "Example:
+  bitable live --nodes 3 --seed 1 --loss 20 examples/insurance.script
+
+  request 7 1 accepted 2026-03-02 09:00:00.000063
+  ..
+  audit: yes
+
+Exit status:
+  0  the script was played, and an audit of the run says yes
+  1  the script or the folder is refused, on standard error; or the audit says no
+  2  the command line is not one of these";
+
+const AUDIT_END: &str = "Example:
+  bitable audit run/node1.flight run/node2.flight run/node3.flight
+
+  audit: yes
+
+Exit status:
+  0  yes: the events of one run explain what the flights have
+  1  no; or the files are not the flights of a group, on standard error
+  2  the command line is not one of these";
+
+const BELIEFS_END: &str =
+    "A level of the picture is what was believed at that time, of each day; a column is
+what was ever believed of a day, the newest on top.
+With --svg it goes into a file, as a page for a browser, and nothing is printed.
+
+Example:
+  bitable beliefs examples/payroll.script
+
+  still believed              ^           ^           ^           ^
+                              | 5000      | 5000      | 5500      |
+  2026-04-20 09:00:00.000000  |           +-----------+-----------+
+                              |           | 5500                  |
+  2026-02-10 09:00:00.000000  +-----------+-----------------------+
+                              | 5000                              |
+  2026-01-05 09:00:00.000001  +-----------------------------------+
+                              2026-01-01  2026-02-01  2026-03-01  2028-01-01
+                               1 month     1 month     22 months
+
+Exit status:
+  0  the picture is drawn, or there is no row to draw
+  1  the script is refused, or nothing in it is answered; or there is too much to draw, or
+     the file can't be written: on standard error
+  2  the command line is not one of these";
 
 fn script_word<'a>(alloc: Global) -> Arg<'a>
     ensures { (rule_of result ≡ script_rule) × (result.global ≡ false) }
@@ -29,11 +93,64 @@ fn script_word<'a>(alloc: Global) -> Arg<'a>
         .help("The file of the script")
 }
 
+fn format_word<'a>(alloc: Global) -> Arg<'a>
+    ensures { (rule_of result ≡ format_rule) × (result.global ≡ false) }
+{
+    Arg::new(alloc, "format")
+        .long("format")
+        .value_name("FORM")
+        .action(ArgAction::Set)
+        .help("lines, table, csv or json")
+}
+
+fn quiet_word<'a>(alloc: Global) -> Arg<'a>
+    ensures { (rule_of result ≡ quiet_rule) × (result.global ≡ false) }
+{
+    Arg::new(alloc, "quiet")
+        .long("quiet")
+        .action(ArgAction::SetTrue)
+        .help("Leaves out the messages that are sent")
+}
+
+fn strict_word<'a>(alloc: Global) -> Arg<'a>
+    ensures { (rule_of result ≡ strict_rule) × (result.global ≡ false) }
+{
+    Arg::new(alloc, "strict")
+        .long("strict")
+        .action(ArgAction::SetTrue)
+        .help("Ends with status 1 where something was refused, and says how much")
+}
+
 fn sim_words<'a>(alloc: Global) -> Result<Parser<'a>, AllocError>
     ensures { IfOk result (λ c. (app_of c ≡ sim_app) × ((out-Command c).has_globals ≡ false)) }
 {
     Parser::new(alloc, "sim")
         .about("Plays a script, one event after the other")
+        .after_help(SIM_END)
+        .arg(format_word(alloc))?
+        .arg(quiet_word(alloc))?
+        .arg(strict_word(alloc))?
+        .arg(script_word(alloc))
+}
+
+fn svg_word<'a>(alloc: Global) -> Arg<'a>
+    ensures { (rule_of result ≡ svg_rule) × (result.global ≡ false) }
+{
+    Arg::new(alloc, "svg")
+        .long("svg")
+        .value_name("FILE")
+        .action(ArgAction::Set)
+        .value_parser(ValueParser::NonEmptyString)
+        .help("Draws a page for a browser into this file")
+}
+
+fn beliefs_words<'a>(alloc: Global) -> Result<Parser<'a>, AllocError>
+    ensures { IfOk result (λ c. (app_of c ≡ beliefs_app) × ((out-Command c).has_globals ≡ false)) }
+{
+    Parser::new(alloc, "beliefs")
+        .about("Draws what a script's last answer says was ever believed, of each key")
+        .after_help(BELIEFS_END)
+        .arg(svg_word(alloc))?
         .arg(script_word(alloc))
 }
 
@@ -86,6 +203,7 @@ fn live_words<'a>(alloc: Global) -> Result<Parser<'a>, AllocError>
 {
     Parser::new(alloc, "live")
         .about("Plays a script on nodes that run on threads of their own")
+        .after_help(LIVE_END)
         .arg(nodes_word(alloc))?
         .arg(seed_word(alloc))?
         .arg(loss_word(alloc))?
@@ -108,6 +226,7 @@ fn audit_words<'a>(alloc: Global) -> Result<Parser<'a>, AllocError>
 {
     Parser::new(alloc, "audit")
         .about("Says whether flights are of one run, and whether their answers are its answers")
+        .after_help(AUDIT_END)
         .arg(files_word(alloc))
 }
 
@@ -116,10 +235,12 @@ fn all_words<'a>(alloc: Global) -> Result<Parser<'a>, AllocError>
 {
     Parser::new(alloc, "bitable")
         .about("Tables that answer what was believed when, kept by several nodes")
+        .version(VERSION)
         .after_help(EXAMPLES)
         .subcommand(sim_words(alloc)?)?
         .subcommand(live_words(alloc)?)?
-        .subcommand(audit_words(alloc)?)
+        .subcommand(audit_words(alloc)?)?
+        .subcommand(beliefs_words(alloc)?)
 }
 
 fn live_of<'a>(matches: &ArgMatches<'a>) -> Option<Live<'a>>
@@ -139,6 +260,42 @@ fn live_of<'a>(matches: &ArgMatches<'a>) -> Option<Live<'a>>
         seed,
         loss,
         dir,
+        script,
+    })
+}
+
+fn flag_of(matches: &ArgMatches, id: &str) -> bool
+    ensures { GivesFlag id.now (rows_of (found_of matches.now)) result }
+{
+    matches.get_flag(id)
+}
+
+fn text_of<'a>(matches: &ArgMatches<'a>, id: &str) -> Option<&'a str>
+    ensures { option_map (λ text. text.now) result ≡ first_of id.now (rows_of (found_of matches.now)) }
+{
+    matches.get_str(id)
+}
+
+fn sim_of<'a>(matches: &ArgMatches<'a>) -> Option<Sim<'a>>
+    ensures some { IfSome result (AsksSim (rows_of (found_of matches.now))) }
+    ensures none { IfNone result ((sim : Shown) → ¬ AsksSim (rows_of (found_of matches.now)) sim) }
+{
+    let script = script_of(matches)?;
+    Some(Sim {
+        format: text_of(matches, "format"),
+        is_quiet: flag_of(matches, "quiet"),
+        is_strict: flag_of(matches, "strict"),
+        script,
+    })
+}
+
+fn beliefs_of<'a>(matches: &ArgMatches<'a>) -> Option<Beliefs<'a>>
+    ensures some { IfSome result (AsksBeliefs (rows_of (found_of matches.now))) }
+    ensures none { IfNone result ((picture : Picture) → ¬ AsksBeliefs (rows_of (found_of matches.now)) picture) }
+{
+    let script = script_of(matches)?;
+    Some(Beliefs {
+        svg: text_of(matches, "svg"),
         script,
     })
 }
@@ -171,7 +328,10 @@ fn command_of<'a>(
         return Ok(Some(Command::PlayInput));
     };
     if name == "sim" {
-        return Ok(script_of(given).map(Command::PlayFile));
+        return Ok(sim_of(given).map(Command::Sim));
+    }
+    if name == "beliefs" {
+        return Ok(beliefs_of(given).map(Command::Beliefs));
     }
     if name == "live" {
         return Ok(live_of(given).map(Command::Live));

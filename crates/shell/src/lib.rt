@@ -7,5 +7,6 @@ pub mod command_line;
 mod databases;
 mod group;
 pub mod live_run;
+pub mod shown_run;
 pub mod sim;
 pub mod stop;

@@ -1,12 +1,12 @@
 //! The command `live`.
-ghost use Rattle.std.specs.Prelude.{◌≡◌, ◌≤◌, ℕ, List, IfOk, OnOk, vec_len};
+ghost use Rattle.std.specs.Prelude.{◌≡◌, ◌≤◌, ◌⊎◌, ℕ, List, IfOk, OnErr, OnOk, vec_len};
 ghost use Rattle.std.specs.Io.KnownBytes.{Appends};
 ghost use Rattle.flight.specs.declared.flight.Version.TheVariants.{Three};
-ghost use Rattle.shell.specs.Audit.{Grows, IsSaid, records_of};
+ghost use Rattle.shell.specs.Audit.{BeginsSaid, Grows, IsSaid, records_of};
 ghost use Rattle.shell.specs.Live.{EndsRun};
 ghost use Rattle.shell.specs.Sim.{IsOfText};
 
-use crate::audit::audit_line;
+use crate::audit::{audit_line, write_line};
 use crate::command::Live;
 use crate::databases::databases_in_memory;
 use crate::sim::read_text;
@@ -117,10 +117,13 @@ where
 {
     let played = play_lines(rt, &mut driver, script.lines.as_slice(), writer);
     let (cluster, stations) = driver.into_parts();
-    let lives = cluster.stop(rt);
+    let ended = cluster.stop(rt);
     played?;
     let answers = answers_of(alloc, stations)?;
-    Ok(Flown { lives, answers })
+    Ok(Flown {
+        lives: ended.lives,
+        answers,
+    })
 }
 
 // Plays the script over new databases in memory.
@@ -266,12 +269,12 @@ fn end_run<'a, R: AllocGlobal + Files, W: io::Write>(
     writer: &mut W,
 ) -> Result<u8, Stop<'a>>
     ensures said { IfOk result (λ status. (line : List ℕ) × IsSaid (records_of Three script.now.schema flown.lives.items flown.answers.items) status line × Appends (W.contents writer.old) (W.contents writer.new) line) }
+    ensures begun { OnErr result ((writer.new ≡ writer.old) ⊎ BeginsSaid (records_of Three script.now.schema flown.lives.items flown.answers.items) (W.contents writer.old) (W.contents writer.new)) }
 {
     let said = audit_line(rt.alloc(), Version::Three, &script.schema, &flown);
     finish(rt, host, made, &script.schema_text, flown)?;
     let (status, line) = said?;
-    writer.write_all(line.as_bytes())?;
-    writer.flush()?;
+    write_line(line.as_str(), writer)?;
     Ok(status)
 }
 

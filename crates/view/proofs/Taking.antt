@@ -1,6 +1,6 @@
 -- Taking in the items of a list, one after another.
-use Rattle.std.proofs.Common.{◌≡◌, ℕ, zero, suc, ◌+◌, ◌≤◌, Option, Some, None, List, [], ◌∷◌, ◌++◌, length, take, slice_get, ap, sym, ◌∙◌, subst, add-one, arith}
-use Rattle.std.proofs.lemmas.List.{append-nil, take-append-le}
+use Rattle.std.proofs.Common.{◌≡◌, ℕ, zero, suc, ◌+◌, ◌-◌, ◌≤◌, Option, Some, None, List, [], ◌∷◌, ◌++◌, length, take, drop, slice_get, refl, ap, sym, ◌∙◌, subst, add-one, zero-add, arith}
+use Rattle.std.proofs.lemmas.List.{append-nil, take-append-le, take_all, length-drop}
 use Rattle.std.proofs.lemmas.List.Elements.{filter_map-append}
 use Rattle.std.proofs.lemmas.List.Sums.{fold-append}
 use mathlib.Core.List.{IsPrefix}
@@ -75,3 +75,22 @@ sealed_stays items n mark item entry sealed here is was = sym (ap (λ i. greater
 
 pub sealed_adds : (items : List Item) (n mark time : ℕ) (item : Item) (sealed new : Option ℕ) → slice_get items n ≡ Some item → item ≡ Sealed mark time → new ≡ greater sealed (Some time) → sealed ≡ sealed_in (take n items) → new ≡ sealed_in (take (n + 1) items)
 sealed_adds items n mark time item sealed new here is more was = more ∙ (sym (ap (λ i. greater_sealed sealed i) is) ∙ sealed_more items n item sealed here was)
+
+-- ---- what was copied
+
+-- an element of what is left after the first ones
+get_left : (log : List Item) (a k : ℕ) → slice_get (drop a log) k ≡ slice_get log (a + k)
+get_left log zero k = ap (slice_get log) (sym (zero-add k))
+get_left [] (suc a) k = refl
+get_left (x ∷ log) (suc a) k = let next : suc a + k ≡ suc (a + k) = omega arith in get_left log a k ∙ ap (slice_get (x ∷ log)) (sym next)
+
+-- the item that is taken in next stands in the list
+pub next_there : (log items : List Item) (a k n : ℕ) (item : Item) → items ≡ drop a log → n ≡ a + k → slice_get items k ≡ Some item → slice_get log n ≡ Some item
+next_there log items a k n item is at here = ap (slice_get log) at ∙ sym (get_left log a k) ∙ ap (λ (xs : List Item). slice_get xs k) (sym is) ∙ here
+
+-- all of the list has been taken in
+pub whole_taken : (log items : List Item) (a n : ℕ) → items ≡ drop a log → n ≡ a + length items → take n log ≡ log
+whole_taken log items a n is at =
+    let left : length items ≡ length log - a = ap (λ (xs : List Item). length xs) is ∙ length-drop a log in
+    let far : length log ≤ n = omega (arith, left, at) in
+    take_all n log far

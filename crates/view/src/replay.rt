@@ -1,5 +1,5 @@
 //! Tables that are brought up to what a view reads.
-ghost use Rattle.std.specs.Prelude.{◌≡◌, ◌+◌, ◌<◌, ◌^◌, ◌≤◌, false, take, length, slice_get, Some, OnOk, IfOk};
+ghost use Rattle.std.specs.Prelude.{◌≡◌, ◌+◌, ◌<◌, ◌^◌, ◌≤◌, false, take, drop, length, slice_get, Some, OnOk, IfOk};
 ghost use mathlib.Core.List.{IsPrefix};
 ghost use Rattle.std.specs.Coded.{→_prop};
 ghost use Rattle.sqlread.specs.Meaning.{schema_of};
@@ -46,6 +46,17 @@ pub(crate) struct Replay {
     ghost closing: { sealed ≡ sealed_in (take applied front.seen.log) },
 }
 
+// Copies of these items. The error is want of memory.
+fn copy_all(alloc: Global, items: &[Item]) -> Result<Vec<Item>, AllocError>
+    ensures { IfOk result (λ copies. copies.items ≡ items.now) }
+{
+    let mut copies = Vec::with_capacity(alloc, items.len())?;
+    for item in items {
+        copies.push(item.clone()?)?;
+    }
+    Ok(copies)
+}
+
 impl Replay {
     /// Tables that have taken in nothing of this list. The error is want of memory.
     pub(crate) fn new(alloc: Global, schema: Schema, front: Front) -> Result<Replay, AllocError>
@@ -62,8 +73,8 @@ impl Replay {
         })
     }
 
-    /// Makes the tables anew where they have failed. The error is want of memory.
-    fn renew(&mut self) -> Result<(), AllocError>
+    /// Makes the tables anew where they have failed, so that all is new to them. The error is want of memory.
+    pub(crate) fn renew(&mut self) -> Result<(), AllocError>
         ensures same { (self.new.schema ≡ self.old.schema) × (self.new.front ≡ self.old.front) }
         ensures up { OnOk result (is_failed self.new.tables ≡ false) }
     {
@@ -78,12 +89,13 @@ impl Replay {
     /// Takes in the next item of the list. The error is want of memory.
     fn apply(&mut self, item: &Item) -> Result<(), AllocError>
         requires next { slice_get self.old.front.seen.log self.old.applied ≡ Some item.now }
-        requires room { self.old.applied + 1 < 2 ^ 64 }
         requires up { is_failed self.old.tables ≡ false }
         ensures same { (self.new.schema ≡ self.old.schema) × (self.new.front ≡ self.old.front) }
         ensures up { OnOk result (is_failed self.new.tables ≡ false) }
         ensures applied { OnOk result (self.new.applied ≡ self.old.applied + 1) }
     {
+        // There are no more items than this.
+        let _count = self.front.count;
         match item {
             Item::Applied { entry, .. } => {
                 self.tables.apply(entry)?;
@@ -98,17 +110,31 @@ impl Replay {
         }
     }
 
-    /// Reads a list that begins with the one read last, and takes in all that is new in it. The error is want of memory.
-    pub(crate) fn read(&mut self, published: &Published) -> Result<(), AllocError>
+    /// Reads a list that begins with the one read last, and copies what is new in it, so that the list can be left before any
+    /// of it is taken in. The error is want of memory.
+    pub(crate) fn fetch(&mut self, published: &Published) -> Result<Vec<Item>, AllocError>
         requires list { published.now.front.seen.log ≡ published.now.items.items }
         requires before { IsPrefix self.old.front.seen.log published.now.items.items }
-        ensures same { (self.new.schema ≡ self.old.schema) × (self.new.front ≡ published.now.front) }
+        ensures same { (self.new.schema ≡ self.old.schema) × (self.new.front ≡ published.now.front) × (self.new.tables ≡ self.old.tables) }
+        ensures new { IfOk result (λ items. items.items ≡ drop self.new.applied self.new.front.seen.log) }
+    {
+        self.front = published.front.again();
+        copy_all(self.alloc, &published.items[self.applied..])
+    }
+
+    /// Takes in what was copied of the list that was read last, which is all that is new in it. The error is want of memory.
+    pub(crate) fn take_in(
+        &mut self,
+        copied: Result<Vec<Item>, AllocError>,
+    ) -> Result<(), AllocError>
+        requires up { is_failed self.old.tables ≡ false }
+        requires new { IfOk copied (λ items. items.items ≡ drop self.old.applied self.old.front.seen.log) }
+        ensures same { (self.new.schema ≡ self.old.schema) × (self.new.front ≡ self.old.front) }
         ensures up { OnOk result (is_failed self.new.tables ≡ false) }
         ensures whole { OnOk result (take self.new.applied self.new.front.seen.log ≡ self.new.front.seen.log) }
     {
-        self.front = published.front.again();
-        self.renew()?;
-        while let Some(item) = published.items.get(self.applied) {
+        let items = copied?;
+        for item in &items {
             self.apply(item)?;
         }
         Ok(())

@@ -105,6 +105,15 @@ impl View {
             mut replay,
             front,
         } = self;
+        if replay.renew().is_err() {
+            let view = View {
+                name,
+                reader,
+                replay,
+                front,
+            };
+            return (view, Err(Refusal::NoMemory));
+        }
         let reading = match reader.enter_as::<Sees>() {
             Ok(reading) => reading,
             Err(reader) => {
@@ -117,10 +126,13 @@ impl View {
                 return (view, Err(Refusal::NoView));
             }
         };
-        let done = replay.read(reading.get());
+        // The publisher waits for a reading that is not left, so what is new is copied and is taken in afterwards.
+        let copied = replay.fetch(reading.get());
+        let reader = reading.leave();
+        let done = replay.take_in(copied);
         let view = View {
             name,
-            reader: reading.leave(),
+            reader,
             replay,
             front,
         };

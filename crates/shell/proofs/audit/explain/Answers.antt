@@ -20,4 +20,4 @@ returns-in_err-_events-clause-no c =
     fault_told r c.from_residual.result order none first
 
 pub returns-clause-yes : goal.returns-clause-yes
-returns-clause-yes c = (c.in_ok-_events.ensures.rise, (map event_of c.in_ok-_events._events.items, c.in_ok-_events.ensures.ok, c.in_ok-_events.ensures.agree))
+returns-clause-yes c = (c.in_ok-_events.ensures.rise, (map event_of c.in_ok-_events._events.items, c.in_ok-_events.ensures.ok, c.in_ok-_events.ensures.agree, c.in_ok-_events.ensures.upholds))

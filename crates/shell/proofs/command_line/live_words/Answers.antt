@@ -7,8 +7,8 @@ use Rattle.shell.proofs.command_line.live_words.Goals as goal
 
 pub returns : goal.returns
 returns c =
-    let start : app_of c.about.result ≡ new_app (codes "live") = search rules in
-    let local : (out-Command c.about.result).has_globals ≡ false = search rules in
+    let start : app_of c.after_help.result ≡ new_app (codes "live") = search rules in
+    let local : (out-Command c.after_help.result).has_globals ≡ false = search rules in
     let nodes = with_arg _ _ _ _ _ c.in_ok-arg.ensures (start, local) c.nodes_word.ensures in
     let seed = with_arg _ _ _ _ _ c.in_ok-arg-2.ensures nodes c.seed_word.ensures in
     let loss = with_arg _ _ _ _ _ c.in_ok-arg-3.ensures seed c.loss_word.ensures in

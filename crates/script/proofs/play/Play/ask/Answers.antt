@@ -5,4 +5,4 @@ use Rattle.script.proofs.play.Play.ask.Goals as goal
 pub returns-in-Err : goal.returns-in-Err
 returns-in-Err g c =
     refused_plays c.args.self.now c.args.node c.in-Err.refusal _ c.print_refusal.result _ _ c.requires.live (rw (c.as_str.ensures, c.schema.ensures) at c.in-Err.ensures)
-    (λ is. let done = c.print_refusal.ensures.memory is in (done.0, ap g.W.Write.contents done.1)) c.print_refusal.ensures.text c.print_refusal.ensures.err
+    (λ is. let done = c.print_refusal.ensures.memory is in (done.0, ap g.P.Printer.printed done.1)) c.print_refusal.ensures.text c.print_refusal.ensures.err

@@ -8,4 +8,4 @@ abbrev pub invariant-loop-delivered : goal.invariant-loop-delivered
 invariant-loop-delivered g l =
     let first = l.initial.self in
     SoFar first.world l.self (deliveries_from (tables_of first) (members_of first) l.most (suc l.first) (stage_of first)) (deliveries_from (tables_of first) (members_of first) (l.most - l.delivered) (suc l.place) (stage_of l.self))
-    (g.W.Write.contents l.initial.writer) (g.W.Write.contents l.writer)
+    (g.P.Printer.printed l.initial.printer) (g.P.Printer.printed l.printer)

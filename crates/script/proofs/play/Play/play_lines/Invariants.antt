@@ -8,4 +8,4 @@ abbrev pub invariant-loop-line : goal.invariant-loop-line
 invariant-loop-line g l =
     let first = l.initial.self in
     SoFar first.world l.self (played_all (tables_of first) (members_of first) l.lines (stage_of first)) (played_all (tables_of first) (members_of first) (drop l.line-index l.lines) (stage_of l.self))
-    (g.W.Write.contents l.initial.writer) (g.W.Write.contents l.writer)
+    (g.P.Printer.printed l.initial.printer) (g.P.Printer.printed l.printer)

@@ -21,18 +21,18 @@ pub loop-place-preserved : goal.loop-place-preserved
 loop-place-preserved g c =
     let first = c.args.self.now in
     let p : Played = round (tables_of first) (members_of first) (stage_of first) in
-    let before = g.W.Write.contents c.args.writer.now in
+    let before = g.P.Printer.printed c.args.printer.now in
     elim c.if-is_left.branch [
       | then-is_left+in_default w ↦
           let left : is_left c.is_left.ensures.0 ≡ true = sym c.is_left.ensures.2 ∙ w.if-is_left.true in
-          subst (λ x. InRound first.world x p c.len-count.result (c.loop-place.place + 1) before (g.W.Write.contents c.if-is_left.writer)) (sym w.self-is)
-          (subst (λ x. InRound first.world w.settle_at.new.self p c.len-count.result (c.loop-place.place + 1) before (g.W.Write.contents x)) (sym w.writer-is)
+          subst (λ x. InRound first.world x p c.len-count.result (c.loop-place.place + 1) before (g.P.Printer.printed c.if-is_left.printer)) (sym w.self-is)
+          (subst (λ x. InRound first.world w.settle_at.new.self p c.len-count.result (c.loop-place.place + 1) before (g.P.Printer.printed x)) (sym w.printer-is)
           (round_delivers first.world c.loop-place.self p c.len-count.result c.loop-place.place c.is_left.ensures.0 _ _
           c.loop-place.invariant c.loop-place-test.true c.is_left.ensures.1 left w.settle_at.new.self _ w.in_default.ensures))
       | else-is_left w ↦
           let left : is_left c.is_left.ensures.0 ≡ false = sym c.is_left.ensures.2 ∙ w.if-is_left.false in
-          subst (λ x. InRound first.world x p c.len-count.result (c.loop-place.place + 1) before (g.W.Write.contents c.if-is_left.writer)) (sym w.self-is)
-          (subst (λ x. InRound first.world c.loop-place.self p c.len-count.result (c.loop-place.place + 1) before (g.W.Write.contents x)) (sym w.writer-is)
+          subst (λ x. InRound first.world x p c.len-count.result (c.loop-place.place + 1) before (g.P.Printer.printed c.if-is_left.printer)) (sym w.self-is)
+          (subst (λ x. InRound first.world c.loop-place.self p c.len-count.result (c.loop-place.place + 1) before (g.P.Printer.printed x)) (sym w.printer-is)
           (round_skips first.world c.loop-place.self p c.len-count.result c.loop-place.place c.is_left.ensures.0 _ _
           c.loop-place.invariant c.loop-place-test.true c.is_left.ensures.1 left))
     ]

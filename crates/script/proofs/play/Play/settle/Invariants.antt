@@ -8,4 +8,4 @@ abbrev pub invariant-loop-played : goal.invariant-loop-played
 invariant-loop-played g l =
     let first = l.initial.self in
     SoFar first.world l.self (rounds (tables_of first) (members_of first) l.most (stage_of first)) (rounds (tables_of first) (members_of first) (l.most - l.played) (stage_of l.self))
-    (g.W.Write.contents l.initial.writer) (g.W.Write.contents l.writer)
+    (g.P.Printer.printed l.initial.printer) (g.P.Printer.printed l.printer)

@@ -8,4 +8,4 @@ abbrev pub invariant-loop-place : goal.invariant-loop-place
 invariant-loop-place g l =
     let first = l.initial.self in
     SoFar first.world l.self (starts (tables_of first) (members_of first) (length first.clocks.items) 1 (stage_of first)) (starts (tables_of first) (members_of first) (l.members - l.place) (l.place + 1) (stage_of l.self))
-    (g.W.Write.contents l.initial.writer) (g.W.Write.contents l.writer)
+    (g.P.Printer.printed l.initial.printer) (g.P.Printer.printed l.printer)

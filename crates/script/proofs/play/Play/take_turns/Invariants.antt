@@ -8,4 +8,4 @@ abbrev pub invariant-loop-taken : goal.invariant-loop-taken
 invariant-loop-taken g l =
     let first = l.initial.self in
     SoFar first.world l.self (turns (tables_of first) (members_of first) l.most l.node (stage_of first)) (turns (tables_of first) (members_of first) (l.most - l.taken) l.node (stage_of l.self))
-    (g.W.Write.contents l.initial.writer) (g.W.Write.contents l.writer)
+    (g.P.Printer.printed l.initial.printer) (g.P.Printer.printed l.printer)

@@ -1,0 +1,242 @@
+//! The boxes of versions.
+use crate::colours::Kind;
+use crate::places::{greater, lesser, whole};
+use crate::plan::{LINE, Plan, labels_of};
+use crate::words::{Parts, fitted, words_wide};
+use beliefs::calendar::{LAST_DAY, day_or_no_end};
+use beliefs::picture::Version;
+use model::stamp::{LAST_MICROS, Stamp};
+use std::alloc::{AllocError, Global};
+
+// So many versions of a key have a tip each.
+const TIPS: usize = 120;
+
+// A box on the page.
+#[derive(Clone, Copy)]
+struct Area {
+    x: f64,
+    y: f64,
+    wide: f64,
+    high: f64,
+}
+
+/// An instant as text; nothing for one that there is not.
+pub(crate) fn instant_text(alloc: Global, instant: u64) -> Result<String, AllocError> {
+    if instant > LAST_MICROS {
+        return Ok(String::new(alloc));
+    }
+    let instant = Stamp::new(instant).instant();
+    instant.to_string(alloc)
+}
+
+impl Plan<'_> {
+    fn area(&self, version: &Version) -> Area {
+        let x = self.x_of(version.start);
+        let y = self.y_of(version.until);
+        Area {
+            x,
+            y,
+            wide: self.x_of(version.end) - x,
+            high: self.y_of(version.since) - y,
+        }
+    }
+
+    /// A version, with its values and its tip.
+    pub(crate) fn put_box(&self, version: &Version, parts: &mut Parts) -> Result<(), AllocError> {
+        let area = self.area(version);
+        let has_tip = self.picture.versions.len() <= TIPS;
+        if has_tip {
+            parts.raw("<g><title>")?;
+            self.put_tip(version, parts)?;
+            parts.raw("</title>")?;
+        }
+        self.put_ground(version, area, parts)?;
+        self.put_labels(version, area, parts)?;
+        parts.raw(if has_tip { "</g>\n" } else { "\n" })
+    }
+
+    fn put_ground(
+        &self,
+        version: &Version,
+        area: Area,
+        parts: &mut Parts,
+    ) -> Result<(), AllocError> {
+        let colour = self.colours.of(version.values.as_slice());
+        let is_believed = version.is_believed();
+        let letter = if is_believed { "u" } else { "p" };
+        let class = format!(in self.alloc; "class=\"box {letter}{colour}\"")?;
+        parts.rect((area.x, area.y), (area.wide, area.high), class.as_str())?;
+        if self.colours.kind != Kind::Hue {
+            return Ok(());
+        }
+        let class = format!(in self.alloc; "class=\"b{colour}\"")?;
+        let (down, less) = if is_believed { (0.0, 0.8) } else { (0.8, 1.6) };
+        let size = (lesser(4.0, area.wide / 4.0), area.high - less);
+        parts.rect((area.x + 0.8, area.y + down), size, class.as_str())
+    }
+
+    fn put_tip(&self, version: &Version, parts: &mut Parts) -> Result<(), AllocError> {
+        for (at, (name, value)) in self.picture.names.iter().zip(&version.values).enumerate() {
+            if at > 0 {
+                parts.raw(", ")?;
+            }
+            parts.escaped(name.as_str())?;
+            parts.raw(" ")?;
+            parts.escaped(value.as_str())?;
+        }
+        let start = day_or_no_end(self.alloc, version.start)?;
+        let end = day_or_no_end(self.alloc, version.end)?;
+        let since = instant_text(self.alloc, version.since)?;
+        parts.raw(format!(in self.alloc;
+            ": {start} to {end}, believed since {since}, "
+        )?.as_str())?;
+        if version.is_believed() {
+            return parts.raw(self.top);
+        }
+        parts.raw("believed until ")?;
+        parts.raw(instant_text(self.alloc, version.until)?.as_str())
+    }
+
+    // The values where they fit: level, cut at the end where six letters of them fit, or a single one turned; else the tip alone
+    // has them.
+    fn put_labels(
+        &self,
+        version: &Version,
+        area: Area,
+        parts: &mut Parts,
+    ) -> Result<(), AllocError> {
+        let labels = labels_of(self.alloc, self.picture, version)?;
+        let is_believed = version.is_believed();
+        let tail = if version.end >= LAST_DAY { 18.0 } else { 0.0 };
+        let room = area.wide - 18.0 - tail;
+        let all_fit = labels.iter().all(|words| words_wide(words.as_str(), 13.0, is_believed)
+            <= room);
+        if room >= 66.0 || all_fit {
+            return self.put_level(labels.as_slice(), is_believed, area, room, parts);
+        }
+        match labels.as_slice() {
+            [words] => put_turned(words.as_str(), is_believed, area, parts),
+            _ => Ok(()),
+        }
+    }
+
+    fn put_level(
+        &self,
+        labels: &[String],
+        is_believed: bool,
+        area: Area,
+        room: f64,
+        parts: &mut Parts,
+    ) -> Result<(), AllocError> {
+        let below = if is_believed { 12.0 } else { 0.0 };
+        let left = area.high - below;
+        let count = whole(labels.len());
+        if left < count * LINE && (labels.len() != 1 || area.high < 13.0) {
+            return Ok(());
+        }
+        let is_small = left < 18.0;
+        let start = if is_small {
+            area.y + below + left / 2.0 + 4.0
+        } else {
+            area.y + below + (left - count * LINE) / 2.0 + 13.0
+        };
+        let class = class_of(is_believed, is_small);
+        for (at, words) in labels.iter().enumerate() {
+            let words = fitted(self.alloc, words.as_str(), room, is_believed)?;
+            let y = start + whole(at) * LINE;
+            parts.bare_words(area.x + 13.0, y, words.as_str(), class, "")?;
+        }
+        Ok(())
+    }
+
+    /// Boxes with an open end go over into the page, with a tip that says where to.
+    pub(crate) fn put_open_ends(&self, parts: &mut Parts) -> Result<(), AllocError> {
+        if self.picture.versions.iter().any(Version::is_believed) {
+            self.put_tops(parts)?;
+        }
+        if self.is_endless {
+            self.put_tails(parts)?;
+        }
+        Ok(())
+    }
+
+    fn put_tops(&self, parts: &mut Parts) -> Result<(), AllocError> {
+        let top = self.ys.last().copied().unwrap_or(0.0);
+        let size = (self.right() - self.left() + 4.0, 16.0);
+        parts.rect((self.left() - 2.0, top - 2.0), size, "fill=\"url(#up)\"")?;
+        parts.raw("\n")?;
+        for version in &self.picture.versions {
+            let start = self.x_of(version.start);
+            let end = self.x_of(version.end);
+            if version.is_believed() && end - start >= 14.0 {
+                parts.raw("<path class=\"tip\" d=\"M")?;
+                parts.number((start + end) / 2.0 - 4.0)?;
+                parts.raw(" ")?;
+                parts.number(top + 1.0)?;
+                parts.raw("h8l-4 -6z\"/>\n")?;
+            }
+        }
+        Ok(())
+    }
+
+    fn put_tails(&self, parts: &mut Parts) -> Result<(), AllocError> {
+        let end = self.right();
+        let mut low = 0.0;
+        let mut high = self.floor;
+        for version in &self.picture.versions {
+            if version.end >= LAST_DAY {
+                low = greater(low, self.y_of(version.since));
+                high = lesser(high, self.y_of(version.until));
+            }
+        }
+        parts.rect(
+            (end - 26.0, high - 2.0),
+            (28.0, low - high + 4.0),
+            "fill=\"url(#on)\"",
+        )?;
+        parts.raw("\n")?;
+        for version in &self.picture.versions {
+            let area = self.area(version);
+            if version.end >= LAST_DAY && area.high >= 24.0 {
+                parts.raw("<path class=\"tip\" d=\"M")?;
+                parts.number(end - 1.0)?;
+                parts.raw(" ")?;
+                parts.number(area.y + area.high / 2.0 - 4.0)?;
+                parts.raw("v8l6 -4z\"/>\n")?;
+            }
+        }
+        Ok(())
+    }
+}
+
+fn class_of(is_believed: bool, is_small: bool) -> &'static str {
+    match (is_believed, is_small) {
+        (true, true) => "bold t",
+        (true, false) => "bold",
+        (false, true) => "t",
+        (false, false) => "",
+    }
+}
+
+// A single value, turned upright, where it fits so.
+fn put_turned(
+    words: &str,
+    is_believed: bool,
+    area: Area,
+    parts: &mut Parts,
+) -> Result<(), AllocError> {
+    let below = if is_believed { 12.0 } else { 0.0 };
+    let needed = words_wide(words, 10.5, is_believed) + 8.0;
+    if area.wide < 12.0 || area.high - below < needed {
+        return Ok(());
+    }
+    parts.raw("<text class=\"")?;
+    parts.raw(class_of(is_believed, true))?;
+    parts.raw("\" transform=\"translate(")?;
+    parts.number(area.x + area.wide / 2.0 + 4.0)?;
+    parts.raw(" ")?;
+    parts.number(area.y + area.high - 6.0)?;
+    parts.raw(")rotate(-90)\">")?;
+    parts.escaped(words)?;
+    parts.raw("</text>")
+}

@@ -1,0 +1,15 @@
+//! The outputs of a group in the form that is asked for, and how many requests and questions were refused; and the picture of
+//! a script's last answer.
+#![tactic(auto)]
+
+mod drawn;
+mod form;
+mod play;
+mod shown;
+mod tally;
+
+pub use drawn::{Canvas, Drawing, draw_script};
+pub use form::{Form, Look};
+pub use play::play_shown;
+pub use shown::Shown;
+pub use tally::Tally;

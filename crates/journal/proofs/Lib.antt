@@ -1,0 +1,5 @@
+pub mod Choices
+pub mod Digests
+pub mod Frames
+pub mod Listed
+pub mod Words

@@ -1,0 +1,5 @@
+pub mod Blocks
+pub mod Digests
+pub mod Parts
+pub mod Ranges
+pub mod Spelling

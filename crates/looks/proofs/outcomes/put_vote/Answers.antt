@@ -1,0 +1,10 @@
+use Rattle.std.proofs.Common.{◌++◌, ◌∷◌, [], length}
+use Rattle.std.specs.Prelude.{codes}
+use Rattle.json.specs.Token.{key}
+use Rattle.looks.specs.Outcomes.{counts, says, is_it, floor_token}
+use Rattle.looks.proofs.Adding.{both, then_adds}
+use Rattle.looks.proofs.outcomes.put_vote.Goals as goal
+
+pub returns : goal.returns
+returns c =
+    then_adds c.put_voter_floor.result c.args.writer.now c.put_truth.new.writer c.put_voter_floor.new.writer ((says (codes "kind") (codes "vote") ++ counts (codes "term") c.args.term) ++ is_it (codes "given") c.args.given) (key (codes "floor") ∷ floor_token c.args.floor ∷ []) (both c.args.writer.now c.put_kind.new.writer c.put_truth.new.writer (says (codes "kind") (codes "vote") ++ counts (codes "term") c.args.term) (is_it (codes "given") c.args.given) (c.in_ok-put_kind.ensures) (c.in_ok-put_truth.ensures)) (c.put_voter_floor.ensures)

@@ -1,0 +1,4 @@
+pub mod Bare
+pub mod Objects
+pub mod Outcomes
+pub mod Separated
