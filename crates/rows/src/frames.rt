@@ -4,7 +4,7 @@
 //! each `@` of each of the frames right before the `put` lines. NUMBER is that of the refusal which has to come, 0 where
 //! the text has to be read, and for `put` a `=` says that it is the frame's. `{16 X}` is X 16 times, where each `#` is
 //! the count, from 1. Each text is tried as it stands and in lower case, since neither words nor names know of case.
-use crate::forms::{Form, Reader};
+use crate::readers::{Form, Reader};
 use crate::tally::Tally;
 use anyhow::{Result, bail};
 use std::alloc::{AllocError, Global};

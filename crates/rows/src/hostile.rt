@@ -8,10 +8,10 @@
 //! - `.bytes` are texts, and below each what may stand at each of its places, as `places` says.
 //! - The sizes of texts are in `sizes`.
 use crate::flights::{try_bytes, try_cuts, try_exchanges, try_group, try_lines};
-use crate::forms::Reader;
 use crate::frames::try_frames;
 use crate::group::Group;
 use crate::places::try_places;
+use crate::readers::Reader;
 use crate::sizes::try_sizes;
 use anyhow::Result;
 use std::rt::Files;

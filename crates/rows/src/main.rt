@@ -25,11 +25,11 @@
 mod broken;
 mod databases;
 mod flights;
-mod forms;
 mod frames;
 mod group;
 mod hostile;
 mod places;
+mod readers;
 mod sizes;
 mod tally;
 mod text;

@@ -9,7 +9,7 @@
 //!   each is later than the one before it.
 //! - those of `set_of`, as `b`, a blank, `d`, a digit, and `o`, before a `=`, where a blank, `<` or `>` may stand.
 //! - any other: the byte itself.
-use crate::forms::{Form, Reader};
+use crate::readers::{Form, Reader};
 use crate::tally::Tally;
 use anyhow::{Result, bail};
 use std::alloc::{AllocError, Global};

@@ -1,5 +1,5 @@
 //! Texts as long as may be, and one byte longer.
-use crate::forms::{Form, Reader};
+use crate::readers::{Form, Reader};
 use crate::tally::Tally;
 use anyhow::Result;
 use std::alloc::{AllocError, Global};

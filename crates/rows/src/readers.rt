@@ -1,4 +1,4 @@
-//! Texts of each kind, and what comes of reading one.
+//! Texts of each form, and what comes of reading one.
 use anyhow::{Result, bail};
 use fault::Refusal;
 use schema::Schema;
