@@ -3,10 +3,11 @@
 
 use causes::{Name, Trouble};
 use clap::error::ErrorKind;
+use diagnosis::{Subject, diagnose};
 use fault::Refusal;
 use forms::{Canvas, Drawing, Form, Look};
 use shell::audit::run_audit;
-use shell::command::{Beliefs, Command, Live, Sim};
+use shell::command::{Beliefs, Check, Command, Live, Sim};
 use shell::command_line::read_command;
 use shell::live_run::run_live;
 use shell::shown_run::{run_beliefs, run_shown};
@@ -58,6 +59,7 @@ where
         Ok(Command::Beliefs(beliefs)) => draw(rt, beliefs),
         Ok(Command::Live(live)) => play_live(rt, host, live),
         Ok(Command::Audit(names)) => audit(rt, names.as_slice()),
+        Ok(Command::Check(check)) => check_file(rt, check),
         Err(error) if error.kind() == ErrorKind::OutOfMemory => Err(Stop::from(Refusal::NoMemory)),
         Err(error) => {
             error.print(rt)?;
@@ -279,4 +281,33 @@ fn audit<'a, R: AllocGlobal + Files + Print>(rt: &R, names: &[&'a str]) -> Resul
     let texts = read_flights(rt, names)?;
     let ended = run_audit(alloc, texts.as_slice(), &mut io::writer(rt));
     ended.map_err(|fault| Stop::of_flights(alloc, fault, names, texts.as_slice()))
+}
+
+// The bytes of a file that is read without being played.
+fn read_bytes<'a, R: AllocGlobal + Files>(rt: &R, path: &'a str) -> Result<Vec<u8>, Stop<'a>> {
+    match fs::read(rt, path) {
+        Ok(bytes) => Ok(bytes),
+        Err(error) => {
+            let (file, tried) = (Name::Given(path), "reading the file");
+            Err(Stop::from(Trouble::of_system(file, tried, Refusal::BadScript(0), error)))
+        }
+    }
+}
+
+// Tells the faults of a script or a schema.
+fn check_file<'a, R>(rt: &R, check: Check<'a>) -> Result<u8, Stop<'a>>
+where
+    R: AllocGlobal + Files + Print,
+{
+    let bytes = read_bytes(rt, check.file)?;
+    let subject = if check.is_schema {
+        Subject::Schema
+    } else {
+        Subject::Script
+    };
+    let told = diagnose(rt.alloc(), subject, check.file, bytes.as_slice())?;
+    let mut writer = io::writer(rt);
+    writer.write_all(told.text.as_bytes())?;
+    writer.flush()?;
+    Ok(if told.is_clean { 0 } else { 1 })
 }

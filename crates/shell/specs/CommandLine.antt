@@ -8,10 +8,11 @@ use Rattle.clap.specs.Simple.{App, new_app, new_rule, on_top, with_rule, with_su
 use Rattle.clap.specs.declared.builder.action.ArgAction.TheVariants.{Set, SetTrue, Append}
 use Rattle.clap.specs.declared.builder.value_parser.ValueParser.TheVariants as parser
 use Rattle.shell.specs.declared.command.Command.{Command}
-use Rattle.shell.specs.declared.command.Command.TheVariants.{PlayInput, Sim, Beliefs, Live, Audit}
+use Rattle.shell.specs.declared.command.Command.TheVariants.{PlayInput, Sim, Beliefs, Live, Audit, Check}
 use Rattle.shell.specs.declared.command.Sim.{Sim as SimValues}
 use Rattle.shell.specs.declared.command.Beliefs.{Beliefs as BeliefsValues}
 use Rattle.shell.specs.declared.command.Live.{Live as LiveValues}
+use Rattle.shell.specs.declared.command.Check.{Check as CheckValues}
 
 -- SCRIPT
 abbrev pub script_rule : Rule
@@ -52,6 +53,17 @@ dir_rule = record (new_rule (codes "dir")) {
   action = Some Set;
   parser = Some parser.NonEmptyString;
 }
+
+-- [--schema]
+abbrev pub schema_rule : Rule
+schema_rule = record (new_rule (codes "schema")) {
+  long = Some (codes "schema");
+  action = Some SetTrue;
+}
+
+-- FILE
+abbrev pub file_rule : Rule
+file_rule = record (new_rule (codes "FILE")) { required = true; action = Some Set }
 
 -- FILE.., one or more
 abbrev pub files_rule : Rule
@@ -108,13 +120,17 @@ live_app = with_rule (with_rule (with_rule (with_rule (with_rule (new_app (codes
 abbrev pub audit_app : App
 audit_app = with_rule (new_app (codes "audit")) files_rule
 
+-- check [--schema] FILE
+abbrev pub check_app : App
+check_app = with_rule (with_rule (new_app (codes "check")) schema_rule) file_rule
+
 -- a command that tells its version
 abbrev pub versioned : App → App
 versioned app = on_top (λ top. record top { has_version = true }) app
 
 -- the whole command line
 abbrev pub bitable_app : App
-bitable_app = with_subcommand (with_subcommand (with_subcommand (with_subcommand (versioned (new_app (codes "bitable"))) sim_app.top) live_app.top) audit_app.top) beliefs_app.top
+bitable_app = with_subcommand (with_subcommand (with_subcommand (with_subcommand (with_subcommand (versioned (new_app (codes "bitable"))) sim_app.top) live_app.top) audit_app.top) beliefs_app.top) check_app.top
 
 -- the matches give the option a decimal numeral of this number
 pub record GivesNumber (id : Text) (rows : List Row) (n : ℕ) : Type 0 where
@@ -150,6 +166,11 @@ pub record AsksBeliefs (rows : List Row) (beliefs : BeliefsValues) : Type 0 wher
   pub svg : option_map (λ text. text.now) beliefs.svg ≡ first_of (codes "svg") rows
   pub script : Some beliefs.script.now ≡ first_of (codes "SCRIPT") rows
 
+-- the matches of `check` give these values
+pub record AsksCheck (rows : List Row) (check : CheckValues) : Type 0 where
+  pub schema : GivesFlag (codes "schema") rows check.is_schema
+  pub file : Some check.file.now ≡ first_of (codes "FILE") rows
+
 -- What the subcommand that was found, with its matches, asks for: without one, to play the input.
 abbrev pub AsksFor : Option (Text × List Row) → Command → Type 0
 AsksFor None PlayInput = ⊤
@@ -157,8 +178,10 @@ AsksFor None (Sim sim) = ⊥
 AsksFor None (Beliefs beliefs) = ⊥
 AsksFor None (Live live) = ⊥
 AsksFor None (Audit names) = ⊥
+AsksFor None (Check check) = ⊥
 AsksFor (Some (name, rows)) PlayInput = ⊥
 AsksFor (Some (name, rows)) (Sim sim) = (name ≡ codes "sim") × AsksSim rows sim
 AsksFor (Some (name, rows)) (Beliefs beliefs) = (name ≡ codes "beliefs") × AsksBeliefs rows beliefs
 AsksFor (Some (name, rows)) (Live live) = (name ≡ codes "live") × AsksLive rows live
 AsksFor (Some (name, rows)) (Audit names) = (name ≡ codes "audit") × (Some (map (λ text. text.now) names.items) ≡ all_of (codes "FILE") rows)
+AsksFor (Some (name, rows)) (Check check) = (name ≡ codes "check") × AsksCheck rows check

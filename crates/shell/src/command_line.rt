@@ -7,9 +7,10 @@ ghost use Rattle.shell.specs.declared.command.Command.{Command as Asked};
 ghost use Rattle.shell.specs.declared.command.Live.{Live as Run};
 ghost use Rattle.shell.specs.declared.command.Sim.{Sim as Shown};
 ghost use Rattle.shell.specs.declared.command.Beliefs.{Beliefs as Picture};
-ghost use Rattle.shell.specs.CommandLine.{AsksBeliefs, AsksFor, AsksLive, AsksSim, GivesFlag, script_rule, format_rule, quiet_rule, strict_rule, svg_rule, nodes_rule, seed_rule, loss_rule, dir_rule, files_rule, sim_app, beliefs_app, live_app, audit_app, bitable_app};
+ghost use Rattle.shell.specs.declared.command.Check.{Check as Looked};
+ghost use Rattle.shell.specs.CommandLine.{AsksBeliefs, AsksCheck, AsksFor, AsksLive, AsksSim, GivesFlag, script_rule, format_rule, quiet_rule, strict_rule, svg_rule, nodes_rule, seed_rule, loss_rule, dir_rule, schema_rule, file_rule, files_rule, sim_app, beliefs_app, live_app, audit_app, check_app, bitable_app};
 
-use crate::command::{Beliefs, Command, Live, Sim};
+use crate::command::{Beliefs, Check, Command, Live, Sim};
 use clap::builder::ValueParser;
 use clap::error::ErrorKind;
 use clap::{Arg, ArgAction, ArgMatches, Command as Parser, Error, value_parser};
@@ -25,6 +26,7 @@ const EXAMPLES: &str = "Examples:
   bitable live --nodes 3 --seed 1 --loss 20 --dir run examples/insurance.script
   bitable audit run/node1.flight run/node2.flight run/node3.flight
   bitable beliefs examples/payroll.script
+  bitable check examples/payroll.script
 Without a command it plays the script on standard input, as sim does.";
 
 const SIM_END: &str = "Example:
@@ -82,6 +84,25 @@ Exit status:
   0  the picture is drawn, or there is no row to draw
   1  the script is refused, or nothing in it is answered; or there is too much to draw, or
      the file can't be written: on standard error
+  2  the command line is not one of these";
+
+const CHECK_END: &str =
+    "Each fault is told with its place, its line and, where one is known, what could be done. A
+schema is read to its first fault. What only a run can refuse is no fault.
+
+Example:
+  bitable check run.script
+
+  run.script:22:26: 11 unknown table
+     22 | submit 1 7 1 DELETE FROM Pya WHERE ENo = 1;
+        |                          ^^^
+          there is no table Pya. Did you mean Pay?
+
+  run.script: 1 fault
+
+Exit status:
+  0  nothing is wrong
+  1  something is, on standard output; or the file can't be read, on standard error
   2  the command line is not one of these";
 
 fn script_word<'a>(alloc: Global) -> Arg<'a>
@@ -230,6 +251,34 @@ fn audit_words<'a>(alloc: Global) -> Result<Parser<'a>, AllocError>
         .arg(files_word(alloc))
 }
 
+fn schema_word<'a>(alloc: Global) -> Arg<'a>
+    ensures { (rule_of result ≡ schema_rule) × (result.global ≡ false) }
+{
+    Arg::new(alloc, "schema")
+        .long("schema")
+        .action(ArgAction::SetTrue)
+        .help("Reads the file as the tables of a schema, and not as a script")
+}
+
+fn file_word<'a>(alloc: Global) -> Arg<'a>
+    ensures { (rule_of result ≡ file_rule) × (result.global ≡ false) }
+{
+    Arg::new(alloc, "FILE")
+        .required(true)
+        .action(ArgAction::Set)
+        .help("The file of the script, or of the schema")
+}
+
+fn check_words<'a>(alloc: Global) -> Result<Parser<'a>, AllocError>
+    ensures { IfOk result (λ c. (app_of c ≡ check_app) × ((out-Command c).has_globals ≡ false)) }
+{
+    Parser::new(alloc, "check")
+        .about("Finds the faults of a script or a schema, and plays nothing")
+        .after_help(CHECK_END)
+        .arg(schema_word(alloc))?
+        .arg(file_word(alloc))
+}
+
 fn all_words<'a>(alloc: Global) -> Result<Parser<'a>, AllocError>
     ensures { IfOk result (λ c. app_of c ≡ bitable_app) }
 {
@@ -240,7 +289,8 @@ fn all_words<'a>(alloc: Global) -> Result<Parser<'a>, AllocError>
         .subcommand(sim_words(alloc)?)?
         .subcommand(live_words(alloc)?)?
         .subcommand(audit_words(alloc)?)?
-        .subcommand(beliefs_words(alloc)?)
+        .subcommand(beliefs_words(alloc)?)?
+        .subcommand(check_words(alloc)?)
 }
 
 fn live_of<'a>(matches: &ArgMatches<'a>) -> Option<Live<'a>>
@@ -300,6 +350,17 @@ fn beliefs_of<'a>(matches: &ArgMatches<'a>) -> Option<Beliefs<'a>>
     })
 }
 
+fn check_of<'a>(matches: &ArgMatches<'a>) -> Option<Check<'a>>
+    ensures some { IfSome result (AsksCheck (rows_of (found_of matches.now))) }
+    ensures none { IfNone result ((check : Looked) → ¬ AsksCheck (rows_of (found_of matches.now)) check) }
+{
+    let file = text_of(matches, "FILE")?;
+    Some(Check {
+        is_schema: flag_of(matches, "schema"),
+        file,
+    })
+}
+
 fn script_of<'a>(matches: &ArgMatches<'a>) -> Option<&'a str>
     ensures { option_map (λ text. text.now) result ≡ first_of (codes "SCRIPT") (rows_of (found_of matches.now)) }
 {
@@ -338,6 +399,9 @@ fn command_of<'a>(
     }
     if name == "audit" {
         return Ok(files_of(alloc, given)?.map(Command::Audit));
+    }
+    if name == "check" {
+        return Ok(check_of(given).map(Command::Check));
     }
     Ok(None)
 }

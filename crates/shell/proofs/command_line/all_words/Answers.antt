@@ -11,4 +11,5 @@ returns c =
     let sim = with_sub _ _ _ _ _ c.in_ok-subcommand.ensures start c.in_ok-sim_words.ensures in
     let live = with_sub _ _ _ _ _ c.in_ok-subcommand-2.ensures sim c.in_ok-live_words.ensures in
     let audit = with_sub _ _ _ _ _ c.in_ok-subcommand-3.ensures live c.in_ok-audit_words.ensures in
-    IfOk-weaker c.subcommand-4.result _ _ (λ r added. with_sub _ _ _ _ _ added audit c.in_ok-beliefs_words.ensures) c.subcommand-4.ensures
+    let beliefs = with_sub _ _ _ _ _ c.in_ok-subcommand-4.ensures audit c.in_ok-beliefs_words.ensures in
+    IfOk-weaker c.subcommand-5.result _ _ (λ r added. with_sub _ _ _ _ _ added beliefs c.in_ok-check_words.ensures) c.subcommand-5.ensures

@@ -1,0 +1,130 @@
+//! Tables and columns that are named where they are not, or may not be.
+use crate::literals::{look_at_literal, token_count};
+use crate::names::{column_names, put_nearest, table_names};
+use crate::walk::{Stop, Walk, wrong};
+use fault::Refusal;
+use schema::{Kind, Schema, Table};
+use sqlchecks::column::{field_of, find_column, find_table};
+use sqlsyntax::Literal;
+use std::alloc::{AllocError, Global};
+
+/// A table, and its name as it is declared.
+#[derive(Clone, Copy)]
+pub(crate) struct Named<'s> {
+    pub name: &'s str,
+    pub table: &'s Table,
+}
+
+// That no table has this name.
+fn no_table(alloc: Global, schema: &Schema, name: &str) -> Result<String, AllocError> {
+    let mut hint = format!(in alloc; "there is no table {name}.")?;
+    let names = table_names(alloc, schema)?;
+    put_nearest(alloc, name, &names, &mut hint)?;
+    Ok(hint)
+}
+
+fn find_named<'s>(schema: &'s Schema, name: &str) -> Option<Named<'s>> {
+    let Ok(place) = find_table(schema, name) else {
+        return None;
+    };
+    let (name, table) = schema.table(place);
+    Some(Named {
+        name: name.as_str(),
+        table,
+    })
+}
+
+/// The table that the next token names.
+pub(crate) fn look_at_table<'s>(
+    alloc: Global,
+    schema: &'s Schema,
+    walk: Walk,
+    name: &str,
+) -> Result<Named<'s>, Stop> {
+    match find_named(schema, name) {
+        Some(named) => Ok(named),
+        None => {
+            let hint = no_table(alloc, schema, name)?;
+            Err(wrong(walk.spot(1), Refusal::UnknownTable, hint))
+        }
+    }
+}
+
+// That no column of a table has this name.
+fn no_column(alloc: Global, named: Named, name: &str) -> Result<String, AllocError> {
+    let table = named.name;
+    let mut hint = format!(in alloc; "{table} has no column {name}.")?;
+    let names = column_names(alloc, named.table)?;
+    put_nearest(alloc, name, &names, &mut hint)?;
+    Ok(hint)
+}
+
+/// The place and the kind of the column that the next token names.
+pub(crate) fn look_at_column(
+    alloc: Global,
+    named: Named,
+    walk: Walk,
+    name: &str,
+) -> Result<(usize, Kind), Stop> {
+    match find_column(named.table, name) {
+        Ok(column) => Ok(column),
+        Err(_) => {
+            let hint = no_column(alloc, named, name)?;
+            Err(wrong(walk.spot(1), Refusal::UnknownColumn, hint))
+        }
+    }
+}
+
+/// Looks at the name of a table's application period, the next token.
+pub(crate) fn look_at_period(
+    alloc: Global,
+    named: Named,
+    walk: Walk,
+    name: &str,
+) -> Result<(), Stop> {
+    let period = named.table.period().as_str();
+    if name.eq_ignore_ascii_case(period) {
+        return Ok(());
+    }
+    let table = named.name;
+    let hint = format!(in alloc; "{table} has no period {name}. Its period is {period}.")?;
+    Err(wrong(walk.spot(1), Refusal::UnknownColumn, hint))
+}
+
+// How a column that WHERE compares no value with is asked about.
+fn uncompared(alloc: Global, named: Named, place: usize, name: &str) -> Result<String, AllocError> {
+    let period = named.table.period().as_str();
+    if place == named.table.start() || place == named.table.end() {
+        return format!(in alloc;
+            "{name} is of the period {period}: ask SELECT .. WHERE {period} CONTAINS DATE '2026-01-31', or FOR PORTION OF {period}."
+        );
+    }
+    format!(in alloc; "{name} is of the system: ask FOR SYSTEM_TIME behind the table's name.")
+}
+
+// The kind of a literal that a column of this kind is compared with.
+fn compared_kind(kind: Kind) -> Kind {
+    match kind {
+        Kind::Varchar(_) => Kind::Varchar(255),
+        kind => kind,
+    }
+}
+
+/// Looks at a comparison, which is next, and passes it.
+pub(crate) fn look_at_comparison(
+    alloc: Global,
+    named: Named,
+    walk: &mut Walk,
+    name: &str,
+    literal: Literal,
+) -> Result<(), Stop> {
+    let (place, kind) = look_at_column(alloc, named, *walk, name)?;
+    if field_of(named.table, place).is_none() {
+        let hint = uncompared(alloc, named, place, name)?;
+        return Err(wrong(walk.spot(1), Refusal::UnknownColumn, hint));
+    }
+    walk.pass(2);
+    look_at_literal(alloc, *walk, name, compared_kind(kind), literal)?;
+    walk.pass(token_count(literal));
+    Ok(())
+}

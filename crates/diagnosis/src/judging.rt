@@ -1,0 +1,86 @@
+//! What is wrong in a text, as its reader refuses it, with its place.
+use crate::changes::found_in_changes;
+use crate::questions::found_in_question;
+use crate::schemas::found_in_schema;
+use crate::standing::{Grammar, found_at};
+use crate::walk::{Found, Spot};
+use fault::Refusal;
+use schema::Schema;
+use sqlread::query::read_query;
+use sqlread::transaction::misreading;
+use std::alloc::{AllocError, Global};
+
+// What is said of a text that is too long, where it is.
+fn hint_of_length(alloc: Global, refusal: &Refusal) -> Result<String, AllocError> {
+    match refusal {
+        Refusal::TooLarge => String::from_str(
+            alloc,
+            "a text has at most 4096 bytes, a schema 65536.",
+        ),
+        _ => Ok(String::new(alloc)),
+    }
+}
+
+// What was found with its place, where it is what the reader refuses; else that the whole text is refused.
+fn placed(
+    alloc: Global,
+    text: &str,
+    refusal: Refusal,
+    looked: Option<Found>,
+) -> Result<Found, AllocError> {
+    match looked {
+        Some(found) if found.refusal == refusal => Ok(found),
+        _ => Ok(Found {
+            spot: Spot {
+                at: 0,
+                len: text.len(),
+            },
+            hint: hint_of_length(alloc, &refusal)?,
+            refusal,
+        }),
+    }
+}
+
+/// What a transaction's text is refused for; none where it is one.
+pub(crate) fn judge_transaction(
+    alloc: Global,
+    schema: &Schema,
+    text: &str,
+) -> Result<Option<Found>, AllocError> {
+    let looked = match misreading(alloc, schema, text)? {
+        None => return Ok(None),
+        Some(Refusal::Syntax(at)) => {
+            return Ok(Some(found_at(alloc, Grammar::Transaction, text, at)?));
+        }
+        Some(refusal) => (refusal, found_in_changes(alloc, schema, text)?),
+    };
+    Ok(Some(placed(alloc, text, looked.0, looked.1)?))
+}
+
+/// What a question's text is refused for; none where it is one.
+pub(crate) fn judge_question(
+    alloc: Global,
+    schema: &Schema,
+    text: &str,
+) -> Result<Option<Found>, AllocError> {
+    let looked = match read_query(alloc, schema, text) {
+        Ok(_) => return Ok(None),
+        Err(Refusal::NoMemory) => return Err(AllocError),
+        Err(Refusal::Syntax(at)) => return Ok(Some(found_at(alloc, Grammar::Query, text, at)?)),
+        Err(refusal) => (refusal, found_in_question(alloc, schema, text)?),
+    };
+    Ok(Some(placed(alloc, text, looked.0, looked.1)?))
+}
+
+/// What a schema's text is refused for, where this is its refusal.
+pub(crate) fn judge_schema(
+    alloc: Global,
+    text: &str,
+    refusal: Refusal,
+) -> Result<Found, AllocError> {
+    if let Refusal::Syntax(at) = refusal {
+        return found_at(alloc, Grammar::Schema, text, at);
+    }
+    let looked = found_in_schema(alloc, text)?;
+    placed(alloc, text, refusal, looked)
+}

@@ -1,0 +1,197 @@
+//! Faults as they are shown: the place, the line with what is wrong below it, and what could be done.
+use crate::walk::Found;
+use fault::Refusal;
+use std::alloc::{AllocError, Global};
+
+// How many columns a shown line has.
+const WIDE: usize = 80;
+
+// How many columns stand before the text of a line.
+const GUTTER: usize = 8;
+
+/// A line of a file, counted from 1.
+#[derive(Clone, Copy)]
+pub(crate) struct Line<'a> {
+    pub number: usize,
+    pub text: &'a str,
+}
+
+/// What is shown of a file.
+#[derive(Drop)]
+pub(crate) struct Page<'f> {
+    pub file: &'f str,
+    pub text: String,
+    /// How many faults are shown.
+    pub faults: usize,
+}
+
+// Which bytes of a line are shown: all from the first up to the one before the last, and whether more stand before and behind.
+#[derive(Clone, Copy)]
+struct Window {
+    first: usize,
+    end: usize,
+    has_before: bool,
+    has_behind: bool,
+}
+
+fn window_at(len: usize, column: usize) -> Window {
+    let room = WIDE - GUTTER;
+    let first = if len > room {
+        column.saturating_sub(room / 2).min(len - (room - 2))
+    } else {
+        0
+    };
+    let has_before = first > 0;
+    let end = first.saturating_add(if has_before { room - 2 } else { room });
+    let has_behind = end < len;
+    Window {
+        first,
+        end: if has_behind {
+            end.saturating_sub(2)
+        } else {
+            len
+        },
+        has_before,
+        has_behind,
+    }
+}
+
+fn put_many(letter: &str, count: usize, page: &mut String) -> Result<(), AllocError> {
+    for _ in 0..count {
+        page.push_str(letter)?;
+    }
+    Ok(())
+}
+
+// A byte as it is shown: a blank for a tab, and a question mark for what is no printable ASCII.
+fn shown(byte: u8) -> char {
+    match byte {
+        b'\t' => ' ',
+        b' '..=b'~' => byte as char,
+        _ => '?',
+    }
+}
+
+fn put_part(text: &str, window: Window, page: &mut String) -> Result<(), AllocError> {
+    for (at, byte) in text.as_bytes().iter().enumerate() {
+        if window.first <= at && at < window.end {
+            page.push(shown(*byte))?;
+        }
+    }
+    Ok(())
+}
+
+// The line's number before its text.
+fn put_gutter(alloc: Global, number: Option<usize>, page: &mut String) -> Result<(), AllocError> {
+    let told = match number {
+        Some(number) => format!(in alloc; "{number}")?,
+        None => String::new(alloc),
+    };
+    put_many(" ", 5usize.saturating_sub(told.len()), page)?;
+    page.push_str(told.as_str())?;
+    page.push_str(" | ")?;
+    Ok(())
+}
+
+// What could be done, on lines of their own.
+fn put_hint(hint: &str, page: &mut String) -> Result<(), AllocError> {
+    if hint.is_empty() {
+        return Ok(());
+    }
+    put_many(" ", GUTTER, page)?;
+    for byte in hint.as_bytes() {
+        page.push(*byte as char)?;
+        if *byte == b'\n' {
+            put_many(" ", GUTTER, page)?;
+        }
+    }
+    page.push_str("\n")?;
+    Ok(())
+}
+
+impl<'f> Page<'f> {
+    /// What is shown of a file of this name, at first nothing.
+    pub fn new(alloc: Global, file: &'f str) -> Page<'f> {
+        Page {
+            file,
+            text: String::new(alloc),
+            faults: 0,
+        }
+    }
+
+    // The place of a fault and the refusal. Columns are bytes, counted from 1.
+    fn put_place(
+        &mut self,
+        alloc: Global,
+        number: usize,
+        at: usize,
+        refusal: &Refusal,
+    ) -> Result<(), AllocError> {
+        let file = self.file;
+        let column = at.saturating_add(1);
+        let place = format!(in alloc; "{file}:{number}:{column}: {refusal}\n")?;
+        self.text.push_str(place.as_str())?;
+        Ok(())
+    }
+
+    /// Shows what was found in a line, whose spot counts the bytes of the line.
+    pub fn tell(&mut self, alloc: Global, line: Line, found: &Found) -> Result<(), AllocError> {
+        self.faults = self.faults.saturating_add(1);
+        let spot = found.spot;
+        self.put_place(alloc, line.number, spot.at, &found.refusal)?;
+        let window = window_at(line.text.len(), spot.at);
+        put_gutter(alloc, Some(line.number), &mut self.text)?;
+        self.put_dots(window.has_before)?;
+        put_part(line.text, window, &mut self.text)?;
+        self.put_dots(window.has_behind)?;
+        self.text.push_str("\n")?;
+        put_gutter(alloc, None, &mut self.text)?;
+        let dots = if window.has_before { 2 } else { 0 };
+        let blanks = spot.at.saturating_sub(window.first).saturating_add(dots);
+        put_many(" ", blanks, &mut self.text)?;
+        let room = window.end.saturating_sub(spot.at);
+        put_many("^", spot.len.min(room).max(1), &mut self.text)?;
+        self.text.push_str("\n")?;
+        put_hint(found.hint.as_str(), &mut self.text)?;
+        self.text.push_str("\n")?;
+        Ok(())
+    }
+
+    fn put_dots(&mut self, has_more: bool) -> Result<(), AllocError> {
+        if has_more {
+            self.text.push_str("..")?;
+        }
+        Ok(())
+    }
+
+    /// Shows a fault of a file whose lines can't be shown.
+    pub fn tell_bare(
+        &mut self,
+        alloc: Global,
+        number: usize,
+        at: usize,
+        found: &Found,
+    ) -> Result<(), AllocError> {
+        self.faults = self.faults.saturating_add(1);
+        self.put_place(alloc, number, at, &found.refusal)?;
+        put_hint(found.hint.as_str(), &mut self.text)?;
+        self.text.push_str("\n")?;
+        Ok(())
+    }
+
+    /// What is shown, and a last line: how many faults there are, or what a file has that is clean.
+    pub fn end(self, alloc: Global, is_clean: bool, has: &str) -> Result<String, AllocError> {
+        let Page {
+            file,
+            mut text,
+            faults,
+        } = self;
+        let last = match (is_clean, faults) {
+            (true, _) => format!(in alloc; "{file}: no faults; {has}\n")?,
+            (false, 1) => format!(in alloc; "{file}: 1 fault\n")?,
+            _ => format!(in alloc; "{file}: {faults} faults\n")?,
+        };
+        text.push_str(last.as_str())?;
+        Ok(text)
+    }
+}

@@ -1,0 +1,246 @@
+//! The faults of a whole script, or of a schema, one by one.
+use crate::fields::found_in_line;
+use crate::judging::{judge_question, judge_schema, judge_transaction};
+use crate::page::{Line, Page};
+use crate::walk::{Found, Spot};
+use fault::Refusal;
+use lines::line::{Job, Line as ScriptLine, read_line};
+use lines::number::read_number;
+use schema::Schema;
+use schemaread::schemas::read_schema;
+use std::alloc::{AllocError, Global};
+
+// Which line of a script has to come next.
+#[derive(Clone, Copy, Debug, PartialEq, Eq)]
+enum Part {
+    Members,
+    Schema,
+    Tables,
+    Lines,
+}
+
+/// A look at a script, line by line.
+#[derive(Drop)]
+pub(crate) struct Look<'f> {
+    pub page: Page<'f>,
+    part: Part,
+    members: usize,
+    // the lines of the schema, and the number of the first of them
+    tables: String,
+    first: usize,
+    schema: Option<Schema>,
+    pub requests: usize,
+    pub questions: usize,
+}
+
+// That a line is bad from its first byte to its last.
+fn bad_line(alloc: Global, number: usize, text: &str, why: &str) -> Result<Found, AllocError> {
+    Ok(Found {
+        spot: Spot {
+            at: 0,
+            len: text.len(),
+        },
+        refusal: Refusal::BadScript(number),
+        hint: String::from_str(alloc, why)?,
+    })
+}
+
+// How many members a line says that the group has.
+fn members_of(text: &str) -> Option<usize> {
+    let number = read_number(text.strip_prefix("members ")?)?;
+    (3 <= number && number <= 7).then_some(number as usize)
+}
+
+fn is_skipped(text: &str) -> bool {
+    text.is_empty() || text.starts_with('#')
+}
+
+// Shows what was found in a text of several lines, the first of which has this number.
+fn tell_in_lines(
+    alloc: Global,
+    page: &mut Page,
+    first: usize,
+    text: &str,
+    found: Found,
+) -> Result<(), AllocError> {
+    let before = text.get(..found.spot.at).unwrap_or(text);
+    let number = first.saturating_add(
+        before
+            .as_bytes()
+            .iter()
+            .filter(|byte| **byte == b'\n')
+            .count(),
+    );
+    let start = match before.rsplit_once('\n') {
+        Some((lines, _)) => lines.len().saturating_add(1),
+        None => 0,
+    };
+    let rest = text.get(start..).unwrap_or("");
+    let line = match rest.split_once('\n') {
+        Some((line, _)) => line,
+        None => rest,
+    };
+    let Found {
+        spot,
+        refusal,
+        hint,
+    } = found;
+    let at = spot.at.saturating_sub(start);
+    let found = Found {
+        spot: Spot { at, len: spot.len },
+        refusal,
+        hint,
+    };
+    page.tell(alloc, Line { number, text: line }, &found)
+}
+
+/// Shows the first fault of a schema that begins at this line, and gives the schema where there is none.
+pub(crate) fn look_at_tables(
+    alloc: Global,
+    page: &mut Page,
+    first: usize,
+    text: &str,
+) -> Result<Option<Schema>, AllocError> {
+    let refusal = match read_schema(alloc, text) {
+        Ok(schema) => return Ok(Some(schema)),
+        Err(Refusal::NoMemory) => return Err(AllocError),
+        Err(refusal) => refusal,
+    };
+    let found = judge_schema(alloc, text, refusal)?;
+    tell_in_lines(alloc, page, first, text, found)?;
+    Ok(None)
+}
+
+impl<'f> Look<'f> {
+    /// Before the first line of a file of this name.
+    pub fn new(alloc: Global, file: &'f str) -> Look<'f> {
+        Look {
+            page: Page::new(alloc, file),
+            part: Part::Members,
+            members: 7,
+            tables: String::new(alloc),
+            first: 0,
+            schema: None,
+            requests: 0,
+            questions: 0,
+        }
+    }
+
+    /// Looks at the next line.
+    pub fn take(&mut self, alloc: Global, line: Line) -> Result<(), AllocError> {
+        match self.part {
+            Part::Tables => self.take_table_line(alloc, line),
+            _ if is_skipped(line.text) => Ok(()),
+            Part::Members => self.take_members(alloc, line),
+            Part::Schema => self.take_schema_word(alloc, line),
+            Part::Lines => self.take_line(alloc, line),
+        }
+    }
+
+    fn take_members(&mut self, alloc: Global, line: Line) -> Result<(), AllocError> {
+        self.part = Part::Schema;
+        if let Some(members) = members_of(line.text) {
+            self.members = members;
+            return Ok(());
+        }
+        let why = "a script begins with a line members N, where N is 3 to 7.";
+        let found = bad_line(alloc, line.number, line.text, why)?;
+        self.page.tell(alloc, line, &found)
+    }
+
+    fn take_schema_word(&mut self, alloc: Global, line: Line) -> Result<(), AllocError> {
+        self.part = Part::Tables;
+        self.first = line.number.saturating_add(1);
+        if line.text == "schema" {
+            return Ok(());
+        }
+        let why = "behind the members comes a line schema, then the tables, then a line end.";
+        let found = bad_line(alloc, line.number, line.text, why)?;
+        self.page.tell(alloc, line, &found)
+    }
+
+    fn take_table_line(&mut self, alloc: Global, line: Line) -> Result<(), AllocError> {
+        if line.text != "end" {
+            self.tables.push_str(line.text)?;
+            self.tables.push_str("\n")?;
+            return Ok(());
+        }
+        self.part = Part::Lines;
+        let text = self.tables.as_str();
+        self.schema = look_at_tables(alloc, &mut self.page, self.first, text)?;
+        Ok(())
+    }
+
+    fn take_line(&mut self, alloc: Global, line: Line) -> Result<(), AllocError> {
+        let Some(read) = read_line(alloc, self.members, line.text)? else {
+            let mut found = found_in_line(alloc, self.members, line.text)?;
+            found.refusal = Refusal::BadScript(line.number);
+            return self.page.tell(alloc, line, &found);
+        };
+        match read {
+            ScriptLine::Submit { text, .. } => self.take_request(alloc, line, text.as_str()),
+            ScriptLine::Torn {
+                job: Job::Submit { text, .. },
+                ..
+            } => self.take_request(alloc, line, text.as_str()),
+            ScriptLine::Ask { text, .. } => self.take_question(alloc, line, text.as_str()),
+            _ => Ok(()),
+        }
+    }
+
+    fn take_request(&mut self, alloc: Global, line: Line, text: &str) -> Result<(), AllocError> {
+        self.requests = self.requests.saturating_add(1);
+        let found = match &self.schema {
+            Some(schema) => judge_transaction(alloc, schema, text)?,
+            None => None,
+        };
+        self.tell_behind(alloc, line, text, found)
+    }
+
+    fn take_question(&mut self, alloc: Global, line: Line, text: &str) -> Result<(), AllocError> {
+        self.questions = self.questions.saturating_add(1);
+        let found = match &self.schema {
+            Some(schema) => judge_question(alloc, schema, text)?,
+            None => None,
+        };
+        self.tell_behind(alloc, line, text, found)
+    }
+
+    // Shows what was found in the text at the end of a line.
+    fn tell_behind(
+        &mut self,
+        alloc: Global,
+        line: Line,
+        text: &str,
+        found: Option<Found>,
+    ) -> Result<(), AllocError> {
+        let Some(mut found) = found else {
+            return Ok(());
+        };
+        let before = line.text.len().saturating_sub(text.len());
+        found.spot.at = found.spot.at.saturating_add(before);
+        self.page.tell(alloc, line, &found)
+    }
+
+    /// Looks at what is missing behind the last line, which is empty where LF ends the one before it.
+    pub fn end(&mut self, alloc: Global, last: Line) -> Result<(), AllocError> {
+        if !last.text.is_empty() {
+            let why = "the last line does not end with LF: end it with a new line.";
+            let mut found = bad_line(alloc, last.number, last.text, why)?;
+            found.spot = Spot {
+                at: last.text.len(),
+                len: 0,
+            };
+            return self.page.tell(alloc, last, &found);
+        }
+        let why = match self.part {
+            Part::Members => "a script begins with a line members N, where N is 3 to 7.",
+            Part::Schema =>
+                "behind the members comes a line schema, then the tables, then a line end.",
+            Part::Tables => "the line end is missing behind the tables.",
+            Part::Lines => return Ok(()),
+        };
+        let found = bad_line(alloc, last.number, "", why)?;
+        self.page.tell(alloc, last, &found)
+    }
+}
