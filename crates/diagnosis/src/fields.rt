@@ -229,15 +229,16 @@ fn hint_of_word(alloc: Global, word: &str) -> Result<String, AllocError> {
     Ok(hint)
 }
 
+/// What is said of a line that ends with a carriage return.
+pub(crate) const RETURN: &str =
+    "the line ends with CR LF: save the file with LF alone at the ends of its lines.";
+
 // Looks at a line that ends with a carriage return.
 fn look_at_return(alloc: Global, line: &str) -> Result<(), Stop> {
     if !line.ends_with('\r') {
         return Ok(());
     }
-    let hint = String::from_str(
-        alloc,
-        "the line ends with CR LF: save the file with LF alone at the ends of its lines.",
-    )?;
+    let hint = String::from_str(alloc, RETURN)?;
     let spot = Spot {
         at: line.len().saturating_sub(1),
         len: 1,

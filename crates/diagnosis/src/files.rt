@@ -66,6 +66,7 @@ fn look_at_script(
         look.take(alloc, last)?;
     }
     look.end(alloc, last)?;
+    let is_unread = look.has_unread();
     let Look {
         page,
         requests,
@@ -74,7 +75,13 @@ fn look_at_script(
     } = look;
     let (more, many) = (plural(requests), plural(questions));
     let has = format!(in alloc; "{requests} request{more}, {questions} question{many}")?;
-    page.end(alloc, is_clean, has.as_str())
+    let mut told = page.end(alloc, is_clean, has.as_str())?;
+    if is_unread {
+        told.push_str(
+            "what its requests and questions say was not read: its schema has a fault\n",
+        )?;
+    }
+    Ok(told)
 }
 
 fn diagnose_script(alloc: Global, file: &str, text: &str) -> Result<Diagnosis, AllocError>
@@ -111,7 +118,7 @@ fn diagnose_bytes(
     let found = Found {
         spot: Spot { at, len: 1 },
         refusal: Refusal::BadScript(0),
-        hint: format!(in alloc; "the byte {stray} here is no UTF-8: save the file as UTF-8.")?,
+        hint: format!(in alloc; "the byte {stray:02x} here is no UTF-8: save the file as UTF-8.")?,
     };
     page.tell_bare(alloc, number, at, &found)?;
     let text = page.end(alloc, false, "")?;

@@ -1,5 +1,5 @@
 //! The faults of a whole script, or of a schema, one by one.
-use crate::fields::found_in_line;
+use crate::fields::{RETURN, found_in_line};
 use crate::judging::{judge_question, judge_schema, judge_transaction};
 use crate::page::{Line, Page};
 use crate::walk::{Found, Spot};
@@ -43,6 +43,14 @@ fn bad_line(alloc: Global, number: usize, text: &str, why: &str) -> Result<Found
         refusal: Refusal::BadScript(number),
         hint: String::from_str(alloc, why)?,
     })
+}
+
+// That a line is bad, which a carriage return may be to blame for.
+fn bad_head(alloc: Global, number: usize, text: &str, why: &str) -> Result<Found, AllocError> {
+    if text.ends_with('\r') {
+        return bad_line(alloc, number, text, RETURN);
+    }
+    bad_line(alloc, number, text, why)
 }
 
 // How many members a line says that the group has.
@@ -126,6 +134,11 @@ impl<'f> Look<'f> {
         }
     }
 
+    /// Whether it has requests or questions that were not read, since its schema has a fault.
+    pub fn has_unread(&self) -> bool {
+        self.schema.is_none() && (self.requests > 0 || self.questions > 0)
+    }
+
     /// Looks at the next line.
     pub fn take(&mut self, alloc: Global, line: Line) -> Result<(), AllocError> {
         match self.part {
@@ -144,7 +157,7 @@ impl<'f> Look<'f> {
             return Ok(());
         }
         let why = "a script begins with a line members N, where N is 3 to 7.";
-        let found = bad_line(alloc, line.number, line.text, why)?;
+        let found = bad_head(alloc, line.number, line.text, why)?;
         self.page.tell(alloc, line, &found)
     }
 
@@ -155,7 +168,7 @@ impl<'f> Look<'f> {
             return Ok(());
         }
         let why = "behind the members comes a line schema, then the tables, then a line end.";
-        let found = bad_line(alloc, line.number, line.text, why)?;
+        let found = bad_head(alloc, line.number, line.text, why)?;
         self.page.tell(alloc, line, &found)
     }
 
