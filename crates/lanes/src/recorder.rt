@@ -60,7 +60,7 @@ impl Recorder {
         run
     }
 
-    /// The message of this number is known, and goes to this member.
+    /// The member to which the message of this number goes, where it was sent.
     pub fn addressee(&self, number: usize) -> Option<Member> {
         match self.run.messages.get(number.checked_sub(1)?) {
             Some(message) => Some(message.addressee),
@@ -84,6 +84,11 @@ impl Recorder {
             events: Vec::new(self.alloc),
         })?;
         Ok(())
+    }
+
+    /// The numbers of the messages that are under way, in order.
+    pub fn under_way(&self) -> Result<Vec<usize>, AllocError> {
+        self.run.fates.under_way()
     }
 
     /// From now on messages are counted and not drawn, until the next line.
@@ -115,14 +120,21 @@ impl Recorder {
         Ok(())
     }
 
-    /// The member of the event takes the message of this number, in this round.
+    /// The member to which it goes takes the message of this number, in this round.
     pub fn take(&mut self, number: usize, round: usize) -> Result<(), AllocError> {
-        let Some((node, term, is_append)) = self.brief(number) else {
+        let Some(node) = self.addressee(number) else {
             return Ok(());
         };
         self.run.fates.set(number, Fate::Taken);
-        self.begin_event(node, What::Takes(number), round)?;
-        self.hear(node, term, is_append)
+        self.begin_event(node, What::Takes(number), round)
+    }
+
+    /// The member that took the message of this number hears what it says.
+    pub fn heed(&mut self, number: usize) -> Result<(), AllocError> {
+        match self.brief(number) {
+            Some((node, term, is_append)) => self.hear(node, term, is_append),
+            None => Ok(()),
+        }
     }
 
     /// The member to which it goes is down, and misses the message of this number, in this round.
