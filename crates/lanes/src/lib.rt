@@ -1,6 +1,7 @@
 //! What the members of a group did in a run, for a picture: lanes and arrows, and the picture as text.
 #![tactic(auto)]
 
+mod album;
 pub mod fates;
 pub mod recorder;
 pub mod role;

@@ -85,8 +85,20 @@ pub fn draw_lanes(
         },
     };
     play_lines(alloc, text, lines.as_slice(), span, &mut stage)?;
-    let drawing = drawing_of(alloc, stage.pencil.recorder.run(), last_part(name), sheet)?;
+    let run = run_of(stage);
+    let drawing = drawing_of(alloc, &run, last_part(name), sheet)?;
     Ok(drawing)
+}
+
+// What was noted.
+fn run_of(stage: Stage) -> Run {
+    let Stage {
+        members: _,
+        player: _,
+        pencil,
+    } = stage;
+    let Pencil { alloc: _, recorder } = pencil;
+    recorder.into_run()
 }
 
 fn play_lines(
@@ -98,7 +110,7 @@ fn play_lines(
 ) -> Result<(), RunFault> {
     let numbers = numbered(alloc, text)?;
     for (line, (number, words)) in lines.iter().zip(&numbers) {
-        if *number > span.last || stage.pencil.recorder.run().is_too_much() {
+        if *number > span.last || stage.pencil.recorder.is_too_much() {
             return Ok(());
         }
         if !sets_clocks(line) {

@@ -33,7 +33,7 @@ impl Stage {
     }
 
     fn is_too_much(&self) -> bool {
-        self.pencil.recorder.run().is_too_much()
+        self.pencil.recorder.is_too_much()
     }
 
     fn play(&mut self, line: &Line) -> Result<(), RunFault> {
@@ -92,7 +92,7 @@ impl Stage {
         }
     }
 
-    // Delivers a message in this round; 0 is none.
+    // Delivers a message in this round; 0 is none. In a round nothing is brought to a member that is down.
     fn deliver(&mut self, number: usize, round: usize) -> Result<(), RunFault> {
         let Some(node) = self.pencil.recorder.addressee(number) else {
             return Ok(());
@@ -102,6 +102,9 @@ impl Stage {
             self.pencil.recorder.heed(number)?;
         } else {
             self.pencil.recorder.miss(number, round)?;
+            if round > 0 {
+                return Ok(());
+            }
         }
         self.play(&Line::Deliver {
             message: number as u64,
