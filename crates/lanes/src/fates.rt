@@ -1,7 +1,7 @@
 //! What became of messages.
-ghost use Rattle.std.specs.Prelude.{◌≡◌, ◌++◌, ◌∷◌, [], length, IfOk, OnOk, OnErr};
+ghost use Rattle.std.specs.Prelude.{◌≡◌, ◌++◌, ◌∷◌, [], length, OnOk, OnErr};
 ghost use Rattle.model.specs.Lists.{nth, with_nth};
-ghost use Rattle.lanes.specs.Fates.{is_under_way as is_under_way_in, lost, under_way_from};
+ghost use Rattle.lanes.specs.Fates.{is_under_way as is_under_way_in, lost};
 
 use std::alloc::{AllocError, Global};
 use std::marker::Model;
@@ -97,9 +97,7 @@ impl Fates {
     }
 
     /// The numbers of the messages that are under way, in order.
-    pub fn under_way(&self) -> Result<Vec<usize>, AllocError>
-        ensures { IfOk result (λ numbers. numbers.items ≡ under_way_from 1 self.now) }
-    {
+    pub fn under_way(&self) -> Result<Vec<usize>, AllocError> {
         let mut numbers = Vec::new(self.alloc);
         for (at, fate) in self.fates.iter().enumerate() {
             if *fate == Fate::UnderWay {
