@@ -10,7 +10,7 @@ use crate::album::Album;
 use crate::fates::{Fate, Fates};
 use crate::role::{Role, Roles, Standing};
 use crate::run::{News, Run, Sent, What};
-use crate::wording::{answer_note, refused_note, sent_of, told_note};
+use crate::wording::{answer_note, refused_note, sent_of, told_note, unseen_note};
 use fault::Refusal;
 use model::entry::Told;
 use model::member::Member;
@@ -270,14 +270,12 @@ impl Recorder {
     pub fn end_unseen(&mut self) -> Result<(), AllocError>
         ensures same { (fates_of self.new ≡ fates_of self.old) × (roles_of self.new ≡ roles_of self.old) }
     {
-        let count = self.unseen;
-        if count == 0 {
+        if self.unseen == 0 {
             return Ok(());
         }
-        let plural = if count == 1 { "" } else { "s" };
-        let words = format!(in self.alloc; "{count} message{plural} not drawn")?;
+        let note = unseen_note(self.alloc, self.unseen)?;
         let node = leader_in(self.roles.as_slice());
-        self.album.say(node, News::Remark, words.as_str())
+        self.album.note(node, note)
     }
 
     // To whom the message of this number goes, its term, and whether it is an Append.

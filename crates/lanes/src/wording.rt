@@ -156,3 +156,16 @@ pub(crate) fn answer_note(alloc: Global, rows: usize, last: Stamp) -> Result<Not
         time: String::new(alloc),
     })
 }
+
+/// That so many messages are not drawn.
+pub(crate) fn unseen_note(alloc: Global, count: usize) -> Result<Note, AllocError> {
+    let plural = if count == 1 { "" } else { "s" };
+    let short = format!(in alloc; "{count} not drawn")?;
+    let long = format!(in alloc; "{count} message{plural} not drawn")?;
+    Ok(Note {
+        news: News::Remark,
+        short,
+        long,
+        time: String::new(alloc),
+    })
+}
