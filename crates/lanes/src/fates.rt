@@ -1,7 +1,7 @@
 //! What became of messages.
-ghost use Rattle.std.specs.Prelude.{◌≡◌, ◌++◌, ◌∷◌, [], length, OnOk, OnErr};
+ghost use Rattle.std.specs.Prelude.{◌≡◌, ◌++◌, ◌∷◌, [], length, IfOk, OnOk, OnErr};
 ghost use Rattle.model.specs.Lists.{nth, with_nth};
-ghost use Rattle.lanes.specs.Fates.{is_under_way as is_under_way_in, lost};
+ghost use Rattle.lanes.specs.Fates.{is_under_way as is_under_way_in, lost, number_if, under_way_from};
 
 use std::alloc::{AllocError, Global};
 use std::marker::Model;
@@ -97,13 +97,24 @@ impl Fates {
     }
 
     /// The numbers of the messages that are under way, in order.
-    pub fn under_way(&self) -> Result<Vec<usize>, AllocError> {
+    pub fn under_way(&self) -> Result<Vec<usize>, AllocError>
+        ensures { IfOk result (λ numbers. numbers.items ≡ under_way_from 1 self.now) }
+    {
         let mut numbers = Vec::new(self.alloc);
         for (at, fate) in self.fates.iter().enumerate() {
-            if *fate == Fate::UnderWay {
-                numbers.push(at + 1)?;
-            }
+            add_under_way(at + 1, *fate, &mut numbers)?;
         }
         Ok(numbers)
     }
+}
+
+// Adds the number of a message, if it is under way.
+fn add_under_way(number: usize, fate: Fate, numbers: &mut Vec<usize>) -> Result<(), AllocError>
+    ensures { OnOk result (numbers.new.items ≡ numbers.old.items ++ number_if number fate) }
+{
+    match fate {
+        Fate::UnderWay => numbers.push(number)?,
+        Fate::Taken | Fate::Missed | Fate::Lost | Fate::Unseen => {}
+    }
+    Ok(())
 }

@@ -3,7 +3,7 @@ ghost use Rattle.std.specs.Prelude.{◌≡◌, ◌++◌, ◌∷◌, [], true, fa
 ghost use Rattle.model.specs.Lists.{with_nth};
 ghost use Rattle.lanes.specs.declared.fates.Fate.TheVariants as fate;
 ghost use Rattle.lanes.specs.declared.role.Role.TheVariants as role;
-ghost use Rattle.lanes.specs.Fates.{lost};
+ghost use Rattle.lanes.specs.Fates.{lost, under_way_from};
 ghost use Rattle.lanes.specs.Roles.{after_sending, after_taking, in_role, opening};
 
 use crate::album::Album;
@@ -98,7 +98,9 @@ impl Recorder {
     }
 
     /// The numbers of the messages that are under way, in order.
-    pub fn under_way(&self) -> Result<Vec<usize>, AllocError> {
+    pub fn under_way(&self) -> Result<Vec<usize>, AllocError>
+        ensures { IfOk result (λ numbers. numbers.items ≡ under_way_from 1 (fates_of self.now)) }
+    {
         self.fates.under_way()
     }
 
