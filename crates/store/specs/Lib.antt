@@ -1,5 +1,6 @@
 pub mod Announcing
 pub mod Chains
+pub mod Journals
 pub mod Pasts
 pub mod Refusals
 pub mod Tales

@@ -1,8 +1,10 @@
 -- Refusals of a store, as they are shown.
-use Rattle.std.specs.Prelude.{ℕ, Some, None, List, ◌++◌, codes}
-use Rattle.std.specs.Fmt.{decimal}
+use Rattle.std.specs.Prelude.{ℕ, Some, None, List, ◌++◌, codes, decimal}
+use Rattle.fault.specs.declared.refusal.Refusal.{Refusal}
 use Rattle.fault.specs.Refusal.{shown}
-use Rattle.fault.specs.declared.refusal.Refusal.TheVariants.{StoreFault, NoMemory} 
+use Rattle.fault.specs.declared.refusal.Refusal.TheVariants.{StoreFault, NoMemory}
+use Rattle.keep.specs.Errors.{refusal_of}
+use Rattle.keep.specs.declared.error.StoreError.{StoreError}
 use Rattle.store.specs.declared.device.DeviceError.{DeviceError}
 use Rattle.store.specs.declared.device.DeviceError.TheVariants.{Full, Failed}
 use Rattle.store.specs.declared.device.DeviceError.TheVariants as devices
@@ -28,3 +30,15 @@ abbrev pub device_refusal : DeviceError → StoreRefusal
 device_refusal Full = DiskFull
 device_refusal Failed = Refused StoreFault
 device_refusal devices.NoMemory = Refused NoMemory
+
+-- how an error of a database is told
+abbrev pub error_refusal : StoreError → StoreRefusal
+error_refusal error = Refused (refusal_of error)
+
+-- how want of memory is told
+abbrev pub no_memory : StoreRefusal
+no_memory = Refused NoMemory
+
+-- any other refusal
+abbrev pub other_refusal : Refusal → StoreRefusal
+other_refusal refusal = Refused refusal

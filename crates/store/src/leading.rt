@@ -1,4 +1,7 @@
 //! Who leads.
+ghost use Rattle.std.specs.Prelude.{◌≡◌, IsErr, IfOk};
+ghost use Rattle.store.specs.Journals.{IsSpent};
+
 use crate::announcing::Announces;
 use crate::refusal::StoreRefusal;
 use crate::store::Store;
@@ -45,8 +48,11 @@ where
     }
 
     /// The leader; one is elected where none is known and a majority is up: first a member with the longest log stands. None where there is
-    /// none. 38, 40 and 43 where the journal can't be written.
-    pub fn lead(&mut self, reading: i64) -> Result<Option<Member>, StoreRefusal> {
+    /// none. 38, 40 and 43 where the journal can't be written; of a store that was spent before nothing changes then.
+    pub fn lead(&mut self, reading: i64) -> Result<Option<Member>, StoreRefusal>
+        ensures spent { IsSpent self.old.scribe → IsErr result × (self.new ≡ self.old) }
+    {
+        self.check()?;
         let (up, longest) = self.strength();
         if up <= self.seats.len() / 2 {
             return Ok(None);

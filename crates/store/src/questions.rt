@@ -1,4 +1,8 @@
 //! Questions.
+ghost use Rattle.std.specs.Prelude.{◌≡◌, IsErr, IfOk, IfErr, OnOk, IfSome, string_bytes};
+ghost use Rattle.answertext.specs.Answers.{answer_text};
+ghost use Rattle.store.specs.Journals.{IsSpent, EndsWith, IsUnclosed};
+
 use crate::announcing::Announces;
 use crate::refusal::StoreRefusal;
 use crate::store::Store;
@@ -14,6 +18,7 @@ impl<K: Announces> Store<K>
 where
     K::Image: Drop,
 {
+    // The answer from what a member has applied.
     fn ask_once(&self, member: Member, text: &str) -> Result<Answer, Refusal> {
         let query = read_query(self.alloc, &self.schema, text)?;
         match self.seat(member) {
@@ -34,24 +39,29 @@ where
         Ok(())
     }
 
-    // Writes an answer, or the refusal of a question that is not closed, to the journal, so that it may be given out.
-    fn record(
+    // The answer from what a member has applied, asked again once time is closed where it is not yet.
+    fn ask_closed(
         &mut self,
+        reading: i64,
         member: Member,
-        query: &str,
-        answered: &Result<Answer, Refusal>,
-    ) -> Result<(), StoreRefusal> {
-        let alloc = self.alloc;
-        let lines = match answered {
-            Ok(answer) => format!(in alloc; "{}", Lines(answer))?,
-            Err(Refusal::NotClosed(closed)) => match closed {
-                Some(instant) => format!(in alloc; "33 not closed, closed to {instant}")?,
-                None => format!(in alloc; "33 not closed, nothing closed")?,
-            },
-            Err(_) => return Ok(()),
-        };
-        let query = Text::new(alloc, query)?;
-        let answer = Text::from_string(lines)?;
+        text: &str,
+    ) -> Result<Result<Answer, Refusal>, StoreRefusal> {
+        match self.ask_once(member, text) {
+            Err(Refusal::NotClosed(_)) => {
+                self.close_time(reading)?;
+                Ok(self.ask_once(member, text))
+            }
+            answered => Ok(answered),
+        }
+    }
+
+    // Writes what was answered to the journal, so that it may be given out.
+    fn tell(&mut self, member: Member, query: &str, words: String) -> Result<(), StoreRefusal>
+        ensures told { OnOk result (EndsWith K.Journal.contents self.new.scribe (Line.Answer member query.now (string_bytes words))) }
+        ensures same { self.new ≡ record self.old { scribe = self.new.scribe } }
+    {
+        let query = Text::new(self.alloc, query)?;
+        let answer = Text::from_string(words)?;
         self.write(&Line::Answer {
             member,
             query,
@@ -64,35 +74,49 @@ where
     /// the leader has had time closed up to the reading. The answer is in the journal.
     ///
     /// 10 to 17 where the text is no question; 33 where its last instant is not closed, which is in the journal too; 41 where the
-    /// member is not up. 38, 40 and 43 where the journal can't be written.
+    /// member is not up. 38, 40 and 43 where the journal can't be written; of a store that was spent before nothing changes then.
     pub fn ask(
         &mut self,
         reading: i64,
         member: Member,
         text: &str,
-    ) -> Result<Answer, StoreRefusal> {
+    ) -> Result<Answer, StoreRefusal>
+        ensures told { IfOk result (λ a. EndsWith K.Journal.contents self.new.scribe (Line.Answer member text.now (answer_text a))) }
+        ensures unclosed { IfErr result (IsUnclosed K.Journal.contents self.new.scribe member text.now) }
+        ensures spent { IsSpent self.old.scribe → IsErr result × (self.new ≡ self.old) }
+    {
         self.check()?;
-        let mut answered = self.ask_once(member, text);
-        if matches!(answered, Err(Refusal::NotClosed(_))) {
-            self.close_time(reading)?;
-            answered = self.ask_once(member, text);
-        }
-        self.record(member, text, &answered)?;
-        match answered {
-            Ok(answer) => Ok(answer),
+        let alloc = self.alloc;
+        match self.ask_closed(reading, member, text)? {
+            Ok(answer) => {
+                let words = format!(in alloc; "{}", Lines(&answer))?;
+                self.tell(member, text, words)?;
+                Ok(answer)
+            }
+            Err(Refusal::NotClosed(closed)) => {
+                let refusal = Refusal::NotClosed(closed);
+                let words = format!(in alloc; "{refusal}")?;
+                self.tell(member, text, words)?;
+                Err(StoreRefusal::Refused(refusal))
+            }
             Err(refusal) => Err(StoreRefusal::Refused(refusal)),
         }
     }
 
     /// Asks the leader, or where none is known the first member that is up: who was asked, and what `ask` gives.
-    pub fn ask_any(&mut self, reading: i64, text: &str) -> Result<(Member, Answer), StoreRefusal> {
+    pub fn ask_any(&mut self, reading: i64, text: &str) -> Result<(Member, Answer), StoreRefusal>
+        ensures told { IfOk result (λ p. EndsWith K.Journal.contents self.new.scribe (Line.Answer p.0 text.now (answer_text p.1))) }
+        ensures spent { IsSpent self.old.scribe → IsErr result × (self.new ≡ self.old) }
+    {
         let member = self.first_asked();
         let answer = self.ask(reading, member, text)?;
         Ok((member, answer))
     }
 
     /// Whom `ask_any` asks: the leader, or where none is known the first member that is up, or the first one.
-    pub fn first_asked(&self) -> Member {
+    pub fn first_asked(&self) -> Member
+        ensures { IfSome self.now.leader (λ member. result ≡ member) }
+    {
         if let Some(leader) = self.leader {
             return leader;
         }

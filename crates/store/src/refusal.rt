@@ -1,7 +1,6 @@
 //! Why a store does not do what it is asked.
 ghost use Rattle.std.specs.Prelude.{◌≡◌, Some};
-ghost use Rattle.keep.specs.Errors.{refusal_of};
-ghost use Rattle.store.specs.Refusals.{refusal_text, device_refusal};
+ghost use Rattle.store.specs.Refusals.{refusal_text, device_refusal, error_refusal, no_memory, other_refusal};
 
 use crate::device::DeviceError;
 use fault::Refusal;
@@ -114,7 +113,7 @@ impl fmt::Display for StoreRefusal {
 impl Error for StoreRefusal {}
 
 impl From<Refusal> for StoreRefusal {
-    ghost from_gives = { λ refusal r. r ≡ StoreRefusal.Refused refusal };
+    ghost from_gives = { λ refusal r. r ≡ other_refusal refusal };
 
     fn from(refusal: Refusal) -> StoreRefusal {
         StoreRefusal::Refused(refusal)
@@ -122,7 +121,7 @@ impl From<Refusal> for StoreRefusal {
 }
 
 impl From<StoreError> for StoreRefusal {
-    ghost from_gives = { λ error r. r ≡ StoreRefusal.Refused (refusal_of error) };
+    ghost from_gives = { λ error r. r ≡ error_refusal error };
 
     fn from(error: StoreError) -> StoreRefusal {
         StoreRefusal::Refused(Refusal::from(error))
@@ -142,7 +141,7 @@ impl From<DeviceError> for StoreRefusal {
 }
 
 impl From<AllocError> for StoreRefusal {
-    ghost from_gives = { λ _ r. r ≡ StoreRefusal.Refused Refusal.NoMemory };
+    ghost from_gives = { λ _ r. r ≡ no_memory };
 
     fn from(_error: AllocError) -> StoreRefusal {
         StoreRefusal::Refused(Refusal::NoMemory)
@@ -150,7 +149,7 @@ impl From<AllocError> for StoreRefusal {
 }
 
 impl<T: Drop> From<AllocFailed<T>> for StoreRefusal {
-    ghost from_gives = { λ _ r. r ≡ StoreRefusal.Refused Refusal.NoMemory };
+    ghost from_gives = { λ _ r. r ≡ no_memory };
 
     fn from(_error: AllocFailed<T>) -> StoreRefusal {
         StoreRefusal::Refused(Refusal::NoMemory)

@@ -1,4 +1,8 @@
 //! Requests of clients.
+ghost use Rattle.std.specs.Prelude.{◌≡◌, IsErr, IfOk, OnOk};
+ghost use Rattle.store.specs.Journals.{IsSpent, EndsWith};
+ghost use Rattle.store.specs.Words.{words_of};
+
 use crate::announcing::Announces;
 use crate::chain::OWN_CLIENT;
 use crate::outcome::Outcome;
@@ -89,7 +93,10 @@ where
         client: Client,
         number: RequestNumber,
         outcome: &Outcome,
-    ) -> Result<(), StoreRefusal> {
+    ) -> Result<(), StoreRefusal>
+        ensures told { OnOk result (EndsWith K.Journal.contents self.new.scribe (Line.Printed client number (words_of outcome.now))) }
+        ensures same { self.new ≡ record self.old { scribe = self.new.scribe } }
+    {
         let alloc = self.alloc;
         let words = Text::from_string(format!(in alloc; "{outcome}")?)?;
         self.write(&Line::Printed {
@@ -105,14 +112,18 @@ where
     /// told of it.
     ///
     /// The store's own client is 65535. The clock shows `reading`, in microseconds since 1970. 38, 40 and 43 where the journal
-    /// can't be written; 43 for want of memory otherwise, with nothing changed.
+    /// can't be written; of a store that was spent before nothing changes then. 43 for want of memory otherwise. After each of these
+    /// it is not known whether the request is decided, as with `Unanswered`.
     pub fn submit(
         &mut self,
         reading: i64,
         client: Client,
         number: RequestNumber,
         text: &str,
-    ) -> Result<Outcome, StoreRefusal> {
+    ) -> Result<Outcome, StoreRefusal>
+        ensures told { IfOk result (λ o. EndsWith K.Journal.contents self.new.scribe (Line.Printed client number (words_of o))) }
+        ensures spent { IsSpent self.old.scribe → IsErr result × (self.new ≡ self.old) }
+    {
         self.check()?;
         let text = Text::new(self.alloc, text)?;
         self.watched = Some(Watched {
@@ -130,22 +141,32 @@ where
 
     /// The number that the next request of the store's own client has: one more than the last one in the leader's log, or in the
     /// longest log where no majority is up.
-    pub fn next_number(&mut self, reading: i64) -> Result<u64, StoreRefusal> {
+    pub fn next_number(&mut self, reading: i64) -> Result<u64, StoreRefusal>
+        ensures spent { IsSpent self.old.scribe → IsErr result × (self.new ≡ self.old) }
+    {
         self.check()?;
-        let mut own = 0;
-        match self.lead(reading)? {
-            Some(leader) => {
-                if let Some(seat) = self.seat(leader) {
-                    own = seat.chain.own();
-                }
-            }
-            None => {
-                for seat in &self.seats {
-                    own = own.max(seat.chain.own());
-                }
-            }
-        }
+        let own = match self.lead(reading)? {
+            Some(leader) => self.own_of(leader),
+            None => self.own_most(),
+        };
         Ok(own.saturating_add(1))
+    }
+
+    // The number of the last request of the store's own client in a member's log.
+    fn own_of(&self, member: Member) -> u64 {
+        match self.seat(member) {
+            Some(seat) => seat.chain.own(),
+            None => 0,
+        }
+    }
+
+    // The greatest of these numbers.
+    fn own_most(&self) -> u64 {
+        let mut own = 0;
+        for seat in &self.seats {
+            own = own.max(seat.chain.own());
+        }
+        own
     }
 
     /// Hands in a request in the store's own name, with the next number: the number, and what came of it. What `submit` refuses; 31
@@ -154,7 +175,10 @@ where
         &mut self,
         reading: i64,
         text: &str,
-    ) -> Result<(RequestNumber, Outcome), StoreRefusal> {
+    ) -> Result<(RequestNumber, Outcome), StoreRefusal>
+        ensures told { IfOk result (λ r. EndsWith K.Journal.contents self.new.scribe (Line.Printed 65535 r.0 (words_of r.1))) }
+        ensures spent { IsSpent self.old.scribe → IsErr result × (self.new ≡ self.old) }
+    {
         let next = self.next_number(reading)?;
         let (Some(client), Some(number)) = (Client::new(OWN_CLIENT), RequestNumber::new(next))
         else {

@@ -1,6 +1,6 @@
 //! The open store.
-ghost use Rattle.std.specs.Prelude.{◌≡◌, Some, None, IsErr, IsSome, IsTrue, ◌↔◌, OnOk, OnErr, length};
-ghost use Rattle.std.specs.Option.{ForSome};
+ghost use Rattle.std.specs.Prelude.{◌≡◌, ◌↔◌, Some, None, IsErr, IsTrue, IfSome, OnOk, OnErr, MatchOption, length};
+ghost use Rattle.store.specs.Journals.{IsSpent, IsAdded, IsFlushed};
 
 use crate::announcing::Announces;
 use crate::device::DeviceError;
@@ -127,7 +127,10 @@ where
     }
 
     // Adds a line to the journal's buffer.
-    pub(crate) fn write(&mut self, line: &Line) -> Result<(), StoreRefusal> {
+    pub(crate) fn write(&mut self, line: &Line) -> Result<(), StoreRefusal>
+        ensures ok { OnOk result (IsAdded self.old.scribe self.new.scribe line.now) }
+        ensures same { self.new ≡ record self.old { scribe = self.new.scribe } }
+    {
         match &mut self.scribe {
             Some(scribe) => Ok(scribe.add(line)?),
             None => Err(spent()),
@@ -135,7 +138,10 @@ where
     }
 
     // Writes the journal's buffer to its device.
-    pub(crate) fn flush(&mut self) -> Result<(), StoreRefusal> {
+    pub(crate) fn flush(&mut self) -> Result<(), StoreRefusal>
+        ensures ok { OnOk result (IsFlushed K.Journal.contents self.old.scribe self.new.scribe) }
+        ensures same { self.new ≡ record self.old { scribe = self.new.scribe } }
+    {
         match &mut self.scribe {
             Some(scribe) => Ok(scribe.flush()?),
             None => Err(spent()),
@@ -143,7 +149,10 @@ where
     }
 
     // An error where the store is spent.
-    pub(crate) fn check(&self) -> Result<(), StoreRefusal> {
+    pub(crate) fn check(&self) -> Result<(), StoreRefusal>
+        ensures ok { OnOk result (IsSpent self.now.scribe → ⊥) }
+        ensures err { OnErr result (IsSpent self.now.scribe) }
+    {
         match &self.scribe {
             Some(scribe) => match scribe.failure() {
                 None => Ok(()),
@@ -162,7 +171,9 @@ where
     }
 
     /// Whether the journal can't be written any more, and each call answers so.
-    pub fn is_spent(&self) -> bool {
+    pub fn is_spent(&self) -> bool
+        ensures { IsTrue result ↔ IsSpent self.now.scribe }
+    {
         self.check().is_err()
     }
 
