@@ -18,11 +18,11 @@ seam : {A : Type 0} (n : ℕ) (xs ys : List A) → length xs ≡ min n (length x
 seam n xs ys short =
     let low : length xs ≤ n = omega (arith, short) in
     elim (eq-or-lt_of_le low) [
-      inl same ↦ subst (λ (k : ℕ). take k (xs ++ ys) ≡ xs) same (take-append_seam xs ys)
+      | inl same ↦ subst (λ (k : ℕ). take k (xs ++ ys) ≡ xs) same (take-append_seam xs ys)
       | inr less ↦
-        let none : length ys ≡ 0 = omega (arith, short, less) in
-        let all : xs ++ ys ≡ xs = ap (λ (zs : List A). xs ++ zs) (nil_from_length ys none) ∙ append-nil xs in
-        ap (take n) all ∙ take_all n xs low
+          let none : length ys ≡ 0 = omega (arith, short, less) in
+          let all : xs ++ ys ≡ xs = ap (λ (zs : List A). xs ++ zs) (nil_from_length ys none) ∙ append-nil xs in
+          ap (take n) all ∙ take_all n xs low
     ]
 
 -- entries more leave what is known of those before

@@ -9,8 +9,8 @@ ghost use Rattle.journal.specs.Digests.{summary_of};
 ghost use Rattle.store.specs.Chains.{links_of};
 ghost use Rattle.store.specs.Announcing.{HasAnnounced};
 
-pub use crate::voice::Voice;
 use crate::device::Device;
+pub use crate::voice::Voice;
 use durable::SqlKeeper;
 use keep::{Change, Keeper, Shelf, State, StoreError};
 use model::entry::Entry;

@@ -75,12 +75,7 @@ where
     ///
     /// 10 to 17 where the text is no question; 33 where its last instant is not closed, which is in the journal too; 41 where the
     /// member is not up. 38, 40 and 43 where the journal can't be written; of a store that was spent before nothing changes then.
-    pub fn ask(
-        &mut self,
-        reading: i64,
-        member: Member,
-        text: &str,
-    ) -> Result<Answer, StoreRefusal>
+    pub fn ask(&mut self, reading: i64, member: Member, text: &str) -> Result<Answer, StoreRefusal>
         ensures told { IfOk result (λ a. EndsWith K.Journal.contents self.new.scribe (Line.Answer member text.now (answer_text a))) }
         ensures unclosed { IfErr result (IsUnclosed K.Journal.contents self.new.scribe member text.now) }
         ensures spent { IsSpent self.old.scribe → IsErr result × (self.new ≡ self.old) }

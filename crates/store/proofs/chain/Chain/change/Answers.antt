@@ -9,7 +9,7 @@ pub returns-clause-stored : goal.returns-clause-stored
 returns-clause-stored c = λ d same.
     let whole : c.loop-entry.self.links.items ≡ fold link_entry (take c.args.change.now.kept c.args.self.now.links.items) c.args.change.now.entries.items = search rules in
     c.summary.ensures (after c.args.change.now d) refl
-        (whole ∙ ap (λ (links : List Link). fold link_entry (take c.args.change.now.kept links) c.args.change.now.entries.items) same ∙ links_after c.args.change.now.kept d.log c.args.change.now.entries.items)
+    (whole ∙ ap (λ (links : List Link). fold link_entry (take c.args.change.now.kept links) c.args.change.now.entries.items) same ∙ links_after c.args.change.now.kept d.log c.args.change.now.entries.items)
 
 pub returns-clause-links : goal.returns-clause-links
 returns-clause-links c = λ d same.
