@@ -1,4 +1,5 @@
 pub mod Announcing
+pub mod Asking
 pub mod Chains
 pub mod Journals
 pub mod Pasts

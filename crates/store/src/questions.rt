@@ -1,5 +1,6 @@
 //! Questions.
-ghost use Rattle.std.specs.Prelude.{◌≡◌, IsErr, IfOk, IfErr, OnOk, IfSome, string_bytes};
+ghost use Rattle.std.specs.Prelude.{◌≡◌, ◌-◌, IsErr, IfOk, IfErr, OnOk, IfSome, MatchOption, slice_get, string_bytes};
+ghost use Rattle.store.specs.Asking.{IsAnswerOf};
 ghost use Rattle.answertext.specs.Answers.{answer_text};
 ghost use Rattle.store.specs.Journals.{IsSpent, EndsWith, IsUnclosed};
 
@@ -12,18 +13,38 @@ use fault::{Refusal, Text};
 use journal::{Line, Taken};
 use model::member::Member;
 use model::message::Input;
+use node::Node;
+use schema::Schema;
 use sqlread::query::read_query;
+use std::alloc::Global;
+
+// The answer from what a node has applied.
+fn ask_node<K: Announces>(
+    alloc: Global,
+    schema: &Schema,
+    node: &Node<K>,
+    text: &str,
+) -> Result<Answer, Refusal>
+    ensures asked { IfOk result (λ a. IsAnswerOf K.is_honest node.now schema.now text.now a) }
+{
+    let query = read_query(alloc, schema, text)?;
+    if !node.is_up {
+        return Err(Refusal::NodeDown);
+    }
+    node.ask(&query)
+}
 
 impl<K: Announces> Store<K>
 where
     K::Image: Drop,
 {
     // The answer from what a member has applied.
-    fn ask_once(&self, member: Member, text: &str) -> Result<Answer, Refusal> {
-        let query = read_query(self.alloc, &self.schema, text)?;
+    fn ask_once(&self, member: Member, text: &str) -> Result<Answer, Refusal>
+        ensures asked { IfOk result (λ a. MatchOption (slice_get self.now.seats.items (member - 1)) ⊥ (λ seat. MatchOption seat.node ⊥ (λ n. IsAnswerOf K.is_honest n self.now.schema text.now a))) }
+    {
         match self.seat(member) {
             Some(seat) => match &seat.node {
-                Some(node) => node.ask(&query),
+                Some(node) => ask_node(self.alloc, &self.schema, node, text),
                 None => Err(Refusal::NodeDown),
             },
             None => Err(Refusal::NodeDown),
@@ -45,7 +66,9 @@ where
         reading: i64,
         member: Member,
         text: &str,
-    ) -> Result<Result<Answer, Refusal>, StoreRefusal> {
+    ) -> Result<Result<Answer, Refusal>, StoreRefusal>
+        ensures asked { IfOk result (λ r. IfOk r (λ a. MatchOption (slice_get self.new.seats.items (member - 1)) ⊥ (λ seat. MatchOption seat.node ⊥ (λ n. IsAnswerOf K.is_honest n self.new.schema text.now a)))) }
+    {
         match self.ask_once(member, text) {
             Err(Refusal::NotClosed(_)) => {
                 self.close_time(reading)?;

@@ -34,12 +34,10 @@ where
     fn start_node(&mut self, member: Member) -> Result<bool, StoreRefusal> {
         let members = self.seats.len();
         let schema = self.schema.clone()?;
-        let Some(at) = member.checked_sub(1) else {
+        let Some(at) = self.place_of(member) else {
             return Err(StoreRefusal::Refused(Refusal::NodeDown));
         };
-        let Some(seat) = self.seats.get_mut(at) else {
-            return Err(StoreRefusal::Refused(Refusal::NodeDown));
-        };
+        let seat = &mut self.seats[at];
         if seat.is_up() {
             return Ok(false);
         }

@@ -109,16 +109,13 @@ where
 
     // Lends the journal to a member for a step.
     fn lend(&mut self, member: Member, work: Work) -> Result<Result<Out, Fault>, StoreRefusal> {
-        let Some(at) = member.checked_sub(1) else {
+        let Some(at) = self.place_of(member) else {
             return Ok(Err(Fault::Kept(Refusal::NodeDown)));
         };
         let Some(scribe) = self.scribe.take() else {
             return Err(spent());
         };
-        let Some(seat) = self.seats.get_mut(at) else {
-            self.scribe = Some(scribe);
-            return Ok(Err(Fault::Kept(Refusal::NodeDown)));
-        };
+        let seat = &mut self.seats[at];
         let (scribe, result) = seat.step(scribe, work);
         self.scribe = scribe;
         self.check()?;
@@ -180,10 +177,9 @@ where
 
     // A member is down.
     pub(crate) fn fall(&mut self, member: Member) {
-        if let Some(at) = member.checked_sub(1) {
-            if let Some(seat) = self.seats.get_mut(at) {
-                seat.stop();
-            }
+        if let Some(at) = self.place_of(member) {
+            let seat = &mut self.seats[at];
+            seat.stop();
         }
         if self.leader == Some(member) {
             self.leader = None;

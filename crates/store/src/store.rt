@@ -1,5 +1,5 @@
 //! The open store.
-ghost use Rattle.std.specs.Prelude.{◌≡◌, ◌↔◌, Some, None, IsErr, IsTrue, IfSome, OnOk, OnErr, MatchOption, length};
+ghost use Rattle.std.specs.Prelude.{◌≡◌, ◌↔◌, ◌⊎◌, ◌<◌, ◌+◌, ◌-◌, Some, IsTrue, IfSome, IfNone, OnOk, OnErr, length, slice_get};
 ghost use Rattle.store.specs.Journals.{IsSpent, IsAdded, IsFlushed};
 
 use crate::announcing::Announces;
@@ -177,9 +177,23 @@ where
         self.check().is_err()
     }
 
+    // How many seats stand before a member's.
+    pub(crate) fn place_of(&self, member: Member) -> Option<usize>
+        ensures some { IfSome result (λ at. (at < length self.now.seats.items) × (member ≡ at + 1)) }
+        ensures none { IfNone result (length self.now.seats.items < member ⊎ (member ≡ 0)) }
+    {
+        if member == 0 || member > self.seats.len() {
+            return None;
+        }
+        Some(member - 1)
+    }
+
     // The seat of a member.
-    pub(crate) fn seat(&self, member: Member) -> Option<&Seat<K>> {
-        self.seats.get(member.checked_sub(1)?)
+    pub(crate) fn seat(&self, member: Member) -> Option<&Seat<K>>
+        ensures { IfSome result (λ seat. (0 < member) × (slice_get self.now.seats.items (member - 1) ≡ Some seat.now)) }
+    {
+        let at = self.place_of(member)?;
+        Some(&self.seats[at])
     }
 
     pub(crate) fn is_up(&self, member: Member) -> bool {
