@@ -1,39 +1,28 @@
 -- What is written to a journal.
-use Rattle.std.proofs.Common.{◌≡◌, ◌≢◌, ◌∙◌, ℕ, Option, Some, None, List, [], ◌∷◌, ◌++◌, refl, sym, subst, append-nil, string_bytes}
+use Rattle.std.proofs.Common.{◌≡◌, ◌∙◌, ℕ, Option, Some, None, List, [], ◌∷◌, ◌++◌, refl, sym, subst, append-nil, string_bytes}
 use Rattle.std.specs.Io.KnownBytes.{Appends}
 use Rattle.flight.specs.Additions.{Adds}
-use Rattle.journal.specs.Blocks.{block_text, sum_after}
+use Rattle.journal.specs.Blocks.{block_text}
 use Rattle.journal.specs.Spelling.{line_text}
 use Rattle.journal.specs.declared.line.Line.{Line}
 use Rattle.store.specs.declared.scribe.Scribe.{Scribe}
-use Rattle.store.specs.Writing.{AppendsPart, IsWritten, sum_written, with_line}
+use Rattle.store.specs.Writing.{AppendsPart, IsWritten, with_line}
 use Rattle.store.specs.Journals.{IsAdded, IsFlushed, EndsWith}
 
 -- what was added to nothing
 block_is : (block : List ℕ) (spelled : List ℕ → List ℕ) → Adds [] block spelled → block ≡ spelled []
 block_is block spelled adds = sym (append-nil block) ∙ adds []
 
-pub written_some : (old new : Option (List ℕ)) (sum : ℕ) (bytes block : List ℕ) → bytes ≢ [] → Adds [] block (block_text sum bytes) → Appends old new block → IsWritten old new sum bytes
-written_some old new sum [] block some adds grows = absurd (some refl)
-written_some old new sum (b ∷ bs) block some adds grows = subst (λ (x : List ℕ). Appends old new x) (block_is block (block_text sum (b ∷ bs)) adds) grows
-
-pub written_none : (old : Option (List ℕ)) (sum : ℕ) (bytes : List ℕ) → bytes ≡ [] → IsWritten old old sum bytes
-written_none old sum bytes none = subst (λ (x : List ℕ). IsWritten old old sum x) (sym none) refl
-
-pub sum_some : (sum next : ℕ) (bytes : List ℕ) → bytes ≢ [] → next ≡ sum_after sum bytes → next ≡ sum_written sum bytes
-sum_some sum next [] some same = absurd (some refl)
-sum_some sum next (b ∷ bs) some same = same
-
-pub sum_none : (sum : ℕ) (bytes : List ℕ) → bytes ≡ [] → sum ≡ sum_written sum bytes
-sum_none sum bytes none = subst (λ (x : List ℕ). sum ≡ sum_written sum x) (sym none) refl
+pub appended : (old new : Option (List ℕ)) (sum : ℕ) (bytes block : List ℕ) → Adds [] block (block_text sum bytes) → Appends old new block → Appends old new (block_text sum bytes [])
+appended old new sum bytes block adds grows = subst (λ (x : List ℕ). Appends old new x) (block_is block (block_text sum bytes) adds) grows
 
 -- nothing of it is there
 pub part_none : (old : Option (List ℕ)) (bytes : List ℕ) → AppendsPart old old bytes
 part_none None bytes = ([], (bytes, refl, tt))
 part_none (Some held) bytes = ([], (bytes, refl, sym (append-nil held)))
 
-pub part_some : (old new : Option (List ℕ)) (block : List ℕ) (spelled : List ℕ → List ℕ) → Adds [] block spelled → AppendsPart old new block → AppendsPart old new (spelled [])
-part_some old new block spelled adds part = subst (λ (x : List ℕ). AppendsPart old new x) (block_is block spelled adds) part
+pub part_some : (old new : Option (List ℕ)) (sum : ℕ) (bytes block : List ℕ) → Adds [] block (block_text sum bytes) → AppendsPart old new block → AppendsPart old new (block_text sum bytes [])
+part_some old new sum bytes block adds part = subst (λ (x : List ℕ). AppendsPart old new x) (block_is block (block_text sum bytes) adds) part
 
 -- a line that was added
 pub line_added : (old new : List ℕ) (line : Line) → Adds old new (line_text line) → new ≡ with_line old line

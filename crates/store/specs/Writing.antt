@@ -1,5 +1,5 @@
 -- What is written to a journal.
-use Rattle.std.specs.Prelude.{◌≡◌, ℕ, Option, Some, None, List, [], ◌∷◌, ◌++◌, ⊤}
+use Rattle.std.specs.Prelude.{◌≡◌, ◌≢◌, ℕ, Option, List, [], ◌++◌}
 use Rattle.std.specs.Io.KnownBytes.{Appends}
 use Rattle.journal.specs.Blocks.{block_text, sum_after}
 use Rattle.journal.specs.declared.line.Line.{Line}
@@ -11,13 +11,11 @@ AppendsPart old new bytes = (front back : List ℕ) × (bytes ≡ front ++ back)
 
 -- the lines of a buffer are written as one block, after the block of this sum; of no lines nothing is written
 abbrev pub IsWritten : Option (List ℕ) → Option (List ℕ) → ℕ → List ℕ → Type 0
-IsWritten old new sum [] = new ≡ old
-IsWritten old new sum (byte ∷ bytes) = Appends old new (block_text sum (byte ∷ bytes) [])
+IsWritten old new sum bytes = (bytes ≡ [] → new ≡ old) × (bytes ≢ [] → Appends old new (block_text sum bytes []))
 
--- the sum of the last block, once these lines are written
-abbrev pub sum_written : ℕ → List ℕ → ℕ
-sum_written sum [] = sum
-sum_written sum (byte ∷ bytes) = sum_after sum (byte ∷ bytes)
+-- the sum of the last block is so, once these lines are written
+abbrev pub IsSummed : ℕ → ℕ → List ℕ → Type 0
+IsSummed old new bytes = (bytes ≡ [] → new ≡ old) × (bytes ≢ [] → new ≡ sum_after old bytes)
 
 -- a line behind those of a buffer
 abbrev pub with_line : List ℕ → Line → List ℕ

@@ -3,7 +3,7 @@ ghost use Rattle.std.specs.Prelude.{◌≡◌, ◌≢◌, Some, None, [], ◌++�
 ghost use Rattle.flight.specs.Additions.{Adds};
 ghost use Rattle.journal.specs.Blocks.{block_text};
 ghost use Rattle.journal.specs.Spelling.{line_text};
-ghost use Rattle.store.specs.Writing.{AppendsPart, IsWritten, sum_written};
+ghost use Rattle.store.specs.Writing.{AppendsPart, IsSummed, IsWritten};
 
 use crate::device::{Device, DeviceError};
 use journal::blocks::put_block;
@@ -118,7 +118,7 @@ impl<J: Device> Scribe<J> {
         requires { string_bytes self.old.buffer ≢ [] }
         ensures ok { OnOk result (IsWritten (J.contents self.old.device) (J.contents self.new.device) self.old.sum (string_bytes self.old.buffer)) }
         ensures empty { OnOk result (string_bytes self.new.buffer ≡ []) }
-        ensures sum { OnOk result (self.new.sum ≡ sum_written self.old.sum (string_bytes self.old.buffer)) }
+        ensures sum { OnOk result (IsSummed self.old.sum self.new.sum (string_bytes self.old.buffer)) }
         ensures err { OnErr result (AppendsPart (J.contents self.old.device) (J.contents self.new.device) (block_text self.old.sum (string_bytes self.old.buffer) [])) }
         ensures same { self.new.failure ≡ self.old.failure }
     {
@@ -137,7 +137,7 @@ impl<J: Device> Scribe<J> {
     pub fn flush(&mut self) -> Result<(), DeviceError>
         ensures ok { OnOk result (IsWritten (J.contents self.old.device) (J.contents self.new.device) self.old.sum (string_bytes self.old.buffer)) }
         ensures empty { OnOk result (string_bytes self.new.buffer ≡ []) }
-        ensures sum { OnOk result (self.new.sum ≡ sum_written self.old.sum (string_bytes self.old.buffer)) }
+        ensures sum { OnOk result (IsSummed self.old.sum self.new.sum (string_bytes self.old.buffer)) }
         ensures up { OnOk result ((self.old.failure ≡ None) × (self.new.failure ≡ None)) }
         ensures part { OnErr result (self.old.failure ≡ None → AppendsPart (J.contents self.old.device) (J.contents self.new.device) (block_text self.old.sum (string_bytes self.old.buffer) [])) }
         ensures err { IfErr result (λ e. self.new.failure ≡ Some e) }
