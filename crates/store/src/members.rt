@@ -1,5 +1,5 @@
 //! The members of a store as it is opened: what each database holds has to be what the journal says.
-ghost use Rattle.std.specs.Prelude.{◌≡◌, ◌⊎◌, ◌≤◌, Some, None, IfOk, IfErr, OnOk, MatchOption, length};
+ghost use Rattle.std.specs.Prelude.{◌≡◌, true, OnOk};
 ghost use Rattle.std.specs.Option.{ForSome};
 ghost use Rattle.node.specs.Member.{member_of};
 ghost use Rattle.node.specs.View.{durable_of};
