@@ -15,7 +15,7 @@ use Rattle.store.specs.Chains.{first_link, next_link, last_link, link_entry, lin
 
 -- a beginning that is as long as it can be
 seam : {A : Type 0} (n : ℕ) (xs ys : List A) → length xs ≡ min n (length xs + length ys) → take n (xs ++ ys) ≡ xs
-seam n xs ys short =
+seam {A = A} n xs ys short =
     let low : length xs ≤ n = omega (arith, short) in
     elim (eq-or-lt_of_le low) [
       | inl same ↦ subst (λ (k : ℕ). take k (xs ++ ys) ≡ xs) same (take-append_seam xs ys)

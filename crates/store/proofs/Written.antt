@@ -1,5 +1,5 @@
 -- What is written to a journal.
-use Rattle.std.proofs.Common.{◌≡◌, ◌∙◌, ℕ, Option, Some, None, List, [], ◌∷◌, ◌++◌, refl, sym, subst, append-nil, string_bytes}
+use Rattle.std.proofs.Common.{◌≡◌, ◌∙◌, ℕ, Option, Some, None, List, [], ◌∷◌, ◌++◌, refl, sym, ap, subst, append-nil, string_bytes, Result, Ok, Err, OnErr}
 use Rattle.std.specs.Io.KnownBytes.{Appends}
 use Rattle.flight.specs.Additions.{Adds}
 use Rattle.journal.specs.Blocks.{block_text}
@@ -9,20 +9,22 @@ use Rattle.store.specs.declared.scribe.Scribe.{Scribe}
 use Rattle.store.specs.Writing.{AppendsPart, IsWritten, with_line}
 use Rattle.store.specs.Journals.{IsAdded, IsFlushed, EndsWith}
 
--- what was added to nothing
-block_is : (block : List ℕ) (spelled : List ℕ → List ℕ) → Adds [] block spelled → block ≡ spelled []
-block_is block spelled adds = sym (append-nil block) ∙ adds []
-
-pub appended : (old new : Option (List ℕ)) (sum : ℕ) (bytes block : List ℕ) → Adds [] block (block_text sum bytes) → Appends old new block → Appends old new (block_text sum bytes [])
-appended old new sum bytes block adds grows = subst (λ (x : List ℕ). Appends old new x) (block_is block (block_text sum bytes) adds) grows
-
 -- nothing of it is there
 pub part_none : (old : Option (List ℕ)) (bytes : List ℕ) → AppendsPart old old bytes
 part_none None bytes = ([], (bytes, refl, tt))
 part_none (Some held) bytes = ([], (bytes, refl, sym (append-nil held)))
 
-pub part_some : (old new : Option (List ℕ)) (sum : ℕ) (bytes block : List ℕ) → Adds [] block (block_text sum bytes) → AppendsPart old new block → AppendsPart old new (block_text sum bytes [])
-part_some old new sum bytes block adds part = subst (λ (x : List ℕ). AppendsPart old new x) (block_is block (block_text sum bytes) adds) part
+-- a beginning of a block that was made of this buffer
+pub part_of_block : (old new : Option (List ℕ)) (sum : ℕ) (buffer text none block made : List ℕ) → text ≡ buffer → none ≡ [] → block ≡ made → Adds none made (block_text sum text)
+    → AppendsPart old new block → AppendsPart old new (block_text sum buffer [])
+part_of_block old new sum buffer text none block made same empty is adds part =
+    let whole : block ≡ block_text sum buffer [] = is ∙ sym (append-nil made) ∙ adds [] ∙ ap (λ (x : List ℕ). x ++ block_text sum text []) empty ∙ ap (λ (x : List ℕ). block_text sum x []) same in
+    subst (λ (x : List ℕ). AppendsPart old new x) whole part
+
+-- an error with this
+pub on_err : {A E P : Type 0} (r : Result A E) → P → OnErr r P
+on_err (Ok x) p = tt
+on_err (Err e) p = p
 
 -- a line that was added
 pub line_added : (old new : List ℕ) (line : Line) → Adds old new (line_text line) → new ≡ with_line old line

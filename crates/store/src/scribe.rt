@@ -3,7 +3,7 @@ ghost use Rattle.std.specs.Prelude.{◌≡◌, ◌≢◌, Some, None, [], ◌++�
 ghost use Rattle.flight.specs.Additions.{Adds};
 ghost use Rattle.journal.specs.Blocks.{block_text};
 ghost use Rattle.journal.specs.Spelling.{line_text};
-ghost use Rattle.store.specs.Writing.{AppendsPart, IsSummed, IsWritten};
+ghost use Rattle.store.specs.Writing.{AppendsPart, IsSummed, IsWritten, with_line};
 
 use crate::device::{Device, DeviceError};
 use journal::blocks::put_block;
@@ -154,6 +154,16 @@ impl<J: Device> Scribe<J> {
                 Err(failure)
             }
         }
+    }
+
+    /// Adds a line, and writes what is then in the buffer. What `add` and `flush` refuse.
+    pub fn tell(&mut self, line: &Line) -> Result<(), DeviceError>
+        ensures ok { OnOk result (IsWritten (J.contents self.old.device) (J.contents self.new.device) self.old.sum (with_line (string_bytes self.old.buffer) line.now)) }
+        ensures empty { OnOk result (string_bytes self.new.buffer ≡ []) }
+        ensures spent { IsSome self.old.failure → IsErr result × (self.new ≡ self.old) }
+    {
+        self.add(line)?;
+        self.flush()
     }
 
     /// The device, with what was written to it.

@@ -33,8 +33,10 @@ impl<J: Device> Voice<J> {
             member: self.member,
             stored,
         };
-        self.scribe.add(&line).map_err(error_of)?;
-        self.scribe.flush().map_err(error_of)
+        match self.scribe.tell(&line) {
+            Ok(()) => Ok(()),
+            Err(error) => Err(error_of(error)),
+        }
     }
 }
 
