@@ -11,8 +11,8 @@ use Rattle.store.specs.Journals.{IsAdded, IsFlushed, EndsWith}
 
 -- nothing of it is there
 pub part_none : (old : Option (List ℕ)) (bytes : List ℕ) → AppendsPart old old bytes
-part_none None bytes = ([], (bytes, refl, tt))
-part_none (Some held) bytes = ([], (bytes, refl, sym (append-nil held)))
+part_none None bytes = ([], bytes, refl, tt)
+part_none (Some held) bytes = ([], bytes, refl, sym (append-nil held))
 
 -- a beginning of a block that was made of this buffer
 pub part_of_block : (old new : Option (List ℕ)) (sum : ℕ) (buffer text none block made : List ℕ) → text ≡ buffer → none ≡ [] → block ≡ made → Adds none made (block_text sum text)
@@ -39,4 +39,5 @@ told_last contents None t u line added flushed = absurd added
 told_last contents (Some s) None u line added flushed = absurd added
 told_last contents (Some s) (Some t) None line added flushed = absurd flushed
 told_last contents (Some s) (Some t) (Some u) line added flushed =
-    ((contents t.device, (t.sum, (string_bytes s.buffer, written_line (contents t.device) (contents u.device) t.sum (string_bytes s.buffer) (string_bytes t.buffer) line added.0 flushed.0))), flushed.1)
+    let written = written_line (contents t.device) (contents u.device) t.sum (string_bytes s.buffer) (string_bytes t.buffer) line added.0 flushed.0 in
+    ((contents t.device, t.sum, string_bytes s.buffer, written), flushed.1)
