@@ -18,7 +18,7 @@ use Rattle.clap.specs.declared.builder.command.Command.TheViews.{out-Command}
 use Rattle.clap.specs.declared.parser.matches.SubCommand.{SubCommand}
 use Rattle.clap.specs.declared.parser.matches.ArgMatches.TheViews.{out-SubCommand}
 use Rattle.clap.specs.declared.parser.matches.Found.{Found}
-use Rattle.shell.specs.CommandLine.{AsksFor, GivesNumber, bitable_app}
+use Rattle.shell.specs.CommandLine.{AsksFor, GivesLine, GivesNumber, bitable_app}
 use Rattle.shell.specs.declared.command.Command.{Command as Asked}
 
 is_free : is_simple_and_free bitable_app ≡ true
@@ -55,6 +55,12 @@ module _ (E : Type 0) (G : List ℕ → Result ℕ E → Type 0) (k : ℕ) (only
       go (Some t) e =
           let parsed = only t (Ok n) (read t (one_text-rows f id ∙ e)) in
           record { text = t; given = e; numeral = parsed.0.0; value = sym parsed.1 }
+
+-- an option that is read as a line was given that number, and one that is not was given none
+pub line_given : (E : Type 0) (G : List ℕ → Result ℕ E → Type 0) (only : (t : List ℕ) (r : Result ℕ E) → G t r → ParsesUnsigned 64 10 t r) (f : Found) (id : Text)
+    (line : Option ℕ) → (one_text f id ≡ None → line ≡ None) → ((t : Text) → one_text f id ≡ Some t → ReadsOne G t line) → GivesLine id (rows_of f) line
+line_given E G only f id None none read = λ n fits given. no_number E G 64 only f id n read fits given
+line_given E G only f id (Some n) none read = number_given E G 64 only f id n none read
 
 -- an option was given one number
 pub one_number : (id : Text) (rows : List Row) (n m : ℕ) → GivesNumber id rows n → GivesNumber id rows m → n ≡ m

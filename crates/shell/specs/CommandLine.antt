@@ -8,9 +8,10 @@ use Rattle.clap.specs.Simple.{App, new_app, new_rule, on_top, with_rule, with_su
 use Rattle.clap.specs.declared.builder.action.ArgAction.TheVariants.{Set, SetTrue, Append}
 use Rattle.clap.specs.declared.builder.value_parser.ValueParser.TheVariants as parser
 use Rattle.shell.specs.declared.command.Command.{Command}
-use Rattle.shell.specs.declared.command.Command.TheVariants.{PlayInput, Sim, Beliefs, Live, Audit, Check}
+use Rattle.shell.specs.declared.command.Command.TheVariants.{PlayInput, Sim, Beliefs, Lanes, Live, Audit, Check}
 use Rattle.shell.specs.declared.command.Sim.{Sim as SimValues}
 use Rattle.shell.specs.declared.command.Beliefs.{Beliefs as BeliefsValues}
+use Rattle.shell.specs.declared.command.Lanes.{Lanes as LanesValues}
 use Rattle.shell.specs.declared.command.Live.{Live as LiveValues}
 use Rattle.shell.specs.declared.command.Check.{Check as CheckValues}
 
@@ -104,6 +105,22 @@ svg_rule = record (new_rule (codes "svg")) {
   parser = Some parser.NonEmptyString;
 }
 
+-- [--from LINE], an unsigned number of 64 bits
+abbrev pub from_rule : Rule
+from_rule = record (new_rule (codes "from")) {
+  long = Some (codes "from");
+  value_names = 1;
+  parser = Some (parser.Unsigned 0 18446744073709551615);
+}
+
+-- [--to LINE], an unsigned number of 64 bits
+abbrev pub to_rule : Rule
+to_rule = record (new_rule (codes "to")) {
+  long = Some (codes "to");
+  value_names = 1;
+  parser = Some (parser.Unsigned 0 18446744073709551615);
+}
+
 -- sim [--format FORM] [--quiet] [--strict] SCRIPT
 abbrev pub sim_app : App
 sim_app = with_rule (with_rule (with_rule (with_rule (new_app (codes "sim")) format_rule) quiet_rule) strict_rule) script_rule
@@ -111,6 +128,10 @@ sim_app = with_rule (with_rule (with_rule (with_rule (new_app (codes "sim")) for
 -- beliefs [--svg FILE] SCRIPT
 abbrev pub beliefs_app : App
 beliefs_app = with_rule (with_rule (new_app (codes "beliefs")) svg_rule) script_rule
+
+-- lanes [--svg FILE] [--from LINE] [--to LINE] SCRIPT
+abbrev pub lanes_app : App
+lanes_app = with_rule (with_rule (with_rule (with_rule (new_app (codes "lanes")) svg_rule) from_rule) to_rule) script_rule
 
 -- live --nodes N --seed S --loss P [--dir DIR] SCRIPT
 abbrev pub live_app : App
@@ -130,7 +151,7 @@ versioned app = on_top (λ top. record top { has_version = true }) app
 
 -- the whole command line
 abbrev pub bitable_app : App
-bitable_app = with_subcommand (with_subcommand (with_subcommand (with_subcommand (with_subcommand (versioned (new_app (codes "bitable"))) sim_app.top) live_app.top) audit_app.top) beliefs_app.top) check_app.top
+bitable_app = with_subcommand (with_subcommand (with_subcommand (with_subcommand (with_subcommand (with_subcommand (versioned (new_app (codes "bitable"))) sim_app.top) live_app.top) audit_app.top) beliefs_app.top) lanes_app.top) check_app.top
 
 -- the matches give the option a decimal numeral of this number
 pub record GivesNumber (id : Text) (rows : List Row) (n : ℕ) : Type 0 where
@@ -166,6 +187,18 @@ pub record AsksBeliefs (rows : List Row) (beliefs : BeliefsValues) : Type 0 wher
   pub svg : option_map (λ text. text.now) beliefs.svg ≡ first_of (codes "svg") rows
   pub script : Some beliefs.script.now ≡ first_of (codes "SCRIPT") rows
 
+-- the matches give the option this number; or none, where they give it no number of 64 bits
+abbrev pub GivesLine (id : Text) (rows : List Row) : Option ℕ → Type 0
+GivesLine id rows None = (n : ℕ) → n < 2 ^ 64 → ¬ GivesNumber id rows n
+GivesLine id rows (Some n) = GivesNumber id rows n
+
+-- the matches of `lanes` give these values
+pub record AsksLanes (rows : List Row) (lanes : LanesValues) : Type 0 where
+  pub svg : option_map (λ text. text.now) lanes.svg ≡ first_of (codes "svg") rows
+  pub first : GivesLine (codes "from") rows lanes.first
+  pub last : GivesLine (codes "to") rows lanes.last
+  pub script : Some lanes.script.now ≡ first_of (codes "SCRIPT") rows
+
 -- the matches of `check` give these values
 pub record AsksCheck (rows : List Row) (check : CheckValues) : Type 0 where
   pub schema : GivesFlag (codes "schema") rows check.is_schema
@@ -176,12 +209,14 @@ abbrev pub AsksFor : Option (Text × List Row) → Command → Type 0
 AsksFor None PlayInput = ⊤
 AsksFor None (Sim sim) = ⊥
 AsksFor None (Beliefs beliefs) = ⊥
+AsksFor None (Lanes lanes) = ⊥
 AsksFor None (Live live) = ⊥
 AsksFor None (Audit names) = ⊥
 AsksFor None (Check check) = ⊥
 AsksFor (Some (name, rows)) PlayInput = ⊥
 AsksFor (Some (name, rows)) (Sim sim) = (name ≡ codes "sim") × AsksSim rows sim
 AsksFor (Some (name, rows)) (Beliefs beliefs) = (name ≡ codes "beliefs") × AsksBeliefs rows beliefs
+AsksFor (Some (name, rows)) (Lanes lanes) = (name ≡ codes "lanes") × AsksLanes rows lanes
 AsksFor (Some (name, rows)) (Live live) = (name ≡ codes "live") × AsksLive rows live
 AsksFor (Some (name, rows)) (Audit names) = (name ≡ codes "audit") × (Some (map (λ text. text.now) names.items) ≡ all_of (codes "FILE") rows)
 AsksFor (Some (name, rows)) (Check check) = (name ≡ codes "check") × AsksCheck rows check

@@ -7,10 +7,11 @@ ghost use Rattle.shell.specs.declared.command.Command.{Command as Asked};
 ghost use Rattle.shell.specs.declared.command.Live.{Live as Run};
 ghost use Rattle.shell.specs.declared.command.Sim.{Sim as Shown};
 ghost use Rattle.shell.specs.declared.command.Beliefs.{Beliefs as Picture};
+ghost use Rattle.shell.specs.declared.command.Lanes.{Lanes as Drawn};
 ghost use Rattle.shell.specs.declared.command.Check.{Check as Looked};
-ghost use Rattle.shell.specs.CommandLine.{AsksBeliefs, AsksCheck, AsksFor, AsksLive, AsksSim, GivesFlag, script_rule, format_rule, quiet_rule, strict_rule, svg_rule, nodes_rule, seed_rule, loss_rule, dir_rule, schema_rule, file_rule, files_rule, sim_app, beliefs_app, live_app, audit_app, check_app, bitable_app};
+ghost use Rattle.shell.specs.CommandLine.{AsksBeliefs, AsksCheck, AsksFor, AsksLanes, AsksLive, AsksSim, GivesFlag, GivesLine, script_rule, format_rule, quiet_rule, strict_rule, svg_rule, from_rule, to_rule, nodes_rule, seed_rule, loss_rule, dir_rule, schema_rule, file_rule, files_rule, sim_app, beliefs_app, lanes_app, live_app, audit_app, check_app, bitable_app};
 
-use crate::command::{Beliefs, Check, Command, Live, Sim};
+use crate::command::{Beliefs, Check, Command, Lanes, Live, Sim};
 use clap::builder::ValueParser;
 use clap::error::ErrorKind;
 use clap::{Arg, ArgAction, ArgMatches, Command as Parser, Error, value_parser};
@@ -26,6 +27,7 @@ const EXAMPLES: &str = "Examples:
   bitable live --nodes 3 --seed 1 --loss 20 --dir run examples/insurance.script
   bitable audit run/node1.flight run/node2.flight run/node3.flight
   bitable beliefs examples/payroll.script
+  bitable lanes examples/failover.script
   bitable check examples/payroll.script
 Without a command it plays the script on standard input, as sim does.";
 
@@ -84,6 +86,30 @@ Exit status:
   0  the picture is drawn, or there is no row to draw
   1  the script is refused, or nothing in it is answered; or there is too much to draw, or
      the file can't be written: on standard error
+  2  the command line is not one of these";
+
+const LANES_END: &str = 
+    "Each line of the script that does something and each thing that happens by it has a line. An
+arrow is a message, from its sender to who takes it.
+With --svg it goes into a file, as a page for a browser, and nothing is printed.
+
+Example:
+  bitable lanes --to 25 examples/failover.script
+
+  failover.script
+  | follows   ? stands for election   # leads   : is down   ...x is never taken
+
+                            node 1             node 2             node 3
+   24 timeout 1             |                  |                  |
+                            ? stands in term 1 |                  |
+   25 settle                ?                  |                  |
+      1 votereq             ?----------------->|                  |
+  ..
+
+Exit status:
+  0  the picture is drawn
+  1  the script is refused, or nothing happens in these lines of it; or there is too much to
+     draw, or the terminal is too narrow, or the file can't be written: on standard error
   2  the command line is not one of these";
 
 const CHECK_END: &str =
@@ -172,6 +198,38 @@ fn beliefs_words<'a>(alloc: Global) -> Result<Parser<'a>, AllocError>
         .about("Draws what a script's last answer says was ever believed, of each key")
         .after_help(BELIEFS_END)
         .arg(svg_word(alloc))?
+        .arg(script_word(alloc))
+}
+
+fn from_word<'a>(alloc: Global) -> Arg<'a>
+    ensures { (rule_of result ≡ from_rule) × (result.global ≡ false) }
+{
+    Arg::new(alloc, "from")
+        .long("from")
+        .value_name("LINE")
+        .value_parser(value_parser!(u64))
+        .help("The first line of the script that is drawn")
+}
+
+fn to_word<'a>(alloc: Global) -> Arg<'a>
+    ensures { (rule_of result ≡ to_rule) × (result.global ≡ false) }
+{
+    Arg::new(alloc, "to")
+        .long("to")
+        .value_name("LINE")
+        .value_parser(value_parser!(u64))
+        .help("The last line of the script that is drawn and played")
+}
+
+fn lanes_words<'a>(alloc: Global) -> Result<Parser<'a>, AllocError>
+    ensures { IfOk result (λ c. (app_of c ≡ lanes_app) × ((out-Command c).has_globals ≡ false)) }
+{
+    Parser::new(alloc, "lanes")
+        .about("Draws what the members do in a script, message by message")
+        .after_help(LANES_END)
+        .arg(svg_word(alloc))?
+        .arg(from_word(alloc))?
+        .arg(to_word(alloc))?
         .arg(script_word(alloc))
 }
 
@@ -290,6 +348,7 @@ fn all_words<'a>(alloc: Global) -> Result<Parser<'a>, AllocError>
         .subcommand(live_words(alloc)?)?
         .subcommand(audit_words(alloc)?)?
         .subcommand(beliefs_words(alloc)?)?
+        .subcommand(lanes_words(alloc)?)?
         .subcommand(check_words(alloc)?)
 }
 
@@ -320,6 +379,12 @@ fn flag_of(matches: &ArgMatches, id: &str) -> bool
     matches.get_flag(id)
 }
 
+fn line_of(matches: &ArgMatches, id: &str) -> Option<u64>
+    ensures { GivesLine id.now (rows_of (found_of matches.now)) result }
+{
+    matches.get_one(id)
+}
+
 fn text_of<'a>(matches: &ArgMatches<'a>, id: &str) -> Option<&'a str>
     ensures { option_map (λ text. text.now) result ≡ first_of id.now (rows_of (found_of matches.now)) }
 {
@@ -346,6 +411,19 @@ fn beliefs_of<'a>(matches: &ArgMatches<'a>) -> Option<Beliefs<'a>>
     let script = script_of(matches)?;
     Some(Beliefs {
         svg: text_of(matches, "svg"),
+        script,
+    })
+}
+
+fn lanes_of<'a>(matches: &ArgMatches<'a>) -> Option<Lanes<'a>>
+    ensures some { IfSome result (AsksLanes (rows_of (found_of matches.now))) }
+    ensures none { IfNone result ((picture : Drawn) → ¬ AsksLanes (rows_of (found_of matches.now)) picture) }
+{
+    let script = script_of(matches)?;
+    Some(Lanes {
+        svg: text_of(matches, "svg"),
+        first: line_of(matches, "from"),
+        last: line_of(matches, "to"),
         script,
     })
 }
@@ -393,6 +471,9 @@ fn command_of<'a>(
     }
     if name == "beliefs" {
         return Ok(beliefs_of(given).map(Command::Beliefs));
+    }
+    if name == "lanes" {
+        return Ok(lanes_of(given).map(Command::Lanes));
     }
     if name == "live" {
         return Ok(live_of(given).map(Command::Live));

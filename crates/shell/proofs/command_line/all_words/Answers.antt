@@ -12,4 +12,5 @@ returns c =
     let live = with_sub _ _ _ _ _ c.in_ok-subcommand-2.ensures sim c.in_ok-live_words.ensures in
     let audit = with_sub _ _ _ _ _ c.in_ok-subcommand-3.ensures live c.in_ok-audit_words.ensures in
     let beliefs = with_sub _ _ _ _ _ c.in_ok-subcommand-4.ensures audit c.in_ok-beliefs_words.ensures in
-    IfOk-weaker c.subcommand-5.result _ _ (λ r added. with_sub _ _ _ _ _ added beliefs c.in_ok-check_words.ensures) c.subcommand-5.ensures
+    let lanes = with_sub _ _ _ _ _ c.in_ok-subcommand-5.ensures beliefs c.in_ok-lanes_words.ensures in
+    IfOk-weaker c.subcommand-6.result _ _ (λ r added. with_sub _ _ _ _ _ added lanes c.in_ok-check_words.ensures) c.subcommand-6.ensures
