@@ -188,7 +188,7 @@ pub record AsksBeliefs (rows : List Row) (beliefs : BeliefsValues) : Type 0 wher
   pub script : Some beliefs.script.now ≡ first_of (codes "SCRIPT") rows
 
 -- the matches give the option this number; or none, where they give it no number of 64 bits
-abbrev pub GivesLine (id : Text) (rows : List Row) : Option ℕ → Type 0
+abbrev pub GivesLine : Text → List Row → Option ℕ → Type 0
 GivesLine id rows None = (n : ℕ) → n < 2 ^ 64 → ¬ GivesNumber id rows n
 GivesLine id rows (Some n) = GivesNumber id rows n
 

@@ -88,7 +88,7 @@ Exit status:
      the file can't be written: on standard error
   2  the command line is not one of these";
 
-const LANES_END: &str = 
+const LANES_END: &str =
     "Each line of the script that does something and each thing that happens by it has a line. An
 arrow is a message, from its sender to who takes it.
 With --svg it goes into a file, as a page for a browser, and nothing is printed.
