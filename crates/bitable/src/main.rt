@@ -22,6 +22,8 @@ use std::rt::{Env, Files};
 use std::sync::Wait;
 use std::thread::Threads;
 use std::{env, fs, io};
+use store::StoreRefusal;
+use storecommands::is_asked;
 
 const SIM: &str = "playing the script";
 
@@ -30,10 +32,59 @@ const TERMINAL: usize = 80;
 
 fn main(rt: HostRuntime) -> ExitCode {
     match words_given(&rt) {
+        Ok(Some(words)) if is_of_store(&rt, words.as_slice()) => {
+            end_store(&rt, run_store(&rt, words.as_slice()))
+        }
         Ok(Some(words)) => end(&rt, run(&rt, &rt, words.as_slice())),
         Ok(None) => end(&rt, refuse_words(&rt)),
         Err(stop) => end(&rt, Err(stop)),
     }
+}
+
+// Whether a command line is one over a store's folder: `audit` is, where its one name is that of such a folder.
+fn is_of_store(rt: &HostRuntime, words: &[String]) -> bool {
+    let Some(word) = words.get(1) else {
+        return false;
+    };
+    if !is_asked(word.as_str()) {
+        return false;
+    }
+    if word.as_str() != "audit" {
+        return true;
+    }
+    match words.get(2) {
+        Some(dir) if words.len() == 3 => {
+            storefolder::is_store(rt, rt.alloc(), dir.as_str()).unwrap_or(false)
+        }
+        _ => false,
+    }
+}
+
+// Does what a command line over a store's folder asks for.
+fn run_store(rt: &HostRuntime, words: &[String]) -> Result<u8, StoreRefusal> {
+    match storecommands::read_command(rt.alloc(), words) {
+        Ok(command) => console::run(rt, command),
+        Err(error) if error.kind() == ErrorKind::OutOfMemory => {
+            Err(StoreRefusal::Refused(Refusal::NoMemory))
+        }
+        Err(error) => match error.print(rt) {
+            Ok(()) => Ok(if error.use_stderr() { 2 } else { 0 }),
+            Err(_) => Ok(1),
+        },
+    }
+}
+
+// The exit status; where the store refused, its refusal, and below it what to do.
+fn end_store(rt: &impl Eprint, ended: Result<u8, StoreRefusal>) -> ExitCode {
+    let refusal = match ended {
+        Ok(status) => return ExitCode::from(status),
+        Err(refusal) => refusal,
+    };
+    let _ = eprintln!(rt; "{refusal}");
+    if let Some(hint) = refusal.hint() {
+        let _ = eprintln!(rt; "        {hint}");
+    }
+    ExitCode::FAILURE
 }
 
 // The exit status; where the command was refused, why: the refusal, and below it what is known of the file.

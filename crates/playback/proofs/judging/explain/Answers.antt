@@ -1,0 +1,24 @@
+use Rattle.std.proofs.Common.{◌≡◌, ◌≢◌, rules, map}
+use Rattle.std.specs.Prelude.{IfErr, Err}
+use Rattle.moments.specs.Behind.{Records}
+use Rattle.moments.specs.Faults.{NoneAre}
+use Rattle.moments.specs.declared.recorded.AuditFault.{AuditFault}
+use Rattle.moments.specs.declared.recorded.AuditFault.TheVariants.{NoMemory as NoMemoryLeft}
+use Rattle.flight.specs.declared.flight.Version.TheVariants.{Three}
+use Rattle.auditor.specs.Audited.{Explains, IsFirst}
+use Rattle.auditor.specs.Faults.{IsOrderFault, OfRun}
+use Rattle.auditor.specs.View.{event_of}
+use Rattle.playback.specs.Judging.{IsFaultOf}
+use Rattle.playback.proofs.Judgments.{fault_told}
+use Rattle.playback.proofs.judging.explain.Goals as goal
+
+pub returns-in_err-_events-clause-no : goal.returns-in_err-_events-clause-no
+returns-in_err-_events-clause-no c =
+    let r : Records = record { version = Three; tables = c.args.schema.now; lives = c.args.lives.now; answers = c.args.answers.now } in
+    let order : IfErr c.from_residual.result (IsOrderFault c.args.lives.now) = search rules in
+    let none : IfErr c.from_residual.result (OfRun (λ _. NoneAre (Explains r))) = search rules in
+    let first : IfErr c.from_residual.result (OfRun (IsFirst r)) = search rules in
+    fault_told r c.from_residual.result order none first
+
+pub returns-clause-yes : goal.returns-clause-yes
+returns-clause-yes c = (c.in_ok-_events.ensures.rise, (map event_of c.in_ok-_events._events.items, c.in_ok-_events.ensures.ok, c.in_ok-_events.ensures.agree, c.in_ok-_events.ensures.upholds))

@@ -1,0 +1,133 @@
+//! A member as its journals are played again.
+use flight::life::{Ending, Life, Step};
+use flight::outcome::Outcomes;
+use journal::Summary;
+use model::entry::Entry;
+use model::stamp::Stamp;
+use std::alloc::{AllocError, Global};
+use store::chain::Chain;
+use world::event::{Event, Job};
+
+/// A step that is begun.
+#[derive(Drop)]
+pub(crate) struct Begun {
+    pub event: Event,
+    pub job: Job,
+    /// As it is recorded in a flight, where flights are kept.
+    pub step: Option<Step>,
+    /// What it announced that it was about to store.
+    pub announced: Option<Summary>,
+}
+
+/// The term and the stamp of an entry, by which it is known at its place.
+#[derive(Clone, Copy, PartialEq, Eq)]
+pub(crate) struct Known {
+    term: u64,
+    stamp: Stamp,
+}
+
+impl Known {
+    pub fn of(entry: &Entry) -> Known {
+        Known {
+            term: entry.term,
+            stamp: entry.stamp,
+        }
+    }
+}
+
+/// A member: its lives so far, where flights are kept, and the chain of its log.
+#[derive(Drop)]
+pub(crate) struct Actor {
+    pub lives: Vec<Life>,
+    /// Whether it has a life that is not over.
+    pub is_open: bool,
+    pub begun: Option<Begun>,
+    pub chain: Chain,
+    pub known: Vec<Known>,
+    /// The number of the mark of its last life or step, 0 for none.
+    pub mark: u64,
+}
+
+impl Actor {
+    pub fn new(alloc: Global) -> Actor {
+        Actor {
+            lives: Vec::new(alloc),
+            is_open: false,
+            begun: None,
+            chain: Chain::new(alloc),
+            known: Vec::new(alloc),
+            mark: 0,
+        }
+    }
+
+    /// Whether it is up and in no step.
+    pub fn is_idle(&self) -> bool {
+        self.is_open && self.begun.is_none()
+    }
+
+    /// A life begins at this mark.
+    pub fn begin(&mut self, mark: u64, life: Option<Life>) -> Result<(), AllocError> {
+        if let Some(life) = life {
+            self.lives.push(life)?;
+        }
+        self.is_open = true;
+        self.mark = mark;
+        Ok(())
+    }
+
+    /// The step that is begun is over, and told this.
+    pub fn make(&mut self, step: Option<Step>, outcomes: Outcomes) -> Result<(), AllocError> {
+        let Some(step) = step else {
+            return Ok(());
+        };
+        match self.lives.last_mut() {
+            Some(life) => {
+                life.steps.push(step.with_outcomes(outcomes))?;
+                Ok(())
+            }
+            None => Ok(()),
+        }
+    }
+
+    /// The life is over.
+    pub fn end(&mut self, ending: Ending) {
+        self.is_open = false;
+        if let Some(life) = self.lives.last_mut() {
+            life.ending = ending;
+        }
+    }
+
+    /// One entry more of its log.
+    pub fn add(&mut self, entry: &Entry) -> Result<(), AllocError> {
+        self.chain.push(entry)?;
+        self.known.push(Known::of(entry))?;
+        Ok(())
+    }
+
+    /// Only the first so many entries of its log.
+    pub fn cut(&mut self, kept: usize) {
+        self.known.truncate(kept);
+        self.chain.truncate(kept);
+    }
+
+    /// Its lives, the last one torn where a step is begun.
+    pub fn into_lives(self) -> Vec<Life> {
+        let Actor {
+            mut lives,
+            begun,
+            ..
+        } = self;
+        if let Some(step) = begun.and_then(step_of) {
+            if let Some(life) = lives.last_mut() {
+                life.ending = Ending::Torn(step);
+            }
+        }
+        lives
+    }
+}
+
+// The step, where flights are kept.
+fn step_of(begun: Begun) -> Option<Step> {
+    let Begun { step, .. } = begun;
+    step
+}

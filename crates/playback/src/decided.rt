@@ -1,0 +1,96 @@
+//! What is decided, and what may be given out of it.
+use crate::play::Play;
+use crate::told::{Word, refusal_words};
+use fault::{Refusal, Text};
+use flight::outcome::Outcome;
+use model::entry::Told;
+use model::member::Member;
+use model::message::Input;
+use model::request::{Client, RequestNumber};
+use model::stamp::Stamp;
+use store::StoreRefusal;
+use world::event::Job;
+use world::output::Output;
+
+/// A request that is decided.
+#[derive(Drop)]
+pub struct Decided {
+    /// The index of its entry in the log, from 1.
+    pub index: usize,
+    pub stamp: Stamp,
+    pub client: Client,
+    pub number: RequestNumber,
+    /// `accepted` and the instant, or `refused` and the refusal.
+    pub outcome: Text,
+    pub text: Text,
+}
+
+impl Play {
+    /// What may be printed from here on, and what is decided.
+    pub(crate) fn hear_all(&mut self, job: &Job, outputs: &[Output]) -> Result<(), StoreRefusal> {
+        for output in outputs {
+            match output {
+                Output::Applied(member, told) => self.hear_told(*member, told)?,
+                Output::Refused(_, refusal) => self.hear_refusal(job, refusal)?,
+                _ => {}
+            }
+        }
+        Ok(())
+    }
+
+    fn hear_told(&mut self, member: Member, told: &Told) -> Result<(), StoreRefusal> {
+        let outcome = Outcome::of(self.alloc, told)?;
+        let words = String::from_str(self.alloc, outcome.text.as_str())?;
+        self.words.push(Word {
+            client: told.client,
+            number: told.number,
+            words,
+        })?;
+        self.decide(member, outcome)
+    }
+
+    fn hear_refusal(&mut self, job: &Job, refusal: &Refusal) -> Result<(), StoreRefusal> {
+        if let Job::Local(Input::Submit { request, .. }) = job {
+            let words = refusal_words(self.alloc, refusal)?;
+            self.words.push(Word {
+                client: request.client,
+                number: request.number,
+                words,
+            })?;
+        }
+        Ok(())
+    }
+
+    // A request that a member tells of, if nobody told of it before.
+    fn decide(&mut self, member: Member, outcome: Outcome) -> Result<(), StoreRefusal> {
+        let last = match self.decided.last() {
+            Some(decided) => decided.index,
+            None => 0,
+        };
+        if outcome.index <= last {
+            return Ok(());
+        }
+        let Some(entry) = self.world.entry(member, outcome.index)? else {
+            return Ok(());
+        };
+        let Some(request) = &entry.request else {
+            return Ok(());
+        };
+        let text = request.text.clone()?;
+        let Outcome {
+            index,
+            client,
+            number,
+            text: outcome,
+        } = outcome;
+        self.decided.push(Decided {
+            index,
+            stamp: entry.stamp,
+            client,
+            number,
+            outcome,
+            text,
+        })?;
+        Ok(())
+    }
+}

@@ -1,0 +1,88 @@
+//! What members have stored.
+use crate::actor::Known;
+use crate::play::Play;
+use journal::Summary;
+use model::entry::Entry;
+use model::member::Member;
+use store::StoreRefusal;
+
+impl Play {
+    /// Brings the chain of a member's log up to what it has, and gives what it has stored; none where it is down.
+    pub(crate) fn stored(&mut self, member: Member) -> Result<Option<Summary>, StoreRefusal> {
+        let Some(stored) = self.world.durable(member)? else {
+            return Ok(None);
+        };
+        let kept = self.kept(member, stored.length)?;
+        if !self.add_entries(member, kept, stored.length)? {
+            return Ok(None);
+        }
+        let at = self.place(member)?;
+        Ok(Some(self.actors[at].chain.summary(stored.hard)))
+    }
+
+    // Adds the entries after so many to the chain of a member's log. Whether all are there.
+    fn add_entries(
+        &mut self,
+        member: Member,
+        kept: usize,
+        length: usize,
+    ) -> Result<bool, StoreRefusal> {
+        for index in kept..length {
+            let Some(entry) = self.world.entry(member, index.saturating_add(1))? else {
+                return Ok(false);
+            };
+            let at = self.place(member)?;
+            self.actors[at].add(&entry)?;
+        }
+        Ok(true)
+    }
+
+    // How much of a member's log is as its chain has it; the chain is cut to that.
+    fn kept(&mut self, member: Member, length: usize) -> Result<usize, StoreRefusal> {
+        let at = self.place(member)?;
+        let most = self.actors[at].known.len().min(length);
+        let kept = self.last_known(member, most)?;
+        let at = self.place(member)?;
+        self.actors[at].cut(kept);
+        Ok(kept)
+    }
+
+    // The last index, up to this one, at which a member has the entry that its chain has there; 0 where there is none.
+    fn last_known(&mut self, member: Member, most: usize) -> Result<usize, StoreRefusal> {
+        for less in 0..most {
+            let index = most.saturating_sub(less);
+            if self.is_known(member, index)? {
+                return Ok(index);
+            }
+        }
+        Ok(0)
+    }
+
+    // Whether a member has the entry at an index that its chain has there.
+    fn is_known(&mut self, member: Member, index: usize) -> Result<bool, StoreRefusal> {
+        let Some(entry) = self.world.entry(member, index)? else {
+            return Ok(false);
+        };
+        let place = index.saturating_sub(1);
+        let at = self.place(member)?;
+        Ok(match self.actors[at].known.get(place) {
+            Some(known) => *known == Known::of(&entry),
+            None => false,
+        })
+    }
+
+    /// The log of a member, none of one that is down.
+    pub(crate) fn entries(&mut self, member: Member) -> Result<Vec<Entry>, StoreRefusal> {
+        let mut entries = Vec::new(self.alloc);
+        let length = match self.world.durable(member)? {
+            Some(stored) => stored.length,
+            None => 0,
+        };
+        for index in 0..length {
+            if let Some(entry) = self.world.entry(member, index.saturating_add(1))? {
+                entries.push(entry)?;
+            }
+        }
+        Ok(entries)
+    }
+}

@@ -1,0 +1,39 @@
+-- The journal of a store: a scribe, none while it is away.
+use Rattle.std.specs.Prelude.{◌≡◌, ℕ, Option, Some, None, List, [], IsSome, ⊤, string_bytes}
+use Rattle.flight.specs.Additions.{Adds}
+use Rattle.journal.specs.declared.line.Line.{Line}
+use Rattle.journal.specs.declared.line.Line.TheVariants.{Answer}
+use Rattle.fault.specs.Refusal.{shown}
+use Rattle.fault.specs.declared.refusal.Refusal.TheVariants.{NotClosed}
+use Rattle.store.specs.declared.refusal.StoreRefusal.{StoreRefusal}
+use Rattle.store.specs.declared.refusal.StoreRefusal.TheVariants.{Refused}
+use Rattle.journal.specs.Spelling.{line_text}
+use Rattle.store.specs.declared.scribe.Scribe.{Scribe}
+use Rattle.store.specs.Writing.{IsWritten, IsLastWritten}
+
+module _ {J : Type 0} where
+  -- it can't be written any more
+  abbrev pub IsSpent : Option (Scribe J) → Type 0
+  IsSpent None = ⊤
+  IsSpent (Some s) = IsSome s.failure
+
+  -- a line went to the buffer, and nothing to the device
+  abbrev pub IsAdded : Option (Scribe J) → Option (Scribe J) → Line → Type 0
+  IsAdded None new line = ⊥
+  IsAdded (Some s) None line = ⊥
+  IsAdded (Some s) (Some t) line = Adds (string_bytes s.buffer) (string_bytes t.buffer) (line_text line) × (t.device ≡ s.device) × (t.sum ≡ s.sum)
+
+  -- what was in the buffer is on the device
+  abbrev pub IsFlushed : (J → Option (List ℕ)) → Option (Scribe J) → Option (Scribe J) → Type 0
+  IsFlushed contents None new = ⊥
+  IsFlushed contents (Some s) None = ⊥
+  IsFlushed contents (Some s) (Some t) = IsWritten (contents s.device) (contents t.device) s.sum (string_bytes s.buffer) × (string_bytes t.buffer ≡ [])
+
+  -- the last line that is on the device is this one, and nothing is left in the buffer
+  abbrev pub EndsWith : (J → Option (List ℕ)) → Option (Scribe J) → Line → Type 0
+  EndsWith contents None line = ⊥
+  EndsWith contents (Some s) line = IsLastWritten (contents s.device) line × (string_bytes s.buffer ≡ [])
+
+  -- where a question is refused 33, that is the last line on the device
+  abbrev pub IsUnclosed : (J → Option (List ℕ)) → Option (Scribe J) → (member : ℕ) (question : List ℕ) → StoreRefusal → Type 0
+  IsUnclosed contents s member question r = (closed : Option (List ℕ)) → r ≡ Refused (NotClosed closed) → EndsWith contents s (Answer member question (shown (NotClosed closed)))

@@ -1,0 +1,39 @@
+//! Where a journal goes.
+ghost use Rattle.std.specs.Prelude.{Option, List, ℕ, None, OnOk, OnErr};
+ghost use Rattle.std.specs.Io.KnownBytes.{Appends};
+ghost use Rattle.store.specs.Writing.{AppendsPart};
+
+/// Why a block was not written.
+#[derive(Clone, Copy, PartialEq, Eq, Debug)]
+pub enum DeviceError {
+    /// 38: there is no room for it.
+    Full,
+    /// 40: the device failed.
+    Failed,
+    /// 43: memory was refused.
+    NoMemory,
+}
+
+/// Takes the blocks of a journal, one after the other.
+pub trait Device: Drop {
+    /// What it holds, where that is known.
+    ghost contents: { Self → Option (List ℕ) };
+
+    /// Writes a block behind those before it. Once it has answered, the block outlasts a kill of the process and, of a device that
+    /// syncs, a power cut. After an error a beginning of it may be there, and nothing more is to be written.
+    fn write(&mut self, block: &[u8]) -> Result<(), DeviceError>
+        ensures ok { OnOk result (Appends (contents self.old) (contents self.new) block.now) }
+        ensures err { OnErr result (AppendsPart (contents self.old) (contents self.new) block.now) };
+}
+
+/// A device that keeps nothing: a store over it has no journal.
+#[derive(Clone, Copy, Debug)]
+pub struct NoDevice;
+
+impl Device for NoDevice {
+    ghost contents = { λ _. None };
+
+    fn write(&mut self, _block: &[u8]) -> Result<(), DeviceError> {
+        Ok(())
+    }
+}

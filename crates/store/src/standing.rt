@@ -1,0 +1,140 @@
+//! How members stand, and are stopped and started.
+ghost use Rattle.std.specs.Prelude.{◌≡◌, IsErr};
+ghost use Rattle.store.specs.Journals.{IsSpent};
+
+use crate::announcing::Announces;
+use crate::refusal::StoreRefusal;
+use crate::seat::Seat;
+use crate::status::{Standing, Status};
+use crate::store::Store;
+use fault::Refusal;
+use journal::{Line, Taken};
+use model::member::Member;
+use model::message::Input;
+
+impl<K: Announces> Store<K>
+where
+    K::Image: Drop,
+{
+    /// A member goes down, and keeps what it has stored. 41 where it is not up.
+    pub fn stop(&mut self, member: Member) -> Result<(), StoreRefusal>
+        ensures spent { IsSpent self.old.scribe → IsErr result × (self.new ≡ self.old) }
+    {
+        self.check()?;
+        if !self.is_up(member) {
+            return Err(StoreRefusal::Refused(Refusal::NodeDown));
+        }
+        self.write(&Line::Ends { member })?;
+        self.flush()?;
+        self.fall(member);
+        Ok(())
+    }
+
+    // Starts a member's node. Whether it was not up before.
+    fn start_node(&mut self, member: Member) -> Result<bool, StoreRefusal> {
+        let members = self.seats.len();
+        let schema = self.schema.clone()?;
+        let Some(at) = self.place_of(member) else {
+            return Err(StoreRefusal::Refused(Refusal::NodeDown));
+        };
+        let seat = &mut self.seats[at];
+        if seat.is_up() {
+            return Ok(false);
+        }
+        seat.start(schema, members)?;
+        Ok(true)
+    }
+
+    /// A member comes up again, and is brought what it lacks; one that is up stays so. 41 where its database was missing as the store
+    /// was opened, 40, 43 and 44 where its database is refused: it stays down then.
+    pub fn start(&mut self, reading: i64, member: Member) -> Result<(), StoreRefusal>
+        ensures spent { IsSpent self.old.scribe → IsErr result × (self.new ≡ self.old) }
+    {
+        self.check()?;
+        if !self.start_node(member)? {
+            return Ok(());
+        }
+        self.write_life(member)?;
+        if let Some(leader) = self.lead(reading)? {
+            let _ = self.hand(leader, reading, Taken::Beat, Input::Beat)?;
+            self.deliver_all(reading)?;
+        }
+        self.flush()
+    }
+
+    // A life of a member that is up begins.
+    fn write_life(&mut self, member: Member) -> Result<(), StoreRefusal> {
+        let stored = match self.seat(member) {
+            Some(seat) => seat.stored(),
+            None => None,
+        };
+        match stored {
+            Some(stored) => self.write(&Line::Life { member, stored }),
+            None => Ok(()),
+        }
+    }
+
+    fn status_of(&self, seat: &Seat<K>) -> Status {
+        let Some(node) = &seat.node else {
+            let standing = if seat.is_missing() {
+                Standing::Missing
+            } else {
+                Standing::Down
+            };
+            return Status {
+                member: seat.member,
+                standing,
+                term: 0,
+                entries: 0,
+                applied: 0,
+                closed: None,
+            };
+        };
+        let standing = if self.leader == Some(seat.member) {
+            Standing::Leads
+        } else {
+            Standing::Follows
+        };
+        Status {
+            member: seat.member,
+            standing,
+            term: node.hard_state().term,
+            entries: seat.chain.len(),
+            applied: node.commit().unwrap_or(0),
+            closed: node.closed_time(),
+        }
+    }
+
+    /// How many requests are decided, as far as a member that is up has applied them.
+    pub fn decided(&self) -> usize {
+        let mut decided = 0;
+        for seat in &self.seats {
+            if let Some(node) = &seat.node {
+                let applied = node.commit().unwrap_or(0);
+                decided = decided.max(seat.chain.requests_at(applied));
+            }
+        }
+        decided
+    }
+
+    /// How each member stands, in their order. The error is want of memory.
+    pub fn status(&self) -> Result<Vec<Status>, StoreRefusal> {
+        let mut all = Vec::new(self.alloc);
+        for seat in &self.seats {
+            all.push(self.status_of(seat))?;
+        }
+        Ok(all)
+    }
+
+    // Stops each member that is up.
+    pub(crate) fn stop_all(&mut self) -> Result<(), StoreRefusal> {
+        for at in 0..self.seats.len() {
+            let member = at.saturating_add(1);
+            if self.is_up(member) {
+                self.write(&Line::Ends { member })?;
+                self.fall(member);
+            }
+        }
+        self.flush()
+    }
+}

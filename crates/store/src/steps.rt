@@ -1,0 +1,221 @@
+//! Steps of the members, and what comes of them.
+use crate::announcing::Announces;
+use crate::refusal::StoreRefusal;
+use crate::store::{Store, spent};
+use fault::Refusal;
+use flight::outcome::{Outcome as Noted, Outcomes};
+use journal::{Line, Taken};
+use model::entry::Told;
+use model::member::Member;
+use model::message::{Body, Input, Message};
+use model::request::{Client, RequestNumber};
+use model::stamp::Stamp;
+use node::{Fault, Out, Work};
+use std::alloc::AllocError;
+
+/// How many messages may be delivered in one call. No call of a healthy group comes near it: a member that lacks 100,000 entries is
+/// brought them in some 3,200.
+pub const DELIVERIES_MOST: u32 = 1_000_000;
+
+// A message under way, with its number among those of the journal.
+#[derive(Drop)]
+pub(crate) struct Letter {
+    pub number: usize,
+    pub message: Message,
+}
+
+// The request that a call waits for. Only what is told of entries past an index counts.
+#[derive(Drop)]
+pub(crate) struct Watched {
+    pub client: Client,
+    pub number: RequestNumber,
+    pub after: usize,
+    pub outcome: Option<Result<Stamp, Refusal>>,
+}
+
+// What came of a step.
+#[derive(Drop)]
+pub(crate) enum Stepped {
+    Done,
+    Refused(Refusal),
+    /// The member went down.
+    Fell,
+}
+
+impl Watched {
+    // Hears what a member told of a request. The first that is told of this one counts.
+    fn hear(&mut self, told: Told) {
+        let Told {
+            index,
+            client,
+            number,
+            outcome,
+        } = told;
+        if self.outcome.is_none()
+            && index > self.after
+            && client == self.client
+            && number == self.number
+        {
+            self.outcome = Some(outcome);
+        }
+    }
+}
+
+impl<K: Announces> Store<K>
+where
+    K::Image: Drop,
+{
+    // A step of a member that is up. An error where the store is spent.
+    pub(crate) fn step(
+        &mut self,
+        member: Member,
+        reading: i64,
+        taken: Taken,
+        work: Work,
+    ) -> Result<Stepped, StoreRefusal> {
+        self.begin_step(member, reading, taken)?;
+        match self.lend(member, work)? {
+            Ok(out) => {
+                self.end_step(member, out)?;
+                Ok(Stepped::Done)
+            }
+            Err(Fault::Kept(refusal)) => {
+                let outcomes = Outcomes::none(self.alloc);
+                self.write(&Line::Made { member, outcomes })?;
+                Ok(Stepped::Refused(refusal))
+            }
+            Err(Fault::Down(_)) => {
+                self.fall(member);
+                self.check()?;
+                Ok(Stepped::Fell)
+            }
+        }
+    }
+
+    fn begin_step(
+        &mut self,
+        member: Member,
+        reading: i64,
+        taken: Taken,
+    ) -> Result<(), StoreRefusal> {
+        match &mut self.scribe {
+            Some(scribe) => {
+                scribe.show(reading)?;
+                Ok(scribe.add(&Line::Takes { member, taken })?)
+            }
+            None => Err(spent()),
+        }
+    }
+
+    // Lends the journal to a member for a step.
+    fn lend(&mut self, member: Member, work: Work) -> Result<Result<Out, Fault>, StoreRefusal> {
+        let Some(at) = self.place_of(member) else {
+            return Ok(Err(Fault::Kept(Refusal::NodeDown)));
+        };
+        let Some(scribe) = self.scribe.take() else {
+            return Err(spent());
+        };
+        let seat = &mut self.seats[at];
+        let (scribe, result) = seat.step(scribe, work);
+        self.scribe = scribe;
+        self.check()?;
+        Ok(result)
+    }
+
+    // The step is over: what it told is written, its messages are under way, and what it told is heard.
+    fn end_step(&mut self, member: Member, out: Out) -> Result<(), StoreRefusal> {
+        let Out {
+            messages,
+            applied: _,
+            told,
+            sealed: _,
+        } = out;
+        let Ok(outcomes) = self.note(&told) else {
+            return Err(self.spend());
+        };
+        self.write(&Line::Made { member, outcomes })?;
+        for message in messages {
+            self.send(member, message)?;
+        }
+        for one in told {
+            self.hear(one);
+        }
+        Ok(())
+    }
+
+    // What is written of what a step told: each outcome at the first member that tells it.
+    fn note(&mut self, told: &[Told]) -> Result<Outcomes, AllocError> {
+        let mut outcomes = Vec::new(self.alloc);
+        for one in told {
+            if one.index > self.noted {
+                self.noted = one.index;
+                let outcome = Noted::of(self.alloc, one)?;
+                outcomes.push(outcome)?;
+            }
+        }
+        Ok(Outcomes::new(outcomes))
+    }
+
+    fn send(&mut self, member: Member, message: Message) -> Result<(), StoreRefusal> {
+        if matches!(message.body, Body::Append { .. }) {
+            self.leader = Some(member);
+        }
+        self.sent = self.sent.saturating_add(1);
+        let number = self.sent;
+        match self.queue.push_back(Letter { number, message }) {
+            Ok(()) => Ok(()),
+            Err(_) => Err(self.spend()),
+        }
+    }
+
+    fn hear(&mut self, told: Told) {
+        self.heard = self.heard.max(told.index);
+        if let Some(watched) = &mut self.watched {
+            watched.hear(told);
+        }
+    }
+
+    // A member is down.
+    pub(crate) fn fall(&mut self, member: Member) {
+        if let Some(at) = self.place_of(member) {
+            let seat = &mut self.seats[at];
+            seat.stop();
+        }
+        if self.leader == Some(member) {
+            self.leader = None;
+        }
+    }
+
+    // Hands a local input to a member.
+    pub(crate) fn hand(
+        &mut self,
+        member: Member,
+        reading: i64,
+        taken: Taken,
+        input: Input,
+    ) -> Result<Stepped, StoreRefusal> {
+        self.step(member, reading, taken, Work::Local(input))
+    }
+
+    // Delivers what is under way, in order, until nothing is, or the most that one call delivers. What comes to a member that is down
+    // is gone.
+    pub(crate) fn deliver_all(&mut self, reading: i64) -> Result<(), StoreRefusal> {
+        for _ in 0..DELIVERIES_MOST {
+            let Some(letter) = self.queue.pop_front() else {
+                return Ok(());
+            };
+            self.deliver(reading, letter)?;
+        }
+        Ok(())
+    }
+
+    fn deliver(&mut self, reading: i64, letter: Letter) -> Result<(), StoreRefusal> {
+        let Letter { number, message } = letter;
+        let member = message.addressee;
+        if self.is_up(member) {
+            let work = Work::Delivered { reading, message };
+            let _ = self.step(member, reading, Taken::Message(number), work)?;
+        }
+        Ok(())
+    }
+}

@@ -1,0 +1,7 @@
+use Rattle.std.specs.Str.Parse.{ParsesUnsigned, ExplainsUnsignedError, HasUnsignedDigitsIfOk}
+use Rattle.clap.specs.Words.{found_of}
+use Rattle.storecommands.proofs.CommandLines.{clock_given}
+use Rattle.storecommands.proofs.command_line.clock_of.Goals as goal
+
+pub returns : goal.returns
+returns c = clock_given _ (λ bs r. ParsesUnsigned 64 10 bs r × ExplainsUnsignedError 10 bs r × HasUnsignedDigitsIfOk bs r) (λ t r g. g.0) (found_of c.args.matches.now) c.get_one.result c.get_one.ensures.none c.get_one.ensures.value

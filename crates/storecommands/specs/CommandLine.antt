@@ -1,0 +1,126 @@
+-- The command lines over a store's folder, in the words of `clap`'s own definitions: what their arguments are, and what a command line
+-- asks for.
+use Rattle.std.specs.Prelude.{◌≡◌, ◌⊎◌, ◌<◌, ◌^◌, ℕ, Bool, List, Option, Some, None, IfSome, pos, codes, option_map, true, false}
+use Rattle.std.specs.Str.Parse.{IsNumeral, digits_value, without_leading_plus}
+use Rattle.clap.specs.Walk.{Row, Rule, Text, first_of, one_of}
+use Rattle.clap.specs.Simple.{App, new_app, new_rule, with_rule, with_subcommand}
+use Rattle.clap.specs.declared.builder.action.ArgAction.TheVariants.{Set}
+use Rattle.clap.specs.declared.builder.value_parser.ValueParser.TheVariants as parser
+use Rattle.storecommands.specs.declared.command.Command.{Command}
+use Rattle.storecommands.specs.declared.command.Command.TheVariants.{New, Open, Log, Flights, Audit}
+use Rattle.storecommands.specs.declared.command.NewStore.{NewStore}
+use Rattle.storecommands.specs.declared.command.OpenStore.{OpenStore}
+
+-- DIR
+abbrev pub dir_rule : Rule
+dir_rule = record (new_rule (codes "DIR")) { required = true; action = Some Set }
+
+-- OUT
+abbrev pub out_rule : Rule
+out_rule = record (new_rule (codes "OUT")) { required = true; action = Some Set }
+
+-- [FILE]
+abbrev pub file_rule : Rule
+file_rule = record (new_rule (codes "FILE")) { action = Some Set }
+
+-- --nodes N, 3 to 7
+abbrev pub nodes_rule : Rule
+nodes_rule = record (new_rule (codes "nodes")) {
+  long = Some (codes "nodes");
+  value_names = 1;
+  required = true;
+  parser = Some (parser.Signed (pos 3) (pos 7));
+}
+
+-- --schema FILE
+abbrev pub schema_rule : Rule
+schema_rule = record (new_rule (codes "schema")) {
+  long = Some (codes "schema");
+  value_names = 1;
+  required = true;
+  action = Some Set;
+}
+
+-- [--sync YESNO]
+abbrev pub sync_rule : Rule
+sync_rule = record (new_rule (codes "sync")) {
+  long = Some (codes "sync");
+  value_names = 1;
+  action = Some Set;
+}
+
+-- [--clock T], an unsigned number of 64 bits
+abbrev pub clock_rule : Rule
+clock_rule = record (new_rule (codes "clock")) {
+  long = Some (codes "clock");
+  value_names = 1;
+  parser = Some (parser.Unsigned 0 18446744073709551615);
+}
+
+-- new --nodes N --schema FILE DIR
+abbrev pub new_app_words : App
+new_app_words = with_rule (with_rule (with_rule (new_app (codes "new")) nodes_rule) schema_rule) dir_rule
+
+-- open [--sync YESNO] [--clock T] DIR [FILE]
+abbrev pub open_app : App
+open_app = with_rule (with_rule (with_rule (with_rule (new_app (codes "open")) sync_rule) clock_rule) dir_rule) file_rule
+
+-- log DIR
+abbrev pub log_app : App
+log_app = with_rule (new_app (codes "log")) dir_rule
+
+-- flights DIR OUT
+abbrev pub flights_app : App
+flights_app = with_rule (with_rule (new_app (codes "flights")) dir_rule) out_rule
+
+-- audit DIR
+abbrev pub audit_app : App
+audit_app = with_rule (new_app (codes "audit")) dir_rule
+
+-- the commands over a store's folder
+abbrev pub store_app : App
+store_app = with_subcommand (with_subcommand (with_subcommand (with_subcommand (with_subcommand (new_app (codes "bitable")) new_app_words.top) open_app.top) log_app.top) flights_app.top) audit_app.top
+
+-- the name of one of them
+abbrev pub IsCommandName : Text → Type 0
+IsCommandName word = (word ≡ codes "new") ⊎ (word ≡ codes "open") ⊎ (word ≡ codes "log") ⊎ (word ≡ codes "flights") ⊎ (word ≡ codes "audit")
+
+-- the matches give the option a decimal numeral of this number
+pub record GivesNumber (id : Text) (rows : List Row) (n : ℕ) : Type 0 where
+  pub text : Text
+  pub given : one_of id rows ≡ Some text
+  pub numeral : IsNumeral 10 (without_leading_plus text)
+  pub value : digits_value 10 (without_leading_plus text) ≡ n
+
+-- the matches give `--clock` this value: none where it is not used, else the number that it was given
+pub record GivesClock (rows : List Row) (clock : Option ℕ) : Type 0 where
+  pub unused : one_of (codes "clock") rows ≡ None → clock ≡ None
+  pub some : IfSome clock (GivesNumber (codes "clock") rows)
+  pub each : (n : ℕ) → n < 2 ^ 64 → GivesNumber (codes "clock") rows n → clock ≡ Some n
+
+-- the word of `--sync`, or none, says whether journals are synced
+abbrev pub GivesSync : Option Text → Bool → Type 0
+GivesSync None syncs = syncs ≡ true
+GivesSync (Some word) syncs = ((word ≡ codes "yes") × (syncs ≡ true)) ⊎ ((word ≡ codes "no") × (syncs ≡ false))
+
+-- the matches of `new` give these values
+pub record AsksNew (rows : List Row) (made : NewStore) : Type 0 where
+  pub nodes : GivesNumber (codes "nodes") rows made.members
+  pub schema : Some made.schema.now ≡ first_of (codes "schema") rows
+  pub dir : Some made.dir.now ≡ first_of (codes "DIR") rows
+
+-- the matches of `open` give these values
+pub record AsksOpen (rows : List Row) (opened : OpenStore) : Type 0 where
+  pub dir : Some opened.dir.now ≡ first_of (codes "DIR") rows
+  pub script : option_map (λ text. text.now) opened.script ≡ first_of (codes "FILE") rows
+  pub sync : GivesSync (first_of (codes "sync") rows) opened.syncs
+  pub clock : GivesClock rows opened.clock
+
+-- What the subcommand that was found, with its matches, asks for.
+abbrev pub AsksFor : Option (Text × List Row) → Command → Type 0
+AsksFor None command = ⊥
+AsksFor (Some (name, rows)) (New made) = (name ≡ codes "new") × AsksNew rows made
+AsksFor (Some (name, rows)) (Open opened) = (name ≡ codes "open") × AsksOpen rows opened
+AsksFor (Some (name, rows)) (Log dir) = (name ≡ codes "log") × (Some dir.now ≡ first_of (codes "DIR") rows)
+AsksFor (Some (name, rows)) (Flights dir out) = (name ≡ codes "flights") × (Some dir.now ≡ first_of (codes "DIR") rows) × (Some out.now ≡ first_of (codes "OUT") rows)
+AsksFor (Some (name, rows)) (Audit dir) = (name ≡ codes "audit") × (Some dir.now ≡ first_of (codes "DIR") rows)

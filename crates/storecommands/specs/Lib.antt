@@ -1,0 +1,3 @@
+pub mod CommandLine
+pub mod Dot
+pub mod Text

@@ -1,0 +1,330 @@
+//! The command line.
+ghost use Rattle.std.specs.Prelude.{◌≡◌, ◌⊎◌, ◌∷◌, List, [], ℕ, IsTrue, ◌↔◌, map, option_map, string_bytes, codes, false, IfSome, IfNone, IfOk, IfErr, OnOk};
+ghost use Rattle.clap.specs.declared.builder.command.Command.TheViews.{out-Command};
+ghost use Rattle.clap.specs.Words.{app_of, fault_of, found_of, rows_of, rule_of, subcommand_of, subcommand_rows_of, HasKind};
+ghost use Rattle.clap.specs.Words.{first_of};
+ghost use Rattle.storecommands.specs.declared.command.Command.{Command as Asked};
+ghost use Rattle.storecommands.specs.declared.command.NewStore.{NewStore as Made};
+ghost use Rattle.storecommands.specs.declared.command.OpenStore.{OpenStore as Opened};
+ghost use Rattle.storecommands.specs.CommandLine.{AsksFor, AsksNew, AsksOpen, GivesClock, GivesSync, clock_rule, dir_rule, file_rule, nodes_rule, out_rule, schema_rule, sync_rule, new_app_words, open_app, log_app, flights_app, audit_app, store_app, IsCommandName};
+
+use crate::command::{Command, NewStore, OpenStore};
+use clap::error::ErrorKind;
+use clap::{Arg, ArgAction, ArgMatches, Command as Parser, Error, value_parser};
+use std::alloc::{AllocError, Global};
+
+const NEW_END: &str = "Example:
+  bitable new pay --nodes 3 --schema pay.sql
+
+  made pay: 3 members
+
+Exit status:
+  0  the store is made
+  1  it is refused, on standard error; it can simply be asked for again
+  2  the command line is not one of these";
+
+const OPEN_END: &str = "Example:
+  echo 'SELECT * FROM Pay;' | bitable open pay
+
+  node 1 answer
+  last 2026-01-05 09:12:59.370867
+  ..
+
+A line that ends with ; is a request or a question; .help tells what else can be typed.
+
+Exit status:
+  0  all lines were taken
+  1  something was refused and nobody sits at a terminal; or the store is refused, on standard error
+  2  the command line is not one of these";
+
+const LOG_END: &str = "Exit status:
+  0  the requests that are decided are listed
+  1  the store is refused, on standard error
+  2  the command line is not one of these";
+
+const FLIGHTS_END: &str = "Example:
+  bitable flights pay out
+  bitable audit out/node1.flight out/node2.flight out/node3.flight
+
+  audit: yes
+
+Exit status:
+  0  the flights are written
+  1  the store is refused, or a flight can't be written, on standard error
+  2  the command line is not one of these";
+
+const AUDIT_END: &str = "Example:
+  bitable audit pay
+
+  sessions 3, requests 5, members 3: each database is what the journals give
+  audit: yes
+
+Exit status:
+  0  yes: the events that the journals spell give each outcome and answer, and what each database holds
+  1  no; or the store is refused, on standard error
+  2  the command line is not one of these";
+
+fn dir_word<'a>(alloc: Global) -> Arg<'a>
+    ensures { (rule_of result ≡ dir_rule) × (result.global ≡ false) }
+{
+    Arg::new(alloc, "DIR")
+        .required(true)
+        .action(ArgAction::Set)
+        .help("The folder of the store")
+}
+
+fn out_word<'a>(alloc: Global) -> Arg<'a>
+    ensures { (rule_of result ≡ out_rule) × (result.global ≡ false) }
+{
+    Arg::new(alloc, "OUT")
+        .required(true)
+        .action(ArgAction::Set)
+        .help("The folder for the flights; it is made if it is not there")
+}
+
+fn file_word<'a>(alloc: Global) -> Arg<'a>
+    ensures { (rule_of result ≡ file_rule) × (result.global ≡ false) }
+{
+    Arg::new(alloc, "FILE").action(ArgAction::Set).help(
+        "The file of the lines; without it, or as -, standard input",
+    )
+}
+
+fn nodes_word<'a>(alloc: Global) -> Arg<'a>
+    ensures { (rule_of result ≡ nodes_rule) × (result.global ≡ false) }
+{
+    Arg::new(alloc, "nodes")
+        .long("nodes")
+        .value_name("N")
+        .required(true)
+        .value_parser(value_parser!(u8).range(3..=7))
+        .help("How many members there are, 3 to 7")
+}
+
+fn schema_word<'a>(alloc: Global) -> Arg<'a>
+    ensures { (rule_of result ≡ schema_rule) × (result.global ≡ false) }
+{
+    Arg::new(alloc, "schema")
+        .long("schema")
+        .value_name("FILE")
+        .required(true)
+        .action(ArgAction::Set)
+        .help("The file with the tables, as CREATE TABLE declares them")
+}
+
+fn sync_word<'a>(alloc: Global) -> Arg<'a>
+    ensures { (rule_of result ≡ sync_rule) × (result.global ≡ false) }
+{
+    Arg::new(alloc, "sync")
+        .long("sync")
+        .value_name("YESNO")
+        .action(ArgAction::Set)
+        .help(
+            "no: the journal is not synced, so that a power cut may lose what was told; a kill does not",
+        )
+}
+
+fn clock_word<'a>(alloc: Global) -> Arg<'a>
+    ensures { (rule_of result ≡ clock_rule) × (result.global ≡ false) }
+{
+    Arg::new(alloc, "clock")
+        .long("clock")
+        .value_name("T")
+        .value_parser(value_parser!(u64))
+        .help("What clocks show, in microseconds since 1970, in place of the system's clock")
+}
+
+fn new_words<'a>(alloc: Global) -> Result<Parser<'a>, AllocError>
+    ensures { IfOk result (λ c. (app_of c ≡ new_app_words) × ((out-Command c).has_globals ≡ false)) }
+{
+    Parser::new(alloc, "new")
+        .about("Makes a store in a folder")
+        .after_help(NEW_END)
+        .arg(nodes_word(alloc))?
+        .arg(schema_word(alloc))?
+        .arg(dir_word(alloc))
+}
+
+fn open_words<'a>(alloc: Global) -> Result<Parser<'a>, AllocError>
+    ensures { IfOk result (λ c. (app_of c ≡ open_app) × ((out-Command c).has_globals ≡ false)) }
+{
+    Parser::new(alloc, "open")
+        .about("Opens the store in a folder, and takes requests and questions")
+        .after_help(OPEN_END)
+        .arg(sync_word(alloc))?
+        .arg(clock_word(alloc))?
+        .arg(dir_word(alloc))?
+        .arg(file_word(alloc))
+}
+
+fn log_words<'a>(alloc: Global) -> Result<Parser<'a>, AllocError>
+    ensures { IfOk result (λ c. (app_of c ≡ log_app) × ((out-Command c).has_globals ≡ false)) }
+{
+    Parser::new(alloc, "log")
+        .about("Lists the requests that are decided in the store of a folder")
+        .after_help(LOG_END)
+        .arg(dir_word(alloc))
+}
+
+fn flights_words<'a>(alloc: Global) -> Result<Parser<'a>, AllocError>
+    ensures { IfOk result (λ c. (app_of c ≡ flights_app) × ((out-Command c).has_globals ≡ false)) }
+{
+    Parser::new(alloc, "flights")
+        .about("Writes the flights of the store in a folder into another one")
+        .after_help(FLIGHTS_END)
+        .arg(dir_word(alloc))?
+        .arg(out_word(alloc))
+}
+
+fn audit_words<'a>(alloc: Global) -> Result<Parser<'a>, AllocError>
+    ensures { IfOk result (λ c. (app_of c ≡ audit_app) × ((out-Command c).has_globals ≡ false)) }
+{
+    Parser::new(alloc, "audit")
+        .about("Says whether the store in a folder is what its journals give")
+        .after_help(AUDIT_END)
+        .arg(dir_word(alloc))
+}
+
+fn all_words<'a>(alloc: Global) -> Result<Parser<'a>, AllocError>
+    ensures { IfOk result (λ c. app_of c ≡ store_app) }
+{
+    Parser::new(alloc, "bitable")
+        .about("Tables that answer what was believed when, kept in a folder")
+        .subcommand(new_words(alloc)?)?
+        .subcommand(open_words(alloc)?)?
+        .subcommand(log_words(alloc)?)?
+        .subcommand(flights_words(alloc)?)?
+        .subcommand(audit_words(alloc)?)
+}
+
+fn text_of<'a>(matches: &ArgMatches<'a>, id: &str) -> Option<&'a str>
+    ensures { option_map (λ text. text.now) result ≡ first_of id.now (rows_of (found_of matches.now)) }
+{
+    matches.get_str(id)
+}
+
+fn new_of<'a>(matches: &ArgMatches<'a>) -> Option<NewStore<'a>>
+    ensures some { IfSome result (AsksNew (rows_of (found_of matches.now))) }
+    ensures none { IfNone result ((made : Made) → ¬ AsksNew (rows_of (found_of matches.now)) made) }
+{
+    let members: u8 = matches.get_one("nodes")?;
+    let schema = text_of(matches, "schema")?;
+    let dir = text_of(matches, "DIR")?;
+    if members < 3 || members > 7 {
+        return None;
+    }
+    Some(NewStore {
+        dir,
+        members,
+        schema,
+    })
+}
+
+// Whether the journal is synced; none where the word is neither yes nor no.
+fn sync_of(word: Option<&str>) -> Option<bool>
+    ensures some { IfSome result (GivesSync (option_map (λ text. text.now) word.entry)) }
+    ensures none { IfNone result ((syncs : _) → ¬ GivesSync (option_map (λ text. text.now) word.entry) syncs) }
+{
+    match word {
+        None => Some(true),
+        Some("yes") => Some(true),
+        Some("no") => Some(false),
+        Some(_) => None,
+    }
+}
+
+fn clock_of(matches: &ArgMatches) -> Option<u64>
+    ensures { GivesClock (rows_of (found_of matches.now)) result }
+{
+    matches.get_one("clock")
+}
+
+fn open_of<'a>(matches: &ArgMatches<'a>) -> Option<OpenStore<'a>>
+    ensures some { IfSome result (AsksOpen (rows_of (found_of matches.now))) }
+    ensures none { IfNone result ((opened : Opened) → ¬ AsksOpen (rows_of (found_of matches.now)) opened) }
+{
+    let dir = text_of(matches, "DIR")?;
+    let syncs = sync_of(text_of(matches, "sync"))?;
+    Some(OpenStore {
+        dir,
+        script: text_of(matches, "FILE"),
+        syncs,
+        clock: clock_of(matches),
+    })
+}
+
+fn new_command<'a>(matches: &ArgMatches<'a>) -> Option<Command<'a>>
+    ensures some { IfSome result (AsksFor (Some (codes "new", rows_of (found_of matches.now)))) }
+    ensures none { IfNone result ((command : Asked) → ¬ AsksFor (Some (codes "new", rows_of (found_of matches.now))) command) }
+{
+    match new_of(matches) {
+        Some(new) => Some(Command::New(new)),
+        None => None,
+    }
+}
+
+fn open_command<'a>(matches: &ArgMatches<'a>) -> Option<Command<'a>>
+    ensures some { IfSome result (AsksFor (Some (codes "open", rows_of (found_of matches.now)))) }
+    ensures none { IfNone result ((command : Asked) → ¬ AsksFor (Some (codes "open", rows_of (found_of matches.now))) command) }
+{
+    match open_of(matches) {
+        Some(open) => Some(Command::Open(open)),
+        None => None,
+    }
+}
+
+// What parsed words ask for; none where they ask for nothing that there is.
+fn command_of<'a>(matches: &ArgMatches<'a>) -> Option<Command<'a>>
+    ensures some { IfSome result (AsksFor (subcommand_rows_of matches.now)) }
+    ensures none { IfNone result ((command : Asked) → ¬ AsksFor (subcommand_rows_of matches.now) command) }
+{
+    let (name, given) = matches.subcommand()?;
+    if name == "new" {
+        return new_command(given);
+    }
+    if name == "open" {
+        return open_command(given);
+    }
+    if name == "log" {
+        return text_of(given, "DIR").map(Command::Log);
+    }
+    if name == "flights" {
+        return flights_of(given);
+    }
+    if name == "audit" {
+        return text_of(given, "DIR").map(Command::Audit);
+    }
+    None
+}
+
+fn flights_of<'a>(matches: &ArgMatches<'a>) -> Option<Command<'a>>
+    ensures some { IfSome result (AsksFor (Some (codes "flights", rows_of (found_of matches.now)))) }
+    ensures none { IfNone result ((command : Asked) → ¬ AsksFor (Some (codes "flights", rows_of (found_of matches.now))) command) }
+{
+    let dir = text_of(matches, "DIR")?;
+    let out = text_of(matches, "OUT")?;
+    Some(Command::Flights { dir, out })
+}
+
+/// Whether a word is the name of a command over a store's folder.
+pub fn is_asked(word: &str) -> bool
+    ensures { IsTrue result ↔ IsCommandName word.now }
+{
+    word == "new" || word == "open" || word == "log" || word == "flights" || word == "audit"
+}
+
+/// What a command line asks for, the program's name first. The error is clap's: help that was asked for, words that it
+/// refuses, or want of memory.
+pub fn read_command<'a>(alloc: Global, words: &'a [String]) -> Result<Command<'a>, Error>
+    ensures asked { IfOk result (AsksFor (subcommand_of store_app (map string_bytes words.now))) }
+    ensures taken { OnOk result (fault_of store_app (map string_bytes words.now) ≡ []) }
+    ensures refused { IfErr result (λ e. HasKind (fault_of store_app (map string_bytes words.now)) e
+        ⊎ ((command : Asked) → ¬ AsksFor (subcommand_of store_app (map string_bytes words.now)) command)) }
+{
+    let mut parser = all_words(alloc)?;
+    let matches = parser.try_get_matches_from_mut(words)?;
+    match command_of(&matches) {
+        Some(command) => Ok(command),
+        None => Err(parser.error(ErrorKind::InvalidValue, "--sync takes yes or no")?),
+    }
+}
