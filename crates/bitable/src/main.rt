@@ -8,9 +8,10 @@ use fault::Refusal;
 use forms::{Canvas, Drawing, Form, Look};
 use scriptlanes::{Drawing as RunDrawing, Sheet, Span};
 use shell::audit::run_audit;
-use shell::command::{Beliefs, Check, Command, Lanes, Live, Sim};
+use shell::command::{Audit, Beliefs, Check, Command, Lanes, Live, Sim};
 use shell::command_line::read_command;
 use shell::live_run::run_live;
+use shell::report_run::run_report;
 use shell::shown_run::{run_beliefs, run_lanes, run_shown};
 use shell::sim::run_sim;
 use shell::stop::Stop;
@@ -111,7 +112,7 @@ where
         Ok(Command::Beliefs(beliefs)) => draw(rt, beliefs),
         Ok(Command::Lanes(lanes)) => draw_run(rt, host, lanes),
         Ok(Command::Live(live)) => play_live(rt, host, live),
-        Ok(Command::Audit(names)) => audit(rt, names.as_slice()),
+        Ok(Command::Audit(asked)) => audit(rt, &asked),
         Ok(Command::Check(check)) => check_file(rt, check),
         Err(error) if error.kind() == ErrorKind::OutOfMemory => Err(Stop::from(Refusal::NoMemory)),
         Err(error) => {
@@ -377,11 +378,17 @@ fn read_flights<'a, R: AllocGlobal + Files>(
     Ok(texts)
 }
 
-// Judges the flights in the files of these names.
-fn audit<'a, R: AllocGlobal + Files + Print>(rt: &R, names: &[&'a str]) -> Result<u8, Stop<'a>> {
+// Judges flights in files, as it is asked for.
+fn audit<'a, R: AllocGlobal + Files + Print>(rt: &R, asked: &Audit<'a>) -> Result<u8, Stop<'a>> {
     let alloc: Global = rt.alloc();
+    let names = asked.files.as_slice();
     let texts = read_flights(rt, names)?;
-    let ended = run_audit(alloc, texts.as_slice(), &mut io::writer(rt));
+    let mut writer = io::writer(rt);
+    let ended = if asked.is_report || asked.is_json {
+        run_report(alloc, names, texts.as_slice(), asked.is_json, &mut writer)
+    } else {
+        run_audit(alloc, texts.as_slice(), &mut writer)
+    };
     ended.map_err(|fault| Stop::of_flights(alloc, fault, names, texts.as_slice()))
 }
 

@@ -6,12 +6,13 @@ ghost use Rattle.clap.specs.Words.{all_of, first_of};
 ghost use Rattle.shell.specs.declared.command.Command.{Command as Asked};
 ghost use Rattle.shell.specs.declared.command.Live.{Live as Run};
 ghost use Rattle.shell.specs.declared.command.Sim.{Sim as Shown};
+ghost use Rattle.shell.specs.declared.command.Audit.{Audit as Judging};
 ghost use Rattle.shell.specs.declared.command.Beliefs.{Beliefs as Picture};
 ghost use Rattle.shell.specs.declared.command.Lanes.{Lanes as Drawn};
 ghost use Rattle.shell.specs.declared.command.Check.{Check as Looked};
-ghost use Rattle.shell.specs.CommandLine.{AsksBeliefs, AsksCheck, AsksFor, AsksLanes, AsksLive, AsksSim, GivesFlag, GivesLine, script_rule, format_rule, quiet_rule, strict_rule, svg_rule, from_rule, to_rule, nodes_rule, seed_rule, loss_rule, dir_rule, schema_rule, file_rule, files_rule, sim_app, beliefs_app, lanes_app, live_app, audit_app, check_app, bitable_app};
+ghost use Rattle.shell.specs.CommandLine.{AsksAudit, AsksBeliefs, AsksCheck, AsksFor, AsksLanes, AsksLive, AsksSim, GivesFlag, GivesLine, script_rule, format_rule, quiet_rule, strict_rule, svg_rule, from_rule, to_rule, nodes_rule, seed_rule, loss_rule, dir_rule, schema_rule, file_rule, report_rule, json_rule, files_rule, sim_app, beliefs_app, lanes_app, live_app, audit_app, check_app, bitable_app};
 
-use crate::command::{Beliefs, Check, Command, Lanes, Live, Sim};
+use crate::command::{Audit, Beliefs, Check, Command, Lanes, Live, Sim};
 use clap::builder::ValueParser;
 use clap::error::ErrorKind;
 use clap::{Arg, ArgAction, ArgMatches, Command as Parser, Error, value_parser};
@@ -26,6 +27,7 @@ const EXAMPLES: &str = "Examples:
   bitable sim --strict examples/failover.script
   bitable live --nodes 3 --seed 1 --loss 20 --dir run examples/insurance.script
   bitable audit run/node1.flight run/node2.flight run/node3.flight
+  bitable audit --report run/node1.flight run/node2.flight run/node3.flight
   bitable beliefs examples/payroll.script
   bitable lanes examples/failover.script
   bitable check examples/payroll.script
@@ -58,6 +60,9 @@ const AUDIT_END: &str = "Example:
   bitable audit run/node1.flight run/node2.flight run/node3.flight
 
   audit: yes
+
+With --report what was judged, what is in it and what was decided follow, in counts and in
+SHA-256, and what the verdict means; of a no where it differs, and what came before.
 
 Exit status:
   0  yes: the events of one run explain what the flights have
@@ -300,12 +305,32 @@ fn files_word<'a>(alloc: Global) -> Arg<'a>
         .help("The flight files, one of each node")
 }
 
+fn report_word<'a>(alloc: Global) -> Arg<'a>
+    ensures { (rule_of result ≡ report_rule) × (result.global ≡ false) }
+{
+    Arg::new(alloc, "report")
+        .long("report")
+        .action(ArgAction::SetTrue)
+        .help("Prints a report behind the verdict")
+}
+
+fn json_word<'a>(alloc: Global) -> Arg<'a>
+    ensures { (rule_of result ≡ json_rule) × (result.global ≡ false) }
+{
+    Arg::new(alloc, "json")
+        .long("json")
+        .action(ArgAction::SetTrue)
+        .help("Prints the verdict and the report as JSON, one object on a line")
+}
+
 fn audit_words<'a>(alloc: Global) -> Result<Parser<'a>, AllocError>
     ensures { IfOk result (λ c. (app_of c ≡ audit_app) × ((out-Command c).has_globals ≡ false)) }
 {
     Parser::new(alloc, "audit")
         .about("Says whether flights are of one run, and whether their answers are its answers")
         .after_help(AUDIT_END)
+        .arg(report_word(alloc))?
+        .arg(json_word(alloc))?
         .arg(files_word(alloc))
 }
 
@@ -455,6 +480,20 @@ fn files_of<'a>(alloc: Global, matches: &ArgMatches<'a>) -> Result<Option<Vec<&'
     }
 }
 
+fn audit_of<'a>(alloc: Global, matches: &ArgMatches<'a>) -> Result<Option<Audit<'a>>, AllocError>
+    ensures some { IfOk result (λ found. IfSome found (AsksAudit (rows_of (found_of matches.now)))) }
+    ensures none { IfOk result (λ found. IfNone found ((audit : Judging) → ¬ AsksAudit (rows_of (found_of matches.now)) audit)) }
+{
+    let Some(files) = files_of(alloc, matches)? else {
+        return Ok(None);
+    };
+    Ok(Some(Audit {
+        is_report: flag_of(matches, "report"),
+        is_json: flag_of(matches, "json"),
+        files,
+    }))
+}
+
 // What parsed words ask for; none where they ask for nothing that there is.
 fn command_of<'a>(
     alloc: Global,
@@ -479,7 +518,7 @@ fn command_of<'a>(
         return Ok(live_of(given).map(Command::Live));
     }
     if name == "audit" {
-        return Ok(files_of(alloc, given)?.map(Command::Audit));
+        return Ok(audit_of(alloc, given)?.map(Command::Audit));
     }
     if name == "check" {
         return Ok(check_of(given).map(Command::Check));

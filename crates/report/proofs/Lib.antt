@@ -1,0 +1,4 @@
+pub mod Deciding
+pub mod Filling
+pub mod Growing
+pub mod Seats
