@@ -1,7 +1,7 @@
 //! The command line.
 ghost use Rattle.std.specs.Prelude.{◌≡◌, ◌≢◌, ◌≤◌, ◌⊎◌, ℕ, List, [], Some, map, option_map, string_bytes, codes, false, IfSome, IfNone, IfOk, IfErr, OnOk};
 ghost use Rattle.clap.specs.declared.builder.command.Command.TheViews.{out-Command};
-ghost use Rattle.clap.specs.Words.{app_of, fault_of, found_of, rows_of, rule_of, subcommand_of, subcommand_rows_of, HasKind};
+ghost use Rattle.clap.specs.Words.{app_of, fault_of, found_of, new_app, rows_of, rule_of, subcommand_of, subcommand_rows_of, HasKind};
 ghost use Rattle.clap.specs.Words.{all_of, first_of};
 ghost use Rattle.shell.specs.declared.command.Command.{Command as Asked};
 ghost use Rattle.shell.specs.declared.command.Live.{Live as Run};
@@ -10,7 +10,7 @@ ghost use Rattle.shell.specs.declared.command.Audit.{Audit as Judging};
 ghost use Rattle.shell.specs.declared.command.Beliefs.{Beliefs as Picture};
 ghost use Rattle.shell.specs.declared.command.Lanes.{Lanes as Drawn};
 ghost use Rattle.shell.specs.declared.command.Check.{Check as Looked};
-ghost use Rattle.shell.specs.CommandLine.{AsksAudit, AsksBeliefs, AsksCheck, AsksFor, AsksLanes, AsksLive, AsksSim, GivesFlag, GivesLine, script_rule, format_rule, quiet_rule, strict_rule, svg_rule, from_rule, to_rule, nodes_rule, seed_rule, loss_rule, dir_rule, schema_rule, file_rule, report_rule, json_rule, files_rule, sim_app, beliefs_app, lanes_app, live_app, audit_app, check_app, bitable_app};
+ghost use Rattle.shell.specs.CommandLine.{AsksAudit, AsksBeliefs, AsksCheck, AsksFor, AsksLanes, AsksLive, AsksSim, GivesFlag, GivesLine, script_rule, format_rule, quiet_rule, strict_rule, svg_rule, from_rule, to_rule, nodes_rule, seed_rule, loss_rule, dir_rule, schema_rule, file_rule, report_rule, json_rule, files_rule, sim_app, beliefs_app, lanes_app, live_app, audit_app, check_app, bitable_app, versioned};
 
 use crate::command::{Audit, Beliefs, Check, Command, Lanes, Live, Sim};
 use clap::builder::ValueParser;
@@ -362,13 +362,19 @@ fn check_words<'a>(alloc: Global) -> Result<Parser<'a>, AllocError>
         .arg(file_word(alloc))
 }
 
-fn all_words<'a>(alloc: Global) -> Result<Parser<'a>, AllocError>
-    ensures { IfOk result (λ c. app_of c ≡ bitable_app) }
+fn program_words<'a>(alloc: Global) -> Parser<'a>
+    ensures { app_of result ≡ versioned (new_app (codes "bitable")) }
 {
     Parser::new(alloc, "bitable")
         .about("Tables that answer what was believed when, kept by several nodes")
         .version(VERSION)
         .after_help(EXAMPLES)
+}
+
+fn all_words<'a>(alloc: Global) -> Result<Parser<'a>, AllocError>
+    ensures { IfOk result (λ c. app_of c ≡ bitable_app) }
+{
+    program_words(alloc)
         .subcommand(sim_words(alloc)?)?
         .subcommand(live_words(alloc)?)?
         .subcommand(audit_words(alloc)?)?
