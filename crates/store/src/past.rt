@@ -44,9 +44,7 @@ impl Past {
         ensures { IfOk result (λ past. told_by past ≡ nothing_told members) }
     {
         let mut tales = Vec::new(alloc);
-        for _ in 0..members {
-            tales.push(Tale::blank())?;
-        }
+        tales.resize(members, Tale::blank())?;
         Ok(Past {
             members: tales,
             marks: 0,
