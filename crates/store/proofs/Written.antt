@@ -1,5 +1,5 @@
 -- What is written to a journal.
-use Rattle.std.proofs.Common.{◌≡◌, ◌∙◌, ℕ, Option, Some, None, List, [], ◌∷◌, ◌++◌, refl, sym, ap, subst, append-nil, string_bytes, Result, Ok, Err, OnErr}
+use Rattle.std.proofs.Common.{◌≡◌, ◌∙◌, ℕ, Option, Some, None, List, [], ◌∷◌, ◌++◌, refl, sym, ap, subst, append-nil, string_bytes, Result, Ok, Err, OnOk, OnErr}
 use Rattle.std.specs.Io.KnownBytes.{Appends}
 use Rattle.flight.specs.Additions.{Adds}
 use Rattle.journal.specs.Blocks.{block_text}
@@ -41,3 +41,8 @@ told_last contents (Some s) (Some t) None line added flushed = absurd flushed
 told_last contents (Some s) (Some t) (Some u) line added flushed =
     let written = written_line (contents t.device) (contents u.device) t.sum (string_bytes s.buffer) (string_bytes t.buffer) line added.0 flushed.0 in
     ((contents t.device, t.sum, string_bytes s.buffer, written), flushed.1)
+
+-- the same, where the call that writes it may fail
+pub on_told : {J A E : Type 0} (contents : J → Option (List ℕ)) (r : Result A E) (s t u : Option (Scribe J)) (line told : Line) → line ≡ told → IsAdded s t line → OnOk r (IsFlushed contents t u) → OnOk r (EndsWith contents u told)
+on_told contents (Ok x) s t u line told same added flushed = subst (λ (l : Line). EndsWith contents u l) same (told_last contents s t u line added flushed)
+on_told contents (Err e) s t u line told same added flushed = tt

@@ -60,9 +60,9 @@ abbrev pub Tells : Option Tale → Bool → Tale → Type 0
 Tells None may new = may ≡ false
 Tells (Some t) may new = (may ≡ true) × (new ≡ t)
 
--- how many marks are given out with this line
+-- how many marks are given out with this line about a member
 abbrev pub marks_after : ℕ → Line → ℕ
-marks_after marks (Opens journal sum given) = given
+marks_after marks (Opens journal sum given) = marks
 marks_after marks (Rests member s) = marks
 marks_after marks (Life member s) = one_more marks
 marks_after marks (Clock reading) = marks

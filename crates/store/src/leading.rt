@@ -1,5 +1,6 @@
 //! Who leads.
-ghost use Rattle.std.specs.Prelude.{◌≡◌, IsErr, IfOk};
+ghost use Rattle.std.specs.Prelude.{◌≡◌, IsErr, IfErr};
+ghost use Rattle.store.specs.Refusals.{IsOfJournal};
 ghost use Rattle.store.specs.Journals.{IsSpent};
 
 use crate::announcing::Announces;
@@ -27,7 +28,9 @@ where
     }
 
     // Has a member stand for election, if it is up, its log is so long, and nobody leads.
-    fn elect(&mut self, member: Member, least: usize, reading: i64) -> Result<(), StoreRefusal> {
+    fn elect(&mut self, member: Member, least: usize, reading: i64) -> Result<(), StoreRefusal>
+        ensures { IfErr result IsOfJournal }
+    {
         let stands = match self.seat(member) {
             Some(seat) => seat.is_up() && seat.chain.len() >= least,
             None => false,
@@ -40,7 +43,9 @@ where
     }
 
     // Has each member stand in turn whose log is so long, until one leads.
-    fn elect_any(&mut self, least: usize, reading: i64) -> Result<(), StoreRefusal> {
+    fn elect_any(&mut self, least: usize, reading: i64) -> Result<(), StoreRefusal>
+        ensures { IfErr result IsOfJournal }
+    {
         for at in 0..self.seats.len() {
             self.elect(at.saturating_add(1), least, reading)?;
         }
@@ -50,6 +55,7 @@ where
     /// The leader; one is elected where none is known and a majority is up: first a member with the longest log stands. None where there is
     /// none. 38, 40 and 43 where the journal can't be written; of a store that was spent before nothing changes then.
     pub fn lead(&mut self, reading: i64) -> Result<Option<Member>, StoreRefusal>
+        ensures why { IfErr result IsOfJournal }
         ensures spent { IsSpent self.old.scribe → IsErr result × (self.new ≡ self.old) }
     {
         self.check()?;

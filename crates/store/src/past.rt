@@ -1,6 +1,6 @@
 //! What journals tell of all members.
-ghost use Rattle.std.specs.Prelude.{◌≡◌, ◌-◌, ◌<◌, Some, None, Err, IfOk, OnOk, MatchOption, slice_get, slice_set, unwrap_or, length, true};
-ghost use Rattle.store.specs.Tales.{untold, nothing_told, told_of, told_after};
+ghost use Rattle.std.specs.Prelude.{◌≡◌, ◌-◌, ◌<◌, ℕ, Some, IfOk, map, slice_get, unwrap_or};
+ghost use Rattle.store.specs.Tales.{untold, laid_down, nothing_told, marks_after, told_of, told_after};
 ghost use Rattle.store.specs.Pasts.{told_by, IsHeard};
 
 use crate::refusal::StoreRefusal;
@@ -29,15 +29,22 @@ fn bad_line() -> StoreRefusal
     StoreRefusal::Refused(Refusal::BadFlight)
 }
 
+// As a journal begins: none of them is up.
+fn lay_all_down(tales: &mut [Tale])
+    ensures { tales.new ≡ map laid_down tales.old }
+{
+    for tale in tales.iter_mut() {
+        tale.lay_down();
+    }
+}
+
 impl Past {
     /// Before anything is told of so many members. The error is want of memory.
     pub fn new(alloc: Global, members: usize) -> Result<Past, StoreRefusal>
         ensures { IfOk result (λ past. told_by past ≡ nothing_told members) }
     {
         let mut tales = Vec::new(alloc);
-        for _ in 0..members {
-            tales.push(Tale::blank())?;
-        }
+        tales.resize(members, Tale::blank())?;
         Ok(Past {
             members: tales,
             marks: 0,
@@ -64,13 +71,13 @@ impl Past {
     }
 
     // A journal begins: all lives are over.
-    fn open(&mut self, marks: u64) -> Result<(), StoreRefusal> {
+    fn open(&mut self, marks: u64) -> Result<(), StoreRefusal>
+        ensures { (journal sum : ℕ) → IsHeard (told_by self.old) (told_after (told_by self.old) (Line.Opens journal sum marks)) result (told_by self.new) }
+    {
         if self.sessions != 0 && self.marks != marks {
             return Err(bad_line());
         }
-        for tale in self.members.iter_mut() {
-            tale.lay_down();
-        }
+        lay_all_down(self.members.as_mut_slice());
         self.sessions = self.sessions.saturating_add(1);
         self.marks = marks;
         Ok(())
@@ -97,7 +104,9 @@ impl Past {
 }
 
 // How many marks are given out with this line about a member.
-fn marks_after(marks: u64, line: &Line) -> u64 {
+fn marks_after(marks: u64, line: &Line) -> u64
+    ensures { result ≡ marks_after marks line.now }
+{
     match line {
         Line::Life { .. } | Line::Takes { .. } => marks.saturating_add(1),
         _ => marks,

@@ -3,6 +3,7 @@ ghost use Rattle.std.specs.Prelude.{◌≡◌, ◌-◌, IsErr, IfOk, IfErr, OnOk
 ghost use Rattle.store.specs.Asking.{IsAnswerOf};
 ghost use Rattle.answertext.specs.Answers.{answer_text};
 ghost use Rattle.store.specs.Journals.{IsSpent, EndsWith, IsUnclosed};
+ghost use Rattle.store.specs.Refusals.{IsOfJournal};
 
 use crate::announcing::Announces;
 use crate::refusal::StoreRefusal;
@@ -52,7 +53,9 @@ where
     }
 
     // Has time closed up to the reading, by a floor.
-    fn close_time(&mut self, reading: i64) -> Result<(), StoreRefusal> {
+    fn close_time(&mut self, reading: i64) -> Result<(), StoreRefusal>
+        ensures { IfErr result IsOfJournal }
+    {
         if let Some(leader) = self.lead(reading)? {
             let _ = self.hand(leader, reading, Taken::Floor, Input::Floor { reading })?;
             self.deliver_all(reading)?;
@@ -67,6 +70,7 @@ where
         member: Member,
         text: &str,
     ) -> Result<Result<Answer, Refusal>, StoreRefusal>
+        ensures why { IfErr result IsOfJournal }
         ensures asked { IfOk result (λ r. IfOk r (λ a. MatchOption (slice_get self.new.seats.items (member - 1)) ⊥ (λ seat. MatchOption seat.node ⊥ (λ n. IsAnswerOf K.is_honest n self.new.schema text.now a)))) }
     {
         match self.ask_once(member, text) {
@@ -81,6 +85,7 @@ where
     // Writes what was answered to the journal, so that it may be given out.
     fn tell(&mut self, member: Member, query: &str, words: String) -> Result<(), StoreRefusal>
         ensures told { OnOk result (EndsWith K.Journal.contents self.new.scribe (Line.Answer member query.now (string_bytes words))) }
+        ensures why { IfErr result IsOfJournal }
         ensures same { self.new ≡ record self.old { scribe = self.new.scribe } }
     {
         let query = Text::new(self.alloc, query)?;

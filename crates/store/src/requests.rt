@@ -1,6 +1,7 @@
 //! Requests of clients.
-ghost use Rattle.std.specs.Prelude.{◌≡◌, IsErr, IfOk, OnOk};
+ghost use Rattle.std.specs.Prelude.{◌≡◌, IsErr, IfOk, IfErr, OnOk};
 ghost use Rattle.store.specs.Journals.{IsSpent, EndsWith};
+ghost use Rattle.store.specs.Refusals.{IsOfJournal};
 ghost use Rattle.store.specs.Words.{words_of};
 
 use crate::announcing::Announces;
@@ -29,7 +30,9 @@ where
         reading: i64,
         leader: Member,
         request: Request,
-    ) -> Result<Option<Outcome>, StoreRefusal> {
+    ) -> Result<Option<Outcome>, StoreRefusal>
+        ensures { IfErr result IsOfJournal }
+    {
         let Ok(copy) = request.clone() else {
             return Err(self.spend());
         };
@@ -67,7 +70,9 @@ where
         client: Client,
         number: RequestNumber,
         text: &Text,
-    ) -> Result<Outcome, StoreRefusal> {
+    ) -> Result<Outcome, StoreRefusal>
+        ensures { IfErr result IsOfJournal }
+    {
         for _ in 0..TRIES {
             let Some(leader) = self.lead(reading)? else {
                 return Ok(Outcome::Unanswered);
@@ -95,6 +100,7 @@ where
         outcome: &Outcome,
     ) -> Result<(), StoreRefusal>
         ensures told { OnOk result (EndsWith K.Journal.contents self.new.scribe (Line.Printed client number (words_of outcome.now))) }
+        ensures why { IfErr result IsOfJournal }
         ensures same { self.new ≡ record self.old { scribe = self.new.scribe } }
     {
         let alloc = self.alloc;
@@ -122,6 +128,7 @@ where
         text: &str,
     ) -> Result<Outcome, StoreRefusal>
         ensures told { IfOk result (λ o. EndsWith K.Journal.contents self.new.scribe (Line.Printed client number (words_of o))) }
+        ensures why { IfErr result IsOfJournal }
         ensures spent { IsSpent self.old.scribe → IsErr result × (self.new ≡ self.old) }
     {
         self.check()?;
@@ -142,6 +149,7 @@ where
     /// The number that the next request of the store's own client has: one more than the last one in the leader's log, or in the
     /// longest log where no majority is up.
     pub fn next_number(&mut self, reading: i64) -> Result<u64, StoreRefusal>
+        ensures why { IfErr result IsOfJournal }
         ensures spent { IsSpent self.old.scribe → IsErr result × (self.new ≡ self.old) }
     {
         self.check()?;

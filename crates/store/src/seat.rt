@@ -146,6 +146,9 @@ where
         ensures still { self.old.node ≡ None → self.new ≡ self.old }
         ensures same { (self.new.member ≡ self.old.member) × (self.new.tale ≡ self.old.tale) }
     {
+        if !self.is_up() {
+            return;
+        }
         if let Some(node) = self.node.take() {
             self.image = Some(node.stop());
         }

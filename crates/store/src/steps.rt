@@ -1,4 +1,7 @@
 //! Steps of the members, and what comes of them.
+ghost use Rattle.std.specs.Prelude.{IfErr};
+ghost use Rattle.store.specs.Refusals.{IsOfJournal};
+
 use crate::announcing::Announces;
 use crate::refusal::StoreRefusal;
 use crate::store::{Store, spent};
@@ -72,7 +75,9 @@ where
         reading: i64,
         taken: Taken,
         work: Work,
-    ) -> Result<Stepped, StoreRefusal> {
+    ) -> Result<Stepped, StoreRefusal>
+        ensures { IfErr result IsOfJournal }
+    {
         self.begin_step(member, reading, taken)?;
         match self.lend(member, work)? {
             Ok(out) => {
@@ -92,12 +97,9 @@ where
         }
     }
 
-    fn begin_step(
-        &mut self,
-        member: Member,
-        reading: i64,
-        taken: Taken,
-    ) -> Result<(), StoreRefusal> {
+    fn begin_step(&mut self, member: Member, reading: i64, taken: Taken) -> Result<(), StoreRefusal>
+        ensures { IfErr result IsOfJournal }
+    {
         match &mut self.scribe {
             Some(scribe) => {
                 scribe.show(reading)?;
@@ -108,7 +110,9 @@ where
     }
 
     // Lends the journal to a member for a step.
-    fn lend(&mut self, member: Member, work: Work) -> Result<Result<Out, Fault>, StoreRefusal> {
+    fn lend(&mut self, member: Member, work: Work) -> Result<Result<Out, Fault>, StoreRefusal>
+        ensures { IfErr result IsOfJournal }
+    {
         let Some(at) = self.place_of(member) else {
             return Ok(Err(Fault::Kept(Refusal::NodeDown)));
         };
@@ -123,7 +127,9 @@ where
     }
 
     // The step is over: what it told is written, its messages are under way, and what it told is heard.
-    fn end_step(&mut self, member: Member, out: Out) -> Result<(), StoreRefusal> {
+    fn end_step(&mut self, member: Member, out: Out) -> Result<(), StoreRefusal>
+        ensures { IfErr result IsOfJournal }
+    {
         let Out {
             messages,
             applied: _,
@@ -156,7 +162,9 @@ where
         Ok(Outcomes::new(outcomes))
     }
 
-    fn send(&mut self, member: Member, message: Message) -> Result<(), StoreRefusal> {
+    fn send(&mut self, member: Member, message: Message) -> Result<(), StoreRefusal>
+        ensures { IfErr result IsOfJournal }
+    {
         if matches!(message.body, Body::Append { .. }) {
             self.leader = Some(member);
         }
@@ -193,13 +201,17 @@ where
         reading: i64,
         taken: Taken,
         input: Input,
-    ) -> Result<Stepped, StoreRefusal> {
+    ) -> Result<Stepped, StoreRefusal>
+        ensures { IfErr result IsOfJournal }
+    {
         self.step(member, reading, taken, Work::Local(input))
     }
 
     // Delivers what is under way, in order, until nothing is, or the most that one call delivers. What comes to a member that is down
     // is gone.
-    pub(crate) fn deliver_all(&mut self, reading: i64) -> Result<(), StoreRefusal> {
+    pub(crate) fn deliver_all(&mut self, reading: i64) -> Result<(), StoreRefusal>
+        ensures { IfErr result IsOfJournal }
+    {
         for _ in 0..DELIVERIES_MOST {
             let Some(letter) = self.queue.pop_front() else {
                 return Ok(());
@@ -209,7 +221,9 @@ where
         Ok(())
     }
 
-    fn deliver(&mut self, reading: i64, letter: Letter) -> Result<(), StoreRefusal> {
+    fn deliver(&mut self, reading: i64, letter: Letter) -> Result<(), StoreRefusal>
+        ensures { IfErr result IsOfJournal }
+    {
         let Letter { number, message } = letter;
         let member = message.addressee;
         if self.is_up(member) {

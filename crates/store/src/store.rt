@@ -1,6 +1,7 @@
 //! The open store.
-ghost use Rattle.std.specs.Prelude.{◌≡◌, ◌↔◌, ◌⊎◌, ◌<◌, ◌+◌, ◌-◌, Some, IsTrue, IfSome, IfNone, OnOk, OnErr, length, slice_get};
+ghost use Rattle.std.specs.Prelude.{◌≡◌, ◌↔◌, ◌⊎◌, ◌<◌, ◌+◌, ◌-◌, Some, IsTrue, IfSome, IfNone, IfErr, OnOk, OnErr, length, slice_get};
 ghost use Rattle.store.specs.Journals.{IsSpent, IsAdded, IsFlushed};
+ghost use Rattle.store.specs.Refusals.{IsOfJournal};
 
 use crate::announcing::Announces;
 use crate::device::DeviceError;
@@ -46,7 +47,9 @@ where
     pub(crate) watched: Option<Watched>,
 }
 
-pub(crate) fn spent() -> StoreRefusal {
+pub(crate) fn spent() -> StoreRefusal
+    ensures { IsOfJournal result }
+{
     StoreRefusal::Refused(Refusal::StoreFault)
 }
 
@@ -129,6 +132,7 @@ where
     // Adds a line to the journal's buffer.
     pub(crate) fn write(&mut self, line: &Line) -> Result<(), StoreRefusal>
         ensures ok { OnOk result (IsAdded self.old.scribe self.new.scribe line.now) }
+        ensures why { IfErr result IsOfJournal }
         ensures same { self.new ≡ record self.old { scribe = self.new.scribe } }
     {
         match &mut self.scribe {
@@ -140,6 +144,7 @@ where
     // Writes the journal's buffer to its device.
     pub(crate) fn flush(&mut self) -> Result<(), StoreRefusal>
         ensures ok { OnOk result (IsFlushed K.Journal.contents self.old.scribe self.new.scribe) }
+        ensures why { IfErr result IsOfJournal }
         ensures same { self.new ≡ record self.old { scribe = self.new.scribe } }
     {
         match &mut self.scribe {
@@ -152,6 +157,7 @@ where
     pub(crate) fn check(&self) -> Result<(), StoreRefusal>
         ensures ok { OnOk result (IsSpent self.now.scribe → ⊥) }
         ensures err { OnErr result (IsSpent self.now.scribe) }
+        ensures why { IfErr result IsOfJournal }
     {
         match &self.scribe {
             Some(scribe) => match scribe.failure() {
@@ -163,7 +169,9 @@ where
     }
 
     // For want of memory the store is spent.
-    pub(crate) fn spend(&mut self) -> StoreRefusal {
+    pub(crate) fn spend(&mut self) -> StoreRefusal
+        ensures { IsOfJournal result }
+    {
         if let Some(scribe) = &mut self.scribe {
             scribe.spend(DeviceError::NoMemory);
         }

@@ -1,14 +1,14 @@
 //! What hears the lines of a journal.
-ghost use Rattle.std.specs.Prelude.{◌≡◌, ℕ, List, [], Some, None, IfOk, OnOk, MatchOption, MatchResult};
+ghost use Rattle.std.specs.Prelude.{◌≡◌, ℕ, List, [], IfSome, IfNone, IfOk, OnOk};
 ghost use Rattle.journal.specs.declared.line.Line.{Line as Lines};
-ghost use Rattle.journal.specs.Blocks.{HasNoBlock};
+ghost use Rattle.journal.specs.Blocks.{IsBody, block_text, sum_after};
 ghost use Rattle.journal.specs.Spelling.{line_text};
 ghost use Rattle.flight.specs.Spelling.{each_text};
-ghost use Rattle.store.specs.Telling.{AreHeard, IsToldTo};
+ghost use Rattle.store.specs.Telling.{AreHeard, GoesOn, HasNoFirst, IsTold};
 
 use crate::refusal::StoreRefusal;
 use fault::Refusal;
-use journal::blocks::{block_after, first_block};
+use journal::blocks::{Block, block_after, first_block};
 use journal::{Line, read_lines};
 use std::alloc::Global;
 
@@ -48,6 +48,17 @@ fn placed(refusal: StoreRefusal, journal: u64, at: usize) -> StoreRefusal {
     }
 }
 
+// The block that a journal begins with: it goes on from this sum or, where none is given, from the one that its first line names.
+fn first_of(before: Option<u64>, text: &str) -> Option<Block<'_>>
+    ensures some { IfSome result (λ b. IsBody b.body.now × ((sum : ℕ) × GoesOn before sum text.now × (text.now ≡ block_text sum b.body.now b.rest.now) × (b.sum ≡ sum_after sum b.body.now))) }
+    ensures none { IfNone result (HasNoFirst before text.now) }
+{
+    match before {
+        Some(sum) => block_after(sum, text),
+        None => first_block(text),
+    }
+}
+
 /// Tells each line of a journal's whole blocks, and gives where they end; none where there is no block. The first block goes on from
 /// this sum or, where none is given, from the one that its first line names. 55 where a block spells no lines, or a line is refused
 /// 50.
@@ -57,12 +68,10 @@ pub fn tell_journal<H: Hears>(
     text: &str,
     before: Option<u64>,
     hearer: &mut H,
-) -> Result<Option<End>, StoreRefusal> {
-    let first = match before {
-        Some(sum) => block_after(sum, text),
-        None => first_block(text),
-    };
-    let Some(first) = first else {
+) -> Result<Option<End>, StoreRefusal>
+    ensures { IfOk result (IsTold H.hears before text.now hearer.old hearer.new) }
+{
+    let Some(first) = first_of(before, text) else {
         return Ok(None);
     };
     let mut sum = first.sum;
