@@ -52,7 +52,7 @@ fill_ends old (Some x) place commit list is at along from past bound =
           ∙ (filled_up along.0 old x.log commit along.1 (subst (λ n. IsBeginning (take n x.log) along.0) (sym same) along.2) less (subst (λ n. n ≤ length x.log) there (is.1 (omega (arith, there, less))))
           ∙ ap (λ n. longer old (take n x.log)) same))
       | inr more ↦
-          let there : place ≡ length old = omega (arith, more, past, bound, from) in
+          let there : place ≡ length old = elim (cases_lt (length old) place) [ inl beyond ↦ absurd (omega (arith, bound beyond, more, beyond)) | inr short ↦ omega (arith, short, from) ] in
           let short : length (applied x) ≤ length old = omega (arith, length-take x.commit x.log, same, more) in
           is.0 ∙ (ap (λ n. old ++ drop (length old) (take n x.log)) there ∙ (sym (nothing_there old x.log) ∙ sym (longer_stays old (applied x) short)))
     ]

@@ -308,7 +308,7 @@ fn put_each_member(
 {
     for (place, held) in nodes.iter().enumerate() {
         let name = files.get(place).map_or("", |name| name.as_str());
-        put_member(alloc, place, name, held, writer)?;
+        put_member(alloc, place + 1, name, held, writer)?;
     }
     Ok(())
 }
@@ -316,15 +316,15 @@ fn put_each_member(
 #[tactic(auto, unfolding(crate::specs::Machine::member_tokens))]
 fn put_member(
     alloc: Global,
-    place: usize,
+    node: usize,
     name: &str,
     held: &Held,
     writer: &mut Writer,
 ) -> Result<(), AllocError>
-    ensures { Adds result writer.old writer.new (member_tokens place name.now held.now) }
+    ensures { Adds result writer.old writer.new (member_tokens node name.now held.now) }
 {
     writer.begin_object()?;
-    put_number("node", (place as u64).saturating_add(1), writer)?;
+    put_number("node", node as u64, writer)?;
     put_text("file", name, writer)?;
     put_number("bytes", held.file.bytes as u64, writer)?;
     put_digest(alloc, "sha256", &held.file.digest, writer)?;
