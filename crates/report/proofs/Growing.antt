@@ -1,5 +1,5 @@
 -- What is decided, as a world goes on.
-use Rattle.std.proofs.Common.{◌≡◌, ◌∙◌, ℕ, zero, suc, ◌+◌, ◌<◌, List, [], ◌∷◌, ◌++◌, length, get_or, take, refl, ap, sym, subst, true, false, add-one, append-nil, arith, inl, inr}
+use Rattle.std.proofs.Common.{◌≡◌, ◌∙◌, ℕ, zero, suc, ◌+◌, ◌<◌, List, [], ◌∷◌, ◌++◌, length, take, refl, ap, sym, subst, true, false, add-one, append-nil, arith, inl, inr}
 use Rattle.std.specs.Prelude.{Option, Some, None, Result, Ok, Err, OnOk, slice_get, if◌then◌else◌, Bool}
 use Rattle.std.proofs.lemmas.Option.{slice_get_cases}
 use Rattle.model.specs.Lists.{nth, IsBeginning}
@@ -10,7 +10,7 @@ use Rattle.model.specs.declared.entry.Entry.{Entry}
 use Rattle.moments.proofs.Sending.{now_next}
 use Rattle.sqlread.specs.Meaning.{schema_of}
 use Rattle.world.specs.declared.history.World.{World}
-use Rattle.world.specs.Run.{events_of, members_in, now_of, opening_of, schema_in, tables_in}
+use Rattle.world.specs.Run.{events_of, members_in, now_of, opening_of, schema_in}
 use Rattle.world.specs.View.{if_up}
 use Rattle.report.specs.Deciding.{decided_by, longer_at, AreAlong, AreBlankDown, GoesAlong, IsSameWorld}
 use Rattle.report.proofs.Deciding.{decided_more, longest_next, longest_begins, longer_stays}

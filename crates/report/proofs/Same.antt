@@ -1,8 +1,8 @@
 -- Worlds in which the same happened, and one that has just begun.
-use Rattle.std.proofs.Common.{◌≡◌, ◌∙◌, ℕ, List, [], map, ap, sym, refl, false}
-use Rattle.std.specs.Prelude.{Option, Some, None, option_map, option_and_then, if◌then◌else◌}
+use Rattle.std.proofs.Common.{◌≡◌, ◌∙◌, ℕ, List, [], ap, refl, false}
+use Rattle.std.specs.Prelude.{Option, Some, None, option_map}
 use Rattle.model.specs.Lists.{nth}
-use Rattle.model.specs.Agreement.{decided, longest}
+use Rattle.model.specs.Agreement.{decided}
 use Rattle.model.specs.Members.{Node}
 use Rattle.model.specs.Transactions.{Schema}
 use Rattle.model.specs.Worlds.{Event, new_world, run}
@@ -10,7 +10,6 @@ use Rattle.model.specs.declared.entry.Entry.{Entry}
 use Rattle.sqlread.specs.Meaning.{schema_of}
 use Rattle.world.specs.declared.history.World.{World}
 use Rattle.world.specs.Run.{events_of, members_in, member_of, now_of, tables_in}
-use Rattle.world.specs.View.{event_of, if_up}
 use Rattle.report.specs.Deciding.{decided_by, longer_at, IsSameWorld}
 use Rattle.report.proofs.Deciding.{none_longer}
 

@@ -1,5 +1,5 @@
 -- What comes of entries, one more.
-use Rattle.std.proofs.Common.{◌≡◌, ◌∙◌, ℕ, ◌+◌, ◌<◌, List, [], ◌∷◌, ◌++◌, length, get_or, take, drop, reverse, refl, ap, sym, add-one, append_assoc, drop-cons, Result}
+use Rattle.std.proofs.Common.{◌≡◌, ◌∙◌, ℕ, ◌+◌, ◌<◌, List, [], ◌∷◌, ◌++◌, length, get_or, take, drop, reverse, ap, sym, add-one, append_assoc, drop-cons, Result}
 use Rattle.std.proofs.lemmas.List.{take_more, reverse-append}
 use Rattle.fault.specs.declared.refusal.Refusal.{Refusal}
 use Rattle.model.specs.Transactions.{Schema}

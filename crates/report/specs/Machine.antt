@@ -1,10 +1,10 @@
 -- A report as JSON, in the words of the kit's `json`: the tokens of one object.
-use Rattle.std.specs.Prelude.{ℕ, ◌+◌, List, [], ◌∷◌, ◌++◌, map, codes, decimal, slice_get, string_bytes, Option, Some, None, option_map, unwrap_or, min}
+use Rattle.std.specs.Prelude.{ℕ, ◌+◌, List, [], ◌∷◌, ◌++◌, map, codes, decimal, slice_get, string_bytes, Option, Some, None, option_map, unwrap_or}
 use Rattle.std.specs.List.{flat_map}
 use Rattle.std.specs.declared.string.String.{String}
 use Rattle.std.specs.declared.alloc.Global.{Global}
 use Rattle.hex.specs.Hex.{encode_lower}
-use Rattle.json.specs.Token.{Token, begin_object, end_object, begin_array, end_array, key, string, number, null}
+use Rattle.json.specs.Token.{Token, begin_array, end_array, key, string, number, null}
 use Rattle.period.specs.Instant.{instant_text}
 use Rattle.moments.specs.Faults.{refusal_of}
 use Rattle.moments.specs.declared.recorded.AuditFault.{AuditFault}
@@ -15,7 +15,6 @@ use Rattle.report.specs.declared.difference.Differs.{Differs}
 use Rattle.report.specs.declared.difference.Differs.TheVariants.{Order, Opening, Up, Message, Outcomes, Answer, Unmarked}
 use Rattle.report.specs.declared.digests.Digested.{Digested}
 use Rattle.report.specs.declared.earlier.Earlier.{Earlier}
-use Rattle.report.specs.declared.files.Place.{Place}
 use Rattle.report.specs.declared.settled.Settled.{Settled}
 use Rattle.report.specs.declared.whole.Held.{Held}
 use Rattle.report.specs.declared.whole.Report.{Report}

@@ -1,5 +1,5 @@
 //! The files of a group, and the places in them.
-ghost use Rattle.std.specs.Prelude.{◌≡◌, ◌==◌, ◌++◌, IfSome, count_by};
+ghost use Rattle.std.specs.Prelude.{◌≡◌, ◌==◌, ◌++◌, true, IfSome, count_by};
 ghost use Rattle.report.specs.Places.{IsFileOfNode, StandsAt};
 
 use flight::parts::{past, read_number, read_version};
@@ -36,17 +36,25 @@ fn node_of(text: &str) -> Option<Member>
     Some(node as usize)
 }
 
+// Whether a text is the flight of this node.
+fn is_of(text: &str, node: Member) -> bool
+    ensures { result ≡ true → IsFileOfNode text.now node }
+{
+    match node_of(text) {
+        Some(found) => found == node,
+        None => false,
+    }
+}
+
 /// The file of a node among files of these names with these texts: the first whose text says that it is its flight. None where no
 /// text does. Takes no memory.
 pub fn file_of<'a>(names: &[&'a str], texts: &'a [String], node: Member) -> Option<File<'a>>
     ensures { IfSome result (λ file. IsFileOfNode file.text.now node) }
 {
     for (name, text) in names.iter().zip(texts) {
-        if node_of(text.as_str()) == Some(node) {
-            return Some(File {
-                name: *name,
-                text: text.as_str(),
-            });
+        let text = text.as_str();
+        if is_of(text, node) {
+            return Some(File { name: *name, text });
         }
     }
     None

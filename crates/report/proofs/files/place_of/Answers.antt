@@ -14,7 +14,7 @@ returns c =
     let long : length front ≡ c.args.before = search rules in
     let stands : rest ≡ words ++ after = search rules in
     let whole : text ≡ (front ++ words) ++ after =
-        sym (take-append-drop c.args.before text) ∙ ((λ i. sym before i ++ sym behind i) ∙ (ap (λ l. front ++ l) stands ∙ sym (append_assoc front words after))) in
+    sym (take-append-drop c.args.before text) ∙ ((λ i. sym before i ++ sym behind i) ∙ (ap (λ l. front ++ l) stands ∙ sym (append_assoc front words after))) in
     let byte : c.in_ok-checked_add-2.field-0 ≡ c.args.before + 1 = search rules in
     let line : c.in_ok-checked_add.field-0 ≡ count_by (λ b. b == 10) front + 1 = search rules in
     (front, after, whole, byte ∙ ap (λ n. n + 1) (sym long), line)

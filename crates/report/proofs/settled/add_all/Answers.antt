@@ -1,4 +1,4 @@
-use Rattle.std.proofs.Common.{◌≡◌, ◌∙◌, ◌+◌, ◌<◌, List, length, take, sym, subst, arith}
+use Rattle.std.proofs.Common.{◌∙◌, ◌+◌, ◌<◌, List, length, take, sym, subst, arith}
 use Rattle.std.specs.Prelude.{Option}
 use Rattle.model.specs.Agreement.{longest}
 use Rattle.model.specs.Members.{Node}
