@@ -1,5 +1,5 @@
 -- A list that is filled up from the log of a member.
-use Rattle.std.proofs.Common.{◌≡◌, ◌∙◌, ℕ, ◌+◌, ◌<◌, ◌≤◌, List, [], ◌∷◌, ◌++◌, length, take, drop, refl, ap, sym, subst, add-one, append-nil, append_assoc, arith, inl, inr}
+use Rattle.std.proofs.Common.{◌≡◌, ◌∙◌, ℕ, ◌+◌, ◌<◌, ◌≤◌, List, [], ◌∷◌, ◌++◌, length, take, drop, ap, sym, subst, add-one, append-nil, append_assoc, arith, inl, inr}
 use Rattle.std.specs.Prelude.{Option, Some, None, option_map, option_and_then, slice_get}
 use Rattle.std.proofs.lemmas.List.{take_more, length-take, length-take-le, drop-append-le}
 use Rattle.std.proofs.lemmas.Bool.{cases_lt}
@@ -21,10 +21,6 @@ nothing_there : (old log : List Entry) → old ≡ old ++ drop (length old) (tak
 nothing_there old log =
     let short : length (take (length old) log) ≤ length old = omega (arith, length-take (length old) log) in
     sym (ap (λ l. old ++ l) (drop_of_length-le (take (length old) log) short) ∙ append-nil old)
-
-pub fill_begins : (old : List Entry) (o : Option Node) → Filled old o (length old) old
-fill_begins old None = refl
-fill_begins old (Some x) = (nothing_there old x.log, λ h. absurd (omega (arith, h)))
 
 -- one entry more
 pub fill_more : (old : List Entry) (o : Option Node) (place : ℕ) (list : List Entry) (entry : Entry) → Filled old o place list → length old ≤ place

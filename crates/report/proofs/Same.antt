@@ -1,16 +1,12 @@
 -- Worlds in which the same happened, and one that has just begun.
-use Rattle.std.proofs.Common.{◌≡◌, ◌∙◌, ℕ, List, [], ap, refl, false}
-use Rattle.std.specs.Prelude.{Option, Some, None, option_map}
+use Rattle.std.proofs.Common.{◌≡◌, ◌∙◌, ℕ, [], ap, false}
 use Rattle.model.specs.Lists.{nth}
 use Rattle.model.specs.Agreement.{decided}
-use Rattle.model.specs.Members.{Node}
-use Rattle.model.specs.Transactions.{Schema}
-use Rattle.model.specs.Worlds.{Event, new_world, run}
-use Rattle.model.specs.declared.entry.Entry.{Entry}
+use Rattle.model.specs.Worlds.{new_world, run}
 use Rattle.sqlread.specs.Meaning.{schema_of}
 use Rattle.world.specs.declared.history.World.{World}
 use Rattle.world.specs.Run.{events_of, members_in, member_of, now_of, tables_in}
-use Rattle.report.specs.Deciding.{decided_by, longer_at, IsSameWorld}
+use Rattle.report.specs.Deciding.{decided_by, IsSameWorld}
 use Rattle.report.proofs.Deciding.{none_longer}
 
 -- the members are the same
@@ -27,16 +23,6 @@ same_then old new last is events tables members live = record { events = events 
 pub same_on : (old new last : World) → IsSameWorld old new → IsSameWorld new last → IsSameWorld old last
 same_on old new last is on = same_then old new last is on.events on.tables on.members on.live
 
--- a member that is not up adds nothing
-pub none_up : (list : List Entry) (o : Option Node) → None ≡ option_map (λ (x : Node). x.commit) o → list ≡ longer_at list o
-none_up list None is = refl
-none_up list (Some x) is = absurd (cc is)
-
 -- nothing is decided before anything happened
 pub decided_none : (w : World) → events_of w ≡ [] → decided_by w ≡ []
 decided_none w none = ap (decided (schema_of (tables_in w)) (members_in w) (new_world (members_in w))) none ∙ none_longer (members_in w)
-
--- what is decided is that of a group of so many members with these tables
-pub decided_of_world : (w : World) (schema : Schema) (members : ℕ) (events : List Event) → schema_of (tables_in w) ≡ schema → members_in w ≡ members → events_of w ≡ events
-    → decided_by w ≡ decided schema members (new_world members) events
-decided_of_world w schema members events tables count happened = λ i. decided (tables i) (count i) (new_world (count i)) (happened i)
