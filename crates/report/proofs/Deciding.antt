@@ -1,14 +1,14 @@
 -- What a run decides, event by event and member by member.
-use Rattle.std.proofs.Common.{◌≡◌, ◌∙◌, ℕ, zero, suc, ◌+◌, ◌<◌, ◌≤◌, List, [], ◌∷◌, ◌++◌, length, get_or, take, drop, refl, ap, sym, subst, arith, cond, true, false}
-use Rattle.std.specs.Prelude.{replicate, nat_lt, None, Some, Option, slice_get}
+use Rattle.std.proofs.Common.{◌≡◌, ◌∙◌, ℕ, zero, suc, ◌+◌, ◌<◌, ◌≤◌, List, [], ◌∷◌, ◌++◌, length, get_or, take, drop, refl, ap, sym, arith, cond, true, false}
+use Rattle.std.specs.Prelude.{replicate, nat_lt, None, Some, slice_get}
 use Rattle.std.proofs.lemmas.List.{take_more, length-take-le, take-append-le, take-append-drop}
 use Rattle.std.proofs.lemmas.Bool.Decides.{nat_tests}
 use Rattle.std.proofs.Math.Seq.{take-append_seam}
-use Rattle.model.specs.Agreement.{longer, longest, decided_from, decided}
+use Rattle.model.specs.Agreement.{longer, longest, decided_from}
 use Rattle.model.specs.Lists.{IsBeginning}
 use Rattle.model.specs.Members.{Node, applied}
 use Rattle.model.specs.Transactions.{Schema}
-use Rattle.model.specs.Worlds.{World, Event, happens, run, new_world, fresh}
+use Rattle.model.specs.Worlds.{World, Event, happens, run, fresh}
 use Rattle.model.specs.declared.entry.Entry.{Entry}
 
 pub decided_more : (schema : Schema) (n : ℕ) (best : List Entry) (w : World) (es : List Event) (e : Event)

@@ -1,5 +1,5 @@
 -- A list that is filled up from the log of a member.
-use Rattle.std.proofs.Common.{◌≡◌, ◌∙◌, ℕ, zero, suc, ◌+◌, ◌<◌, ◌≤◌, List, [], ◌∷◌, ◌++◌, length, get_or, take, drop, refl, ap, sym, subst, add-one, append-nil, append_assoc, arith, inl, inr}
+use Rattle.std.proofs.Common.{◌≡◌, ◌∙◌, ℕ, ◌+◌, ◌<◌, ◌≤◌, List, [], ◌∷◌, ◌++◌, length, take, drop, ap, sym, subst, add-one, append-nil, append_assoc, arith, inl, inr}
 use Rattle.std.specs.Prelude.{Option, Some, None, option_map, option_and_then, slice_get}
 use Rattle.std.proofs.lemmas.List.{take_more, length-take, length-take-le, drop-append-le}
 use Rattle.std.proofs.lemmas.Bool.{cases_lt}
@@ -21,10 +21,6 @@ nothing_there : (old log : List Entry) → old ≡ old ++ drop (length old) (tak
 nothing_there old log =
     let short : length (take (length old) log) ≤ length old = omega (arith, length-take (length old) log) in
     sym (ap (λ l. old ++ l) (drop_of_length-le (take (length old) log) short) ∙ append-nil old)
-
-pub fill_begins : (old : List Entry) (o : Option Node) → Filled old o (length old) old
-fill_begins old None = refl
-fill_begins old (Some x) = (nothing_there old x.log, λ h. absurd (omega (arith, h)))
 
 -- one entry more
 pub fill_more : (old : List Entry) (o : Option Node) (place : ℕ) (list : List Entry) (entry : Entry) → Filled old o place list → length old ≤ place
@@ -52,7 +48,7 @@ fill_ends old (Some x) place commit list is at along from past bound =
           ∙ (filled_up along.0 old x.log commit along.1 (subst (λ n. IsBeginning (take n x.log) along.0) (sym same) along.2) less (subst (λ n. n ≤ length x.log) there (is.1 (omega (arith, there, less))))
           ∙ ap (λ n. longer old (take n x.log)) same))
       | inr more ↦
-          let there : place ≡ length old = omega (arith, more, past, bound, from) in
+          let there : place ≡ length old = elim (cases_lt (length old) place) [ inl beyond ↦ absurd (omega (arith, bound beyond, more, beyond)) | inr short ↦ omega (arith, short, from) ] in
           let short : length (applied x) ≤ length old = omega (arith, length-take x.commit x.log, same, more) in
           is.0 ∙ (ap (λ n. old ++ drop (length old) (take n x.log)) there ∙ (sym (nothing_there old x.log) ∙ sym (longer_stays old (applied x) short)))
     ]

@@ -1,6 +1,6 @@
 -- What is decided, as a world goes on.
-use Rattle.std.proofs.Common.{◌≡◌, ◌∙◌, ℕ, zero, suc, ◌+◌, ◌<◌, List, [], ◌∷◌, ◌++◌, length, get_or, take, refl, ap, sym, subst, true, false, add-one, append-nil, arith, inl, inr}
-use Rattle.std.specs.Prelude.{Option, Some, None, slice_get, if◌then◌else◌, Bool}
+use Rattle.std.proofs.Common.{◌≡◌, ◌∙◌, ℕ, zero, suc, ◌+◌, ◌<◌, List, [], ◌∷◌, ◌++◌, length, take, refl, ap, sym, subst, true, false, add-one, append-nil, arith, inl, inr}
+use Rattle.std.specs.Prelude.{Option, Some, None, Result, Ok, Err, OnOk, slice_get, if◌then◌else◌, Bool}
 use Rattle.std.proofs.lemmas.Option.{slice_get_cases}
 use Rattle.model.specs.Lists.{nth, IsBeginning}
 use Rattle.model.specs.Agreement.{longer, longest, decided, Agree}
@@ -10,7 +10,7 @@ use Rattle.model.specs.declared.entry.Entry.{Entry}
 use Rattle.moments.proofs.Sending.{now_next}
 use Rattle.sqlread.specs.Meaning.{schema_of}
 use Rattle.world.specs.declared.history.World.{World}
-use Rattle.world.specs.Run.{events_of, members_in, now_of, opening_of, schema_in, tables_in}
+use Rattle.world.specs.Run.{events_of, members_in, now_of, opening_of, schema_in}
 use Rattle.world.specs.View.{if_up}
 use Rattle.report.specs.Deciding.{decided_by, longer_at, AreAlong, AreBlankDown, GoesAlong, IsSameWorld}
 use Rattle.report.proofs.Deciding.{decided_more, longest_next, longest_begins, longer_stays}
@@ -24,6 +24,14 @@ along_up best whole x false begins own = tt
 along_of : (best whole : List Entry) (o : Option Node) → IsBeginning best whole → ((x : Node) → o ≡ Some x → IsBeginning (applied x) whole) → GoesAlong best (if_up o)
 along_of best whole None begins own = tt
 along_of best whole (Some x) begins own = along_up best whole x x.up begins (own x refl)
+
+-- what stands in a front stands in the whole
+pub from_front : (xs : List Node) (k j : ℕ) (x : Node) → slice_get (take k xs) j ≡ Some x → slice_get xs j ≡ Some x
+from_front [] zero j x e = e
+from_front [] (suc k) j x e = e
+from_front (y ∷ ys) zero j x e = absurd (cc e)
+from_front (y ∷ ys) (suc k) zero x e = e
+from_front (y ∷ ys) (suc k) (suc j) x e = from_front ys k j x e
 
 -- a list that is the longest of some goes along with each other member
 pub goes_along : (best : List Entry) (nodes : List Node) (k m : ℕ) → AreAlong best nodes → ((j : ℕ) (x : Node) → slice_get (take k nodes) j ≡ Some x → slice_get nodes j ≡ Some x)
@@ -73,3 +81,10 @@ along_next old new e schema members events agree =
 -- what is decided where the same happened
 pub decided_same : (old new : World) → IsSameWorld old new → decided_by new ≡ decided_by old
 decided_same old new is = λ i. decided (schema_of (is.tables i)) (is.members i) (new_world (is.members i)) (is.events i)
+
+-- what one event more decides, once all that members have applied is in the list
+pub went_on : {E : Type 0} (r : Result (Unit {0}) E) (old mid new : World) (e : Event) (before after : List Entry) → schema_in mid ≡ schema_in old → members_in mid ≡ members_in old
+    → events_of mid ≡ events_of old ++ e ∷ [] → before ≡ decided_by old → OnOk r (after ≡ longest before (now_of mid).nodes) → OnOk r (IsSameWorld mid new) → OnOk r (after ≡ decided_by new)
+went_on (Ok x) old mid new e before after schema members events was is same =
+    is ∙ (ap (λ list. longest list (now_of mid).nodes) was ∙ (sym (decided_next old mid e schema members events) ∙ sym (decided_same mid new same)))
+went_on (Err x) old mid new e before after schema members events was is same = is

@@ -1,24 +1,15 @@
 -- What a world shows of its members.
-use Rattle.std.proofs.Common.{◌≡◌, ◌∙◌, ℕ, zero, suc, List, length, map, refl, sym, ap, true, false}
-use Rattle.std.specs.Prelude.{Option, Some, None, slice_get, option_map, if◌then◌else◌, Bool}
-use Rattle.std.proofs.lemmas.List.{length-map}
+use Rattle.std.proofs.Common.{◌≡◌, ◌∙◌, zero, suc, List, refl, sym, ap, false}
+use Rattle.std.specs.Prelude.{Option, Some, None, slice_get, option_map}
 use Rattle.std.proofs.lemmas.Option.{slice_get-map}
 use Rattle.model.specs.Lists.{nth}
-use Rattle.model.specs.Members.{Node, applied}
-use Rattle.model.specs.Agreement.{longer}
-use Rattle.model.specs.declared.entry.Entry.{Entry}
-use Rattle.world.specs.declared.event.Event.{Event as Given}
-use Rattle.world.specs.declared.group.Group.{Group}
+use Rattle.model.specs.Members.{Node}
 use Rattle.world.specs.declared.history.World.{World}
 use Rattle.world.specs.declared.seat.Seat.{Seat}
 use Rattle.world.specs.declared.seat.Seat.TheVariants.{Up, Down}
 use Rattle.world.specs.Run.{now_of}
-use Rattle.world.specs.View.{node_in, nodes_of, if_up, IsRun}
+use Rattle.world.specs.View.{node_in, nodes_of, IsRun}
 use Rattle.report.specs.Deciding.{AreBlankDown}
-
--- there are as many members as the group has
-pub as_many : (w : World) → IsRun w.group w.kept.items → length (now_of w).nodes ≡ w.group.members
-as_many w is = ap (λ v. length v.nodes) (sym is.world) ∙ (length-map w.group.seats.items node_in ∙ is.group.all)
 
 blank_seat : (s : Seat) → (node_in s).up ≡ false → (node_in s).commit ≡ 0
 blank_seat (Up x) up = absurd (cc up)

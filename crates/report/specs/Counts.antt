@@ -1,6 +1,6 @@
 -- How much a flight has.
 use Rattle.std.specs.Prelude.{ℕ, Bool, true, false, List, count_by, sum_by, length}
-use Rattle.flight.specs.Contents.{LifeContents, FlightContents}
+use Rattle.flight.specs.Contents.{FlightContents}
 use Rattle.flight.specs.declared.life.Life.{Life}
 use Rattle.flight.specs.declared.life.Step.{Step}
 use Rattle.flight.specs.declared.life.Packet.{Packet}

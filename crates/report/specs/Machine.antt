@@ -1,10 +1,10 @@
 -- A report as JSON, in the words of the kit's `json`: the tokens of one object.
-use Rattle.std.specs.Prelude.{ℕ, ◌+◌, List, [], ◌∷◌, ◌++◌, map, codes, decimal, slice_get, string_bytes, Option, Some, None, option_map, unwrap_or, min}
+use Rattle.std.specs.Prelude.{ℕ, ◌+◌, List, [], ◌∷◌, ◌++◌, map, codes, decimal, slice_get, string_bytes, Option, Some, None, option_map, unwrap_or}
 use Rattle.std.specs.List.{flat_map}
 use Rattle.std.specs.declared.string.String.{String}
 use Rattle.std.specs.declared.alloc.Global.{Global}
 use Rattle.hex.specs.Hex.{encode_lower}
-use Rattle.json.specs.Token.{Token, begin_object, end_object, begin_array, end_array, key, string, number, null}
+use Rattle.json.specs.Token.{Token, begin_array, end_array, key, string, number, null}
 use Rattle.period.specs.Instant.{instant_text}
 use Rattle.moments.specs.Faults.{refusal_of}
 use Rattle.moments.specs.declared.recorded.AuditFault.{AuditFault}
@@ -15,7 +15,6 @@ use Rattle.report.specs.declared.difference.Differs.{Differs}
 use Rattle.report.specs.declared.difference.Differs.TheVariants.{Order, Opening, Up, Message, Outcomes, Answer, Unmarked}
 use Rattle.report.specs.declared.digests.Digested.{Digested}
 use Rattle.report.specs.declared.earlier.Earlier.{Earlier}
-use Rattle.report.specs.declared.files.Place.{Place}
 use Rattle.report.specs.declared.settled.Settled.{Settled}
 use Rattle.report.specs.declared.whole.Held.{Held}
 use Rattle.report.specs.declared.whole.Report.{Report}
@@ -88,9 +87,9 @@ made_tokens c = counts (codes "lives") c.lives ++ (counts (codes "steps") c.step
 unfoldable pub told_tokens : Counts → List Token
 told_tokens c = counts (codes "taken") c.taken ++ (counts (codes "outcomes") c.outcomes ++ counts (codes "answers") c.answers)
 
--- the member at this place, from 0 on, with the name and the digest of its file
+-- the member of this number, with the name and the digest of its file
 unfoldable pub member_tokens : ℕ → List ℕ → Held → List Token
-member_tokens place name h = object (counts (codes "node") (place + 1) ++ (says (codes "file") name ++ (counts (codes "bytes") h.file.bytes
+member_tokens node name h = object (counts (codes "node") node ++ (says (codes "file") name ++ (counts (codes "bytes") h.file.bytes
     ++ (says (codes "sha256") (encode_lower h.file.digest) ++ (made_tokens h.counts ++ told_tokens h.counts)))))
 
 -- the name of the file at this place
@@ -100,7 +99,7 @@ name_at files place = unwrap_or (option_map string_bytes (slice_get files place)
 -- the members from this place on
 abbrev pub members_tokens : ℕ → List (String Global) → List Held → List Token
 members_tokens place files [] = []
-members_tokens place files (h ∷ later) = member_tokens place (name_at files place) h ++ members_tokens (place + 1) files later
+members_tokens place files (h ∷ later) = member_tokens (place + 1) (name_at files place) h ++ members_tokens (place + 1) files later
 
 unfoldable pub digested_tokens : List ℕ → Digested → List Token
 digested_tokens name d = object_at name (counts (codes "bytes") d.bytes ++ says (codes "sha256") (encode_lower d.digest))

@@ -1,5 +1,5 @@
 //! The files of a group, and the places in them.
-ghost use Rattle.std.specs.Prelude.{◌≡◌, ◌==◌, IfSome, count_by};
+ghost use Rattle.std.specs.Prelude.{◌≡◌, ◌==◌, ◌++◌, true, IfSome, count_by};
 ghost use Rattle.report.specs.Places.{IsFileOfNode, StandsAt};
 
 use flight::parts::{past, read_number, read_version};
@@ -24,10 +24,26 @@ pub struct Place {
 fn node_of(text: &str) -> Option<Member>
     ensures { IfSome result (IsFileOfNode text.now) }
 {
-    let (_, rest) = read_version(text).ok()?;
-    let rest = past(rest, "node ").ok()?;
-    let (node, _) = read_number(rest, ' ').ok()?;
+    let Ok((_, rest)) = read_version(text) else {
+        return None;
+    };
+    let Ok(rest) = past(rest, "node ") else {
+        return None;
+    };
+    let Ok((node, _)) = read_number(rest, ' ') else {
+        return None;
+    };
     Some(node as usize)
+}
+
+// Whether a text is the flight of this node.
+fn is_of(text: &str, node: Member) -> bool
+    ensures { result ≡ true → IsFileOfNode text.now node }
+{
+    match node_of(text) {
+        Some(found) => found == node,
+        None => false,
+    }
 }
 
 /// The file of a node among files of these names with these texts: the first whose text says that it is its flight. None where no
@@ -36,11 +52,9 @@ pub fn file_of<'a>(names: &[&'a str], texts: &'a [String], node: Member) -> Opti
     ensures { IfSome result (λ file. IsFileOfNode file.text.now node) }
 {
     for (name, text) in names.iter().zip(texts) {
-        if node_of(text.as_str()) == Some(node) {
-            return Some(File {
-                name: *name,
-                text: text.as_str(),
-            });
+        let text = text.as_str();
+        if is_of(text, node) {
+            return Some(File { name: *name, text });
         }
     }
     None
@@ -73,12 +87,19 @@ fn ends_in(text: &str) -> usize
         .count()
 }
 
+// What stands behind these words, if the text begins with them.
+fn behind<'a>(text: &'a str, words: &str) -> Option<&'a str>
+    ensures { IfSome result (λ rest. text.now ≡ words.now ++ rest.now) }
+{
+    text.strip_prefix(words)
+}
+
 /// The place of the byte at which so many come before it, where these words stand there; none where they do not. Takes no memory.
 pub fn place_of(text: &str, before: usize, words: &str) -> Option<Place>
     ensures { IfSome result (StandsAt text.now words.now) }
 {
     let (front, rest) = text.split_at_checked(before)?;
-    let _ = rest.strip_prefix(words)?;
+    let _after = behind(rest, words)?;
     let lines = ends_in(front);
     Some(Place {
         line: lines.checked_add(1)?,

@@ -6,7 +6,7 @@ ghost use Rattle.hex.specs.Hex.{encode_lower};
 ghost use Rattle.json.specs.Token.{key, string};
 ghost use Rattle.looks.specs.Objects.{Adds, line_of};
 ghost use Rattle.looks.specs.Outcomes.{counts, says, refusal_tokens};
-ghost use Rattle.report.specs.Machine.{answers_tokens, array_at, difference_tokens, digested_tokens, earlier_tokens, extent_tokens, file_tokens, first_tokens, judged_tokens, last_tokens, made_tokens, mark_tokens, member_tokens, members_tokens, optional_number, optional_text, report_tokens, requests_tokens, settled_tokens, stamp_tokens, told_tokens, verdict_tokens, what_tokens, word_of};
+ghost use Rattle.report.specs.Machine.{answers_tokens, array_at, difference_tokens, digested_tokens, earlier_tokens, extent_tokens, file_tokens, first_tokens, judged_tokens, last_tokens, made_tokens, mark_tokens, member_tokens, members_tokens, name_at, optional_number, optional_text, report_tokens, requests_tokens, settled_tokens, stamp_tokens, told_tokens, verdict_tokens, what_tokens, word_of};
 
 use crate::counts::Counts;
 use crate::difference::{Difference, Differs};
@@ -298,6 +298,16 @@ fn put_members(alloc: Global, report: &Report, writer: &mut Writer) -> Result<()
     writer.end_array()
 }
 
+// The name of the file at this place, if there is one.
+fn name_at(files: &[String], place: usize) -> &str
+    ensures { result.now ≡ name_at files.now place }
+{
+    match files.get(place) {
+        Some(name) => name.as_str(),
+        None => "",
+    }
+}
+
 fn put_each_member(
     alloc: Global,
     files: &[String],
@@ -307,8 +317,7 @@ fn put_each_member(
     ensures { Adds result writer.old writer.new (members_tokens 0 files.now nodes.now) }
 {
     for (place, held) in nodes.iter().enumerate() {
-        let name = files.get(place).map_or("", |name| name.as_str());
-        put_member(alloc, place, name, held, writer)?;
+        put_member(alloc, place + 1, name_at(files, place), held, writer)?;
     }
     Ok(())
 }
@@ -316,15 +325,15 @@ fn put_each_member(
 #[tactic(auto, unfolding(crate::specs::Machine::member_tokens))]
 fn put_member(
     alloc: Global,
-    place: usize,
+    node: usize,
     name: &str,
     held: &Held,
     writer: &mut Writer,
 ) -> Result<(), AllocError>
-    ensures { Adds result writer.old writer.new (member_tokens place name.now held.now) }
+    ensures { Adds result writer.old writer.new (member_tokens node name.now held.now) }
 {
     writer.begin_object()?;
-    put_number("node", (place as u64).saturating_add(1), writer)?;
+    put_number("node", node as u64, writer)?;
     put_text("file", name, writer)?;
     put_number("bytes", held.file.bytes as u64, writer)?;
     put_digest(alloc, "sha256", &held.file.digest, writer)?;
