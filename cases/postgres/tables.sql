@@ -2,9 +2,11 @@
 -- A period is two columns with a day between them, and no two rows of a key have a day in common.
 SET client_min_messages = error;
 CREATE EXTENSION IF NOT EXISTS btree_gist;
-DROP TABLE IF EXISTS Stay, Loan, Booking, Room CASCADE;
+DROP TABLE IF EXISTS Stay, Loan, Booking, Room, Kept CASCADE;
 CREATE TABLE Stay (Room BIGINT NOT NULL, Since DATE NOT NULL, Till DATE NOT NULL, Guest VARCHAR(8) NOT NULL, Paid BIGINT NOT NULL,
   CHECK (Since < Till), EXCLUDE USING gist (Room WITH =, daterange(Since, Till) WITH &&));
+-- What Stay was after a request, which is the one of this number.
+CREATE TABLE Kept AS SELECT 0 AS At, * FROM Stay;
 CREATE TABLE Loan (Holder VARCHAR(8) NOT NULL, Item BIGINT NOT NULL, Since DATE NOT NULL, Till DATE NOT NULL, Due DATE NOT NULL,
   CHECK (Since < Till), EXCLUDE USING gist (Holder WITH =, Item WITH =, daterange(Since, Till) WITH &&));
 CREATE TABLE Room (No BIGINT NOT NULL, Since DATE NOT NULL, Till DATE NOT NULL, Price BIGINT NOT NULL,
