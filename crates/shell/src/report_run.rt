@@ -1,9 +1,10 @@
 //! The command `audit` with a report.
-ghost use Rattle.std.specs.Prelude.{◌≡◌, ◌≤◌, ◌++◌, ◌⊎◌, ℕ, List, length, map, string_bytes, Err, IfOk, IfErr, OnErr};
+ghost use Rattle.std.specs.Prelude.{◌≡◌, ◌≢◌, ◌≤◌, ◌++◌, ◌⊎◌, ℕ, List, Some, length, map, string_bytes, Err, IfOk, IfErr, OnErr};
 ghost use Rattle.std.specs.Io.KnownBytes.{Appends};
 ghost use Rattle.fault.specs.declared.refusal.Refusal.TheVariants.{NoMemory, BadFlight};
 ghost use Rattle.fault.specs.declared.refusal.Refusal.{Refusal as AnyRefusal};
 ghost use Rattle.looks.specs.Objects.{line_of};
+ghost use Rattle.moments.specs.declared.recorded.AuditFault.TheVariants.{NoMemory as NoMemoryLeft};
 ghost use Rattle.report.specs.Machine.{report_tokens};
 ghost use Rattle.report.specs.Whole.{seal_of};
 ghost use Rattle.shell.specs.Audit.{records_of};
@@ -37,6 +38,28 @@ struct Verdict {
     events: Vec<Event>,
 }
 
+// The verdict of a fault, with what differs there. The error is want of memory, be it the fault itself.
+fn verdict_of_fault(
+    alloc: Global,
+    records: &Records<'_>,
+    files: &[File<'_>],
+    fault: &AuditFault,
+) -> Result<Verdict, AllocError>
+    requires least { 3 ≤ length records.now.lives.now }
+    requires most { length records.now.lives.now ≤ 7 }
+    ensures { IfOk result (λ verdict. (verdict.fault ≡ Some fault.now) × (fault.now ≢ NoMemoryLeft)) }
+{
+    if let AuditFault::NoMemory = *fault {
+        return Err(AllocError);
+    }
+    let (difference, events) = difference_of(alloc, records, files, *fault)?;
+    Ok(Verdict {
+        fault: Some(*fault),
+        difference,
+        events,
+    })
+}
+
 // What an audit says of what was recorded of a group of 3 to 7 nodes. The error is want of memory.
 fn verdict_on(
     alloc: Global,
@@ -59,15 +82,7 @@ fn verdict_on(
             difference: None,
             events,
         }),
-        Err(AuditFault::NoMemory) => Err(AllocError),
-        Err(fault) => {
-            let (difference, events) = difference_of(alloc, records, files, fault)?;
-            Ok(Verdict {
-                fault: Some(fault),
-                difference,
-                events,
-            })
-        }
+        Err(fault) => verdict_of_fault(alloc, records, files, &fault),
     }
 }
 
