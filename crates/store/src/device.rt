@@ -1,6 +1,6 @@
 //! Where a journal goes.
-ghost use Rattle.std.specs.Prelude.{Option, List, ℕ, None, OnOk, OnErr};
-ghost use Rattle.std.specs.Io.KnownBytes.{Appends};
+ghost use Rattle.std.specs.Prelude.{◌≡◌, Option, List, ℕ, None, OnOk, OnErr};
+ghost use Rattle.std.specs.Io.KnownBytes.{append_known};
 ghost use Rattle.store.specs.Writing.{AppendsPart};
 
 /// Why a block was not written.
@@ -16,13 +16,13 @@ pub enum DeviceError {
 
 /// Takes the blocks of a journal, one after the other.
 pub trait Device: Drop {
-    /// What it holds, where that is known.
+    /// What it holds; none of one of which that is not known, neither before a write nor after it.
     ghost contents: { Self → Option (List ℕ) };
 
     /// Writes a block behind those before it. Once it has answered, the block outlasts a kill of the process and, of a device that
     /// syncs, a power cut. After an error a beginning of it may be there, and nothing more is to be written.
     fn write(&mut self, block: &[u8]) -> Result<(), DeviceError>
-        ensures ok { OnOk result (Appends (contents self.old) (contents self.new) block.now) }
+        ensures ok { OnOk result (contents self.new ≡ append_known (contents self.old) block.now) }
         ensures err { OnErr result (AppendsPart (contents self.old) (contents self.new) block.now) };
 }
 
