@@ -1,5 +1,5 @@
 -- A member of a run only grows while it is up.
-use Rattle.std.proofs.Common.{◌≡◌, ◌∙◌, ℕ, ◌+◌, ◌<◌, ◌≤◌, max, true, Option, Some, None, List, [], ◌∷◌, ◌++◌, take, length, refl, sym, ap, subst, arith, append-nil, length-take}
+use Rattle.std.proofs.Common.{◌≡◌, ◌∙◌, ℕ, ◌≤◌, max, true, Option, Some, None, List, [], ◌∷◌, ◌++◌, take, length, refl, sym, ap, subst, arith, append-nil, length-take}
 use Rattle.std.proofs.Math.Seq.{take-append_seam}
 use Rattle.std.proofs.lemmas.List.{take-append-le, take-take}
 use Rattle.model.specs.Lists.{nth, IsBeginning}

@@ -18,8 +18,6 @@ use Rattle.flight.specs.declared.life.Opening.{Opening}
 use Rattle.flight.specs.declared.life.Step.{Step}
 use Rattle.flight.specs.declared.life.Life.{Life}
 use Rattle.flight.specs.declared.life.Ending.{Ending}
-use Rattle.flight.specs.declared.life.Ending.TheVariants.{Torn}
-use Rattle.sqlchecks.specs.Columns.{Tables}
 use Rattle.sqlread.specs.Meaning.{schema_of}
 use Rattle.cells.specs.Lives.{opened_with, replay, stepped}
 use Rattle.cells.specs.Publishing.{items_by, items_from}
@@ -31,7 +29,7 @@ use Rattle.moments.specs.Past.{beginning}
 use Rattle.moments.specs.declared.moment.Moment.{Moment}
 use Rattle.moments.specs.Rising.{Rise, lives_rise}
 use Rattle.auditor.specs.Audited.{Explains}
-use Rattle.lifelaws.specs.Lives.{begun, made, replayed, IsRising, LivesFollow, LivesRise}
+use Rattle.lifelaws.specs.Lives.{begun, made, IsRising, LivesFollow, LivesRise}
 use Rattle.lifelaws.proofs.Growing.{IsMove, Runs, grows, was_after, was_before}
 use Rattle.lifelaws.proofs.Ordering.{in_order, is_deed, stands_in_order}
 use Rattle.lifelaws.proofs.Walking.{GoesThrough, IsFollowed, WasCut, Walks, gone, lives_followed, walks}
@@ -126,6 +124,7 @@ unfolding items_from
 none_made r me o = record { member = started_from (opened_with o); is = refl; listed = listed_none (seat r me (started_from (opened_with o))) o [] refl; rises = tt }
 
 life_rises : (r : Records) (events : List Event) (me : ℕ) (life : Life) → Runs (schema_of r.tables) (length r.lives) → RunsRise (schema_of r.tables) (length r.lives) (new_world (length r.lives)) → IsFollowed r events me life → IsRising r.tables (length r.lives) me life
+unfolding none_made
 life_rises r events me life runs law f =
     let n : ℕ = length r.lives in
     let m : IsMade r me life.opening life.steps.items = makes r events me life.opening [] life.steps.items runs law (none_made r me life.opening) f.goes in

@@ -1,7 +1,7 @@
 -- What a node did stands in the join of all lives in the order of its own.
-use Rattle.std.proofs.Common.{◌≡◌, ◌∙◌, ℕ, zero, suc, ◌+◌, ◌<◌, ◌≤◌, ◌==◌, ◌&&◌, ◌||◌, Bool, true, false, nat_lt, nat_cmp, is_lt, List, [], ◌∷◌, ◌++◌, length, get_or, filter, Option, Some, None, refl, sym, ap, subst, arith, inl, inr, append-nil, append_assoc, suc-le-suc, zero-le}
+use Rattle.std.proofs.Common.{◌≡◌, ◌∙◌, ℕ, zero, suc, ◌+◌, ◌<◌, ◌≤◌, ◌==◌, ◌&&◌, ◌||◌, Bool, true, false, nat_lt, nat_cmp, is_lt, List, [], ◌∷◌, ◌++◌, length, get_or, filter, Some, refl, sym, ap, subst, arith, inl, inr, append-nil, append_assoc, suc-le-suc, zero-le}
 use Rattle.std.specs.Prelude.{if◌then◌else◌, slice_get}
-use Rattle.std.specs.List.Sorted.{ties, IsNonDecreasingBy, IsStableByKey}
+use Rattle.std.specs.List.Sorted.{ties, IsNonDecreasingBy}
 use Rattle.std.specs.declared.vec.Vec.{Vec}
 use Rattle.std.specs.declared.alloc.Global.{Global}
 use Rattle.std.proofs.lemmas.Bool.{cond-true, cond-false, cases_Bool, ltb-true, eq-eqb, ne_eqb}
@@ -89,10 +89,12 @@ module _ (me node : ℕ) (b : Bool) (same : (node == me) ≡ b) where
 
   deeds_are : (k : ℕ) (lives : List Life) → Are (is_deed me) b (deed_moments node k lives)
   deeds_are k [] = tt
-  deeds_are k (l ∷ lives) =
-      (done, are_append (is_deed me) b (step_moments node k 0 l.steps.items ++ torn_moments node k l.ending) (deed_moments node (k + 1) lives)
-      (are_append (is_deed me) b (step_moments node k 0 l.steps.items) (torn_moments node k l.ending) (steps_are k 0 l.steps.items) (torn_are k l.ending))
-      (deeds_are (k + 1) lives))
+  deeds_are k (l ∷ lives) = (
+    done,
+    are_append (is_deed me) b (step_moments node k 0 l.steps.items ++ torn_moments node k l.ending) (deed_moments node (k + 1) lives)
+        (are_append (is_deed me) b (step_moments node k 0 l.steps.items) (torn_moments node k l.ending) (steps_are k 0 l.steps.items) (torn_are k l.ending))
+        (deeds_are (k + 1) lives),
+  )
 
   stops_are : (k : ℕ) (lives : List Life) → Are (is_deed me) b (stop_moments node k lives)
   stops_are k [] = tt
@@ -240,11 +242,11 @@ climbs_lives me k last (l ∷ lives) rise =
 -- no later life has a mark that an earlier one has
 climbs_torn : (me k mark last : ℕ) (steps : List Step) (e : Ending) (next : List Moment) → marks_rise mark (steps ++ torn_step e) ≡ true → last ≡ last_of mark (steps ++ torn_step e) → Climbs (suc last) next →
     Climbs mark ((step_moments me k 0 steps ++ torn_moments me k e) ++ next)
+unfolding last_of
 climbs_torn me k mark last steps e next rise is goes =
     subst (λ (ms : List Moment). Climbs mark ms) (sym (append_assoc (step_moments me k 0 steps) (torn_moments me k e) next)) (by_ending e rise is)
   where
     by_ending : (e : Ending) → marks_rise mark (steps ++ torn_step e) ≡ true → last ≡ last_of mark (steps ++ torn_step e) → Climbs mark (step_moments me k 0 steps ++ (torn_moments me k e ++ next))
-    unfolding last_of
     by_ending Up rise is = climbs_steps me k 0 mark steps [] next rise (λ h. let same : last ≡ last_of mark steps = is ∙ last_join mark steps [] in lower (last_of mark steps) (suc last) next (omega (arith, same)) goes)
     by_ending Stopped rise is = climbs_steps me k 0 mark steps [] next rise (λ h. let same : last ≡ last_of mark steps = is ∙ last_join mark steps [] in lower (last_of mark steps) (suc last) next (omega (arith, same)) goes)
     by_ending (Torn s) rise is =
@@ -267,15 +269,12 @@ climbs_to n (m ∷ ms) (suc j) d h less =
     let less' : j < length ms = omega (arith, less) in
     let rest = climbs_to m.mark ms j d h.1 less' in omega (arith, rest, h.0)
 
-climbing : (n : ℕ) (ms : List Moment) → Climbs n ms → IsNonDecreasingBy (λ (m : Moment). m.mark) ms
-climbing n [] h = λ i j d le less. absurd (omega (arith, less))
-climbing n (m ∷ ms) h = at
-  where
-    at : (i j : ℕ) (d : Moment) → i ≤ j → j < length (m ∷ ms) → (get_or (m ∷ ms) i d).mark ≤ (get_or (m ∷ ms) j d).mark
-    at zero zero d le less = omega arith
-    at zero (suc j) d le less = climbs_to m.mark ms j d h.1 (omega (arith, less))
-    at (suc i) zero d le less = absurd (omega (arith, le))
-    at (suc i) (suc j) d le less = climbing m.mark ms h.1 i j d (omega (arith, le)) (omega (arith, less))
+climbing : (n : ℕ) (ms : List Moment) → Climbs n ms → (i j : ℕ) (d : Moment) → i ≤ j → j < length ms → (get_or ms i d).mark ≤ (get_or ms j d).mark
+climbing n [] h i j d le less = absurd (omega (arith, less))
+climbing n (m ∷ ms) h zero zero d le less = omega arith
+climbing n (m ∷ ms) h zero (suc j) d le less = climbs_to m.mark ms j d h.1 (omega (arith, less))
+climbing n (m ∷ ms) h (suc i) zero d le less = absurd (omega (arith, le))
+climbing n (m ∷ ms) h (suc i) (suc j) d le less = climbing m.mark ms h.1 i j d (omega (arith, le)) (omega (arith, less))
 
 climbs : (n : ℕ) (ms : List Moment) → ((j : ℕ) (d : Moment) → j < length ms → n ≤ (get_or ms j d).mark) → IsNonDecreasingBy (λ (m : Moment). m.mark) ms → Climbs n ms
 climbs n [] h rises = tt
@@ -285,8 +284,8 @@ climbs n (m ∷ ms) h rises =
 climbs_filter : (p : Moment → Bool) (n : ℕ) (ms : List Moment) → Climbs n ms → Climbs n (filter p ms)
 climbs_filter p n [] h = tt
 climbs_filter p n (m ∷ ms) h = elim (cases_Bool (p m)) [
-  | inl yes ↦ subst (λ (xs : List Moment). Climbs n xs) (sym (kept p m ms yes)) (h.0, climbs_filter p m.mark ms h.1)
-  | inr no ↦ subst (λ (xs : List Moment). Climbs n xs) (sym (dropped p m ms no)) (lower n m.mark (filter p ms) h.0 (climbs_filter p m.mark ms h.1))
+  | inl held ↦ subst (λ (xs : List Moment). Climbs n xs) (sym (kept p m ms held)) (h.0, climbs_filter p m.mark ms h.1)
+  | inr missed ↦ subst (λ (xs : List Moment). Climbs n xs) (sym (dropped p m ms missed)) (lower n m.mark (filter p ms) h.0 (climbs_filter p m.mark ms h.1))
 ]
 
 filter_rises : (p : Moment → Bool) (ms : List Moment) → IsNonDecreasingBy (λ (m : Moment). m.mark) ms → IsNonDecreasingBy (λ (m : Moment). m.mark) (filter p ms)
@@ -298,14 +297,14 @@ swapped p q [] = refl
 swapped p q (m ∷ ms) =
     let rest = swapped p q ms in
     elim (cases_Bool (p m)) [
-      | inl yes ↦ elim (cases_Bool (q m)) [
-          | inl also ↦ ap (filter p) (kept q m ms also) ∙ kept p m (filter q ms) yes ∙ ap (λ (xs : List Moment). m ∷ xs) rest ∙ sym (kept q m (filter p ms) also) ∙ sym (ap (filter q) (kept p m ms yes))
-          | inr but ↦ ap (filter p) (dropped q m ms but) ∙ rest ∙ sym (dropped q m (filter p ms) but) ∙ sym (ap (filter q) (kept p m ms yes))
-        ]
-      | inr no ↦ elim (cases_Bool (q m)) [
-          | inl also ↦ ap (filter p) (kept q m ms also) ∙ dropped p m (filter q ms) no ∙ rest ∙ sym (ap (filter q) (dropped p m ms no))
-          | inr but ↦ ap (filter p) (dropped q m ms but) ∙ rest ∙ sym (ap (filter q) (dropped p m ms no))
-        ]
+      | inl held ↦ elim (cases_Bool (q m)) [
+        | inl also ↦ ap (filter p) (kept q m ms also) ∙ kept p m (filter q ms) held ∙ ap (λ (xs : List Moment). m ∷ xs) rest ∙ sym (kept q m (filter p ms) also) ∙ sym (ap (filter q) (kept p m ms held))
+        | inr but ↦ ap (filter p) (dropped q m ms but) ∙ rest ∙ sym (dropped q m (filter p ms) but) ∙ sym (ap (filter q) (kept p m ms held))
+      ]
+      | inr missed ↦ elim (cases_Bool (q m)) [
+        | inl also ↦ ap (filter p) (kept q m ms also) ∙ dropped p m (filter q ms) missed ∙ rest ∙ sym (ap (filter q) (dropped p m ms missed))
+        | inr but ↦ ap (filter p) (dropped q m ms but) ∙ rest ∙ sym (ap (filter q) (dropped p m ms missed))
+      ]
     ]
 
 -- ---- what stands at one mark

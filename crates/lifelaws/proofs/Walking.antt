@@ -1,12 +1,10 @@
 -- A life follows the run, step by step.
-use Rattle.std.proofs.Common.{◌≡◌, ◌∙◌, ℕ, ℤ, zero, suc, ◌+◌, ◌<◌, ◌==◌, ◌&&◌, Bool, true, false, Option, Some, None, List, [], ◌∷◌, ◌++◌, length, filter, fold, refl, sym, ap, subst, arith, inl, inr, append_assoc}
+use Rattle.std.proofs.Common.{◌≡◌, ◌∙◌, ℕ, ℤ, zero, suc, ◌+◌, ◌==◌, ◌&&◌, Bool, true, false, Option, Some, None, List, [], ◌∷◌, ◌++◌, length, filter, fold, refl, sym, ap, subst, arith, inl, inr, append_assoc}
 use Rattle.std.specs.Prelude.{if◌then◌else◌, slice_get, option_and_then}
 use Rattle.std.specs.Option.{option_map_or}
-use Rattle.std.specs.declared.vec.Vec.{Vec}
-use Rattle.std.specs.declared.alloc.Global.{Global}
 use Rattle.std.proofs.lemmas.Bool.{cond-true, cond-false, cases_Bool, cond_both, eqb-false}
 use Rattle.std.proofs.lemmas.Option.{same_Some}
-use Rattle.model.specs.Lists.{nth, with_nth}
+use Rattle.model.specs.Lists.{nth}
 use Rattle.model.specs.Transactions.{Schema}
 use Rattle.model.specs.Members.{Node}
 use Rattle.model.specs.Steps.{Effect, Moves, Refuses, Nothing, on_message}
@@ -15,16 +13,16 @@ use Rattle.model.specs.declared.message.Message.{Message}
 use Rattle.model.specs.declared.event.Job.{Job}
 use Rattle.model.specs.declared.event.Job.TheVariants.{Local, Delivery}
 use Rattle.model.specs.declared.event.Left.{Left}
-use Rattle.model.specs.Worlds.{World, Event, Hand, Deliver, Stop, Start, Torn, Ask, fresh, new_world, started, stopped, effect, with_node, done, node_left, is_for, does, delivers, tears, stops, starts, happens, run}
+use Rattle.model.specs.Worlds.{World, Event, Deliver, Stop, Start, Torn, Ask, fresh, new_world, started, stopped, effect, with_node, done, node_left, is_for, does, delivers, tears, stops, starts, happens, run}
 use Rattle.safety.specs.Floors.{WasAt}
-use Rattle.safety.proofs.Lists.{if_there, none_some, same_some}
+use Rattle.safety.proofs.Lists.{if_there, same_some}
 use Rattle.safety.proofs.Given.{nth_same}
 use Rattle.safety.proofs.Moments.{nth_other}
 use Rattle.safety.proofs.Runs.{run_append}
 use Rattle.onelist.specs.Explained.{Stops as IsStopOf}
 use Rattle.onelist.proofs.Upkeep as upkeep
-use Rattle.keep.specs.Durable.{Durable, blank}
-use Rattle.node.specs.View.{durable_of, started_from}
+use Rattle.keep.specs.Durable.{Durable}
+use Rattle.node.specs.View.{durable_of, started_from, works}
 use Rattle.flight.specs.Lives.{last_mark}
 use Rattle.flight.specs.declared.life.Opening.{Opening}
 use Rattle.flight.specs.declared.life.Packet.{Packet}
@@ -35,7 +33,7 @@ use Rattle.flight.specs.declared.life.Ending.{Ending}
 use Rattle.flight.specs.declared.life.Ending.TheVariants as ending
 use Rattle.sqlchecks.specs.Columns.{Tables}
 use Rattle.sqlread.specs.Meaning.{schema_of, select_of}
-use Rattle.cells.specs.Lives.{opened_with, stepped}
+use Rattle.cells.specs.Lives.{opened_with, stepped, work_of}
 use Rattle.world.specs.View.{if_up}
 use Rattle.moments.specs.declared.moment.Deed.{Deed}
 use Rattle.moments.specs.declared.moment.Deed.TheVariants.{Opens, Takes, Tears, Answers, Stops}
@@ -130,11 +128,11 @@ apart node me h = eqb-false node me (sym (and_true (node == me)) ∙ h)
 
 -- what is no deed of member me leaves it as it was
 same_member : (r : Records) (n : ℕ) (p : Past) (me node : ℕ) (d : Deed) (events : List Event) → IsBehindDeed r n p node d events → ((node == me) && is_done d) ≡ false → IsSameMember (schema_of r.tables) n p me events
-same_member r n p me node (Opens k) events h no = begun_apart r n p me node k (life_at r.lives node k) events (apart node me no) h
-same_member r n p me node (Takes k step) events h no = taken_apart r n p me node (step_at r.lives node k step) events (apart node me no) h
-same_member r n p me node (Tears k) events h no = life_cut_apart r n p me node k (life_at r.lives node k) events (apart node me no) h
-same_member r n p me node (Answers k) events h no = asked_same r n p me node (slice_get r.answers k) events h
-same_member r n p me node (Stops k) events h no = by_event (schema_of r.tables) n p me (Stop node) events h (stops_apart (schema_of r.tables) n p.world me node (apart node me no))
+same_member r n p me node (Opens k) events h passed = begun_apart r n p me node k (life_at r.lives node k) events (apart node me passed) h
+same_member r n p me node (Takes k step) events h passed = taken_apart r n p me node (step_at r.lives node k step) events (apart node me passed) h
+same_member r n p me node (Tears k) events h passed = life_cut_apart r n p me node k (life_at r.lives node k) events (apart node me passed) h
+same_member r n p me node (Answers k) events h passed = asked_same r n p me node (slice_get r.answers k) events h
+same_member r n p me node (Stops k) events h passed = by_event (schema_of r.tables) n p me (Stop node) events h (stops_apart (schema_of r.tables) n p.world me node (apart node me passed))
 
 -- ---- the deeds of one node, one by one
 
@@ -168,10 +166,10 @@ walks r events me p q early late (m ∷ ms) is world led =
     let then_ : (after schema n p m.mark now).world ≡ run schema n (new_world n) (early ++ now) = ap (λ (w : World). run schema n w now) world ∙ sym (run_append schema n early now (new_world n)) in
     let rest = walks r events me (after schema n p m.mark now) q (early ++ now) led.1 ms (append_assoc early now led.1 ∙ joined) then_ led.4 in
     elim (cases_Bool (is_deed me m)) [
-      | inl yes ↦ subst (λ (xs : List Moment). Walks r events me (nth p.world.nodes me) xs) (sym (cond-true (is_deed me m) (m ∷ filter (is_deed me) ms) (filter (is_deed me) ms) yes))
+      | inl held ↦ subst (λ (xs : List Moment). Walks r events me (nth p.world.nodes me) xs) (sym (cond-true (is_deed me m) (m ∷ filter (is_deed me) ms) (filter (is_deed me) ms) held))
           (record { early = early; now = now; late = led.1; past = p; is = joined; world = world; at = refl; behind = led.3 }, rest)
-      | inr no ↦ subst (λ (xs : List Moment). Walks r events me (nth p.world.nodes me) xs) (sym (cond-false (is_deed me m) (m ∷ filter (is_deed me) ms) (filter (is_deed me) ms) no))
-          (subst (λ (o : Option Node). Walks r events me o (filter (is_deed me) ms)) (same_member r n p me m.node m.deed now led.3 no) rest)
+      | inr missed ↦ subst (λ (xs : List Moment). Walks r events me (nth p.world.nodes me) xs) (sym (cond-false (is_deed me m) (m ∷ filter (is_deed me) ms) (filter (is_deed me) ms) missed))
+          (subst (λ (o : Option Node). Walks r events me o (filter (is_deed me) ms)) (same_member r n p me m.node m.deed now led.3 missed) rest)
     ]
 
 -- ---- one step
@@ -189,21 +187,17 @@ module _ (schema : Schema) (n : ℕ) (w : World) (me : ℕ) (x : Node) (at : nth
       ∙ done_here (effect schema n w me job x)
 
 -- a packet that was there to be taken is what the life replays
-steps_so : (t : Tables) (n : ℕ) (p : Past) (me : ℕ) (x : Node) (s : Step) (job : Job) → IsJob p me s.packet job → node_after x (effect (schema_of t) n p.world me job x) ≡ stepped t n me x s
+steps_by : (t : Tables) (n : ℕ) (p : Past) (me : ℕ) (x : Node) (s : Step) (k : Packet) (job : Job) → s.packet ≡ k → IsJob p me k job → node_after x (effect (schema_of t) n p.world me job x) ≡ stepped t n me x s
 unfolding stepped
-steps_so t n p me x s job is = by_packet s.packet refl is
-  where
-    of_packet : Packet → Node
-    of_packet k = stepped t n me x (record s { packet = k })
+steps_by t n p me x s (packet.Local input) job e is =
+    ap (λ (j : Job). node_after x (effect (schema_of t) n p.world me j x)) is ∙ ap (λ (k : Packet). node_after x (works t n me (work_of k) x)) (sym e)
+steps_by t n p me x s (packet.Delivered mark reading message) job e is =
+    ap (λ (j : Job). node_after x (effect (schema_of t) n p.world me j x)) is.2
+    ∙ ap (λ (o : Option Message). node_after x (option_map_or (λ (m : Message). on_message (schema_of t) n me reading m x) o Nothing)) is.1.is
+    ∙ ap (λ (k : Packet). node_after x (works t n me (work_of k) x)) (sym e)
 
-    by_packet : (k : Packet) → s.packet ≡ k → IsJob p me k job → node_after x (effect (schema_of t) n p.world me job x) ≡ stepped t n me x s
-    unfolding stepped of_packet
-    by_packet (packet.Local input) e is =
-        ap (λ (j : Job). node_after x (effect (schema_of t) n p.world me j x)) is ∙ ap of_packet (sym e)
-    by_packet (packet.Delivered mark reading message) e is =
-        ap (λ (j : Job). node_after x (effect (schema_of t) n p.world me j x)) is.2
-        ∙ ap (λ (o : Option Message). node_after x (option_map_or (λ (m : Message). on_message (schema_of t) n me reading m x) o Nothing)) is.1.is
-        ∙ ap of_packet (sym e)
+steps_so : (t : Tables) (n : ℕ) (p : Past) (me : ℕ) (x : Node) (s : Step) (job : Job) → IsJob p me s.packet job → node_after x (effect (schema_of t) n p.world me job x) ≡ stepped t n me x s
+steps_so t n p me x s job is = steps_by t n p me x s s.packet job refl is
 
 no_stop : (me : ℕ) (job : Job) → IsStopOf me (job_event me job) → ⊥
 no_stop me (Local input) h = elim h [ ]
@@ -224,23 +218,25 @@ takes_so t n p me x s job at up is =
     let same : found.0 ≡ y = same_some (nth w.nodes me) found.0 y found.1 next in
     record { next = next; still = subst (λ (z : Node). z.up ≡ true) same found.2 }
 
--- as a move in the run
-moves_so : (r : Records) (early : List Event) (p : Past) (me : ℕ) (x : Node) (s : Step) (job : Job) → p.world ≡ run (schema_of r.tables) (length r.lives) (new_world (length r.lives)) early → nth p.world.nodes me ≡ Some x → x.up ≡ true → IsJob p me s.packet job →
-    IsMove (schema_of r.tables) (length r.lives) me x (stepped r.tables (length r.lives) me x s)
-moves_so r early p me x s job world at up is =
+-- in the run
+next_so : (r : Records) (early : List Event) (p : Past) (me : ℕ) (y : Node) (job : Job) → p.world ≡ run (schema_of r.tables) (length r.lives) (new_world (length r.lives)) early → IsTakenSo r.tables (length r.lives) p me y job →
+    nth (run (schema_of r.tables) (length r.lives) (new_world (length r.lives)) (early ++ job_event me job ∷ [])).nodes me ≡ Some y
+next_so r early p me y job world so =
     let schema : Schema = schema_of r.tables in
     let n : ℕ = length r.lives in
-    let so = takes_so r.tables n p me x s job at up is in
     let e : Event = job_event me job in
-    let then_ : run schema n (new_world n) (early ++ e ∷ []) ≡ happens schema n p.world e = run_append schema n early (e ∷ []) (new_world n) ∙ ap (λ (w : World). happens schema n w e) (sym world) in
-    record {
-      early = early;
-      event = e;
-      at = ap (λ (w : World). nth w.nodes me) (sym world) ∙ at;
-      next = ap (λ (w : World). nth w.nodes me) then_ ∙ so.next;
-      up = up;
-      still = so.still;
-    }
+    ap (λ (w : World). nth w.nodes me) (run_append schema n early (e ∷ []) (new_world n) ∙ ap (λ (w : World). happens schema n w e) (sym world)) ∙ so.next
+
+moves_so : (r : Records) (early : List Event) (p : Past) (me : ℕ) (x y : Node) (job : Job) → p.world ≡ run (schema_of r.tables) (length r.lives) (new_world (length r.lives)) early → nth p.world.nodes me ≡ Some x → x.up ≡ true →
+    IsTakenSo r.tables (length r.lives) p me y job → IsMove (schema_of r.tables) (length r.lives) me x y
+moves_so r early p me x y job world at up so = record {
+  early = early;
+  event = job_event me job;
+  at = ap (λ (w : World). nth w.nodes me) (sym world) ∙ at;
+  next = next_so r early p me y job world so;
+  up = up;
+  still = so.still;
+}
 
 -- ---- one life
 
@@ -271,28 +267,40 @@ record AreTaken (r : Records) (events : List Event) (me : ℕ) (x : Node) (steps
   up : (gone r me x steps).up ≡ true
   rest : Walks r events me (Some (gone r me x steps)) tail
 
+-- what is left once one step is taken
+record IsTakenOnce (r : Records) (events : List Event) (me : ℕ) (x y : Node) (left : Option Node) : Type 0 where
+  move : IsMove (schema_of r.tables) (length r.lives) me x y
+  was : WasAt (schema_of r.tables) (length r.lives) (new_world (length r.lives)) events me y
+  up : y.up ≡ true
+  next : left ≡ Some y
+
+follow_step : (r : Records) (events : List Event) (me : ℕ) (x : Node) (s : Step) (m : Moment) (w : IsStep r events me (Some x) m) → x.up ≡ true → IsTaken r.version r.tables (length r.lives) w.past me (Some s) w.now →
+    IsTakenOnce r events me x (stepped r.tables (length r.lives) me x s) (next_of r events me (Some x) m w)
+follow_step r events me x s m w up (job, is, tells, one) =
+    let schema : Schema = schema_of r.tables in
+    let n : ℕ = length r.lives in
+    let y : Node = stepped r.tables n me x s in
+    let so = takes_so r.tables n w.past me x s job w.at up is in
+    let e : Event = job_event me job in
+    let moment : (w.early ++ e ∷ []) ++ w.late ≡ events = append_assoc w.early (e ∷ []) w.late ∙ ap (λ (es : List Event). w.early ++ (es ++ w.late)) (sym one) ∙ w.is in
+    record {
+      move = moves_so r w.early w.past me x y job w.world w.at up so;
+      was = record { early = w.early ++ e ∷ []; late = w.late; moment = moment; at = next_so r w.early w.past me y job w.world so };
+      up = so.still;
+      next = ap (left_of schema n w.past me) one ∙ so.next;
+    }
+
 follow_steps : (r : Records) (events : List Event) (me k j : ℕ) (x : Node) (steps : List Step) (tail : List Moment) → x.up ≡ true → ((i : ℕ) → step_at r.lives me k (j + i) ≡ slice_get steps i) →
     Walks r events me (Some x) (step_moments me k j steps ++ tail) → AreTaken r events me x steps tail
 follow_steps r events me k j x [] tail up at walked = record { goes = tt; up = up; rest = walked }
 follow_steps r events me k j x (s ∷ steps) tail up at walked =
-    let schema : Schema = schema_of r.tables in
-    let n : ℕ = length r.lives in
     let w = walked.0 in
     let here : step_at r.lives me k j ≡ Some s = ap (step_at r.lives me k) (let e : j ≡ j + 0 = omega arith in e) ∙ at 0 in
-    let taken = subst (λ (o : Option Step). IsTaken r.version r.tables n w.past me o w.now) here w.behind in
-    let y : Node = stepped r.tables n me x s in
-    let move = moves_so r w.early w.past me x s taken.0 w.world w.at up taken.1 in
-    let so = takes_so r.tables n w.past me x s taken.0 w.at up taken.1 in
-    let e : Event = job_event me taken.0 in
-    let next : left_of schema n w.past me w.now ≡ Some y = ap (left_of schema n w.past me) taken.3 ∙ so.next in
-    let moment : (w.early ++ e ∷ []) ++ w.late ≡ events = append_assoc w.early (e ∷ []) w.late ∙ ap (λ (es : List Event). w.early ++ (es ++ w.late)) (sym taken.3) ∙ w.is in
-    let rest : Walks r events me (Some y) (step_moments me k (j + 1) steps ++ tail) = subst (λ (o : Option Node). Walks r events me o (step_moments me k (j + 1) steps ++ tail)) next walked.1 in
-    let later = follow_steps r events me k (j + 1) y steps tail so.still (λ i. ap (step_at r.lives me k) (let e : j + 1 + i ≡ j + suc i = omega arith in e) ∙ at (suc i)) rest in
-    record {
-      goes = (move, record { early = w.early ++ e ∷ []; late = w.late; moment = moment; at = move.next }, later.goes);
-      up = later.up;
-      rest = later.rest;
-    }
+    let once = follow_step r events me x s (record { mark = s.mark; node = me; deed = Takes k j }) w up (subst (λ (o : Option Step). IsTaken r.version r.tables (length r.lives) w.past me o w.now) here w.behind) in
+    let y : Node = stepped r.tables (length r.lives) me x s in
+    let rest : Walks r events me (Some y) (step_moments me k (j + 1) steps ++ tail) = subst (λ (o : Option Node). Walks r events me o (step_moments me k (j + 1) steps ++ tail)) once.next walked.1 in
+    let later = follow_steps r events me k (j + 1) y steps tail once.up (λ i. ap (step_at r.lives me k) (let e : j + 1 + i ≡ j + suc i = omega arith in e) ∙ at (suc i)) rest in
+    record { goes = (once.move, once.was, later.goes); up = later.up; rest = later.rest }
 
 -- ---- a life that begins
 
@@ -331,9 +339,13 @@ ends_so r events me k mark x l (ending.Torn s) ms up at is walked =
     let w = walked.0 in
     let behind = subst (λ (o : Option Life). IsLifeCut r w.past me k o w.now) at w.behind in
     let cut = subst (λ (e : Ending). IsCut w.past me (life_at r.lives me (k + 1)) e w.now) is behind in
-    record { cut = moves_so r w.early w.past me x s cut.0 w.world w.at up cut.2; left = _; rest = walked.1 }
+    let so = takes_so r.tables (length r.lives) w.past me x s cut.0 w.at up cut.2 in
+    record { cut = moves_so r w.early w.past me x (stepped r.tables (length r.lives) me x s) cut.0 w.world w.at up so; left = _; rest = walked.1 }
 
 -- ---- all lives of a node
+
+not_first : (k : ℕ) (x y : Option Node) → k + 1 ≡ 0 → y ≡ x
+not_first k x y e = absurd (omega (arith, e))
 
 follow_lives : (r : Records) (events : List Event) (me k : ℕ) (lives : List Life) (x : Option Node) → (k ≡ 0 → x ≡ Some (fresh 0 None)) → ((i : ℕ) → life_at r.lives me (k + i) ≡ slice_get lives i) → Walks r events me x (in_order me k lives) →
     (i : ℕ) (life : Life) → slice_get lives i ≡ Some life → IsFollowed r events me life
@@ -352,7 +364,7 @@ follow_lives r events me k (l ∷ lives) x first at walked i life found =
     let steps = follow_steps r events me k 0 (begun l) l.steps.items ending refl (λ j. ap (step_at r.lives me k) (let e : 0 + j ≡ j = omega arith in e) ∙ ap (option_and_then (λ (y : Life). slice_get y.steps.items j)) here) rest in
     let ends = ends_so r events me k (last_mark l) (gone r me (begun l) l.steps.items) l l.ending (in_order me (k + 1) lives) steps.up here refl steps.rest in
     by_place i found (record { begins = begins; goes = steps.goes; cut = ends.cut })
-    (follow_lives r events me (k + 1) lives ends.left (λ e. absurd (omega (arith, e))) (λ j. ap (life_at r.lives me) (let e : k + 1 + j ≡ k + suc j = omega arith in e) ∙ at (suc j)) ends.rest)
+    (follow_lives r events me (k + 1) lives ends.left (λ e. not_first k (Some (fresh 0 None)) ends.left e) (λ j. ap (life_at r.lives me) (let e : k + 1 + j ≡ k + suc j = omega arith in e) ∙ at (suc j)) ends.rest)
   where
     by_place : (i : ℕ) → slice_get (l ∷ lives) i ≡ Some life → IsFollowed r events me l → ((j : ℕ) (other : Life) → slice_get lives j ≡ Some other → IsFollowed r events me other) → IsFollowed r events me life
     by_place zero found now later = subst (λ (y : Life). IsFollowed r events me y) (same_Some l life found) now

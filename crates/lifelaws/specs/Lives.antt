@@ -1,5 +1,5 @@
 -- What lives do that a run explains.
-use Rattle.std.specs.Prelude.{◌≡◌, ℕ, Option, Some, List, ◌++◌, fold, take, length}
+use Rattle.std.specs.Prelude.{◌≡◌, ℕ, Some, List, ◌++◌, fold, take, length}
 use Rattle.model.specs.Members.{Node}
 use Rattle.model.specs.Worlds.{Event, new_world}
 use Rattle.safety.specs.Floors.{WasAt}
