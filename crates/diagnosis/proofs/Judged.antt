@@ -43,10 +43,6 @@ pub refused_schema : (text : List ℕ) (refusal : Refusal) (fault : Option Refus
 refused_schema text refusal fault law says h =
     subst (λ (o : Option Refusal). IsTrue (is_none o) ↔ IsFaultlessSchema text) (sym h.0) (⊎_elim (λ e. absurd (h.1 e)) (no_schema text refusal law) says)
 
--- what is told is clean exactly where nothing is refused
-pub told_so : (P : Type 0) (b c : Bool) → b ≡ c → IsTrue c ↔ P → IsTrue b ↔ P
-told_so P b c same is = ((λ t. is.0 (sym same ∙ t)), (λ p. same ∙ is.1 p))
-
 -- a text has what bytes need besides
 with_utf8 : (U P : Type 0) (b : Bool) → U → IsTrue b ↔ P → IsTrue b ↔ (U × P)
 with_utf8 U P b utf8 is = ((λ t. (utf8, is.0 t)), (λ p. is.1 p.1))
