@@ -1,7 +1,7 @@
 use Rattle.std.proofs.Common.{◌≡◌, length}
 use Rattle.std.specs.List.{list_all}
 use Rattle.diagnosis.specs.Faultless.{reads}
-use Rattle.diagnosis.proofs.faultless.all_read.Given as goal
+use Rattle.diagnosis.proofs.faultless.fault_of_lines.Given as goal
 
 abbrev pub invariant-loop-lines : goal.invariant-loop-lines
 invariant-loop-lines l = list_all (reads l.schema) l.fn.lines ≡ list_all (reads l.schema) l.lines
