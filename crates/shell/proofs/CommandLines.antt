@@ -1,5 +1,5 @@
 -- Lemmas on the program's command line as clap reads it.
-use Rattle.std.proofs.Common.{◌≡◌, ◌∙◌, ◌<◌, ◌^◌, ◌||◌, ◌⊎◌, ℕ, List, [], Bool, true, false, Option, Some, None, Result, Ok, Err, option_map, ap, ap₂, sym, subst, refl, inl, inr}
+use Rattle.std.proofs.Common.{◌≡◌, ◌∙◌, ◌<◌, ◌^◌, ◌||◌, ◌⊎◌, ℕ, List, [], true, false, Option, Some, None, Result, Ok, Err, option_map, ap, ap₂, sym, subst, refl, inl, inr}
 use Rattle.std.specs.Str.Parse.{ParsesUnsigned, digits_value, without_leading_plus}
 use Rattle.clap.specs.Built.{AddsArg, AddsSubcommand}
 use Rattle.std.specs.Prelude.{Box, IfErr, IfNone, IfSome, IsErrAnd}

@@ -1,5 +1,5 @@
 -- Lemmas on a report of flights.
-use Rattle.std.proofs.Common.{◌≡◌, ◌∙◌, ◌++◌, ℕ, List, length, map, ap, sym, subst, refl, append_assoc, codes}
+use Rattle.std.proofs.Common.{◌≡◌, ◌∙◌, ◌++◌, ℕ, List, map, ap, sym, subst, append_assoc, codes}
 use Rattle.std.specs.Prelude.{Result, Ok, Err, IfOk, Option, string_bytes}
 use Rattle.std.specs.declared.string.String.{String}
 use Rattle.std.specs.declared.vec.Vec.{Vec}
