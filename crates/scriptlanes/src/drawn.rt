@@ -4,7 +4,7 @@ ghost use Rattle.lines.specs.declared.line.Line.{Line as AnyLine};
 ghost use Rattle.lines.specs.Script.{HasLines};
 ghost use Rattle.sqlchecks.specs.Columns.{Tables};
 
-use crate::numbered::numbered;
+use crate::numbered::{numbered, printable};
 use crate::pencil::Pencil;
 use crate::stage::{Stage, sets_clocks};
 use lanes::recorder::Recorder;
@@ -60,8 +60,8 @@ pub enum Drawing {
 }
 
 /// Plays a script, and draws what the members did: its lines, the messages with what became of them, who stands for election,
-/// leads and is down, and what members tell. The name stands above; of a path it is what follows the last `/`. It fails as
-/// playing does: by the refusal of the script or its schema, or by want of memory.
+/// leads and is down, and what members tell. The name stands above; of a path it is what follows the last `/`. Control characters are
+/// `?`. It fails as playing does: by the refusal of the script or its schema, or by want of memory.
 pub fn draw_lanes(
     alloc: Global,
     text: &str,
@@ -86,7 +86,8 @@ pub fn draw_lanes(
     };
     play_lines(alloc, text, lines.as_slice(), span, &mut stage)?;
     let run = run_of(stage);
-    let drawing = drawing_of(alloc, &run, last_part(name), sheet)?;
+    let name = printable(alloc, last_part(name))?;
+    let drawing = drawing_of(alloc, &run, name.as_str(), sheet)?;
     Ok(drawing)
 }
 
@@ -114,10 +115,11 @@ fn play_lines(
             return Ok(());
         }
         if !sets_clocks(line) {
+            let words = printable(alloc, words)?;
             stage
                 .pencil
                 .recorder
-                .begin_act(*number, words, span.has(*number))?;
+                .begin_act(*number, words.as_str(), span.has(*number))?;
         }
         stage.play_line(line)?;
     }

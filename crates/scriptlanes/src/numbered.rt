@@ -17,3 +17,21 @@ pub(crate) fn numbered<'a>(
     }
     Ok(lines)
 }
+
+// A control character, or one that no page can have, is `?`.
+fn shown(sign: char) -> char {
+    if sign.is_control() || sign == '\u{FFFE}' || sign == '\u{FFFF}' {
+        '?'
+    } else {
+        sign
+    }
+}
+
+/// A text as a terminal and a page can show it.
+pub(crate) fn printable(alloc: Global, text: &str) -> Result<String, AllocError> {
+    let mut shown_text = String::new(alloc);
+    for sign in text.chars() {
+        shown_text.push(shown(sign))?;
+    }
+    Ok(shown_text)
+}
