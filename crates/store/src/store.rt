@@ -133,6 +133,7 @@ where
     pub(crate) fn write(&mut self, line: &Line) -> Result<(), StoreRefusal>
         ensures ok { OnOk result (IsAdded self.old.scribe self.new.scribe line.now) }
         ensures why { IfErr result IsOfJournal }
+        ensures fails { OnErr result (IsSpent self.new.scribe) }
         ensures same { self.new ≡ record self.old { scribe = self.new.scribe } }
     {
         match &mut self.scribe {
@@ -145,6 +146,7 @@ where
     pub(crate) fn flush(&mut self) -> Result<(), StoreRefusal>
         ensures ok { OnOk result (IsFlushed K.Journal.contents self.old.scribe self.new.scribe) }
         ensures why { IfErr result IsOfJournal }
+        ensures fails { OnErr result (IsSpent self.new.scribe) }
         ensures same { self.new ≡ record self.old { scribe = self.new.scribe } }
     {
         match &mut self.scribe {
@@ -170,7 +172,9 @@ where
 
     // For want of memory the store is spent.
     pub(crate) fn spend(&mut self) -> StoreRefusal
-        ensures { IsOfJournal result }
+        ensures why { IsOfJournal result }
+        ensures fails { IsSpent self.new.scribe }
+        ensures same { self.new ≡ record self.old { scribe = self.new.scribe } }
     {
         if let Some(scribe) = &mut self.scribe {
             scribe.spend(DeviceError::NoMemory);
