@@ -103,6 +103,7 @@ where
     }
 
     // Writes what was answered to the journal, so that it may be given out.
+    #[tactic(auto, using(crate::proofs::Written::on_told))]
     fn tell(&mut self, member: Member, query: &str, words: String) -> Result<(), StoreRefusal>
         ensures told { OnOk result (EndsWith K.Journal.contents self.new.scribe (Line.Answer member query.now (string_bytes words))) }
         ensures why { IfErr result IsOfJournal }

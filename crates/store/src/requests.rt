@@ -113,6 +113,7 @@ where
     }
 
     // Writes the words of an outcome to the journal, so that they may be given out.
+    #[tactic(auto, using(crate::proofs::Written::on_told))]
     fn print(
         &mut self,
         client: Client,
