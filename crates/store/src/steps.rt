@@ -1,6 +1,6 @@
 //! Steps of the members, and what comes of them.
-ghost use Rattle.std.specs.Prelude.{IfErr, OnErr};
-ghost use Rattle.store.specs.Journals.{IsSpent};
+ghost use Rattle.std.specs.Prelude.{IfErr, OnOk, OnErr};
+ghost use Rattle.store.specs.Journals.{IsSpent, HasLast};
 ghost use Rattle.store.specs.Refusals.{IsOfJournal};
 
 use crate::announcing::Announces;
@@ -100,6 +100,7 @@ where
     }
 
     fn begin_step(&mut self, member: Member, reading: i64, taken: Taken) -> Result<(), StoreRefusal>
+        ensures takes { OnOk result (HasLast self.new.scribe (Line.Takes member taken)) }
         ensures why { IfErr result IsOfJournal }
         ensures fails { OnErr result (IsSpent self.new.scribe) }
     {
