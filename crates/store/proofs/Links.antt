@@ -1,12 +1,12 @@
 -- The digests of a log's beginnings, entry by entry.
-use Rattle.std.proofs.Common.{◌≡◌, ◌∙◌, ◌⊎◌, inl, inr, ℕ, suc, ◌+◌, ◌<◌, ◌≤◌, min, List, [], ◌∷◌, ◌++◌, length, take, drop, refl, sym, ap, subst, arith, length-append, append-nil, append_assoc}
-use Rattle.std.specs.Prelude.{fold, vec_len}
+use Rattle.std.proofs.Common.{◌≡◌, ◌∙◌, inl, inr, ℕ, suc, ◌+◌, ◌≤◌, min, List, [], ◌∷◌, ◌++◌, length, take, drop, refl, sym, ap, subst, arith, length-append, append-nil, append_assoc}
+use Rattle.std.specs.Prelude.{fold}
 use Rattle.std.proofs.Math.Nat.{eq-or-lt_of_le}
 use Rattle.std.proofs.Math.Seq.{take-append_seam, take-length}
-use Rattle.std.proofs.lemmas.List.{take-append-drop, length-take, take_all, nil_from_length, take_more}
+use Rattle.std.proofs.lemmas.List.{take-append-drop, length-take, take_all, nil_from_length}
 use Rattle.std.proofs.lemmas.List.Sums.{fold-append}
 use Rattle.model.specs.declared.entry.Entry.{Entry}
-use Rattle.keep.specs.Durable.{Durable, after}
+use Rattle.keep.specs.Durable.{Durable}
 use Rattle.keep.specs.declared.hard_state.HardState.{HardState}
 use Rattle.journal.specs.Digests.{next_digest, digest_of, summary_of}
 use Rattle.journal.specs.declared.stored.Summary.{Summary}

@@ -1,5 +1,5 @@
 -- What is written to a journal.
-use Rattle.std.proofs.Common.{◌≡◌, ◌≢◌, ◌∙◌, ℕ, Option, Some, None, List, [], ◌∷◌, ◌++◌, length, refl, sym, ap, subst, arith, append-nil, length-append, string_bytes, Result, Ok, Err, OnOk, OnErr}
+use Rattle.std.proofs.Common.{◌≡◌, ◌≢◌, ◌∙◌, ℕ, Option, Some, None, List, [], ◌∷◌, ◌++◌, refl, sym, ap, subst, append-nil, append_assoc, string_bytes, Result, Ok, Err, OnOk, OnErr}
 use Rattle.std.specs.Io.KnownBytes.{append_known}
 use Rattle.flight.specs.Additions.{Adds}
 use Rattle.journal.specs.Blocks.{block_text}
@@ -8,7 +8,7 @@ use Rattle.journal.specs.declared.line.Line.{Line}
 use Rattle.journal.specs.declared.line.Line.TheVariants.{Opens, Rests, Life, Clock, Takes, Saves, Made, Ends, Answer, Printed}
 use Rattle.store.specs.declared.scribe.Scribe.{Scribe}
 use Rattle.store.specs.Writing.{AppendsPart, IsWritten, IsLastWritten, with_line}
-use Rattle.store.specs.Journals.{IsAdded, IsFlushed, EndsWith}
+use Rattle.store.specs.Journals.{IsAdded, IsFlushed, EndsWith, HasLast, IsLonger, IsOpened}
 
 -- nothing of it is there
 pub part_none : (old : Option (List ℕ)) (bytes : List ℕ) → AppendsPart old old bytes
@@ -73,3 +73,57 @@ told_last contents (Some s) (Some t) (Some u) line added flushed =
 pub on_told : {J A E : Type 0} (contents : J → Option (List ℕ)) (r : Result A E) (s t u : Option (Scribe J)) (line told : Line) → line ≡ told → IsAdded s t line → OnOk r (IsFlushed contents t u) → OnOk r (EndsWith contents u told)
 on_told contents (Ok x) s t u line told same added flushed = subst (λ (l : Line). EndsWith contents u l) same (told_last contents s t u line added flushed)
 on_told contents (Err e) s t u line told same added flushed = tt
+
+-- ---- a journal that begins
+
+-- what was added is the last line of the buffer
+pub has_last : {J : Type 0} (s t : Option (Scribe J)) (line : Line) → IsAdded s t line → HasLast t line
+has_last None t line added = absurd added
+has_last (Some s) None line added = absurd added
+has_last (Some s) (Some t) line added = (string_bytes s.buffer, line_added (string_bytes s.buffer) (string_bytes t.buffer) line added.0)
+
+pub longer_none : {J : Type 0} (s : Option (Scribe J)) → IsLonger s s
+longer_none None = refl
+longer_none (Some s) = ([], sym (append-nil (string_bytes s.buffer)), refl, refl)
+
+pub longer_more : {J : Type 0} (s t u : Option (Scribe J)) → IsLonger s t → IsLonger t u → IsLonger s u
+longer_more {J = D} None t u a b = subst (λ (x : Option (Scribe D)). IsLonger x u) a b
+longer_more (Some s) None u a b = absurd a
+longer_more (Some s) (Some t) None a b = absurd b
+longer_more (Some s) (Some t) (Some u) a b =
+    (a.0 ++ b.0, b.1 ∙ ap (λ (x : List ℕ). x ++ b.0) a.1 ∙ append_assoc (string_bytes s.buffer) a.0 b.0, b.2 ∙ a.2, b.3 ∙ a.3)
+
+pub longer_added : {J : Type 0} (s t : Option (Scribe J)) (line : Line) → IsAdded s t line → IsLonger s t
+longer_added None t line added = absurd added
+longer_added (Some s) None line added = absurd added
+longer_added (Some s) (Some t) line added = (line_text line [], line_added (string_bytes s.buffer) (string_bytes t.buffer) line added.0, added.1, added.2)
+
+pub longer_from : {J : Type 0} (s first t : Option (Scribe J)) (line : Line) → first ≡ s → IsAdded first t line → IsLonger s t
+longer_from {J = D} s first t line same added = subst (λ (x : Option (Scribe D)). IsLonger x t) same (longer_added first t line added)
+
+pub on_longer : {J A E : Type 0} (r : Result A E) (s t u : Option (Scribe J)) (line : Line) → IsLonger s t → OnOk r (IsAdded t u line) → OnOk r (IsLonger s u)
+on_longer (Ok x) s t u line longer added = longer_more s t u longer (longer_added t u line added)
+on_longer (Err e) s t u line longer added = tt
+
+opened : {J : Type 0} (contents : J → Option (List ℕ)) (first : Scribe J) (t u v : Option (Scribe J)) (journal marks : ℕ) → IsAdded (Some first) t (Opens journal first.sum marks) → IsLonger t u → IsFlushed contents u v
+    → IsOpened contents (Some first) v journal marks
+opened contents first None u v journal marks added longer flushed = absurd added
+opened contents first (Some t) None v journal marks added longer flushed = absurd longer
+opened contents first (Some t) (Some u) None journal marks added longer flushed = absurd flushed
+opened contents first (Some t) (Some u) (Some v) journal marks added longer flushed = λ empty.
+    let more = longer.0 in
+    let line = Opens journal first.sum marks in
+    let whole : string_bytes u.buffer ≡ line_text line more = longer.1 ∙ added.0 more ∙ ap (λ (x : List ℕ). x ++ line_text line more) empty in
+    let from : contents u.device ≡ contents first.device = ap contents (longer.2 ∙ added.1) in
+    let sums : u.sum ≡ first.sum = longer.3 ∙ added.2 in
+    let a = subst (λ (x : List ℕ). IsWritten (contents u.device) (contents v.device) u.sum x) whole flushed.0 in
+    let b = subst (λ (n : ℕ). IsWritten (contents u.device) (contents v.device) n (line_text line more)) sums a in
+    (more, subst (λ (x : Option (List ℕ)). IsWritten x (contents v.device) first.sum (line_text line more)) from b)
+
+pub on_opened : {J A E : Type 0} (contents : J → Option (List ℕ)) (r : Result A E) (s t u v : Option (Scribe J)) (first : Scribe J) (journal sum marks : ℕ) → s ≡ Some first → sum ≡ first.sum → IsAdded s t (Opens journal sum marks) → IsLonger t u
+    → OnOk r (IsFlushed contents u v) → OnOk r (IsOpened contents s v journal marks)
+on_opened {J = D} contents (Ok x) s t u v first journal sum marks same sums added longer flushed =
+    let a = subst (λ (w : Option (Scribe D)). IsAdded w t (Opens journal sum marks)) same added in
+    let b = subst (λ (n : ℕ). IsAdded (Some first) t (Opens journal n marks)) sums a in
+    subst (λ (w : Option (Scribe D)). IsOpened contents w v journal marks) (sym same) (opened contents first t u v journal marks b longer flushed)
+on_opened contents (Err e) s t u v first journal sum marks same sums added longer flushed = tt

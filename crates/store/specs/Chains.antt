@@ -1,5 +1,5 @@
 -- The digests of a log's beginnings.
-use Rattle.std.specs.Prelude.{◌≡◌, ℕ, ◌+◌, ◌==◌, ◌&&◌, min, if◌then◌else◌, Option, Some, None, List, [], ◌∷◌, ◌++◌, fold, replicate}
+use Rattle.std.specs.Prelude.{ℕ, ◌+◌, ◌==◌, ◌&&◌, min, if◌then◌else◌, Option, Some, None, List, [], ◌∷◌, ◌++◌, fold, replicate}
 use Rattle.model.specs.declared.entry.Entry.{Entry}
 use Rattle.model.specs.declared.entry.Request.{Request}
 use Rattle.journal.specs.Digests.{next_digest}

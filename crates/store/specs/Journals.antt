@@ -1,15 +1,15 @@
 -- The journal of a store: a scribe, none while it is away.
-use Rattle.std.specs.Prelude.{◌≡◌, ℕ, Option, Some, None, List, [], IsSome, ⊤, string_bytes}
+use Rattle.std.specs.Prelude.{◌≡◌, ℕ, Option, Some, None, List, [], ◌++◌, IsSome, ⊤, string_bytes}
 use Rattle.flight.specs.Additions.{Adds}
 use Rattle.journal.specs.declared.line.Line.{Line}
-use Rattle.journal.specs.declared.line.Line.TheVariants.{Answer}
+use Rattle.journal.specs.declared.line.Line.TheVariants.{Answer, Opens}
 use Rattle.fault.specs.Refusal.{shown}
 use Rattle.fault.specs.declared.refusal.Refusal.TheVariants.{NotClosed}
 use Rattle.store.specs.declared.refusal.StoreRefusal.{StoreRefusal}
 use Rattle.store.specs.declared.refusal.StoreRefusal.TheVariants.{Refused}
 use Rattle.journal.specs.Spelling.{line_text}
 use Rattle.store.specs.declared.scribe.Scribe.{Scribe}
-use Rattle.store.specs.Writing.{IsWritten, IsLastWritten}
+use Rattle.store.specs.Writing.{IsWritten, IsLastWritten, with_line}
 
 module _ {J : Type 0} where
   -- it can't be written any more
@@ -22,6 +22,23 @@ module _ {J : Type 0} where
   IsAdded None new line = ⊥
   IsAdded (Some s) None line = ⊥
   IsAdded (Some s) (Some t) line = Adds (string_bytes s.buffer) (string_bytes t.buffer) (line_text line) × (t.device ≡ s.device) × (t.sum ≡ s.sum)
+
+  -- the buffer ends with this line
+  abbrev pub HasLast : Option (Scribe J) → Line → Type 0
+  HasLast None line = ⊥
+  HasLast (Some s) line = (before : List ℕ) × (string_bytes s.buffer ≡ with_line before line)
+
+  -- the buffer has more at its end, and nothing went to the device
+  abbrev pub IsLonger : Option (Scribe J) → Option (Scribe J) → Type 0
+  IsLonger None new = new ≡ None
+  IsLonger (Some s) None = ⊥
+  IsLonger (Some s) (Some t) = (more : List ℕ) × (string_bytes t.buffer ≡ string_bytes s.buffer ++ more) × (t.device ≡ s.device) × (t.sum ≡ s.sum)
+
+  -- a block went to the device of which the first line opens this journal and names the sum of the block before; nothing was in the buffer
+  abbrev pub IsOpened : (J → Option (List ℕ)) → Option (Scribe J) → Option (Scribe J) → (journal marks : ℕ) → Type 0
+  IsOpened contents None new journal marks = ⊥
+  IsOpened contents (Some s) None journal marks = ⊥
+  IsOpened contents (Some s) (Some t) journal marks = string_bytes s.buffer ≡ [] → (more : List ℕ) × IsWritten (contents s.device) (contents t.device) s.sum (line_text (Opens journal s.sum marks) more)
 
   -- what was in the buffer is on the device
   abbrev pub IsFlushed : (J → Option (List ℕ)) → Option (Scribe J) → Option (Scribe J) → Type 0

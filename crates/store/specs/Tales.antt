@@ -1,5 +1,5 @@
 -- What a journal's lines tell of the members.
-use Rattle.std.specs.Prelude.{◌≡◌, ◌⊎◌, ℕ, zero, suc, option_map, replicate, ◌+◌, ◌-◌, ◌==◌, ◌&&◌, ◌||◌, not, min, Bool, true, false, if◌then◌else◌, Option, Some, None, List, [], ◌∷◌, map, fold, unwrap_or, slice_get, slice_set, nat_lt, nat_le, length}
+use Rattle.std.specs.Prelude.{◌≡◌, ◌⊎◌, ℕ, zero, suc, option_map, replicate, ◌==◌, ◌&&◌, ◌||◌, not, Bool, true, false, if◌then◌else◌, Option, Some, None, List, map, unwrap_or, slice_get, slice_set}
 use Rattle.std.specs.Option.{option_and_then}
 use Rattle.keep.specs.Durable.{blank}
 use Rattle.journal.specs.Digests.{summary_of}

@@ -1,5 +1,5 @@
 //! Who leads.
-ghost use Rattle.std.specs.Prelude.{◌≡◌, IsErr, IfErr};
+ghost use Rattle.std.specs.Prelude.{◌≡◌, IsErr, IfErr, OnErr};
 ghost use Rattle.store.specs.Refusals.{IsOfJournal};
 ghost use Rattle.store.specs.Journals.{IsSpent};
 
@@ -29,7 +29,8 @@ where
 
     // Has a member stand for election, if it is up, its log is so long, and nobody leads.
     fn elect(&mut self, member: Member, least: usize, reading: i64) -> Result<(), StoreRefusal>
-        ensures { IfErr result IsOfJournal }
+        ensures why { IfErr result IsOfJournal }
+        ensures fails { OnErr result (IsSpent self.new.scribe) }
     {
         let stands = match self.seat(member) {
             Some(seat) => seat.is_up() && seat.chain.len() >= least,
@@ -44,7 +45,8 @@ where
 
     // Has each member stand in turn whose log is so long, until one leads.
     fn elect_any(&mut self, least: usize, reading: i64) -> Result<(), StoreRefusal>
-        ensures { IfErr result IsOfJournal }
+        ensures why { IfErr result IsOfJournal }
+        ensures fails { OnErr result (IsSpent self.new.scribe) }
     {
         for at in 0..self.seats.len() {
             self.elect(at.saturating_add(1), least, reading)?;
@@ -56,6 +58,7 @@ where
     /// none. 38, 40 and 43 where the journal can't be written; of a store that was spent before nothing changes then.
     pub fn lead(&mut self, reading: i64) -> Result<Option<Member>, StoreRefusal>
         ensures why { IfErr result IsOfJournal }
+        ensures fails { OnErr result (IsSpent self.new.scribe) }
         ensures spent { IsSpent self.old.scribe → IsErr result × (self.new ≡ self.old) }
     {
         self.check()?;

@@ -1,5 +1,5 @@
 //! Questions.
-ghost use Rattle.std.specs.Prelude.{◌≡◌, ◌-◌, IsErr, IfOk, IfErr, OnOk, IfSome, MatchOption, slice_get, string_bytes};
+ghost use Rattle.std.specs.Prelude.{◌≡◌, ◌-◌, IsErr, IfOk, IfErr, OnOk, OnErr, IfSome, MatchOption, slice_get, string_bytes};
 ghost use Rattle.store.specs.Asking.{IsAnswerOf};
 ghost use Rattle.answertext.specs.Answers.{answer_text};
 ghost use Rattle.store.specs.Journals.{IsSpent, EndsWith, IsUnclosed};
@@ -17,7 +17,7 @@ use model::message::Input;
 use node::Node;
 use schema::Schema;
 use sqlread::query::read_query;
-use std::alloc::Global;
+use std::alloc::{AllocError, Global};
 
 // The answer from what a node has applied.
 fn ask_node<K: Announces>(
@@ -33,6 +33,24 @@ fn ask_node<K: Announces>(
         return Err(Refusal::NodeDown);
     }
     node.ask(&query)
+}
+
+// The line of an answer.
+fn answer_line(
+    alloc: Global,
+    member: Member,
+    query: &str,
+    words: String,
+) -> Result<Line, AllocError>
+    ensures { IfOk result (λ line. line ≡ Line.Answer member query.now (string_bytes words)) }
+{
+    let query = Text::new(alloc, query)?;
+    let answer = Text::from_string(words)?;
+    Ok(Line::Answer {
+        member,
+        query,
+        answer,
+    })
 }
 
 impl<K: Announces> Store<K>
@@ -54,7 +72,8 @@ where
 
     // Has time closed up to the reading, by a floor.
     fn close_time(&mut self, reading: i64) -> Result<(), StoreRefusal>
-        ensures { IfErr result IsOfJournal }
+        ensures why { IfErr result IsOfJournal }
+        ensures fails { OnErr result (IsSpent self.new.scribe) }
     {
         if let Some(leader) = self.lead(reading)? {
             let _ = self.hand(leader, reading, Taken::Floor, Input::Floor { reading })?;
@@ -71,6 +90,7 @@ where
         text: &str,
     ) -> Result<Result<Answer, Refusal>, StoreRefusal>
         ensures why { IfErr result IsOfJournal }
+        ensures fails { OnErr result (IsSpent self.new.scribe) }
         ensures asked { IfOk result (λ r. IfOk r (λ a. MatchOption (slice_get self.new.seats.items (member - 1)) ⊥ (λ seat. MatchOption seat.node ⊥ (λ n. IsAnswerOf K.is_honest n self.new.schema text.now a)))) }
     {
         match self.ask_once(member, text) {
@@ -83,18 +103,17 @@ where
     }
 
     // Writes what was answered to the journal, so that it may be given out.
+    #[tactic(auto, using(crate::proofs::Written::on_told))]
     fn tell(&mut self, member: Member, query: &str, words: String) -> Result<(), StoreRefusal>
         ensures told { OnOk result (EndsWith K.Journal.contents self.new.scribe (Line.Answer member query.now (string_bytes words))) }
         ensures why { IfErr result IsOfJournal }
+        ensures fails { OnErr result (IsSpent self.new.scribe) }
         ensures same { self.new ≡ record self.old { scribe = self.new.scribe } }
     {
-        let query = Text::new(self.alloc, query)?;
-        let answer = Text::from_string(words)?;
-        self.write(&Line::Answer {
-            member,
-            query,
-            answer,
-        })?;
+        let Ok(line) = answer_line(self.alloc, member, query, words) else {
+            return Err(self.spend());
+        };
+        self.write(&line)?;
         self.flush()
     }
 
@@ -105,6 +124,7 @@ where
     /// member is not up. 38, 40 and 43 where the journal can't be written; of a store that was spent before nothing changes then.
     pub fn ask(&mut self, reading: i64, member: Member, text: &str) -> Result<Answer, StoreRefusal>
         ensures told { IfOk result (λ a. EndsWith K.Journal.contents self.new.scribe (Line.Answer member text.now (answer_text a))) }
+        ensures asked { IfOk result (λ a. MatchOption (slice_get self.new.seats.items (member - 1)) ⊥ (λ seat. MatchOption seat.node ⊥ (λ n. IsAnswerOf K.is_honest n self.new.schema text.now a))) }
         ensures unclosed { IfErr result (IsUnclosed K.Journal.contents self.new.scribe member text.now) }
         ensures spent { IsSpent self.old.scribe → IsErr result × (self.new ≡ self.old) }
     {

@@ -1,5 +1,5 @@
 //! Requests of clients.
-ghost use Rattle.std.specs.Prelude.{◌≡◌, IsErr, IfOk, IfErr, OnOk};
+ghost use Rattle.std.specs.Prelude.{◌≡◌, ◌⊎◌, IsErr, IfOk, IfErr, OnOk, OnErr};
 ghost use Rattle.store.specs.Journals.{IsSpent, EndsWith};
 ghost use Rattle.store.specs.Refusals.{IsOfJournal};
 ghost use Rattle.store.specs.Words.{words_of};
@@ -16,9 +16,27 @@ use model::entry::Request;
 use model::member::Member;
 use model::message::Input;
 use model::request::{Client, RequestNumber};
+use std::alloc::{AllocError, Global};
 
 /// How often a request is handed to a leader before it counts as unanswered.
 const TRIES: u8 = 3;
+
+// The line that says what came of a request.
+fn printed_line(
+    alloc: Global,
+    client: Client,
+    number: RequestNumber,
+    outcome: &Outcome,
+) -> Result<Line, AllocError>
+    ensures { IfOk result (λ line. line ≡ Line.Printed client number (words_of outcome.now)) }
+{
+    let words = Text::from_string(format!(in alloc; "{outcome}")?)?;
+    Ok(Line::Printed {
+        client,
+        number,
+        words,
+    })
+}
 
 impl<K: Announces> Store<K>
 where
@@ -31,7 +49,8 @@ where
         leader: Member,
         request: Request,
     ) -> Result<Option<Outcome>, StoreRefusal>
-        ensures { IfErr result IsOfJournal }
+        ensures why { IfErr result IsOfJournal }
+        ensures fails { OnErr result (IsSpent self.new.scribe) }
     {
         let Ok(copy) = request.clone() else {
             return Err(self.spend());
@@ -71,7 +90,8 @@ where
         number: RequestNumber,
         text: &Text,
     ) -> Result<Outcome, StoreRefusal>
-        ensures { IfErr result IsOfJournal }
+        ensures why { IfErr result IsOfJournal }
+        ensures fails { OnErr result (IsSpent self.new.scribe) }
     {
         for _ in 0..TRIES {
             let Some(leader) = self.lead(reading)? else {
@@ -93,6 +113,7 @@ where
     }
 
     // Writes the words of an outcome to the journal, so that they may be given out.
+    #[tactic(auto, using(crate::proofs::Written::on_told))]
     fn print(
         &mut self,
         client: Client,
@@ -101,15 +122,13 @@ where
     ) -> Result<(), StoreRefusal>
         ensures told { OnOk result (EndsWith K.Journal.contents self.new.scribe (Line.Printed client number (words_of outcome.now))) }
         ensures why { IfErr result IsOfJournal }
+        ensures fails { OnErr result (IsSpent self.new.scribe) }
         ensures same { self.new ≡ record self.old { scribe = self.new.scribe } }
     {
-        let alloc = self.alloc;
-        let words = Text::from_string(format!(in alloc; "{outcome}")?)?;
-        self.write(&Line::Printed {
-            client,
-            number,
-            words,
-        })?;
+        let Ok(line) = printed_line(self.alloc, client, number, outcome) else {
+            return Err(self.spend());
+        };
+        self.write(&line)?;
         self.flush()
     }
 
@@ -129,6 +148,7 @@ where
     ) -> Result<Outcome, StoreRefusal>
         ensures told { IfOk result (λ o. EndsWith K.Journal.contents self.new.scribe (Line.Printed client number (words_of o))) }
         ensures why { IfErr result IsOfJournal }
+        ensures fails { OnErr result (IsSpent self.new.scribe ⊎ (self.new ≡ self.old)) }
         ensures spent { IsSpent self.old.scribe → IsErr result × (self.new ≡ self.old) }
     {
         self.check()?;
@@ -150,6 +170,7 @@ where
     /// longest log where no majority is up.
     pub fn next_number(&mut self, reading: i64) -> Result<u64, StoreRefusal>
         ensures why { IfErr result IsOfJournal }
+        ensures fails { OnErr result (IsSpent self.new.scribe) }
         ensures spent { IsSpent self.old.scribe → IsErr result × (self.new ≡ self.old) }
     {
         self.check()?;

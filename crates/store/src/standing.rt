@@ -1,5 +1,5 @@
 //! How members stand, and are stopped and started.
-ghost use Rattle.std.specs.Prelude.{◌≡◌, IsErr};
+ghost use Rattle.std.specs.Prelude.{◌≡◌, ◌⊎◌, IsErr, OnErr};
 ghost use Rattle.store.specs.Journals.{IsSpent};
 
 use crate::announcing::Announces;
@@ -18,6 +18,7 @@ where
 {
     /// A member goes down, and keeps what it has stored. 41 where it is not up.
     pub fn stop(&mut self, member: Member) -> Result<(), StoreRefusal>
+        ensures fails { OnErr result (IsSpent self.new.scribe ⊎ (self.new ≡ self.old)) }
         ensures spent { IsSpent self.old.scribe → IsErr result × (self.new ≡ self.old) }
     {
         self.check()?;

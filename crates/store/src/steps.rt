@@ -1,5 +1,6 @@
 //! Steps of the members, and what comes of them.
-ghost use Rattle.std.specs.Prelude.{IfErr};
+ghost use Rattle.std.specs.Prelude.{IfErr, OnOk, OnErr};
+ghost use Rattle.store.specs.Journals.{IsSpent, HasLast};
 ghost use Rattle.store.specs.Refusals.{IsOfJournal};
 
 use crate::announcing::Announces;
@@ -76,7 +77,8 @@ where
         taken: Taken,
         work: Work,
     ) -> Result<Stepped, StoreRefusal>
-        ensures { IfErr result IsOfJournal }
+        ensures why { IfErr result IsOfJournal }
+        ensures fails { OnErr result (IsSpent self.new.scribe) }
     {
         self.begin_step(member, reading, taken)?;
         match self.lend(member, work)? {
@@ -98,7 +100,9 @@ where
     }
 
     fn begin_step(&mut self, member: Member, reading: i64, taken: Taken) -> Result<(), StoreRefusal>
-        ensures { IfErr result IsOfJournal }
+        ensures takes { OnOk result (HasLast self.new.scribe (Line.Takes member taken)) }
+        ensures why { IfErr result IsOfJournal }
+        ensures fails { OnErr result (IsSpent self.new.scribe) }
     {
         match &mut self.scribe {
             Some(scribe) => {
@@ -111,7 +115,8 @@ where
 
     // Lends the journal to a member for a step.
     fn lend(&mut self, member: Member, work: Work) -> Result<Result<Out, Fault>, StoreRefusal>
-        ensures { IfErr result IsOfJournal }
+        ensures why { IfErr result IsOfJournal }
+        ensures fails { OnErr result (IsSpent self.new.scribe) }
     {
         let Some(at) = self.place_of(member) else {
             return Ok(Err(Fault::Kept(Refusal::NodeDown)));
@@ -128,7 +133,8 @@ where
 
     // The step is over: what it told is written, its messages are under way, and what it told is heard.
     fn end_step(&mut self, member: Member, out: Out) -> Result<(), StoreRefusal>
-        ensures { IfErr result IsOfJournal }
+        ensures why { IfErr result IsOfJournal }
+        ensures fails { OnErr result (IsSpent self.new.scribe) }
     {
         let Out {
             messages,
@@ -163,7 +169,8 @@ where
     }
 
     fn send(&mut self, member: Member, message: Message) -> Result<(), StoreRefusal>
-        ensures { IfErr result IsOfJournal }
+        ensures why { IfErr result IsOfJournal }
+        ensures fails { OnErr result (IsSpent self.new.scribe) }
     {
         if matches!(message.body, Body::Append { .. }) {
             self.leader = Some(member);
@@ -202,7 +209,8 @@ where
         taken: Taken,
         input: Input,
     ) -> Result<Stepped, StoreRefusal>
-        ensures { IfErr result IsOfJournal }
+        ensures why { IfErr result IsOfJournal }
+        ensures fails { OnErr result (IsSpent self.new.scribe) }
     {
         self.step(member, reading, taken, Work::Local(input))
     }
@@ -210,7 +218,8 @@ where
     // Delivers what is under way, in order, until nothing is, or the most that one call delivers. What comes to a member that is down
     // is gone.
     pub(crate) fn deliver_all(&mut self, reading: i64) -> Result<(), StoreRefusal>
-        ensures { IfErr result IsOfJournal }
+        ensures why { IfErr result IsOfJournal }
+        ensures fails { OnErr result (IsSpent self.new.scribe) }
     {
         for _ in 0..DELIVERIES_MOST {
             let Some(letter) = self.queue.pop_front() else {
@@ -222,7 +231,8 @@ where
     }
 
     fn deliver(&mut self, reading: i64, letter: Letter) -> Result<(), StoreRefusal>
-        ensures { IfErr result IsOfJournal }
+        ensures why { IfErr result IsOfJournal }
+        ensures fails { OnErr result (IsSpent self.new.scribe) }
     {
         let Letter { number, message } = letter;
         let member = message.addressee;

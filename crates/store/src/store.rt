@@ -1,6 +1,6 @@
 //! The open store.
 ghost use Rattle.std.specs.Prelude.{◌≡◌, ◌↔◌, ◌⊎◌, ◌<◌, ◌+◌, ◌-◌, Some, IsTrue, IfSome, IfNone, IfErr, OnOk, OnErr, length, slice_get};
-ghost use Rattle.store.specs.Journals.{IsSpent, IsAdded, IsFlushed};
+ghost use Rattle.store.specs.Journals.{IsSpent, IsAdded, IsLonger, IsFlushed, IsOpened};
 ghost use Rattle.store.specs.Refusals.{IsOfJournal};
 
 use crate::announcing::Announces;
@@ -92,7 +92,10 @@ where
         Ok(store)
     }
 
-    fn write_head(&mut self, journal: u64, marks: u64) -> Result<(), StoreRefusal> {
+    // The first block of the journal.
+    fn write_head(&mut self, journal: u64, marks: u64) -> Result<(), StoreRefusal>
+        ensures { OnOk result (IsOpened K.Journal.contents self.old.scribe self.new.scribe journal marks) }
+    {
         let sum = match &self.scribe {
             Some(scribe) => scribe.sum(),
             None => return Err(spent()),
@@ -109,7 +112,9 @@ where
     }
 
     // What a member begins the journal with.
-    fn write_seat(&mut self, at: usize) -> Result<(), StoreRefusal> {
+    fn write_seat(&mut self, at: usize) -> Result<(), StoreRefusal>
+        ensures { OnOk result (IsLonger self.old.scribe self.new.scribe) }
+    {
         let Some(seat) = self.seats.get(at) else {
             return Ok(());
         };
@@ -133,6 +138,7 @@ where
     pub(crate) fn write(&mut self, line: &Line) -> Result<(), StoreRefusal>
         ensures ok { OnOk result (IsAdded self.old.scribe self.new.scribe line.now) }
         ensures why { IfErr result IsOfJournal }
+        ensures fails { OnErr result (IsSpent self.new.scribe) }
         ensures same { self.new ≡ record self.old { scribe = self.new.scribe } }
     {
         match &mut self.scribe {
@@ -145,6 +151,7 @@ where
     pub(crate) fn flush(&mut self) -> Result<(), StoreRefusal>
         ensures ok { OnOk result (IsFlushed K.Journal.contents self.old.scribe self.new.scribe) }
         ensures why { IfErr result IsOfJournal }
+        ensures fails { OnErr result (IsSpent self.new.scribe) }
         ensures same { self.new ≡ record self.old { scribe = self.new.scribe } }
     {
         match &mut self.scribe {
@@ -170,7 +177,9 @@ where
 
     // For want of memory the store is spent.
     pub(crate) fn spend(&mut self) -> StoreRefusal
-        ensures { IsOfJournal result }
+        ensures why { IsOfJournal result }
+        ensures fails { IsSpent self.new.scribe }
+        ensures same { self.new ≡ record self.old { scribe = self.new.scribe } }
     {
         if let Some(scribe) = &mut self.scribe {
             scribe.spend(DeviceError::NoMemory);

@@ -1,4 +1,4 @@
-use Rattle.std.proofs.Common.{◌≡◌, ◌+◌, ◌≤◌, length, ap, rules, arith}
+use Rattle.std.proofs.Common.{◌≡◌, ◌+◌, length, ap, rules, arith}
 use Rattle.std.specs.Prelude.{map}
 use Rattle.journal.specs.Blocks.{block_text, HasNoBlock}
 use Rattle.journal.proofs.Frames.{block_longer}
