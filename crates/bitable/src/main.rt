@@ -3,15 +3,17 @@
 
 use causes::{Name, Trouble};
 use clap::error::ErrorKind;
+use console::{Fault, Stop as Ended};
 use diagnosis::{Subject, diagnose};
 use fault::Refusal;
 use forms::{Canvas, Drawing, Form, Look};
+use scriptlanes::{Drawing as RunDrawing, Sheet, Span};
 use shell::audit::run_audit;
-use shell::command::{Audit, Beliefs, Check, Command, Live, Sim};
+use shell::command::{Audit, Beliefs, Check, Command, Lanes, Live, Sim};
 use shell::command_line::read_command;
 use shell::live_run::run_live;
 use shell::report_run::run_report;
-use shell::shown_run::{run_beliefs, run_shown};
+use shell::shown_run::{run_beliefs, run_lanes, run_shown};
 use shell::sim::run_sim;
 use shell::stop::Stop;
 use std::alloc::Global;
@@ -22,6 +24,7 @@ use std::rt::{Env, Files};
 use std::sync::Wait;
 use std::thread::Threads;
 use std::{env, fs, io};
+use storecommands::is_asked;
 
 const SIM: &str = "playing the script";
 
@@ -30,10 +33,64 @@ const TERMINAL: usize = 80;
 
 fn main(rt: HostRuntime) -> ExitCode {
     match words_given(&rt) {
+        Ok(Some(words)) if is_of_store(&rt, words.as_slice()) => {
+            end_store(&rt, run_store(&rt, words.as_slice()))
+        }
         Ok(Some(words)) => end(&rt, run(&rt, &rt, words.as_slice())),
         Ok(None) => end(&rt, refuse_words(&rt)),
         Err(stop) => end(&rt, Err(stop)),
     }
+}
+
+// Whether a command line is one over a store's folder: `audit` is, where it has one name and that is not the name of a file.
+fn is_of_store(rt: &HostRuntime, words: &[String]) -> bool {
+    let Some(word) = words.get(1) else {
+        return false;
+    };
+    if !is_asked(word.as_str()) {
+        return false;
+    }
+    if word.as_str() != "audit" {
+        return true;
+    }
+    match words.get(2) {
+        Some(name) if words.len() == 3 => {
+            !name.as_str().starts_with('-') && !storefolder::is_file(rt, name.as_str())
+        }
+        _ => false,
+    }
+}
+
+// Does what a command line over a store's folder asks for.
+fn run_store<'a>(rt: &HostRuntime, words: &'a [String]) -> Result<u8, Ended<'a>> {
+    match storecommands::read_command(rt.alloc(), words) {
+        Ok(command) => console::run(rt, command),
+        Err(error) if error.kind() == ErrorKind::OutOfMemory => Err(Ended {
+            fault: Fault::from(Refusal::NoMemory),
+            cause: None,
+        }),
+        Err(error) => match error.print(rt) {
+            Ok(()) => Ok(if error.use_stderr() { 2 } else { 0 }),
+            Err(_) => Ok(1),
+        },
+    }
+}
+
+// The exit status; where the command was refused, why: the refusal, below it what is known of the file or the folder, and what to do.
+fn end_store(rt: &impl Eprint, ended: Result<u8, Ended<'_>>) -> ExitCode {
+    let stop = match ended {
+        Ok(status) => return ExitCode::from(status),
+        Err(stop) => stop,
+    };
+    let fault = &stop.fault;
+    let _ = eprintln!(rt; "{fault}");
+    if let Some(cause) = stop.cause {
+        let _ = eprintln!(rt; "{cause}");
+    }
+    if let Some(hint) = stop.hint() {
+        let _ = eprintln!(rt; "        {hint}");
+    }
+    ExitCode::FAILURE
 }
 
 // The exit status; where the command was refused, why: the refusal, and below it what is known of the file.
@@ -58,6 +115,7 @@ where
         Ok(Command::PlayInput) => { script_ended(play(rt, &mut rt.reader()), Name::Input, SIM) }
         Ok(Command::Sim(sim)) => play_sim(rt, host, sim),
         Ok(Command::Beliefs(beliefs)) => draw(rt, beliefs),
+        Ok(Command::Lanes(lanes)) => draw_run(rt, host, lanes),
         Ok(Command::Live(live)) => play_live(rt, host, live),
         Ok(Command::Audit(asked)) => audit(rt, &asked),
         Ok(Command::Check(check)) => check_file(rt, check),
@@ -213,6 +271,55 @@ where
         Err(fault) => Err(Stop::from(fault)),
     };
     script_ended(ended, Name::Given(beliefs.script), SIM)
+}
+
+fn line_or(number: Option<u64>, other: usize) -> usize {
+    match number {
+        Some(number) => usize::try_from(number).unwrap_or(usize::MAX),
+        None => other,
+    }
+}
+
+// The lines that are asked for: all where none is named.
+fn span_of(lanes: Lanes<'_>) -> Span {
+    Span {
+        first: line_or(lanes.first, 0),
+        last: line_or(lanes.last, usize::MAX),
+    }
+}
+
+// Draws what the members do in a script, on standard output or into a file.
+fn draw_run<'a, R>(rt: &R, host: &HostRuntime, lanes: Lanes<'a>) -> Result<u8, Stop<'a>>
+where
+    R: AllocGlobal + Env + Files + Print + Eprint,
+{
+    let mut script = open_script(rt, lanes.script)?;
+    let sheet = match lanes.svg {
+        Some(_) => Sheet::Page,
+        None if host.stdout().is_terminal() => Sheet::Text(Some(columns(rt))),
+        None => Sheet::Text(None),
+    };
+    let ended = match run_lanes(rt.alloc(), lanes.script, sheet, span_of(lanes), &mut script) {
+        Ok(RunDrawing::Drawn(picture)) => hand_out(rt, lanes.svg, picture.as_bytes()),
+        Ok(RunDrawing::Nothing) => refuse_drawing(rt, "nothing happens in these lines"),
+        Ok(RunDrawing::TooMuch) => {
+            refuse_drawing(
+                rt,
+                "more than 110 messages or 440 events: draw fewer lines, with --from and --to",
+            )
+        }
+        Ok(RunDrawing::TooNarrow(needed)) => refuse_terminal(rt, needed),
+        Err(fault) => Err(Stop::from(fault)),
+    };
+    script_ended(ended, Name::Given(lanes.script), SIM)
+}
+
+// That the terminal has fewer columns than a picture takes.
+fn refuse_terminal<'a>(rt: &impl Eprint, needed: usize) -> Result<u8, Stop<'a>> {
+    let _ = eprintln!(rt;
+        "the picture takes {needed} columns: widen the terminal, or draw a page with --svg"
+    );
+    Ok(1)
 }
 
 // That nothing is drawn, and why.
