@@ -1,3 +1,2 @@
-pub mod Heard
 pub mod Links
 pub mod Written

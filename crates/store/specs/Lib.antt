@@ -1,10 +1,4 @@
-pub mod Announcing
-pub mod Asking
 pub mod Chains
-pub mod Journals
-pub mod Pasts
 pub mod Refusals
-pub mod Tales
-pub mod Telling
 pub mod Words
 pub mod Writing

@@ -1,5 +1,5 @@
 -- Refusals of a store, as they are shown.
-use Rattle.std.specs.Prelude.{ℕ, Some, None, List, ◌++◌, codes, decimal}
+use Rattle.std.specs.Prelude.{◌≡◌, ℕ, Some, None, List, ◌++◌, codes, decimal}
 use Rattle.fault.specs.declared.refusal.Refusal.{Refusal}
 use Rattle.fault.specs.Refusal.{shown}
 use Rattle.fault.specs.declared.refusal.Refusal.TheVariants.{StoreFault, NoMemory}
@@ -38,6 +38,10 @@ error_refusal error = Refused (refusal_of error)
 -- how want of memory is told
 abbrev pub no_memory : StoreRefusal
 no_memory = Refused NoMemory
+
+-- the journal can't be written, or memory is refused
+abbrev pub IsOfJournal : StoreRefusal → Type 0
+IsOfJournal r = (failure : DeviceError) × (r ≡ device_refusal failure)
 
 -- any other refusal
 abbrev pub other_refusal : Refusal → StoreRefusal

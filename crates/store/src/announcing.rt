@@ -1,13 +1,9 @@
 //! A keeper that announces each save in a journal before it makes it.
-ghost use Rattle.std.specs.Prelude.{◌≡◌, ◌≤◌, ◌⊎◌, ℕ, true, false, None, IfOk, IfErr, IfSome, OnOk, OnErr, length};
-ghost use Rattle.std.specs.Option.{ForSome};
+ghost use Rattle.std.specs.Prelude.{◌≡◌, ◌≤◌, ◌⊎◌, ℕ, true, false, None, IfErr, OnOk, OnErr, length};
 ghost use Rattle.keep.specs.Durable.{Durable, IsBeforeOrAfter, after, one_more};
 ghost use Rattle.keep.specs.Errors.{IsAnswered};
 ghost use Rattle.keep.specs.Log.{IsLog, IsSmall};
 ghost use Rattle.model.specs.Transactions.{Schema as Tables};
-ghost use Rattle.journal.specs.Digests.{summary_of};
-ghost use Rattle.store.specs.Chains.{links_of};
-ghost use Rattle.store.specs.Announcing.{HasAnnounced};
 
 use crate::device::Device;
 pub use crate::voice::Voice;
@@ -35,7 +31,6 @@ pub trait Announces: Keeper {
     /// Lends a voice, whose chain has to be that of the log that is stored. What is stored, and all else that contracts see of it,
     /// stays.
     fn lend(&mut self, voice: Voice<Self::Journal>)
-        requires { Self.Shelf.is_honest self.old → voice.chain.links.items ≡ links_of (Self.Shelf.stored self.old).log }
         ensures stored { Self.Shelf.stored self.new ≡ Self.Shelf.stored self.old }
         ensures honest { (Self.Shelf.is_honest self.new → Self.Shelf.is_honest self.old) × (Self.Shelf.is_honest self.old → Self.Shelf.is_honest self.new) }
         ensures up { Self.Shelf.is_up self.new ≡ Self.Shelf.is_up self.old }
@@ -44,7 +39,6 @@ pub trait Announces: Keeper {
     /// Takes the voice back, if one was lent: while it is up its chain is that of the log that is stored. What is stored, and all
     /// else that contracts see of it, stays.
     fn take_back(&mut self) -> Option<Voice<Self::Journal>>
-        ensures links { IfSome result (λ v. Self.Shelf.is_up self.old ≡ true → Self.Shelf.is_honest self.old → v.chain.links.items ≡ links_of (Self.Shelf.stored self.old).log) }
         ensures stored { Self.Shelf.stored self.new ≡ Self.Shelf.stored self.old }
         ensures honest { (Self.Shelf.is_honest self.new → Self.Shelf.is_honest self.old) × (Self.Shelf.is_honest self.old → Self.Shelf.is_honest self.new) }
         ensures up { Self.Shelf.is_up self.new ≡ Self.Shelf.is_up self.old }
@@ -56,8 +50,6 @@ pub trait Announces: Keeper {
 
 // Announces a change, where a voice was lent.
 fn announce<J: Device>(voice: &mut Option<Voice<J>>, change: &Change) -> Result<(), StoreError>
-    ensures announced { (d : Durable) → ForSome voice.old (λ v. v.chain.links.items ≡ links_of d.log → OnOk result (HasAnnounced J.contents v voice.new (summary_of (after change.now d)))) }
-    ensures links { (d : Durable) → ForSome voice.old (λ v. v.chain.links.items ≡ links_of d.log) → OnOk result (ForSome voice.new (λ v. v.chain.links.items ≡ links_of (after change.now d).log)) }
     ensures error { IfErr result (λ error. (error ≡ StoreError.NoMemory) ⊎ (error ≡ StoreError.StoreFault)) }
 {
     match voice {
@@ -78,7 +70,6 @@ pub struct Announcing<K: Keeper, J: Device> {
     is_up: bool,
     ghost under: { is_up ≡ true → K.is_up keeper ≡ true },
     ghost unfailed: { is_up ≡ true → failures ≡ 0 },
-    ghost linked: { is_up ≡ true → K.is_honest keeper → ForSome voice (λ v. v.chain.links.items ≡ links_of (K.stored keeper).log) },
 }
 
 impl<K: Keeper, J: Device> Announcing<K, J> {
@@ -210,8 +201,6 @@ impl<K: Keeper, J: Device> Keeper for Announcing<K, J> {
         requires kept { K.is_honest self.old.keeper → self.old.is_up ≡ true → change.now.kept ≤ length (K.stored self.old.keeper).log }
         requires small { IsSmall change.now }
         requires log { (members : ℕ) × ((tables : Tables) × (K.serves self.old.keeper members tables × (K.is_honest self.old.keeper → self.old.is_up ≡ true → IsLog members tables (after change.now (K.stored self.old.keeper))))) }
-        ensures announced { OnOk result (K.is_honest self.old.keeper → ForSome self.old.voice (λ v. HasAnnounced J.contents v self.new.voice (summary_of (after change.now (K.stored self.old.keeper))))) }
-        ensures before { (self.new.keeper ≡ self.old.keeper) ⊎ (K.is_honest self.old.keeper → ForSome self.old.voice (λ v. HasAnnounced J.contents v self.new.voice (summary_of (after change.now (K.stored self.old.keeper))))) }
         ensures ok { OnOk result (K.is_honest self.new.keeper → K.stored self.new.keeper ≡ after change.now (K.stored self.old.keeper)) }
         ensures answered { IsAnswered self.old.is_up self.new.is_up self.old.failures self.new.failures result }
         ensures honest { K.is_honest self.new.keeper → K.is_honest self.old.keeper }
@@ -253,7 +242,6 @@ impl<K: Judging, J: Device> Announces for Announcing<K, J> {
     ghost takes_all = { λ image members tables. K.takes_all image members tables };
 
     fn lend(&mut self, voice: Voice<J>)
-        requires { K.is_honest self.old.keeper → voice.chain.links.items ≡ links_of (K.stored self.old.keeper).log }
         ensures stored { K.stored self.new.keeper ≡ K.stored self.old.keeper }
         ensures honest { (K.is_honest self.new.keeper → K.is_honest self.old.keeper) × (K.is_honest self.old.keeper → K.is_honest self.new.keeper) }
         ensures up { self.new.is_up ≡ self.old.is_up }
@@ -263,8 +251,6 @@ impl<K: Judging, J: Device> Announces for Announcing<K, J> {
     }
 
     fn take_back(&mut self) -> Option<Voice<J>>
-        ensures links { IfSome result (λ v. self.old.is_up ≡ true → K.is_honest self.old.keeper → v.chain.links.items ≡ links_of (K.stored self.old.keeper).log) }
-        ensures given { (result ≡ self.old.voice) × (self.new.voice ≡ None) }
         ensures stored { K.stored self.new.keeper ≡ K.stored self.old.keeper }
         ensures honest { (K.is_honest self.new.keeper → K.is_honest self.old.keeper) × (K.is_honest self.old.keeper → K.is_honest self.new.keeper) }
         ensures up { self.new.is_up ≡ self.old.is_up }

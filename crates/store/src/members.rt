@@ -1,10 +1,4 @@
 //! The members of a store as it is opened: what each database holds has to be what the journal says.
-ghost use Rattle.std.specs.Prelude.{◌≡◌, true, OnOk};
-ghost use Rattle.std.specs.Option.{ForSome};
-ghost use Rattle.node.specs.Member.{member_of};
-ghost use Rattle.node.specs.View.{durable_of};
-ghost use Rattle.journal.specs.Digests.{summary_of};
-ghost use Rattle.store.specs.Tales.{IsFit};
 
 use crate::announcing::Announces;
 use crate::past::Past;
@@ -45,7 +39,6 @@ fn start_seat<K: Announces>(
 ) -> Result<(), StoreRefusal>
 where
     K::Image: Drop,
-    ensures { OnOk result (ForSome seat.new.node (λ n. n.is_up ≡ true → K.is_honest n.keeper → IsFit seat.old.tale (summary_of (durable_of (member_of n))))) }
 {
     let member = seat.member;
     match seat.start(schema, members) {

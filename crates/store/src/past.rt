@@ -1,7 +1,4 @@
 //! What journals tell of all members.
-ghost use Rattle.std.specs.Prelude.{◌≡◌, ◌-◌, ◌<◌, Some, None, Err, IfOk, OnOk, MatchOption, slice_get, slice_set, unwrap_or, length, true};
-ghost use Rattle.store.specs.Tales.{untold, nothing_told, told_of, told_after};
-ghost use Rattle.store.specs.Pasts.{told_by, IsHeard};
 
 use crate::refusal::StoreRefusal;
 pub use crate::tale::Tale;
@@ -24,15 +21,21 @@ pub struct Past {
 }
 
 fn bad_line() -> StoreRefusal
-    ensures { result ≡ StoreRefusal.Refused Refusal.BadFlight }
 {
     StoreRefusal::Refused(Refusal::BadFlight)
+}
+
+// As a journal begins: none of them is up.
+fn lay_all_down(tales: &mut [Tale])
+{
+    for tale in tales.iter_mut() {
+        tale.lay_down();
+    }
 }
 
 impl Past {
     /// Before anything is told of so many members. The error is want of memory.
     pub fn new(alloc: Global, members: usize) -> Result<Past, StoreRefusal>
-        ensures { IfOk result (λ past. told_by past ≡ nothing_told members) }
     {
         let mut tales = Vec::new(alloc);
         for _ in 0..members {
@@ -48,14 +51,12 @@ impl Past {
 
     /// What is told of each member, in their order.
     pub fn members(&self) -> &[Tale]
-        ensures { result.now ≡ (told_by self.now).tales }
     {
         self.members.as_slice()
     }
 
     /// What is told of a member; of one that is not there, nothing.
     pub fn tale(&self, member: Member) -> Tale
-        ensures { 0 < member → result ≡ unwrap_or (slice_get (told_by self.now).tales (member - 1)) untold }
     {
         match member.checked_sub(1) {
             None => Tale::blank(),
@@ -64,13 +65,12 @@ impl Past {
     }
 
     // A journal begins: all lives are over.
-    fn open(&mut self, marks: u64) -> Result<(), StoreRefusal> {
+    fn open(&mut self, marks: u64) -> Result<(), StoreRefusal>
+    {
         if self.sessions != 0 && self.marks != marks {
             return Err(bad_line());
         }
-        for tale in self.members.iter_mut() {
-            tale.lay_down();
-        }
+        lay_all_down(self.members.as_mut_slice());
         self.sessions = self.sessions.saturating_add(1);
         self.marks = marks;
         Ok(())
@@ -78,7 +78,6 @@ impl Past {
 
     // A line about this member.
     fn hear_of(&mut self, member: Member, line: &Line) -> Result<(), StoreRefusal>
-        ensures { IsHeard (told_by self.old) (told_of (told_by self.old) member line.now) result (told_by self.new) }
     {
         let Some(at) = member.checked_sub(1) else {
             return Err(bad_line());
@@ -97,7 +96,8 @@ impl Past {
 }
 
 // How many marks are given out with this line about a member.
-fn marks_after(marks: u64, line: &Line) -> u64 {
+fn marks_after(marks: u64, line: &Line) -> u64
+{
     match line {
         Line::Life { .. } | Line::Takes { .. } => marks.saturating_add(1),
         _ => marks,
@@ -105,10 +105,8 @@ fn marks_after(marks: u64, line: &Line) -> u64 {
 }
 
 impl Hears for Past {
-    ghost hears = { λ old line new. told_after (told_by old) line ≡ Some (told_by new) };
 
     fn hear(&mut self, line: Line) -> Result<(), StoreRefusal>
-        ensures { IsHeard (told_by self.old) (told_after (told_by self.old) line) result (told_by self.new) }
     {
         match &line {
             Line::Opens { marks, .. } => self.open(*marks),

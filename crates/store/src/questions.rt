@@ -1,8 +1,4 @@
 //! Questions.
-ghost use Rattle.std.specs.Prelude.{◌≡◌, ◌-◌, IsErr, IfOk, IfErr, OnOk, IfSome, MatchOption, slice_get, string_bytes};
-ghost use Rattle.store.specs.Asking.{IsAnswerOf};
-ghost use Rattle.answertext.specs.Answers.{answer_text};
-ghost use Rattle.store.specs.Journals.{IsSpent, EndsWith, IsUnclosed};
 
 use crate::announcing::Announces;
 use crate::refusal::StoreRefusal;
@@ -25,7 +21,6 @@ fn ask_node<K: Announces>(
     node: &Node<K>,
     text: &str,
 ) -> Result<Answer, Refusal>
-    ensures asked { IfOk result (λ a. IsAnswerOf K.is_honest node.now schema.now text.now a) }
 {
     let query = read_query(alloc, schema, text)?;
     if !node.is_up {
@@ -40,7 +35,6 @@ where
 {
     // The answer from what a member has applied.
     fn ask_once(&self, member: Member, text: &str) -> Result<Answer, Refusal>
-        ensures asked { IfOk result (λ a. MatchOption (slice_get self.now.seats.items (member - 1)) ⊥ (λ seat. MatchOption seat.node ⊥ (λ n. IsAnswerOf K.is_honest n self.now.schema text.now a))) }
     {
         match self.seat(member) {
             Some(seat) => match &seat.node {
@@ -52,7 +46,8 @@ where
     }
 
     // Has time closed up to the reading, by a floor.
-    fn close_time(&mut self, reading: i64) -> Result<(), StoreRefusal> {
+    fn close_time(&mut self, reading: i64) -> Result<(), StoreRefusal>
+    {
         if let Some(leader) = self.lead(reading)? {
             let _ = self.hand(leader, reading, Taken::Floor, Input::Floor { reading })?;
             self.deliver_all(reading)?;
@@ -67,7 +62,6 @@ where
         member: Member,
         text: &str,
     ) -> Result<Result<Answer, Refusal>, StoreRefusal>
-        ensures asked { IfOk result (λ r. IfOk r (λ a. MatchOption (slice_get self.new.seats.items (member - 1)) ⊥ (λ seat. MatchOption seat.node ⊥ (λ n. IsAnswerOf K.is_honest n self.new.schema text.now a)))) }
     {
         match self.ask_once(member, text) {
             Err(Refusal::NotClosed(_)) => {
@@ -80,8 +74,6 @@ where
 
     // Writes what was answered to the journal, so that it may be given out.
     fn tell(&mut self, member: Member, query: &str, words: String) -> Result<(), StoreRefusal>
-        ensures told { OnOk result (EndsWith K.Journal.contents self.new.scribe (Line.Answer member query.now (string_bytes words))) }
-        ensures same { self.new ≡ record self.old { scribe = self.new.scribe } }
     {
         let query = Text::new(self.alloc, query)?;
         let answer = Text::from_string(words)?;
@@ -99,9 +91,6 @@ where
     /// 10 to 17 where the text is no question; 33 where its last instant is not closed, which is in the journal too; 41 where the
     /// member is not up. 38, 40 and 43 where the journal can't be written; of a store that was spent before nothing changes then.
     pub fn ask(&mut self, reading: i64, member: Member, text: &str) -> Result<Answer, StoreRefusal>
-        ensures told { IfOk result (λ a. EndsWith K.Journal.contents self.new.scribe (Line.Answer member text.now (answer_text a))) }
-        ensures unclosed { IfErr result (IsUnclosed K.Journal.contents self.new.scribe member text.now) }
-        ensures spent { IsSpent self.old.scribe → IsErr result × (self.new ≡ self.old) }
     {
         self.check()?;
         let alloc = self.alloc;
@@ -123,8 +112,6 @@ where
 
     /// Asks the leader, or where none is known the first member that is up: who was asked, and what `ask` gives.
     pub fn ask_any(&mut self, reading: i64, text: &str) -> Result<(Member, Answer), StoreRefusal>
-        ensures told { IfOk result (λ p. EndsWith K.Journal.contents self.new.scribe (Line.Answer p.0 text.now (answer_text p.1))) }
-        ensures spent { IsSpent self.old.scribe → IsErr result × (self.new ≡ self.old) }
     {
         let member = self.first_asked();
         let answer = self.ask(reading, member, text)?;
@@ -133,7 +120,6 @@ where
 
     /// Whom `ask_any` asks: the leader, or where none is known the first member that is up, or the first one.
     pub fn first_asked(&self) -> Member
-        ensures { IfSome self.now.leader (λ member. result ≡ member) }
     {
         if let Some(leader) = self.leader {
             return leader;

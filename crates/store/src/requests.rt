@@ -1,7 +1,4 @@
 //! Requests of clients.
-ghost use Rattle.std.specs.Prelude.{◌≡◌, IsErr, IfOk, OnOk};
-ghost use Rattle.store.specs.Journals.{IsSpent, EndsWith};
-ghost use Rattle.store.specs.Words.{words_of};
 
 use crate::announcing::Announces;
 use crate::chain::OWN_CLIENT;
@@ -29,7 +26,8 @@ where
         reading: i64,
         leader: Member,
         request: Request,
-    ) -> Result<Option<Outcome>, StoreRefusal> {
+    ) -> Result<Option<Outcome>, StoreRefusal>
+    {
         let Ok(copy) = request.clone() else {
             return Err(self.spend());
         };
@@ -67,7 +65,8 @@ where
         client: Client,
         number: RequestNumber,
         text: &Text,
-    ) -> Result<Outcome, StoreRefusal> {
+    ) -> Result<Outcome, StoreRefusal>
+    {
         for _ in 0..TRIES {
             let Some(leader) = self.lead(reading)? else {
                 return Ok(Outcome::Unanswered);
@@ -94,8 +93,6 @@ where
         number: RequestNumber,
         outcome: &Outcome,
     ) -> Result<(), StoreRefusal>
-        ensures told { OnOk result (EndsWith K.Journal.contents self.new.scribe (Line.Printed client number (words_of outcome.now))) }
-        ensures same { self.new ≡ record self.old { scribe = self.new.scribe } }
     {
         let alloc = self.alloc;
         let words = Text::from_string(format!(in alloc; "{outcome}")?)?;
@@ -121,8 +118,6 @@ where
         number: RequestNumber,
         text: &str,
     ) -> Result<Outcome, StoreRefusal>
-        ensures told { IfOk result (λ o. EndsWith K.Journal.contents self.new.scribe (Line.Printed client number (words_of o))) }
-        ensures spent { IsSpent self.old.scribe → IsErr result × (self.new ≡ self.old) }
     {
         self.check()?;
         let text = Text::new(self.alloc, text)?;
@@ -142,7 +137,6 @@ where
     /// The number that the next request of the store's own client has: one more than the last one in the leader's log, or in the
     /// longest log where no majority is up.
     pub fn next_number(&mut self, reading: i64) -> Result<u64, StoreRefusal>
-        ensures spent { IsSpent self.old.scribe → IsErr result × (self.new ≡ self.old) }
     {
         self.check()?;
         let own = match self.lead(reading)? {
@@ -176,8 +170,6 @@ where
         reading: i64,
         text: &str,
     ) -> Result<(RequestNumber, Outcome), StoreRefusal>
-        ensures told { IfOk result (λ r. EndsWith K.Journal.contents self.new.scribe (Line.Printed 65535 r.0 (words_of r.1))) }
-        ensures spent { IsSpent self.old.scribe → IsErr result × (self.new ≡ self.old) }
     {
         let next = self.next_number(reading)?;
         let (Some(client), Some(number)) = (Client::new(OWN_CLIENT), RequestNumber::new(next))

@@ -1,5 +1,5 @@
 //! What writes a journal: lines go to a buffer, and the buffer goes to the device as one block.
-ghost use Rattle.std.specs.Prelude.{◌≡◌, ◌≢◌, Some, None, [], ◌++◌, IsErr, IfErr, OnOk, OnErr, IsSome, string_bytes};
+ghost use Rattle.std.specs.Prelude.{◌≡◌, ◌≢◌, Some, None, [], IsErr, IfErr, OnOk, OnErr, IsSome, string_bytes};
 ghost use Rattle.flight.specs.Additions.{Adds};
 ghost use Rattle.journal.specs.Blocks.{block_text};
 ghost use Rattle.journal.specs.Spelling.{line_text};

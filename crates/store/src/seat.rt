@@ -1,10 +1,5 @@
 //! A member's seat: what a store has of it.
-ghost use Rattle.std.specs.Prelude.{◌≡◌, ◌≤◌, ◌⊎◌, true, false, Some, None, Err, IsTrue, IsSome, IfOk, IfErr, OnOk, OnErr, MatchOption, ◌↔◌};
-ghost use Rattle.std.specs.Option.{ForSome};
-ghost use Rattle.node.specs.Member.{me_of, member_of, members_of, tables_of};
-ghost use Rattle.node.specs.View.{durable_of};
-ghost use Rattle.journal.specs.Digests.{summary_of};
-ghost use Rattle.store.specs.Chains.{links_of};
+ghost use Rattle.std.specs.Prelude.{◌≤◌};
 
 use crate::announcing::Announces;
 use crate::chain::Chain;
@@ -34,17 +29,12 @@ where
     pub chain: Chain,
     /// What is told of it, where its database is missing.
     pub tale: Tale,
-    pub ghost numbered: { ForSome node (λ n. me_of n ≡ member) },
-    pub ghost linked: { ForSome node (λ n. n.is_up ≡ true → K.is_honest n.keeper → chain.links.items ≡ links_of (member_of n).log) },
 }
 
 // The chain of a node's log.
 fn chain_of<K: Announces>(alloc: Global, node: &mut Node<K>) -> Result<Chain, StoreRefusal>
 where
     K::Image: Drop,
-    ensures links { IfOk result (λ chain. K.is_honest node.new.keeper → chain.links.items ≡ links_of (member_of node.new).log) }
-    ensures up { OnOk result (node.new.is_up ≡ true) }
-    ensures me { me_of node.new ≡ me_of node.old }
 {
     let entries = node.entries()?;
     let chain = Chain::of(alloc, entries.as_slice())?;
@@ -63,9 +53,6 @@ where
     K::Image: Drop,
     requires few { members ≤ 7 }
     requires member { (1 ≤ member) × (member ≤ members) }
-    ensures me { IfOk result (λ p. me_of p.0 ≡ member) }
-    ensures links { IfOk result (λ p. K.is_honest p.0.keeper → p.1.links.items ≡ links_of (member_of p.0).log) }
-    ensures up { IfOk result (λ p. p.0.is_up ≡ true) }
 {
     let mut node = match Node::start(alloc, image, schema, members, member) {
         Ok(node) => node,
@@ -83,7 +70,6 @@ where
 {
     /// A member with this database, which is not started yet; with none it is missing.
     pub fn new(alloc: Global, member: Member, image: Option<K::Image>, tale: Tale) -> Seat<K>
-        ensures { (result.member ≡ member) × (result.node ≡ None) × (result.image ≡ image) × (result.tale ≡ tale) }
     {
         Seat {
             alloc,
@@ -97,25 +83,18 @@ where
 
     /// Whether it is up.
     pub fn is_up(&self) -> bool
-        ensures { IsTrue result ↔ IsSome self.now.node }
     {
         self.node.is_some()
     }
 
     /// Whether its database is missing.
     pub fn is_missing(&self) -> bool
-        ensures { IsTrue result ↔ ((self.now.node ≡ None) × (self.now.image ≡ None)) }
     {
         self.node.is_none() && self.image.is_none()
     }
 
     /// Starts it over its database; one that is up stays so. 41 where it is missing, else the refusal of the database.
     pub fn start(&mut self, schema: Schema, members: usize) -> Result<(), StoreRefusal>
-        ensures up { OnOk result (IsSome self.new.node) }
-        ensures err { OnErr result (self.new.node ≡ None) }
-        ensures still { IsSome self.old.node → self.new ≡ self.old }
-        ensures missing { self.old.node ≡ None → self.old.image ≡ None → result ≡ Err (StoreRefusal.Refused Refusal.NodeDown) }
-        ensures same { (self.new.member ≡ self.old.member) × (self.new.tale ≡ self.old.tale) }
     {
         if self.is_up() {
             return Ok(());
@@ -142,9 +121,6 @@ where
 
     /// Stops it; one that is not up stays so.
     pub fn stop(&mut self)
-        ensures down { self.new.node ≡ None }
-        ensures still { self.old.node ≡ None → self.new ≡ self.old }
-        ensures same { (self.new.member ≡ self.old.member) × (self.new.tale ≡ self.old.tale) }
     {
         if let Some(node) = self.node.take() {
             self.image = Some(node.stop());
@@ -162,7 +138,6 @@ where
 
     /// What it has stored, where it is up.
     pub fn stored(&self) -> Option<Summary>
-        ensures { MatchOption self.now.node (result ≡ None) (λ n. IsSome result × (n.is_up ≡ true → K.is_honest n.keeper → result ≡ Some (summary_of (durable_of (member_of n))))) }
     {
         match &self.node {
             Some(node) => Some(self.chain.summary(node.hard_state())),
@@ -172,8 +147,6 @@ where
 
     /// The line that it begins a journal with.
     pub fn head(&self) -> Line
-        ensures down { self.now.node ≡ None → result ≡ Line.Rests self.now.member self.now.tale.stored }
-        ensures up { ForSome self.now.node (λ n. n.is_up ≡ true → K.is_honest n.keeper → result ≡ Line.Life self.now.member (summary_of (durable_of (member_of n)))) }
     {
         let member = self.member;
         match self.stored() {
@@ -191,7 +164,6 @@ where
         scribe: Scribe<K::Journal>,
         work: Work,
     ) -> (Option<Scribe<K::Journal>>, Result<Out, Fault>)
-        ensures { (self.new.member ≡ self.old.member) × (self.new.tale ≡ self.old.tale) }
     {
         let Some(node) = &mut self.node else {
             return (Some(scribe), Err(Fault::Kept(Refusal::NodeDown)));
@@ -225,10 +197,6 @@ fn step_with<K: Announces>(
 ) -> (Option<Voice<K::Journal>>, Result<Out, Fault>)
 where
     K::Image: Drop,
-    requires up { node.old.is_up ≡ true }
-    requires links { K.is_honest node.old.keeper → voice.chain.links.items ≡ links_of (member_of node.old).log }
-    ensures links { MatchOption result.0 (node.new.is_up ≡ false) (λ v. node.new.is_up ≡ true → K.is_honest node.new.keeper → v.chain.links.items ≡ links_of (member_of node.new).log) }
-    ensures me { me_of node.new ≡ me_of node.old }
 {
     node.keeper.lend(voice);
     let result = node.step(work);

