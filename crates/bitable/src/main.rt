@@ -3,6 +3,7 @@
 
 use causes::{Name, Trouble};
 use clap::error::ErrorKind;
+use console::{Fault, Stop as Ended};
 use diagnosis::{Subject, diagnose};
 use fault::Refusal;
 use forms::{Canvas, Drawing, Form, Look};
@@ -21,7 +22,6 @@ use std::rt::{Env, Files};
 use std::sync::Wait;
 use std::thread::Threads;
 use std::{env, fs, io};
-use store::StoreRefusal;
 use storecommands::is_asked;
 
 const SIM: &str = "playing the script";
@@ -40,7 +40,7 @@ fn main(rt: HostRuntime) -> ExitCode {
     }
 }
 
-// Whether a command line is one over a store's folder: `audit` is, where its one name is that of such a folder.
+// Whether a command line is one over a store's folder: `audit` is, where it has one name and that is not the name of a file.
 fn is_of_store(rt: &HostRuntime, words: &[String]) -> bool {
     let Some(word) = words.get(1) else {
         return false;
@@ -52,20 +52,21 @@ fn is_of_store(rt: &HostRuntime, words: &[String]) -> bool {
         return true;
     }
     match words.get(2) {
-        Some(dir) if words.len() == 3 => {
-            storefolder::is_store(rt, rt.alloc(), dir.as_str()).unwrap_or(false)
+        Some(name) if words.len() == 3 => {
+            !name.as_str().starts_with('-') && !storefolder::is_file(rt, name.as_str())
         }
         _ => false,
     }
 }
 
 // Does what a command line over a store's folder asks for.
-fn run_store(rt: &HostRuntime, words: &[String]) -> Result<u8, StoreRefusal> {
+fn run_store<'a>(rt: &HostRuntime, words: &'a [String]) -> Result<u8, Ended<'a>> {
     match storecommands::read_command(rt.alloc(), words) {
         Ok(command) => console::run(rt, command),
-        Err(error) if error.kind() == ErrorKind::OutOfMemory => {
-            Err(StoreRefusal::Refused(Refusal::NoMemory))
-        }
+        Err(error) if error.kind() == ErrorKind::OutOfMemory => Err(Ended {
+            fault: Fault::from(Refusal::NoMemory),
+            cause: None,
+        }),
         Err(error) => match error.print(rt) {
             Ok(()) => Ok(if error.use_stderr() { 2 } else { 0 }),
             Err(_) => Ok(1),
@@ -73,14 +74,18 @@ fn run_store(rt: &HostRuntime, words: &[String]) -> Result<u8, StoreRefusal> {
     }
 }
 
-// The exit status; where the store refused, its refusal, and below it what to do.
-fn end_store(rt: &impl Eprint, ended: Result<u8, StoreRefusal>) -> ExitCode {
-    let refusal = match ended {
+// The exit status; where the command was refused, why: the refusal, below it what is known of the file or the folder, and what to do.
+fn end_store(rt: &impl Eprint, ended: Result<u8, Ended<'_>>) -> ExitCode {
+    let stop = match ended {
         Ok(status) => return ExitCode::from(status),
-        Err(refusal) => refusal,
+        Err(stop) => stop,
     };
-    let _ = eprintln!(rt; "{refusal}");
-    if let Some(hint) = refusal.hint() {
+    let fault = &stop.fault;
+    let _ = eprintln!(rt; "{fault}");
+    if let Some(cause) = stop.cause {
+        let _ = eprintln!(rt; "{cause}");
+    }
+    if let Some(hint) = stop.hint() {
         let _ = eprintln!(rt; "        {hint}");
     }
     ExitCode::FAILURE

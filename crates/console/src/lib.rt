@@ -9,6 +9,8 @@ mod outputs;
 mod printing;
 mod requests;
 mod session;
+mod stop;
 mod taking;
 
 pub use commands::run;
+pub use stop::{Fault, Stop};

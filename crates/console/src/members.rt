@@ -2,12 +2,13 @@
 use crate::help::HELP;
 use crate::printing::{leads, print, status_lines};
 use crate::session::Session;
+use crate::stop::Fault;
 use model::member::Member;
 use store::StoreRefusal;
 use storecommands::DotCommand;
 
 impl<'a> Session<'a> {
-    fn stop(&mut self, rt: &HostRuntime, member: Member) -> Result<(), StoreRefusal> {
+    fn stop(&mut self, rt: &HostRuntime, member: Member) -> Result<(), Fault> {
         let reading = self.reading(rt)?;
         match self.opened.store.stop(member) {
             Ok(()) => {
@@ -18,7 +19,7 @@ impl<'a> Session<'a> {
         }
     }
 
-    fn start(&mut self, rt: &HostRuntime, member: Member) -> Result<(), StoreRefusal> {
+    fn start(&mut self, rt: &HostRuntime, member: Member) -> Result<(), Fault> {
         let reading = self.reading(rt)?;
         match self.opened.store.start(reading, member) {
             Ok(()) => {
@@ -35,7 +36,7 @@ impl<'a> Session<'a> {
         member: Member,
         how: &str,
         leader: Option<Member>,
-    ) -> Result<(), StoreRefusal> {
+    ) -> Result<(), Fault> {
         let alloc = self.alloc;
         let leads = leads(alloc, leader)?;
         let line = format!(in alloc; "node {member} is {how}; {leads}\n")?;
@@ -47,19 +48,19 @@ impl<'a> Session<'a> {
         rt: &HostRuntime,
         member: Member,
         refusal: StoreRefusal,
-    ) -> Result<(), StoreRefusal> {
+    ) -> Result<(), Fault> {
         let alloc = self.alloc;
         let before = format!(in alloc; "node {member} ")?;
         self.refuse(rt, before.as_str(), refusal)
     }
 
-    fn show_status(&self, rt: &HostRuntime) -> Result<(), StoreRefusal> {
+    fn show_status(&self, rt: &HostRuntime) -> Result<(), Fault> {
         let all = self.opened.store.status()?;
         let lines = status_lines(self.alloc, all.as_slice())?;
         print(rt, lines.as_str())
     }
 
-    fn show_schema(&self, rt: &HostRuntime) -> Result<(), StoreRefusal> {
+    fn show_schema(&self, rt: &HostRuntime) -> Result<(), Fault> {
         print(rt, self.opened.form().schema_text.as_str())?;
         print(rt, "\n")
     }
@@ -69,7 +70,7 @@ impl<'a> Session<'a> {
         &mut self,
         rt: &HostRuntime,
         command: DotCommand<'_>,
-    ) -> Result<bool, StoreRefusal> {
+    ) -> Result<bool, Fault> {
         match command {
             DotCommand::Stop(member) => self.stop(rt, member)?,
             DotCommand::Start(member) => self.start(rt, member)?,

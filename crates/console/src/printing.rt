@@ -1,5 +1,5 @@
 //! What is printed of a store.
-use fault::Refusal;
+use crate::stop::Fault;
 use model::member::Member;
 use std::alloc::{AllocError, Global};
 use std::io;
@@ -8,16 +8,16 @@ use store::StoreRefusal;
 use store::status::{Standing, Status};
 use storefolder::Opened;
 
-/// Prints bytes on standard output, at once. 40 where that fails.
-pub(crate) fn print_bytes(rt: &HostRuntime, bytes: &[u8]) -> Result<(), StoreRefusal> {
+/// Prints bytes on standard output, at once.
+pub(crate) fn print_bytes(rt: &HostRuntime, bytes: &[u8]) -> Result<(), Fault> {
     match io::writer(rt).write_all(bytes) {
         Ok(()) => Ok(()),
-        Err(_) => Err(StoreRefusal::Refused(Refusal::StoreFault)),
+        Err(error) => Err(Fault::Output(error)),
     }
 }
 
-/// Prints a text on standard output, at once. 40 where that fails.
-pub(crate) fn print(rt: &HostRuntime, text: &str) -> Result<(), StoreRefusal> {
+/// Prints a text on standard output, at once.
+pub(crate) fn print(rt: &HostRuntime, text: &str) -> Result<(), Fault> {
     print_bytes(rt, text.as_bytes())
 }
 

@@ -2,6 +2,7 @@
 use crate::outputs::{shown_answer, shown_outcome};
 use crate::printing::print_bytes;
 use crate::session::Session;
+use crate::stop::Fault;
 use looks::Asked;
 use model::member::Member;
 use model::request::{Client, RequestNumber};
@@ -9,7 +10,7 @@ use schema::Schema;
 use sqlread::query::{SystemTime, read_query};
 use std::alloc::Global;
 use store::chain::OWN_CLIENT;
-use store::{Outcome, StoreRefusal};
+use store::Outcome;
 use storecommands::{Kind, read_kind};
 
 // The system time that a question asks about.
@@ -44,7 +45,7 @@ impl<'a> Session<'a> {
         client: Client,
         number: RequestNumber,
         text: &str,
-    ) -> Result<(), StoreRefusal> {
+    ) -> Result<(), Fault> {
         let reading = self.reading(rt)?;
         match self.opened.store.submit(reading, client, number, text) {
             Ok(outcome) => self.show_outcome(rt, client, number, outcome),
@@ -53,7 +54,7 @@ impl<'a> Session<'a> {
     }
 
     // Hands in a request in the store's own name, and shows what came of it.
-    fn execute(&mut self, rt: &HostRuntime, text: &str) -> Result<(), StoreRefusal> {
+    fn execute(&mut self, rt: &HostRuntime, text: &str) -> Result<(), Fault> {
         let reading = self.reading(rt)?;
         let Some(client) = Client::new(OWN_CLIENT) else {
             return Ok(());
@@ -70,7 +71,7 @@ impl<'a> Session<'a> {
         client: Client,
         number: RequestNumber,
         outcome: Outcome,
-    ) -> Result<(), StoreRefusal> {
+    ) -> Result<(), Fault> {
         if !matches!(outcome, Outcome::Accepted(_)) {
             self.is_refused = true;
         }
@@ -84,7 +85,7 @@ impl<'a> Session<'a> {
         rt: &HostRuntime,
         member: Option<Member>,
         text: &str,
-    ) -> Result<(), StoreRefusal> {
+    ) -> Result<(), Fault> {
         let reading = self.reading(rt)?;
         let member = match member {
             Some(member) => member,
@@ -110,7 +111,7 @@ impl<'a> Session<'a> {
         rt: &HostRuntime,
         text: &str,
         line: usize,
-    ) -> Result<(), StoreRefusal> {
+    ) -> Result<(), Fault> {
         match read_kind(text) {
             Some((Kind::Question(member), words)) => self.ask(rt, member, words),
             Some((Kind::Own, words)) => self.execute(rt, words),

@@ -1,6 +1,7 @@
 //! A sitting at a store: lines that come in, and what comes of them at once.
 use crate::outputs::Manner;
 use crate::printing::{banner, name_of, print, refusal_lines, warnings};
+use crate::stop::Fault;
 use fault::Refusal;
 use std::alloc::Global;
 use std::rt::Clock;
@@ -78,7 +79,7 @@ impl<'a> Session<'a> {
     }
 
     /// Says what was cut and what is missing and, at a terminal, what is there.
-    pub fn greet(&self, rt: &HostRuntime) -> Result<(), StoreRefusal> {
+    pub fn greet(&self, rt: &HostRuntime) -> Result<(), Fault> {
         let warned = warnings(self.alloc, &self.opened)?;
         if !warned.is_empty() {
             let _ = eprint!(*rt; "{warned}");
@@ -91,7 +92,7 @@ impl<'a> Session<'a> {
     }
 
     /// At a terminal: the store's name or, for a line that goes on, an arrow.
-    pub fn prompt(&self, rt: &HostRuntime, is_first: bool) -> Result<(), StoreRefusal> {
+    pub fn prompt(&self, rt: &HostRuntime, is_first: bool) -> Result<(), Fault> {
         if !self.place.is_terminal {
             return Ok(());
         }
@@ -110,10 +111,10 @@ impl<'a> Session<'a> {
         rt: &HostRuntime,
         before: &str,
         refusal: StoreRefusal,
-    ) -> Result<(), StoreRefusal> {
+    ) -> Result<(), Fault> {
         self.is_refused = true;
         if self.opened.store.is_spent() {
-            return Err(refusal);
+            return Err(Fault::Refused(refusal));
         }
         let alloc = self.alloc;
         let lines = refusal_lines(alloc, &refusal)?;
@@ -122,7 +123,7 @@ impl<'a> Session<'a> {
     }
 
     /// Says where a line is that asks for nothing.
-    pub fn complain(&mut self, rt: &HostRuntime, line: usize) -> Result<(), StoreRefusal> {
+    pub fn complain(&mut self, rt: &HostRuntime, line: usize) -> Result<(), Fault> {
         self.is_refused = true;
         let alloc = self.alloc;
         let name = self.place.name;

@@ -1,8 +1,8 @@
 //! The lines of a sitting.
 use crate::input::Input;
 use crate::session::Session;
+use crate::stop::Fault;
 use std::io::BufRead;
-use store::StoreRefusal;
 use storecommands::read_dot_command;
 
 // Whether a line is left out: one with blanks alone, or a comment.
@@ -17,7 +17,7 @@ impl<'a> Session<'a> {
         rt: &HostRuntime,
         input: &mut Input<R>,
         first: &str,
-    ) -> Result<String, StoreRefusal> {
+    ) -> Result<String, Fault> {
         let mut text = String::from_str(self.alloc, first)?;
         for _ in 0..u64::MAX {
             if text.as_str().trim_end().ends_with(';') {
@@ -39,7 +39,7 @@ impl<'a> Session<'a> {
         rt: &HostRuntime,
         input: &mut Input<R>,
         line: &str,
-    ) -> Result<bool, StoreRefusal> {
+    ) -> Result<bool, Fault> {
         let at = input.count();
         let text = if line.starts_with(".submit ") {
             self.whole_text(rt, input, line)?
@@ -61,7 +61,7 @@ impl<'a> Session<'a> {
         rt: &HostRuntime,
         input: &mut Input<R>,
         line: &str,
-    ) -> Result<bool, StoreRefusal> {
+    ) -> Result<bool, Fault> {
         if is_skipped(line) {
             return Ok(true);
         }
@@ -79,7 +79,7 @@ impl<'a> Session<'a> {
         &mut self,
         rt: &HostRuntime,
         input: &mut Input<R>,
-    ) -> Result<(), StoreRefusal> {
+    ) -> Result<(), Fault> {
         for _ in 0..u64::MAX {
             self.prompt(rt, true)?;
             let Some(line) = input.next()? else {

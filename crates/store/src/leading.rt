@@ -25,8 +25,7 @@ where
     }
 
     // Has a member stand for election, if it is up, its log is so long, and nobody leads.
-    fn elect(&mut self, member: Member, least: usize, reading: i64) -> Result<(), StoreRefusal>
-    {
+    fn elect(&mut self, member: Member, least: usize, reading: i64) -> Result<(), StoreRefusal> {
         let stands = match self.seat(member) {
             Some(seat) => seat.is_up() && seat.chain.len() >= least,
             None => false,
@@ -39,8 +38,7 @@ where
     }
 
     // Has each member stand in turn whose log is so long, until one leads.
-    fn elect_any(&mut self, least: usize, reading: i64) -> Result<(), StoreRefusal>
-    {
+    fn elect_any(&mut self, least: usize, reading: i64) -> Result<(), StoreRefusal> {
         for at in 0..self.seats.len() {
             self.elect(at.saturating_add(1), least, reading)?;
         }
@@ -49,8 +47,7 @@ where
 
     /// The leader; one is elected where none is known and a majority is up: first a member with the longest log stands. None where there is
     /// none. 38, 40 and 43 where the journal can't be written; of a store that was spent before nothing changes then.
-    pub fn lead(&mut self, reading: i64) -> Result<Option<Member>, StoreRefusal>
-    {
+    pub fn lead(&mut self, reading: i64) -> Result<Option<Member>, StoreRefusal> {
         self.check()?;
         let (up, longest) = self.strength();
         if up <= self.seats.len() / 2 {

@@ -20,14 +20,12 @@ pub struct Past {
     pub requests: u64,
 }
 
-fn bad_line() -> StoreRefusal
-{
+fn bad_line() -> StoreRefusal {
     StoreRefusal::Refused(Refusal::BadFlight)
 }
 
 // As a journal begins: none of them is up.
-fn lay_all_down(tales: &mut [Tale])
-{
+fn lay_all_down(tales: &mut [Tale]) {
     for tale in tales.iter_mut() {
         tale.lay_down();
     }
@@ -35,12 +33,8 @@ fn lay_all_down(tales: &mut [Tale])
 
 impl Past {
     /// Before anything is told of so many members. The error is want of memory.
-    pub fn new(alloc: Global, members: usize) -> Result<Past, StoreRefusal>
-    {
-        let mut tales = Vec::new(alloc);
-        for _ in 0..members {
-            tales.push(Tale::blank())?;
-        }
+    pub fn new(alloc: Global, members: usize) -> Result<Past, StoreRefusal> {
+        let tales: Vec<Tale> = (0..members).map(|_| Tale::blank()).collect(alloc)?;
         Ok(Past {
             members: tales,
             marks: 0,
@@ -50,14 +44,12 @@ impl Past {
     }
 
     /// What is told of each member, in their order.
-    pub fn members(&self) -> &[Tale]
-    {
+    pub fn members(&self) -> &[Tale] {
         self.members.as_slice()
     }
 
     /// What is told of a member; of one that is not there, nothing.
-    pub fn tale(&self, member: Member) -> Tale
-    {
+    pub fn tale(&self, member: Member) -> Tale {
         match member.checked_sub(1) {
             None => Tale::blank(),
             Some(at) => self.members.get(at).copied().unwrap_or(Tale::blank()),
@@ -65,8 +57,7 @@ impl Past {
     }
 
     // A journal begins: all lives are over.
-    fn open(&mut self, marks: u64) -> Result<(), StoreRefusal>
-    {
+    fn open(&mut self, marks: u64) -> Result<(), StoreRefusal> {
         if self.sessions != 0 && self.marks != marks {
             return Err(bad_line());
         }
@@ -77,8 +68,7 @@ impl Past {
     }
 
     // A line about this member.
-    fn hear_of(&mut self, member: Member, line: &Line) -> Result<(), StoreRefusal>
-    {
+    fn hear_of(&mut self, member: Member, line: &Line) -> Result<(), StoreRefusal> {
         let Some(at) = member.checked_sub(1) else {
             return Err(bad_line());
         };
@@ -96,8 +86,7 @@ impl Past {
 }
 
 // How many marks are given out with this line about a member.
-fn marks_after(marks: u64, line: &Line) -> u64
-{
+fn marks_after(marks: u64, line: &Line) -> u64 {
     match line {
         Line::Life { .. } | Line::Takes { .. } => marks.saturating_add(1),
         _ => marks,
@@ -105,9 +94,7 @@ fn marks_after(marks: u64, line: &Line) -> u64
 }
 
 impl Hears for Past {
-
-    fn hear(&mut self, line: Line) -> Result<(), StoreRefusal>
-    {
+    fn hear(&mut self, line: Line) -> Result<(), StoreRefusal> {
         match &line {
             Line::Opens { marks, .. } => self.open(*marks),
             Line::Clock { .. } => Ok(()),

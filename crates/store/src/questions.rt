@@ -20,8 +20,7 @@ fn ask_node<K: Announces>(
     schema: &Schema,
     node: &Node<K>,
     text: &str,
-) -> Result<Answer, Refusal>
-{
+) -> Result<Answer, Refusal> {
     let query = read_query(alloc, schema, text)?;
     if !node.is_up {
         return Err(Refusal::NodeDown);
@@ -34,8 +33,7 @@ where
     K::Image: Drop,
 {
     // The answer from what a member has applied.
-    fn ask_once(&self, member: Member, text: &str) -> Result<Answer, Refusal>
-    {
+    fn ask_once(&self, member: Member, text: &str) -> Result<Answer, Refusal> {
         match self.seat(member) {
             Some(seat) => match &seat.node {
                 Some(node) => ask_node(self.alloc, &self.schema, node, text),
@@ -46,8 +44,7 @@ where
     }
 
     // Has time closed up to the reading, by a floor.
-    fn close_time(&mut self, reading: i64) -> Result<(), StoreRefusal>
-    {
+    fn close_time(&mut self, reading: i64) -> Result<(), StoreRefusal> {
         if let Some(leader) = self.lead(reading)? {
             let _ = self.hand(leader, reading, Taken::Floor, Input::Floor { reading })?;
             self.deliver_all(reading)?;
@@ -61,8 +58,7 @@ where
         reading: i64,
         member: Member,
         text: &str,
-    ) -> Result<Result<Answer, Refusal>, StoreRefusal>
-    {
+    ) -> Result<Result<Answer, Refusal>, StoreRefusal> {
         match self.ask_once(member, text) {
             Err(Refusal::NotClosed(_)) => {
                 self.close_time(reading)?;
@@ -73,8 +69,7 @@ where
     }
 
     // Writes what was answered to the journal, so that it may be given out.
-    fn tell(&mut self, member: Member, query: &str, words: String) -> Result<(), StoreRefusal>
-    {
+    fn tell(&mut self, member: Member, query: &str, words: String) -> Result<(), StoreRefusal> {
         let query = Text::new(self.alloc, query)?;
         let answer = Text::from_string(words)?;
         self.write(&Line::Answer {
@@ -90,8 +85,12 @@ where
     ///
     /// 10 to 17 where the text is no question; 33 where its last instant is not closed, which is in the journal too; 41 where the
     /// member is not up. 38, 40 and 43 where the journal can't be written; of a store that was spent before nothing changes then.
-    pub fn ask(&mut self, reading: i64, member: Member, text: &str) -> Result<Answer, StoreRefusal>
-    {
+    pub fn ask(
+        &mut self,
+        reading: i64,
+        member: Member,
+        text: &str,
+    ) -> Result<Answer, StoreRefusal> {
         self.check()?;
         let alloc = self.alloc;
         match self.ask_closed(reading, member, text)? {
@@ -111,16 +110,14 @@ where
     }
 
     /// Asks the leader, or where none is known the first member that is up: who was asked, and what `ask` gives.
-    pub fn ask_any(&mut self, reading: i64, text: &str) -> Result<(Member, Answer), StoreRefusal>
-    {
+    pub fn ask_any(&mut self, reading: i64, text: &str) -> Result<(Member, Answer), StoreRefusal> {
         let member = self.first_asked();
         let answer = self.ask(reading, member, text)?;
         Ok((member, answer))
     }
 
     /// Whom `ask_any` asks: the leader, or where none is known the first member that is up, or the first one.
-    pub fn first_asked(&self) -> Member
-    {
+    pub fn first_asked(&self) -> Member {
         if let Some(leader) = self.leader {
             return leader;
         }

@@ -26,8 +26,7 @@ where
         reading: i64,
         leader: Member,
         request: Request,
-    ) -> Result<Option<Outcome>, StoreRefusal>
-    {
+    ) -> Result<Option<Outcome>, StoreRefusal> {
         let Ok(copy) = request.clone() else {
             return Err(self.spend());
         };
@@ -65,8 +64,7 @@ where
         client: Client,
         number: RequestNumber,
         text: &Text,
-    ) -> Result<Outcome, StoreRefusal>
-    {
+    ) -> Result<Outcome, StoreRefusal> {
         for _ in 0..TRIES {
             let Some(leader) = self.lead(reading)? else {
                 return Ok(Outcome::Unanswered);
@@ -92,8 +90,7 @@ where
         client: Client,
         number: RequestNumber,
         outcome: &Outcome,
-    ) -> Result<(), StoreRefusal>
-    {
+    ) -> Result<(), StoreRefusal> {
         let alloc = self.alloc;
         let words = Text::from_string(format!(in alloc; "{outcome}")?)?;
         self.write(&Line::Printed {
@@ -117,8 +114,7 @@ where
         client: Client,
         number: RequestNumber,
         text: &str,
-    ) -> Result<Outcome, StoreRefusal>
-    {
+    ) -> Result<Outcome, StoreRefusal> {
         self.check()?;
         let text = Text::new(self.alloc, text)?;
         self.watched = Some(Watched {
@@ -136,8 +132,7 @@ where
 
     /// The number that the next request of the store's own client has: one more than the last one in the leader's log, or in the
     /// longest log where no majority is up.
-    pub fn next_number(&mut self, reading: i64) -> Result<u64, StoreRefusal>
-    {
+    pub fn next_number(&mut self, reading: i64) -> Result<u64, StoreRefusal> {
         self.check()?;
         let own = match self.lead(reading)? {
             Some(leader) => self.own_of(leader),
@@ -169,8 +164,7 @@ where
         &mut self,
         reading: i64,
         text: &str,
-    ) -> Result<(RequestNumber, Outcome), StoreRefusal>
-    {
+    ) -> Result<(RequestNumber, Outcome), StoreRefusal> {
         let next = self.next_number(reading)?;
         let (Some(client), Some(number)) = (Client::new(OWN_CLIENT), RequestNumber::new(next))
         else {

@@ -69,8 +69,7 @@ where
     K::Image: Drop,
 {
     /// A member with this database, which is not started yet; with none it is missing.
-    pub fn new(alloc: Global, member: Member, image: Option<K::Image>, tale: Tale) -> Seat<K>
-    {
+    pub fn new(alloc: Global, member: Member, image: Option<K::Image>, tale: Tale) -> Seat<K> {
         Seat {
             alloc,
             member,
@@ -82,20 +81,17 @@ where
     }
 
     /// Whether it is up.
-    pub fn is_up(&self) -> bool
-    {
+    pub fn is_up(&self) -> bool {
         self.node.is_some()
     }
 
     /// Whether its database is missing.
-    pub fn is_missing(&self) -> bool
-    {
+    pub fn is_missing(&self) -> bool {
         self.node.is_none() && self.image.is_none()
     }
 
     /// Starts it over its database; one that is up stays so. 41 where it is missing, else the refusal of the database.
-    pub fn start(&mut self, schema: Schema, members: usize) -> Result<(), StoreRefusal>
-    {
+    pub fn start(&mut self, schema: Schema, members: usize) -> Result<(), StoreRefusal> {
         if self.is_up() {
             return Ok(());
         }
@@ -120,8 +116,7 @@ where
     }
 
     /// Stops it; one that is not up stays so.
-    pub fn stop(&mut self)
-    {
+    pub fn stop(&mut self) {
         if let Some(node) = self.node.take() {
             self.image = Some(node.stop());
         }
@@ -137,8 +132,7 @@ where
     }
 
     /// What it has stored, where it is up.
-    pub fn stored(&self) -> Option<Summary>
-    {
+    pub fn stored(&self) -> Option<Summary> {
         match &self.node {
             Some(node) => Some(self.chain.summary(node.hard_state())),
             None => None,
@@ -146,8 +140,7 @@ where
     }
 
     /// The line that it begins a journal with.
-    pub fn head(&self) -> Line
-    {
+    pub fn head(&self) -> Line {
         let member = self.member;
         match self.stored() {
             Some(stored) => Line::Life { member, stored },
@@ -163,8 +156,7 @@ where
         &mut self,
         scribe: Scribe<K::Journal>,
         work: Work,
-    ) -> (Option<Scribe<K::Journal>>, Result<Out, Fault>)
-    {
+    ) -> (Option<Scribe<K::Journal>>, Result<Out, Fault>) {
         let Some(node) = &mut self.node else {
             return (Some(scribe), Err(Fault::Kept(Refusal::NodeDown)));
         };

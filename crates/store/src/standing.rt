@@ -15,8 +15,7 @@ where
     K::Image: Drop,
 {
     /// A member goes down, and keeps what it has stored. 41 where it is not up.
-    pub fn stop(&mut self, member: Member) -> Result<(), StoreRefusal>
-    {
+    pub fn stop(&mut self, member: Member) -> Result<(), StoreRefusal> {
         self.check()?;
         if !self.is_up(member) {
             return Err(StoreRefusal::Refused(Refusal::NodeDown));
@@ -44,8 +43,7 @@ where
 
     /// A member comes up again, and is brought what it lacks; one that is up stays so. 41 where its database was missing as the store
     /// was opened, 40, 43 and 44 where its database is refused: it stays down then.
-    pub fn start(&mut self, reading: i64, member: Member) -> Result<(), StoreRefusal>
-    {
+    pub fn start(&mut self, reading: i64, member: Member) -> Result<(), StoreRefusal> {
         self.check()?;
         if !self.start_node(member)? {
             return Ok(());

@@ -73,8 +73,7 @@ where
         reading: i64,
         taken: Taken,
         work: Work,
-    ) -> Result<Stepped, StoreRefusal>
-    {
+    ) -> Result<Stepped, StoreRefusal> {
         self.begin_step(member, reading, taken)?;
         match self.lend(member, work)? {
             Ok(out) => {
@@ -94,8 +93,12 @@ where
         }
     }
 
-    fn begin_step(&mut self, member: Member, reading: i64, taken: Taken) -> Result<(), StoreRefusal>
-    {
+    fn begin_step(
+        &mut self,
+        member: Member,
+        reading: i64,
+        taken: Taken,
+    ) -> Result<(), StoreRefusal> {
         match &mut self.scribe {
             Some(scribe) => {
                 scribe.show(reading)?;
@@ -106,8 +109,7 @@ where
     }
 
     // Lends the journal to a member for a step.
-    fn lend(&mut self, member: Member, work: Work) -> Result<Result<Out, Fault>, StoreRefusal>
-    {
+    fn lend(&mut self, member: Member, work: Work) -> Result<Result<Out, Fault>, StoreRefusal> {
         let Some(at) = self.place_of(member) else {
             return Ok(Err(Fault::Kept(Refusal::NodeDown)));
         };
@@ -122,8 +124,7 @@ where
     }
 
     // The step is over: what it told is written, its messages are under way, and what it told is heard.
-    fn end_step(&mut self, member: Member, out: Out) -> Result<(), StoreRefusal>
-    {
+    fn end_step(&mut self, member: Member, out: Out) -> Result<(), StoreRefusal> {
         let Out {
             messages,
             applied: _,
@@ -156,8 +157,7 @@ where
         Ok(Outcomes::new(outcomes))
     }
 
-    fn send(&mut self, member: Member, message: Message) -> Result<(), StoreRefusal>
-    {
+    fn send(&mut self, member: Member, message: Message) -> Result<(), StoreRefusal> {
         if matches!(message.body, Body::Append { .. }) {
             self.leader = Some(member);
         }
@@ -194,15 +194,13 @@ where
         reading: i64,
         taken: Taken,
         input: Input,
-    ) -> Result<Stepped, StoreRefusal>
-    {
+    ) -> Result<Stepped, StoreRefusal> {
         self.step(member, reading, taken, Work::Local(input))
     }
 
     // Delivers what is under way, in order, until nothing is, or the most that one call delivers. What comes to a member that is down
     // is gone.
-    pub(crate) fn deliver_all(&mut self, reading: i64) -> Result<(), StoreRefusal>
-    {
+    pub(crate) fn deliver_all(&mut self, reading: i64) -> Result<(), StoreRefusal> {
         for _ in 0..DELIVERIES_MOST {
             let Some(letter) = self.queue.pop_front() else {
                 return Ok(());
@@ -212,8 +210,7 @@ where
         Ok(())
     }
 
-    fn deliver(&mut self, reading: i64, letter: Letter) -> Result<(), StoreRefusal>
-    {
+    fn deliver(&mut self, reading: i64, letter: Letter) -> Result<(), StoreRefusal> {
         let Letter { number, message } = letter;
         let member = message.addressee;
         if self.is_up(member) {

@@ -45,8 +45,7 @@ where
     pub(crate) watched: Option<Watched>,
 }
 
-pub(crate) fn spent() -> StoreRefusal
-{
+pub(crate) fn spent() -> StoreRefusal {
     StoreRefusal::Refused(Refusal::StoreFault)
 }
 
@@ -127,8 +126,7 @@ where
     }
 
     // Adds a line to the journal's buffer.
-    pub(crate) fn write(&mut self, line: &Line) -> Result<(), StoreRefusal>
-    {
+    pub(crate) fn write(&mut self, line: &Line) -> Result<(), StoreRefusal> {
         match &mut self.scribe {
             Some(scribe) => Ok(scribe.add(line)?),
             None => Err(spent()),
@@ -136,8 +134,7 @@ where
     }
 
     // Writes the journal's buffer to its device.
-    pub(crate) fn flush(&mut self) -> Result<(), StoreRefusal>
-    {
+    pub(crate) fn flush(&mut self) -> Result<(), StoreRefusal> {
         match &mut self.scribe {
             Some(scribe) => Ok(scribe.flush()?),
             None => Err(spent()),
@@ -145,8 +142,7 @@ where
     }
 
     // An error where the store is spent.
-    pub(crate) fn check(&self) -> Result<(), StoreRefusal>
-    {
+    pub(crate) fn check(&self) -> Result<(), StoreRefusal> {
         match &self.scribe {
             Some(scribe) => match scribe.failure() {
                 None => Ok(()),
@@ -157,8 +153,7 @@ where
     }
 
     // For want of memory the store is spent.
-    pub(crate) fn spend(&mut self) -> StoreRefusal
-    {
+    pub(crate) fn spend(&mut self) -> StoreRefusal {
         if let Some(scribe) = &mut self.scribe {
             scribe.spend(DeviceError::NoMemory);
         }
@@ -166,8 +161,7 @@ where
     }
 
     /// Whether the journal can't be written any more, and each call answers so.
-    pub fn is_spent(&self) -> bool
-    {
+    pub fn is_spent(&self) -> bool {
         self.check().is_err()
     }
 
@@ -182,8 +176,7 @@ where
     }
 
     // The seat of a member.
-    pub(crate) fn seat(&self, member: Member) -> Option<&Seat<K>>
-    {
+    pub(crate) fn seat(&self, member: Member) -> Option<&Seat<K>> {
         let at = self.place_of(member)?;
         Some(&self.seats[at])
     }
@@ -196,20 +189,17 @@ where
     }
 
     /// Who leads, as far as it is known.
-    pub fn leader(&self) -> Option<Member>
-    {
+    pub fn leader(&self) -> Option<Member> {
         self.leader
     }
 
     /// How many members there are.
-    pub fn members(&self) -> usize
-    {
+    pub fn members(&self) -> usize {
         self.seats.len()
     }
 
     /// The tables.
-    pub fn schema(&self) -> &Schema
-    {
+    pub fn schema(&self) -> &Schema {
         &self.schema
     }
 

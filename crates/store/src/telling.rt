@@ -26,8 +26,7 @@ pub struct End {
 }
 
 // Tells each line of a block.
-fn tell_block<H: Hears>(alloc: Global, body: &str, hearer: &mut H) -> Result<(), StoreRefusal>
-{
+fn tell_block<H: Hears>(alloc: Global, body: &str, hearer: &mut H) -> Result<(), StoreRefusal> {
     let lines = read_lines(alloc, body)?;
     for line in lines {
         hearer.hear(line)?;
@@ -44,8 +43,7 @@ fn placed(refusal: StoreRefusal, journal: u64, at: usize) -> StoreRefusal {
 }
 
 // The block that a journal begins with: it goes on from this sum or, where none is given, from the one that its first line names.
-fn first_of(before: Option<u64>, text: &str) -> Option<Block<'_>>
-{
+fn first_of(before: Option<u64>, text: &str) -> Option<Block<'_>> {
     match before {
         Some(sum) => block_after(sum, text),
         None => first_block(text),
@@ -61,8 +59,7 @@ pub fn tell_journal<H: Hears>(
     text: &str,
     before: Option<u64>,
     hearer: &mut H,
-) -> Result<Option<End>, StoreRefusal>
-{
+) -> Result<Option<End>, StoreRefusal> {
     let Some(first) = first_of(before, text) else {
         return Ok(None);
     };

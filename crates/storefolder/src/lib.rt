@@ -16,4 +16,4 @@ pub use form::{Form, read_form};
 pub use journal_file::JournalFile;
 pub use opening::{Cut, Kept, Opened, open};
 pub use place::{Folder, enter, make};
-pub use replayed::{flights, is_store, replay};
+pub use replayed::{flights, is_file, replay};

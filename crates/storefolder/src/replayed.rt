@@ -94,11 +94,10 @@ pub fn flights(rt: &HostRuntime, alloc: Global, dir: &str, out: &str) -> Result<
     write_all(rt, alloc, out, &form.schema_text, flown)
 }
 
-/// Whether there is the form of a store in the folder of this name.
-pub fn is_store(rt: &HostRuntime, alloc: Global, dir: &str) -> Result<bool, StoreRefusal> {
-    let path = format!(in alloc; "{dir}/form")?;
-    match fs::exists(rt, path.as_str()) {
-        Ok(is) => Ok(is),
-        Err(_) => Ok(false),
+/// Whether this is the name of a file, which no folder has.
+pub fn is_file(rt: &HostRuntime, name: &str) -> bool {
+    match fs::metadata(rt, name) {
+        Ok(found) => found.is_file(),
+        Err(_) => false,
     }
 }

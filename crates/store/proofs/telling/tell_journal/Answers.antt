@@ -5,6 +5,7 @@ use Rattle.store.proofs.telling.tell_journal.Goals as goal
 
 pub loop-block-smaller : goal.loop-block-smaller
 loop-block-smaller g c =
-    let long : length c.loop-block.rest.now ≡ length (block_text c.loop-block.sum c.in-Some.block.body.now c.in-Some.block.rest.now) = ap length c.in-Some.ensures.some.1 in
-    let longer = block_longer c.loop-block.sum c.in-Some.block.body.now c.in-Some.block.rest.now in
+    let block = c.in-Some-block_after.block in
+    let long : length c.loop-block.rest.now ≡ length (block_text c.loop-block.sum block.body.now block.rest.now) = ap length c.in-Some-block_after.ensures.some.1 in
+    let longer = block_longer c.loop-block.sum block.body.now block.rest.now in
     omega (arith, long, longer)
