@@ -1,5 +1,5 @@
 -- Lemmas on what is audited.
-use Rattle.std.proofs.Common.{◌≡◌, ◌≢◌, ◌≤◌, ◌<◌, ◌+◌, ◌∙◌, ℕ, suc, List, [], ◌∷◌, ◌++◌, length, get_or, map, take, ap, sym, subst, refl, arith, append_assoc}
+use Rattle.std.proofs.Common.{◌≡◌, ◌≢◌, ◌≤◌, ◌<◌, ◌+◌, ◌∙◌, ℕ, suc, List, [], ◌∷◌, ◌++◌, length, get_or, map, take, ap, sym, subst, arith, append_assoc}
 use Rattle.std.specs.Prelude.{Result, Ok, Err, IfErr, OnOk}
 use Rattle.std.specs.declared.vec.Vec.{Vec}
 use Rattle.std.specs.declared.alloc.Global.{Global}
@@ -15,7 +15,7 @@ use Rattle.moments.specs.declared.recorded.AuditFault.{AuditFault}
 use Rattle.moments.specs.declared.recorded.AuditFault.TheVariants.{NoMemory as NoMemoryLeft}
 use Rattle.auditor.specs.Audited.{Explains, IsFirst}
 use Rattle.auditor.specs.Faults.{IsOrderFault, OfRun}
-use Rattle.playback.specs.Judging.{judged_of, judged_from, records_of, IsExplained, IsFaultOf}
+use Rattle.playback.specs.Judging.{judged_of, judged_from, IsExplained, IsFaultOf}
 
 judged_append : (node : ℕ) (xs : List (Vec Recorded Global)) (own : Vec Recorded Global) → judged_from node (xs ++ own ∷ []) ≡ judged_from node xs ++ map (judged_of (length xs + node)) own.items
 judged_append node [] own =

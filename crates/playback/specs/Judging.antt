@@ -1,5 +1,5 @@
 -- What an audit says of what the journals of a store spell.
-use Rattle.std.specs.Prelude.{◌≡◌, ◌≢◌, ◌++◌, ℕ, suc, List, [], ◌∷◌, length, map}
+use Rattle.std.specs.Prelude.{◌≢◌, ◌++◌, ℕ, suc, List, [], ◌∷◌, length, map}
 use Rattle.std.specs.declared.vec.Vec.{Vec}
 use Rattle.std.specs.declared.alloc.Global.{Global}
 use Rattle.moments.specs.Behind.{Records}

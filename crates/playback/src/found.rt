@@ -42,7 +42,9 @@ impl Play {
         self.close(member, found)?;
         self.start(member)?;
         let is_same = self.stored(member)? == Some(*found);
-        let own = self.entries(member)?;
+        let at = self.place(member)?;
+        let length = self.actors[at].chain.len();
+        let own = self.entries(member, length)?;
         let _ = self.happen(Event::Stop(member))?;
         if is_same {
             return Ok(());

@@ -53,7 +53,7 @@ impl Play {
         Ok(())
     }
 
-    // A life, as a flight has it, where flights are kept.
+    // The life of a member that has this stored, as a flight has it, where flights are kept.
     fn life_of(&mut self, member: Member, found: &Summary) -> Result<Option<Life>, StoreRefusal> {
         if !self.keeps {
             return Ok(None);
@@ -61,7 +61,7 @@ impl Play {
         let opening = Opening {
             mark: mark_of(self.marks)?,
             hard: found.hard,
-            entries: self.entries(member)?,
+            entries: self.entries(member, found.length)?,
         };
         Ok(Some(Life {
             opening,

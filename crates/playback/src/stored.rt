@@ -71,13 +71,13 @@ impl Play {
         })
     }
 
-    /// The log of a member, none of one that is down.
-    pub(crate) fn entries(&mut self, member: Member) -> Result<Vec<Entry>, StoreRefusal> {
+    /// The first so many entries of a member's log, none of one that is down.
+    pub(crate) fn entries(
+        &mut self,
+        member: Member,
+        length: usize,
+    ) -> Result<Vec<Entry>, StoreRefusal> {
         let mut entries = Vec::new(self.alloc);
-        let length = match self.world.durable(member)? {
-            Some(stored) => stored.length,
-            None => 0,
-        };
         for index in 0..length {
             if let Some(entry) = self.world.entry(member, index.saturating_add(1))? {
                 entries.push(entry)?;

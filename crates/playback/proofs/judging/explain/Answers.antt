@@ -1,14 +1,11 @@
-use Rattle.std.proofs.Common.{◌≡◌, ◌≢◌, rules, map}
-use Rattle.std.specs.Prelude.{IfErr, Err}
+use Rattle.std.proofs.Common.{rules, map}
+use Rattle.std.specs.Prelude.{IfErr}
 use Rattle.moments.specs.Behind.{Records}
 use Rattle.moments.specs.Faults.{NoneAre}
-use Rattle.moments.specs.declared.recorded.AuditFault.{AuditFault}
-use Rattle.moments.specs.declared.recorded.AuditFault.TheVariants.{NoMemory as NoMemoryLeft}
 use Rattle.flight.specs.declared.flight.Version.TheVariants.{Three}
 use Rattle.auditor.specs.Audited.{Explains, IsFirst}
 use Rattle.auditor.specs.Faults.{IsOrderFault, OfRun}
 use Rattle.auditor.specs.View.{event_of}
-use Rattle.playback.specs.Judging.{IsFaultOf}
 use Rattle.playback.proofs.Judgments.{fault_told}
 use Rattle.playback.proofs.judging.explain.Goals as goal
 
