@@ -7,11 +7,13 @@ use console::{Fault, Stop as Ended};
 use diagnosis::{Subject, diagnose};
 use fault::Refusal;
 use forms::{Canvas, Drawing, Form, Look};
+use scriptlanes::{Drawing as RunDrawing, Sheet, Span};
 use shell::audit::run_audit;
-use shell::command::{Beliefs, Check, Command, Live, Sim};
+use shell::command::{Audit, Beliefs, Check, Command, Lanes, Live, Sim};
 use shell::command_line::read_command;
 use shell::live_run::run_live;
-use shell::shown_run::{run_beliefs, run_shown};
+use shell::report_run::run_report;
+use shell::shown_run::{run_beliefs, run_lanes, run_shown};
 use shell::sim::run_sim;
 use shell::stop::Stop;
 use std::alloc::Global;
@@ -113,8 +115,9 @@ where
         Ok(Command::PlayInput) => { script_ended(play(rt, &mut rt.reader()), Name::Input, SIM) }
         Ok(Command::Sim(sim)) => play_sim(rt, host, sim),
         Ok(Command::Beliefs(beliefs)) => draw(rt, beliefs),
+        Ok(Command::Lanes(lanes)) => draw_run(rt, host, lanes),
         Ok(Command::Live(live)) => play_live(rt, host, live),
-        Ok(Command::Audit(names)) => audit(rt, names.as_slice()),
+        Ok(Command::Audit(asked)) => audit(rt, &asked),
         Ok(Command::Check(check)) => check_file(rt, check),
         Err(error) if error.kind() == ErrorKind::OutOfMemory => Err(Stop::from(Refusal::NoMemory)),
         Err(error) => {
@@ -270,6 +273,55 @@ where
     script_ended(ended, Name::Given(beliefs.script), SIM)
 }
 
+fn line_or(number: Option<u64>, other: usize) -> usize {
+    match number {
+        Some(number) => usize::try_from(number).unwrap_or(usize::MAX),
+        None => other,
+    }
+}
+
+// The lines that are asked for: all where none is named.
+fn span_of(lanes: Lanes<'_>) -> Span {
+    Span {
+        first: line_or(lanes.first, 0),
+        last: line_or(lanes.last, usize::MAX),
+    }
+}
+
+// Draws what the members do in a script, on standard output or into a file.
+fn draw_run<'a, R>(rt: &R, host: &HostRuntime, lanes: Lanes<'a>) -> Result<u8, Stop<'a>>
+where
+    R: AllocGlobal + Env + Files + Print + Eprint,
+{
+    let mut script = open_script(rt, lanes.script)?;
+    let sheet = match lanes.svg {
+        Some(_) => Sheet::Page,
+        None if host.stdout().is_terminal() => Sheet::Text(Some(columns(rt))),
+        None => Sheet::Text(None),
+    };
+    let ended = match run_lanes(rt.alloc(), lanes.script, sheet, span_of(lanes), &mut script) {
+        Ok(RunDrawing::Drawn(picture)) => hand_out(rt, lanes.svg, picture.as_bytes()),
+        Ok(RunDrawing::Nothing) => refuse_drawing(rt, "nothing happens in these lines"),
+        Ok(RunDrawing::TooMuch) => {
+            refuse_drawing(
+                rt,
+                "more than 110 messages or 440 events: draw fewer lines, with --from and --to",
+            )
+        }
+        Ok(RunDrawing::TooNarrow(needed)) => refuse_terminal(rt, needed),
+        Err(fault) => Err(Stop::from(fault)),
+    };
+    script_ended(ended, Name::Given(lanes.script), SIM)
+}
+
+// That the terminal has fewer columns than a picture takes.
+fn refuse_terminal<'a>(rt: &impl Eprint, needed: usize) -> Result<u8, Stop<'a>> {
+    let _ = eprintln!(rt;
+        "the picture takes {needed} columns: widen the terminal, or draw a page with --svg"
+    );
+    Ok(1)
+}
+
 // That nothing is drawn, and why.
 fn refuse_drawing<'a>(rt: &impl Eprint, why: &str) -> Result<u8, Stop<'a>> {
     let _ = eprintln!(rt; "{why}");
@@ -331,11 +383,17 @@ fn read_flights<'a, R: AllocGlobal + Files>(
     Ok(texts)
 }
 
-// Judges the flights in the files of these names.
-fn audit<'a, R: AllocGlobal + Files + Print>(rt: &R, names: &[&'a str]) -> Result<u8, Stop<'a>> {
+// Judges flights in files, as it is asked for.
+fn audit<'a, R: AllocGlobal + Files + Print>(rt: &R, asked: &Audit<'a>) -> Result<u8, Stop<'a>> {
     let alloc: Global = rt.alloc();
+    let names = asked.files.as_slice();
     let texts = read_flights(rt, names)?;
-    let ended = run_audit(alloc, texts.as_slice(), &mut io::writer(rt));
+    let mut writer = io::writer(rt);
+    let ended = if asked.is_report || asked.is_json {
+        run_report(alloc, names, texts.as_slice(), asked.is_json, &mut writer)
+    } else {
+        run_audit(alloc, texts.as_slice(), &mut writer)
+    };
     ended.map_err(|fault| Stop::of_flights(alloc, fault, names, texts.as_slice()))
 }
 

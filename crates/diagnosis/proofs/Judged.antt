@@ -1,6 +1,7 @@
 -- A script has no fault exactly where its one reading has no text that is refused.
-use Rattle.std.proofs.Common.{◌≡◌, ◌≢◌, ◌↔◌, ◌∙◌, sym, ℕ, List, Bool, false, Ok, Err}
-use Rattle.std.specs.Prelude.{IsTrue, IsFalse}
+use Rattle.std.proofs.Common.{◌≡◌, ◌≢◌, ◌↔◌, ◌∙◌, sym, subst, ℕ, List, Bool, false, Option, Some, Ok, Err, ⊎_elim}
+use Rattle.std.specs.Prelude.{◌⊎◌, IsTrue, IsFalse}
+use Rattle.std.specs.Option.{is_none}
 use Rattle.std.specs.Str.{IsUtf8}
 use Rattle.std.specs.List.{list_all}
 use Rattle.sqlchecks.specs.Columns.{Tables}
@@ -24,14 +25,23 @@ judged text m s ls b one has is = (
   (λ f. let e = one text f.members m f.schema s f.lines ls f.has has in is ∙ (same_reads s f.schema ls f.lines (sym e.1) (sym e.2) ∙ f.texts)),
 )
 
-pub none : (text : List ℕ) → IsNoScript text → IsTrue false ↔ IsFaultlessScript text
+none : (text : List ℕ) → IsNoScript text → IsTrue false ↔ IsFaultlessScript text
 none text is_none = ((λ t. absurd cc), (λ f. absurd (is_none f.members f.schema f.lines f.has)))
 
-pub no_script : (text : List ℕ) (refusal : Refusal) → ReadHasNoFault → IsScriptFault text refusal → refusal ≢ NoMemory → IsNoScript text
+no_script : (text : List ℕ) (refusal : Refusal) → ReadHasNoFault → IsScriptFault text refusal → refusal ≢ NoMemory → IsNoScript text
 no_script text refusal law fault other members schema lines has = other (law text members schema lines refusal has fault)
 
-pub no_schema : (text : List ℕ) (refusal : Refusal) → SaysOneSchema → SchemaSays text (Err refusal) → IsTrue false ↔ IsFaultlessSchema text
+no_schema : (text : List ℕ) (refusal : Refusal) → SaysOneSchema → SchemaSays text (Err refusal) → IsTrue false ↔ IsFaultlessSchema text
 no_schema text refusal law says = ((λ t. absurd cc), (λ f. absurd (let e = law text (Err refusal) (Ok f.0) says f.1 in cc)))
+
+-- a text that is refused
+pub refused_script : (text : List ℕ) (refusal : Refusal) (fault : Option Refusal) → ReadHasNoFault → IsScriptFault text refusal → (fault ≡ Some refusal) × (refusal ≢ NoMemory) → IsTrue (is_none fault) ↔ IsFaultlessScript text
+refused_script text refusal fault law is_fault h =
+    subst (λ (o : Option Refusal). IsTrue (is_none o) ↔ IsFaultlessScript text) (sym h.0) (none text (no_script text refusal law is_fault h.1))
+
+pub refused_schema : (text : List ℕ) (refusal : Refusal) (fault : Option Refusal) → SaysOneSchema → (refusal ≡ NoMemory) ⊎ SchemaSays text (Err refusal) → (fault ≡ Some refusal) × (refusal ≢ NoMemory) → IsTrue (is_none fault) ↔ IsFaultlessSchema text
+refused_schema text refusal fault law says h =
+    subst (λ (o : Option Refusal). IsTrue (is_none o) ↔ IsFaultlessSchema text) (sym h.0) (⊎_elim (λ e. absurd (h.1 e)) (no_schema text refusal law) says)
 
 -- a text has what bytes need besides
 with_utf8 : (U P : Type 0) (b : Bool) → U → IsTrue b ↔ P → IsTrue b ↔ (U × P)

@@ -52,6 +52,19 @@ fn look_at_conditions(
     Ok(())
 }
 
+// Why SET can't change a column that begins or ends this period.
+fn of_period(alloc: Global, name: &str, does: &str, period: &str) -> Result<String, AllocError> {
+    [
+        name,
+        does,
+        period,
+        ", which SET can't change.\nFOR PORTION OF ",
+        period,
+        " changes some days; DELETE and INSERT move a row.",
+    ]
+    .concat(alloc)
+}
+
 // Why SET can't change the column at this place.
 fn unassignable(
     alloc: Global,
@@ -59,21 +72,18 @@ fn unassignable(
     place: usize,
     name: &str,
 ) -> Result<String, AllocError> {
-    let period = table.period().as_str();
-    let does = if place == table.start() {
-        "begins"
-    } else if place == table.end() {
-        "ends"
-    } else if place == table.system_start() || place == table.system_end() {
-        return format!(in alloc; "{name} is set by the system alone.");
+    if place == table.start() {
+        return of_period(alloc, name, " begins the period ", table.period().as_str());
+    }
+    if place == table.end() {
+        return of_period(alloc, name, " ends the period ", table.period().as_str());
+    }
+    let why = if place == table.system_start() || place == table.system_end() {
+        " is set by the system alone."
     } else {
-        return format!(in alloc;
-            "{name} is of the key, which SET can't change: DELETE and INSERT move a row."
-        );
+        " is of the key, which SET can't change: DELETE and INSERT move a row."
     };
-    format!(in alloc;
-        "{name} {does} the period {period}, which SET can't change.\nFOR PORTION OF {period} changes some days; DELETE and INSERT move a row."
-    )
+    [name, why].concat(alloc)
 }
 
 // Looks at the column that the next token names as one that SET sets behind these.
@@ -90,7 +100,7 @@ fn look_at_set(
         return Err(wrong(walk.spot(1), Refusal::NotAssignable, hint));
     }
     if before.iter().any(|set| *set == place) {
-        let hint = format!(in alloc; "{name} is set twice.")?;
+        let hint = [name, " is set twice."].concat(alloc)?;
         return Err(wrong(walk.spot(1), Refusal::NotAssignable, hint));
     }
     Ok(())
@@ -111,11 +121,11 @@ fn look_at_changed(
     let (name, other) = names;
     let (place, _) = look_at_column(alloc, named, walk, other)?;
     if place != column.0 {
-        let hint = format!(in alloc; "what {name} is set to can start from {name} alone.")?;
+        let hint = ["what ", name, " is set to can start from ", name, " alone."].concat(alloc)?;
         return Err(wrong(walk.spot(1), Refusal::NotAssignable, hint));
     }
     if column.1 != Kind::Integer {
-        let hint = format!(in alloc; "{name} is no INTEGER, and nothing can be added to it.")?;
+        let hint = [name, " is no INTEGER, and nothing can be added to it."].concat(alloc)?;
         return Err(wrong(walk.spot(3), Refusal::WrongType, hint));
     }
     if !digits.parse::<u64>().is_ok_and(|number| number <= MOST) {

@@ -93,13 +93,29 @@ pub(crate) fn look_at_period(
 
 // How a column that WHERE compares no value with is asked about.
 fn uncompared(alloc: Global, named: Named, place: usize, name: &str) -> Result<String, AllocError> {
-    let period = named.table.period().as_str();
     if place == named.table.start() || place == named.table.end() {
-        return format!(in alloc;
-            "{name} is of the period {period}: ask SELECT .. WHERE {period} CONTAINS DATE '2026-01-31', or FOR PORTION OF {period}."
-        );
+        return of_period(alloc, name, named.table.period().as_str());
     }
-    format!(in alloc; "{name} is of the system: ask FOR SYSTEM_TIME behind the table's name.")
+    [
+        name,
+        " is of the system: ask FOR SYSTEM_TIME behind the table's name.",
+    ]
+    .concat(alloc)
+}
+
+// How a column that begins or ends this period is asked about.
+fn of_period(alloc: Global, name: &str, period: &str) -> Result<String, AllocError> {
+    [
+        name,
+        " is of the period ",
+        period,
+        ": ask SELECT .. WHERE ",
+        period,
+        " CONTAINS DATE '2026-01-31', or FOR PORTION OF ",
+        period,
+        ".",
+    ]
+    .concat(alloc)
 }
 
 // The kind of a literal that a column of this kind is compared with.

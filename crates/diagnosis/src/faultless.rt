@@ -1,111 +1,111 @@
-//! Whether a text has no fault.
-ghost use Rattle.std.specs.Prelude.{◌≡◌, ◌↔◌, IsTrue, IfOk, IfSome, IfNone, is_ok};
+//! What a text is refused for, or that it has no fault.
+ghost use Rattle.std.specs.Prelude.{◌≡◌, ◌≢◌, ◌↔◌, IsTrue, IfOk, is_ok};
+ghost use Rattle.std.specs.Option.{is_none};
 ghost use Rattle.fault.specs.declared.refusal.Refusal.TheVariants.{NoMemory};
-ghost use Rattle.lines.specs.Script.{HasLines};
 ghost use Rattle.std.specs.List.{list_all};
 ghost use Rattle.sqlread.specs.Texts.{transaction_in, query_in};
-ghost use Rattle.diagnosis.specs.Faultless.{reads, IsFaultlessScript, IsFaultlessSchema, IsNoScript};
+ghost use Rattle.diagnosis.specs.Faultless.{reads, IsFaultlessScript, IsFaultlessSchema};
 
 use fault::Refusal;
 use lines::line::{Job, Line};
-use lines::script::{Script, read_script};
+use lines::script::read_script;
 use schema::Schema;
 use schemaread::schemas::read_schema;
 use sqlread::query::read_query;
 use sqlread::transaction::read_transaction;
 use std::alloc::{AllocError, Global};
 
-fn is_transaction(alloc: Global, schema: &Schema, text: &str) -> Result<bool, AllocError>
-    ensures { IfOk result (λ is. is ≡ is_ok (transaction_in schema.now text.now)) }
+fn fault_of_transaction(
+    alloc: Global,
+    schema: &Schema,
+    text: &str,
+) -> Result<Option<Refusal>, AllocError>
+    ensures { IfOk result (λ fault. is_none fault ≡ is_ok (transaction_in schema.now text.now)) }
 {
     match read_transaction(alloc, schema, text) {
-        Ok(_) => Ok(true),
+        Ok(_) => Ok(None),
         Err(Refusal::NoMemory) => Err(AllocError),
-        Err(_) => Ok(false),
+        Err(refusal) => Ok(Some(refusal)),
     }
 }
 
-fn is_question(alloc: Global, schema: &Schema, text: &str) -> Result<bool, AllocError>
-    ensures { IfOk result (λ is. is ≡ is_ok (query_in schema.now text.now)) }
+fn fault_of_question(
+    alloc: Global,
+    schema: &Schema,
+    text: &str,
+) -> Result<Option<Refusal>, AllocError>
+    ensures { IfOk result (λ fault. is_none fault ≡ is_ok (query_in schema.now text.now)) }
 {
     match read_query(alloc, schema, text) {
-        Ok(_) => Ok(true),
+        Ok(_) => Ok(None),
         Err(Refusal::NoMemory) => Err(AllocError),
-        Err(_) => Ok(false),
+        Err(refusal) => Ok(Some(refusal)),
     }
 }
 
-// Whether the text of a line says a request or a question of these tables, where it has one.
-fn reads(alloc: Global, schema: &Schema, line: &Line) -> Result<bool, AllocError>
-    ensures { IfOk result (λ is. is ≡ reads schema.now line.now) }
+// What the text of a line is refused for as a request or a question of these tables, where it has one and that is refused.
+fn fault_of_line(alloc: Global, schema: &Schema, line: &Line) -> Result<Option<Refusal>, AllocError>
+    ensures { IfOk result (λ fault. is_none fault ≡ reads schema.now line.now) }
 {
     match line {
-        Line::Submit { text, .. } => is_transaction(alloc, schema, text.as_str()),
+        Line::Submit { text, .. } => fault_of_transaction(alloc, schema, text.as_str()),
         Line::Torn {
             job: Job::Submit { text, .. },
             ..
-        } => is_transaction(alloc, schema, text.as_str()),
-        Line::Ask { text, .. } => is_question(alloc, schema, text.as_str()),
-        _ => Ok(true),
+        } => fault_of_transaction(alloc, schema, text.as_str()),
+        Line::Ask { text, .. } => fault_of_question(alloc, schema, text.as_str()),
+        _ => Ok(None),
     }
 }
 
-fn all_read(alloc: Global, schema: &Schema, mut lines: &[Line]) -> Result<bool, AllocError>
-    ensures { IfOk result (λ are. are ≡ list_all (reads schema.now) lines.entry.now) }
+// The first of these.
+fn fault_of_lines(
+    alloc: Global,
+    schema: &Schema,
+    mut lines: &[Line],
+) -> Result<Option<Refusal>, AllocError>
+    ensures { IfOk result (λ fault. is_none fault ≡ list_all (reads schema.now) lines.entry.now) }
 {
     while let [line, rest @ ..] = lines {
-        if !reads(alloc, schema, line)? {
-            return Ok(false);
+        let fault = fault_of_line(alloc, schema, line)?;
+        if fault.is_some() {
+            return Ok(fault);
         }
         lines = rest;
     }
-    Ok(true)
+    Ok(None)
 }
 
-fn lacks_memory(refusal: &Refusal) -> bool
-    ensures lacks { IsTrue result ↔ (refusal.now ≡ NoMemory) }
+// A refusal of a text, which want of memory is none of.
+fn refused(refusal: Refusal) -> Result<Option<Refusal>, AllocError>
+    ensures { IfOk result (λ fault. (fault ≡ Some refusal) × (refusal ≢ NoMemory)) }
 {
-    matches!(refusal, Refusal::NoMemory)
-}
-
-// The script that a text is, if it is one.
-fn script_of(alloc: Global, text: &str) -> Result<Option<Script>, AllocError>
-    ensures script { IfOk result (λ read. IfSome read (λ s. HasLines text.now s.members s.schema s.lines.items)) }
-    ensures none { IfOk result (λ read. IfNone read (IsNoScript text.now)) }
-{
-    lines::laws::faults();
-    match read_script(alloc, text) {
-        Ok(script) => Ok(Some(script)),
-        Err(refusal) if lacks_memory(&refusal) => Err(AllocError),
-        Err(_) => Ok(None),
+    match refusal {
+        Refusal::NoMemory => Err(AllocError),
+        refusal => Ok(Some(refusal)),
     }
 }
 
-/// Whether a text is a script, all of whose requests and questions read.
-pub(crate) fn is_faultless_script(alloc: Global, text: &str) -> Result<bool, AllocError>
-    ensures { IfOk result (λ is. IsTrue is ↔ IsFaultlessScript text.now) }
+/// What a text is refused for as a script, or the first of its requests and questions that does not read; none where it is a
+/// script all of whose requests and questions read.
+pub(crate) fn fault_of_script(alloc: Global, text: &str) -> Result<Option<Refusal>, AllocError>
+    ensures { IfOk result (λ fault. IsTrue (is_none fault) ↔ IsFaultlessScript text.now) }
 {
     lines::laws::one_answer();
-    let Some(script) = script_of(alloc, text)? else {
-        return Ok(false);
-    };
-    let are_read = all_read(alloc, &script.schema, &script.lines)?;
-    Ok(are_read)
+    lines::laws::faults();
+    match read_script(alloc, text) {
+        Ok(script) => fault_of_lines(alloc, &script.schema, &script.lines),
+        Err(refusal) => refused(refusal),
+    }
 }
 
-/// Whether a text is one of a schema.
-#[tactic(auto, using(crate::proofs::Judged::no_schema))]
-pub(crate) fn is_faultless_schema(alloc: Global, text: &str) -> Result<bool, AllocError>
-    ensures { IfOk result (λ is. IsTrue is ↔ IsFaultlessSchema text.now) }
+/// What a text is refused for as that of a schema; none where it is one.
+pub(crate) fn fault_of_schema(alloc: Global, text: &str) -> Result<Option<Refusal>, AllocError>
+    ensures { IfOk result (λ fault. IsTrue (is_none fault) ↔ IsFaultlessSchema text.now) }
 {
     schemaread::laws::schema_says();
     match read_schema(alloc, text) {
-        Ok(_schema) => Ok(true),
-        Err(refusal) => {
-            if lacks_memory(&refusal) {
-                return Err(AllocError);
-            }
-            Ok(false)
-        }
+        Ok(_schema) => Ok(None),
+        Err(refusal) => refused(refusal),
     }
 }

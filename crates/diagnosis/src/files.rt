@@ -1,9 +1,10 @@
 //! Files that are read without being played.
-ghost use Rattle.std.specs.Prelude.{◌↔◌, IsTrue, IsFalse, IfOk};
+ghost use Rattle.std.specs.Prelude.{◌≡◌, ◌↔◌, IsTrue, IsFalse, IfOk};
+ghost use Rattle.std.specs.Option.{is_none};
 ghost use Rattle.diagnosis.specs.Faultless.{IsFaultless, IsFaultlessScript, IsFaultlessSchema};
 
-use crate::faultless::{is_faultless_schema, is_faultless_script};
-use crate::page::{Line, Page};
+use crate::faultless::{fault_of_schema, fault_of_script};
+use crate::page::{Diagnosis, Line, Page};
 use crate::scripts::{Look, look_at_tables};
 use crate::walk::{Found, Spot};
 use fault::Refusal;
@@ -18,23 +19,16 @@ pub enum Subject {
     Schema,
 }
 
-/// What is told of a file.
-#[derive(Debug, Drop)]
-pub struct Diagnosis {
-    /// Whether nothing is wrong in it.
-    pub is_clean: bool,
-    /// Each fault with its place, its line and what could be done, and a last line that counts them.
-    pub text: String,
-}
-
 fn plural(count: usize) -> &'static str {
     if count == 1 { "" } else { "s" }
 }
 
-fn diagnose_schema(alloc: Global, file: &str, text: &str) -> Result<Diagnosis, AllocError>
-    ensures { IfOk result (λ told. IsTrue told.is_clean ↔ IsFaultlessSchema text.now) }
-{
-    let is_clean = is_faultless_schema(alloc, text)?;
+// What is shown of a schema, and how many tables it has.
+fn look_at_schema<'f>(
+    alloc: Global,
+    file: &'f str,
+    text: &str,
+) -> Result<(Page<'f>, String), AllocError> {
     let mut page = Page::new(alloc, file);
     let count = match look_at_tables(alloc, &mut page, 1, text)? {
         Some(schema) => schema.len(),
@@ -42,17 +36,20 @@ fn diagnose_schema(alloc: Global, file: &str, text: &str) -> Result<Diagnosis, A
     };
     let plural = plural(count);
     let has = format!(in alloc; "{count} table{plural}")?;
-    let text = page.end(alloc, is_clean, has.as_str())?;
-    Ok(Diagnosis { is_clean, text })
+    Ok((page, has))
 }
 
-// What is told of a script, whether or not it is faultless.
-fn look_at_script(
-    alloc: Global,
-    file: &str,
-    text: &str,
-    is_clean: bool,
-) -> Result<String, AllocError> {
+fn diagnose_schema(alloc: Global, file: &str, text: &str) -> Result<Diagnosis, AllocError>
+    ensures clean { IfOk result (λ told. IsTrue told.is_clean ↔ IsFaultlessSchema text.now) }
+    ensures counted { IfOk result (λ told. IsTrue told.is_clean ↔ (told.faults ≡ 0)) }
+{
+    let fault = fault_of_schema(alloc, text)?;
+    let (page, has) = look_at_schema(alloc, file, text)?;
+    page.end(alloc, fault, has.as_str())
+}
+
+// What is shown of a script, whether or not it is faultless.
+fn look_at_script<'f>(alloc: Global, file: &'f str, text: &str) -> Result<Look<'f>, AllocError> {
     let mut look = Look::new(alloc, file);
     let mut last = Line {
         number: 1,
@@ -66,30 +63,38 @@ fn look_at_script(
         look.take(alloc, last)?;
     }
     look.end(alloc, last)?;
-    let is_unread = look.has_unread();
-    let Look {
-        page,
-        requests,
-        questions,
-        ..
-    } = look;
+    Ok(look)
+}
+
+// How many requests and questions there are.
+fn counted(alloc: Global, requests: usize, questions: usize) -> Result<String, AllocError> {
     let (more, many) = (plural(requests), plural(questions));
-    let has = format!(in alloc; "{requests} request{more}, {questions} question{many}")?;
-    let mut told = page.end(alloc, is_clean, has.as_str())?;
+    format!(in alloc; "{requests} request{more}, {questions} question{many}")
+}
+
+// What is told of a script that was looked at, and which is refused so.
+fn end_look(alloc: Global, look: Look, fault: Option<Refusal>) -> Result<Diagnosis, AllocError>
+    ensures clean { IfOk result (λ told. told.is_clean ≡ is_none fault) }
+    ensures counted { IfOk result (λ told. IsTrue told.is_clean ↔ (told.faults ≡ 0)) }
+{
+    let is_unread = look.has_unread();
+    let has = counted(alloc, look.requests, look.questions)?;
+    let told = look.into_page().end(alloc, fault, has.as_str())?;
     if is_unread {
-        told.push_str(
+        return told.with_line(
             "what its requests and questions say was not read: its schema has a fault\n",
-        )?;
+        );
     }
     Ok(told)
 }
 
 fn diagnose_script(alloc: Global, file: &str, text: &str) -> Result<Diagnosis, AllocError>
-    ensures { IfOk result (λ told. IsTrue told.is_clean ↔ IsFaultlessScript text.now) }
+    ensures clean { IfOk result (λ told. IsTrue told.is_clean ↔ IsFaultlessScript text.now) }
+    ensures counted { IfOk result (λ told. IsTrue told.is_clean ↔ (told.faults ≡ 0)) }
 {
-    let is_clean = is_faultless_script(alloc, text)?;
-    let text = look_at_script(alloc, file, text, is_clean)?;
-    Ok(Diagnosis { is_clean, text })
+    let fault = fault_of_script(alloc, text)?;
+    let look = look_at_script(alloc, file, text)?;
+    end_look(alloc, look, fault)
 }
 
 // Where the first byte stands that is no UTF-8: its line, its place in the line, and itself.
@@ -111,7 +116,8 @@ fn diagnose_bytes(
     bytes: &[u8],
     valid: usize,
 ) -> Result<Diagnosis, AllocError>
-    ensures { IfOk result (λ told. IsFalse told.is_clean) }
+    ensures clean { IfOk result (λ told. IsFalse told.is_clean) }
+    ensures counted { IfOk result (λ told. IsTrue told.is_clean ↔ (told.faults ≡ 0)) }
 {
     let (number, at, stray) = first_stray(bytes, valid);
     let mut page = Page::new(alloc, file);
@@ -121,11 +127,7 @@ fn diagnose_bytes(
         hint: format!(in alloc; "the byte {stray:02x} here is no UTF-8: save the file as UTF-8.")?,
     };
     page.tell_bare(alloc, number, at, &found)?;
-    let text = page.end(alloc, false, "")?;
-    Ok(Diagnosis {
-        is_clean: false,
-        text,
-    })
+    page.end(alloc, Some(Refusal::BadScript(0)), "")
 }
 
 // What is told of a text.
@@ -135,7 +137,8 @@ fn diagnose_text(
     file: &str,
     text: &str,
 ) -> Result<Diagnosis, AllocError>
-    ensures { IfOk result (λ told. IsTrue told.is_clean ↔ IsFaultless subject text.now) }
+    ensures clean { IfOk result (λ told. IsTrue told.is_clean ↔ IsFaultless subject text.now) }
+    ensures counted { IfOk result (λ told. IsTrue told.is_clean ↔ (told.faults ≡ 0)) }
 {
     match subject {
         Subject::Script => diagnose_script(alloc, file, text),
@@ -146,7 +149,8 @@ fn diagnose_text(
 /// Reads a file of this name, which has these bytes, without playing it, and tells each fault as a compiler does: the file, the
 /// line and the column, counted in bytes from 1, the refusal, the line with what is wrong below it, and where something is
 /// known of it, what could be done. A schema is read to its first fault; of a script whose schema has one no statement is
-/// read, but its other lines are. What only a run can refuse, 20 and above but for 60, is no fault.
+/// read, but its other lines are. What only a run can refuse, 20 and above but for 60, is no fault. A file that is not clean has a
+/// fault told of it: where no place is known of what it is refused for, that is told of the whole file.
 ///
 /// Refused for want of memory alone.
 pub fn diagnose(
@@ -156,6 +160,7 @@ pub fn diagnose(
     bytes: &[u8],
 ) -> Result<Diagnosis, AllocError>
     ensures clean { IfOk result (λ told. IsTrue told.is_clean ↔ IsFaultless subject bytes.now) }
+    ensures counted { IfOk result (λ told. IsTrue told.is_clean ↔ (told.faults ≡ 0)) }
 {
     match str::from_utf8(bytes) {
         Ok(text) => diagnose_text(alloc, subject, file, text),

@@ -20,4 +20,5 @@ mod standing;
 mod tables;
 mod walk;
 
-pub use files::{Diagnosis, Subject, diagnose};
+pub use files::{Subject, diagnose};
+pub use page::Diagnosis;

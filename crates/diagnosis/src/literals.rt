@@ -41,6 +41,10 @@ fn other_type(alloc: Global, column: &str, kind: Kind) -> Result<String, AllocEr
     Ok(hint)
 }
 
+fn too_long(alloc: Global, column: &str, most: u8) -> Result<String, AllocError> {
+    format!(in alloc; "{column} takes texts of at most {most} bytes.")
+}
+
 // Why a literal of the right type is no value of the column.
 fn out_of_range(
     alloc: Global,
@@ -48,16 +52,16 @@ fn out_of_range(
     kind: Kind,
     literal: Literal,
 ) -> Result<String, AllocError> {
-    match (kind, literal) {
-        (_, Literal::Date(date)) => why_no_day(alloc, date.source),
-        (Kind::Varchar(most), _) => format!(in alloc;
-            "{column} takes texts of at most {most} bytes."
-        ),
-        _ => String::from_str(
-            alloc,
-            "an INTEGER goes from -9223372036854775808 to 9223372036854775807.",
-        ),
+    if let Literal::Date(date) = literal {
+        return why_no_day(alloc, date.source);
     }
+    if let Kind::Varchar(most) = kind {
+        return too_long(alloc, column, most);
+    }
+    String::from_str(
+        alloc,
+        "an INTEGER goes from -9223372036854775808 to 9223372036854775807.",
+    )
 }
 
 /// Looks at a literal, the next token, as a value of a column of this kind.

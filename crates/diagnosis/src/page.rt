@@ -1,5 +1,8 @@
 //! Faults as they are shown: the place, the line with what is wrong below it, and what could be done.
-use crate::walk::Found;
+ghost use Rattle.std.specs.Prelude.{◌≡◌, ◌↔◌, ◌<◌, IsTrue, IfOk, OnOk, true, false};
+ghost use Rattle.std.specs.Option.{is_none};
+
+use crate::walk::{Found, Spot};
 use fault::Refusal;
 use std::alloc::{AllocError, Global};
 
@@ -8,6 +11,37 @@ const WIDE: usize = 80;
 
 // How many columns stand before the text of a line.
 const GUTTER: usize = 8;
+
+/// What is told of a file.
+#[derive(Debug, Drop)]
+pub struct Diagnosis {
+    /// Whether nothing is wrong in it.
+    pub is_clean: bool,
+    /// How many faults are told.
+    pub faults: usize,
+    /// Each fault with its place, its line and what could be done, and a last line that counts them.
+    pub text: String,
+}
+
+impl Diagnosis {
+    /// With one more line.
+    pub fn with_line(self, line: &str) -> Result<Diagnosis, AllocError>
+        ensures clean { IfOk result (λ told. told.is_clean ≡ self.is_clean) }
+        ensures faults { IfOk result (λ told. told.faults ≡ self.faults) }
+    {
+        let Diagnosis {
+            is_clean,
+            faults,
+            mut text,
+        } = self;
+        text.push_str(line)?;
+        Ok(Diagnosis {
+            is_clean,
+            faults,
+            text,
+        })
+    }
+}
 
 /// A line of a file, counted from 1.
 #[derive(Clone, Copy)]
@@ -171,27 +205,80 @@ impl<'f> Page<'f> {
         number: usize,
         at: usize,
         found: &Found,
-    ) -> Result<(), AllocError> {
-        self.faults = self.faults.saturating_add(1);
+    ) -> Result<(), AllocError>
+        ensures { OnOk result (0 < self.new.faults) }
+    {
         self.put_place(alloc, number, at, &found.refusal)?;
         put_hint(found.hint.as_str(), &mut self.text)?;
         self.text.push_str("\n")?;
+        self.faults = self.faults.saturating_add(1);
         Ok(())
     }
 
-    /// What is shown, and a last line: how many faults there are, or what a file has that is clean.
-    pub fn end(self, alloc: Global, is_clean: bool, has: &str) -> Result<String, AllocError> {
+    // That nothing is wrong in the file, and what it has.
+    fn end_clean(self, alloc: Global, has: &str) -> Result<Diagnosis, AllocError>
+        ensures { IfOk result (λ told. (told.is_clean ≡ true) × (told.faults ≡ 0)) }
+    {
+        let file = self.file;
+        let text = format!(in alloc; "{file}: no faults; {has}\n")?;
+        Ok(Diagnosis {
+            is_clean: true,
+            faults: 0,
+            text,
+        })
+    }
+
+    // Shows that the whole file is refused, where no fault is shown.
+    fn tell_whole(&mut self, alloc: Global, refusal: Refusal) -> Result<(), AllocError>
+        ensures { OnOk result (0 < self.new.faults) }
+    {
+        if self.faults > 0 {
+            return Ok(());
+        }
+        let found = Found {
+            spot: Spot { at: 0, len: 1 },
+            refusal,
+            hint: String::new(alloc),
+        };
+        self.tell_bare(alloc, 1, 0, &found)
+    }
+
+    // How many faults there are in a file that is refused so.
+    fn end_refused(mut self, alloc: Global, refusal: Refusal) -> Result<Diagnosis, AllocError>
+        ensures { IfOk result (λ told. (told.is_clean ≡ false) × (0 < told.faults)) }
+    {
+        self.tell_whole(alloc, refusal)?;
         let Page {
             file,
             mut text,
             faults,
         } = self;
-        let last = match (is_clean, faults) {
-            (true, _) => format!(in alloc; "{file}: no faults; {has}\n")?,
-            (false, 1) => format!(in alloc; "{file}: 1 fault\n")?,
+        let last = match faults {
+            1 => format!(in alloc; "{file}: 1 fault\n")?,
             _ => format!(in alloc; "{file}: {faults} faults\n")?,
         };
         text.push_str(last.as_str())?;
-        Ok(text)
+        Ok(Diagnosis {
+            is_clean: false,
+            faults,
+            text,
+        })
+    }
+
+    /// What is shown of a file that is refused so, or of one that is clean and has this. A file that is refused has a fault:
+    /// where none was found, it is told of the whole file.
+    pub fn end(
+        self,
+        alloc: Global,
+        fault: Option<Refusal>,
+        has: &str,
+    ) -> Result<Diagnosis, AllocError>
+        ensures clean { IfOk result (λ told. told.is_clean ≡ is_none fault) }
+        ensures counted { IfOk result (λ told. IsTrue told.is_clean ↔ (told.faults ≡ 0)) }
+    {
+        match fault {
+            None => self.end_clean(alloc, has),
+            Some(refusal) => self.end_refused(alloc, refusal),
+        }
     }
 }

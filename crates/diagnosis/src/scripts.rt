@@ -139,6 +139,12 @@ impl<'f> Look<'f> {
         self.schema.is_none() && (self.requests > 0 || self.questions > 0)
     }
 
+    /// What was shown.
+    pub fn into_page(self) -> Page<'f> {
+        let Look { page, .. } = self;
+        page
+    }
+
     /// Looks at the next line.
     pub fn take(&mut self, alloc: Global, line: Line) -> Result<(), AllocError> {
         match self.part {

@@ -201,26 +201,31 @@ fn hint_of_instant(alloc: Global, text: &str) -> Result<String, AllocError> {
 
 // What could stand in place of a token, where few things could.
 fn hint_of_few(alloc: Global, words: &[&str]) -> Result<String, AllocError> {
-    let mut hint = String::new(alloc);
     match words {
-        [] => {}
-        ["*"] => hint.push_str("after SELECT only * can follow: an answer has all columns.")?,
-        [one] => {
-            hint.push_str("only ")?;
-            hint.push_str(*one)?;
-            hint.push_str(" can stand here.")?;
-        }
-        [_, _] | [_, _, _] => {
-            put_words(words, &mut hint)?;
-            hint.push_str(" could stand here.")?;
-        }
-        _ if has(words, A_TEXT) && has(words, DIGITS) => {
-            hint.push_str(
-                "a value could stand here: digits, a text between quotes or DATE '2026-01-31'.",
-            )?;
-        }
-        _ => {}
+        [one] => hint_of_one(alloc, *one),
+        [_, _] | [_, _, _] => hint_of_some(alloc, words),
+        _ if has(words, A_TEXT) && has(words, DIGITS) => String::from_str(
+            alloc,
+            "a value could stand here: digits, a text between quotes or DATE '2026-01-31'.",
+        ),
+        _ => Ok(String::new(alloc)),
     }
+}
+
+fn hint_of_one(alloc: Global, word: &str) -> Result<String, AllocError> {
+    if word == "*" {
+        return String::from_str(
+            alloc,
+            "after SELECT only * can follow: an answer has all columns.",
+        );
+    }
+    ["only ", word, " can stand here."].concat(alloc)
+}
+
+fn hint_of_some(alloc: Global, words: &[&str]) -> Result<String, AllocError> {
+    let mut hint = String::new(alloc);
+    put_words(words, &mut hint)?;
+    hint.push_str(" could stand here.")?;
     Ok(hint)
 }
 

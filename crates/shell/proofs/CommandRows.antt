@@ -1,7 +1,7 @@
 -- Command lines, and what they come to by the definitions.
-use Rattle.std.proofs.Common.{◌≡◌, List, [], ◌∷◌, Some, codes, option_map, refl}
+use Rattle.std.proofs.Common.{◌≡◌, [], ◌∷◌, Some, codes, option_map, refl}
 use Rattle.clap.proofs.OnLiterals.{clap_on_literals}
-use Rattle.clap.specs.Words.{all_of, fault_of, first_of, one_of, subcommand_of}
+use Rattle.clap.specs.Words.{all_of, fault_of, one_of, subcommand_of}
 use Rattle.clap.specs.declared.error.kind.ErrorKind.TheVariants as kind
 use Rattle.shell.specs.CommandLine.{bitable_app}
 

@@ -3,4 +3,5 @@ pub mod CommandRows
 pub mod Groups
 pub mod Growing
 pub mod Judging
+pub mod Reporting
 pub mod Scripts

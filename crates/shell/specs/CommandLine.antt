@@ -9,6 +9,7 @@ use Rattle.clap.specs.declared.builder.action.ArgAction.TheVariants.{Set, SetTru
 use Rattle.clap.specs.declared.builder.value_parser.ValueParser.TheVariants as parser
 use Rattle.shell.specs.declared.command.Command.{Command}
 use Rattle.shell.specs.declared.command.Command.TheVariants.{PlayInput, Sim, Beliefs, Lanes, Live, Audit, Check}
+use Rattle.shell.specs.declared.command.Audit.{Audit as AuditValues}
 use Rattle.shell.specs.declared.command.Sim.{Sim as SimValues}
 use Rattle.shell.specs.declared.command.Beliefs.{Beliefs as BeliefsValues}
 use Rattle.shell.specs.declared.command.Lanes.{Lanes as LanesValues}
@@ -65,6 +66,20 @@ schema_rule = record (new_rule (codes "schema")) {
 -- FILE
 abbrev pub file_rule : Rule
 file_rule = record (new_rule (codes "FILE")) { required = true; action = Some Set }
+
+-- [--report]
+abbrev pub report_rule : Rule
+report_rule = record (new_rule (codes "report")) {
+  long = Some (codes "report");
+  action = Some SetTrue;
+}
+
+-- [--json]
+abbrev pub json_rule : Rule
+json_rule = record (new_rule (codes "json")) {
+  long = Some (codes "json");
+  action = Some SetTrue;
+}
 
 -- FILE.., one or more
 abbrev pub files_rule : Rule
@@ -137,9 +152,9 @@ lanes_app = with_rule (with_rule (with_rule (with_rule (new_app (codes "lanes"))
 abbrev pub live_app : App
 live_app = with_rule (with_rule (with_rule (with_rule (with_rule (new_app (codes "live")) nodes_rule) seed_rule) loss_rule) dir_rule) script_rule
 
--- audit FILE..
+-- audit [--report] [--json] FILE..
 abbrev pub audit_app : App
-audit_app = with_rule (new_app (codes "audit")) files_rule
+audit_app = with_rule (with_rule (with_rule (new_app (codes "audit")) report_rule) json_rule) files_rule
 
 -- check [--schema] FILE
 abbrev pub check_app : App
@@ -188,7 +203,7 @@ pub record AsksBeliefs (rows : List Row) (beliefs : BeliefsValues) : Type 0 wher
   pub script : Some beliefs.script.now ≡ first_of (codes "SCRIPT") rows
 
 -- the matches give the option this number; or none, where they give it no number of 64 bits
-abbrev pub GivesLine (id : Text) (rows : List Row) : Option ℕ → Type 0
+abbrev pub GivesLine : Text → List Row → Option ℕ → Type 0
 GivesLine id rows None = (n : ℕ) → n < 2 ^ 64 → ¬ GivesNumber id rows n
 GivesLine id rows (Some n) = GivesNumber id rows n
 
@@ -204,6 +219,12 @@ pub record AsksCheck (rows : List Row) (check : CheckValues) : Type 0 where
   pub schema : GivesFlag (codes "schema") rows check.is_schema
   pub file : Some check.file.now ≡ first_of (codes "FILE") rows
 
+-- the matches of `audit` give these values
+pub record AsksAudit (rows : List Row) (audit : AuditValues) : Type 0 where
+  pub report : GivesFlag (codes "report") rows audit.is_report
+  pub json : GivesFlag (codes "json") rows audit.is_json
+  pub files : Some (map (λ text. text.now) audit.files.items) ≡ all_of (codes "FILE") rows
+
 -- What the subcommand that was found, with its matches, asks for: without one, to play the input.
 abbrev pub AsksFor : Option (Text × List Row) → Command → Type 0
 AsksFor None PlayInput = ⊤
@@ -211,12 +232,12 @@ AsksFor None (Sim sim) = ⊥
 AsksFor None (Beliefs beliefs) = ⊥
 AsksFor None (Lanes lanes) = ⊥
 AsksFor None (Live live) = ⊥
-AsksFor None (Audit names) = ⊥
+AsksFor None (Audit audit) = ⊥
 AsksFor None (Check check) = ⊥
 AsksFor (Some (name, rows)) PlayInput = ⊥
 AsksFor (Some (name, rows)) (Sim sim) = (name ≡ codes "sim") × AsksSim rows sim
 AsksFor (Some (name, rows)) (Beliefs beliefs) = (name ≡ codes "beliefs") × AsksBeliefs rows beliefs
 AsksFor (Some (name, rows)) (Lanes lanes) = (name ≡ codes "lanes") × AsksLanes rows lanes
 AsksFor (Some (name, rows)) (Live live) = (name ≡ codes "live") × AsksLive rows live
-AsksFor (Some (name, rows)) (Audit names) = (name ≡ codes "audit") × (Some (map (λ text. text.now) names.items) ≡ all_of (codes "FILE") rows)
+AsksFor (Some (name, rows)) (Audit audit) = (name ≡ codes "audit") × AsksAudit rows audit
 AsksFor (Some (name, rows)) (Check check) = (name ≡ codes "check") × AsksCheck rows check

@@ -3,4 +3,5 @@ pub mod CommandLine
 pub mod Group
 pub mod Live
 pub mod Reading
+pub mod Reported
 pub mod Sim

@@ -40,7 +40,10 @@ fn add_answers(
     Ok(())
 }
 
-fn all_answers(alloc: Global, answers: &[Vec<Recorded>]) -> Result<Vec<Judged>, AllocError>
+pub(crate) fn all_answers(
+    alloc: Global,
+    answers: &[Vec<Recorded>],
+) -> Result<Vec<Judged>, AllocError>
     ensures { IfOk result (λ all. all.items ≡ judged_from 1 answers.now) }
 {
     let mut judged = Vec::new(alloc);

@@ -1,17 +1,18 @@
 //! The command line.
 ghost use Rattle.std.specs.Prelude.{◌≡◌, ◌≢◌, ◌≤◌, ◌⊎◌, ℕ, List, [], Some, map, option_map, string_bytes, codes, false, IfSome, IfNone, IfOk, IfErr, OnOk};
 ghost use Rattle.clap.specs.declared.builder.command.Command.TheViews.{out-Command};
-ghost use Rattle.clap.specs.Words.{app_of, fault_of, found_of, rows_of, rule_of, subcommand_of, subcommand_rows_of, HasKind};
+ghost use Rattle.clap.specs.Words.{app_of, fault_of, found_of, new_app, rows_of, rule_of, subcommand_of, subcommand_rows_of, HasKind};
 ghost use Rattle.clap.specs.Words.{all_of, first_of};
 ghost use Rattle.shell.specs.declared.command.Command.{Command as Asked};
 ghost use Rattle.shell.specs.declared.command.Live.{Live as Run};
 ghost use Rattle.shell.specs.declared.command.Sim.{Sim as Shown};
+ghost use Rattle.shell.specs.declared.command.Audit.{Audit as Judging};
 ghost use Rattle.shell.specs.declared.command.Beliefs.{Beliefs as Picture};
 ghost use Rattle.shell.specs.declared.command.Lanes.{Lanes as Drawn};
 ghost use Rattle.shell.specs.declared.command.Check.{Check as Looked};
-ghost use Rattle.shell.specs.CommandLine.{AsksBeliefs, AsksCheck, AsksFor, AsksLanes, AsksLive, AsksSim, GivesFlag, GivesLine, script_rule, format_rule, quiet_rule, strict_rule, svg_rule, from_rule, to_rule, nodes_rule, seed_rule, loss_rule, dir_rule, schema_rule, file_rule, files_rule, sim_app, beliefs_app, lanes_app, live_app, audit_app, check_app, bitable_app};
+ghost use Rattle.shell.specs.CommandLine.{AsksAudit, AsksBeliefs, AsksCheck, AsksFor, AsksLanes, AsksLive, AsksSim, GivesFlag, GivesLine, script_rule, format_rule, quiet_rule, strict_rule, svg_rule, from_rule, to_rule, nodes_rule, seed_rule, loss_rule, dir_rule, schema_rule, file_rule, report_rule, json_rule, files_rule, sim_app, beliefs_app, lanes_app, live_app, audit_app, check_app, bitable_app, versioned};
 
-use crate::command::{Beliefs, Check, Command, Lanes, Live, Sim};
+use crate::command::{Audit, Beliefs, Check, Command, Lanes, Live, Sim};
 use clap::builder::ValueParser;
 use clap::error::ErrorKind;
 use clap::{Arg, ArgAction, ArgMatches, Command as Parser, Error, value_parser};
@@ -26,6 +27,7 @@ const EXAMPLES: &str = "Examples:
   bitable sim --strict examples/failover.script
   bitable live --nodes 3 --seed 1 --loss 20 --dir run examples/insurance.script
   bitable audit run/node1.flight run/node2.flight run/node3.flight
+  bitable audit --report run/node1.flight run/node2.flight run/node3.flight
   bitable beliefs examples/payroll.script
   bitable lanes examples/failover.script
   bitable check examples/payroll.script
@@ -59,6 +61,9 @@ const AUDIT_END: &str = "Example:
 
   audit: yes
 
+With --report what was judged, what is in it and what was decided follow, in counts and in
+SHA-256, and what the verdict means; of a no where it differs, and what came before.
+
 Exit status:
   0  yes: the events of one run explain what the flights have
   1  no; or the files are not the flights of a group, on standard error
@@ -88,7 +93,7 @@ Exit status:
      the file can't be written: on standard error
   2  the command line is not one of these";
 
-const LANES_END: &str = 
+const LANES_END: &str =
     "Each line of the script that does something and each thing that happens by it has a line. An
 arrow is a message, from its sender to who takes it.
 With --svg it goes into a file, as a page for a browser, and nothing is printed.
@@ -300,12 +305,32 @@ fn files_word<'a>(alloc: Global) -> Arg<'a>
         .help("The flight files, one of each node")
 }
 
+fn report_word<'a>(alloc: Global) -> Arg<'a>
+    ensures { (rule_of result ≡ report_rule) × (result.global ≡ false) }
+{
+    Arg::new(alloc, "report")
+        .long("report")
+        .action(ArgAction::SetTrue)
+        .help("Prints a report behind the verdict")
+}
+
+fn json_word<'a>(alloc: Global) -> Arg<'a>
+    ensures { (rule_of result ≡ json_rule) × (result.global ≡ false) }
+{
+    Arg::new(alloc, "json")
+        .long("json")
+        .action(ArgAction::SetTrue)
+        .help("Prints the verdict and the report as JSON, one object on a line")
+}
+
 fn audit_words<'a>(alloc: Global) -> Result<Parser<'a>, AllocError>
     ensures { IfOk result (λ c. (app_of c ≡ audit_app) × ((out-Command c).has_globals ≡ false)) }
 {
     Parser::new(alloc, "audit")
         .about("Says whether flights are of one run, and whether their answers are its answers")
         .after_help(AUDIT_END)
+        .arg(report_word(alloc))?
+        .arg(json_word(alloc))?
         .arg(files_word(alloc))
 }
 
@@ -337,13 +362,19 @@ fn check_words<'a>(alloc: Global) -> Result<Parser<'a>, AllocError>
         .arg(file_word(alloc))
 }
 
-fn all_words<'a>(alloc: Global) -> Result<Parser<'a>, AllocError>
-    ensures { IfOk result (λ c. app_of c ≡ bitable_app) }
+fn program_words<'a>(alloc: Global) -> Parser<'a>
+    ensures { app_of result ≡ versioned (new_app (codes "bitable")) }
 {
     Parser::new(alloc, "bitable")
         .about("Tables that answer what was believed when, kept by several nodes")
         .version(VERSION)
         .after_help(EXAMPLES)
+}
+
+fn all_words<'a>(alloc: Global) -> Result<Parser<'a>, AllocError>
+    ensures { IfOk result (λ c. app_of c ≡ bitable_app) }
+{
+    program_words(alloc)
         .subcommand(sim_words(alloc)?)?
         .subcommand(live_words(alloc)?)?
         .subcommand(audit_words(alloc)?)?
@@ -455,6 +486,20 @@ fn files_of<'a>(alloc: Global, matches: &ArgMatches<'a>) -> Result<Option<Vec<&'
     }
 }
 
+fn audit_of<'a>(alloc: Global, matches: &ArgMatches<'a>) -> Result<Option<Audit<'a>>, AllocError>
+    ensures some { IfOk result (λ found. IfSome found (AsksAudit (rows_of (found_of matches.now)))) }
+    ensures none { IfOk result (λ found. IfNone found ((audit : Judging) → ¬ AsksAudit (rows_of (found_of matches.now)) audit)) }
+{
+    let Some(files) = files_of(alloc, matches)? else {
+        return Ok(None);
+    };
+    Ok(Some(Audit {
+        is_report: flag_of(matches, "report"),
+        is_json: flag_of(matches, "json"),
+        files,
+    }))
+}
+
 // What parsed words ask for; none where they ask for nothing that there is.
 fn command_of<'a>(
     alloc: Global,
@@ -479,7 +524,7 @@ fn command_of<'a>(
         return Ok(live_of(given).map(Command::Live));
     }
     if name == "audit" {
-        return Ok(files_of(alloc, given)?.map(Command::Audit));
+        return Ok(audit_of(alloc, given)?.map(Command::Audit));
     }
     if name == "check" {
         return Ok(check_of(given).map(Command::Check));

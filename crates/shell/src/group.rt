@@ -77,7 +77,10 @@ fn in_order(alloc: Global, flights: Vec<Flight>) -> Result<Vec<Flight>, Refusal>
 
 // The flights of which the texts are the files, in the order of their nodes, their version, and the tables of their schema.
 // 43, or 50 where the texts are not the flight files of a group.
-fn read_group(alloc: Global, texts: &[String]) -> Result<(Version, Schema, Vec<Flight>), Refusal>
+pub(crate) fn read_group(
+    alloc: Global,
+    texts: &[String],
+) -> Result<(Version, Schema, Vec<Flight>), Refusal>
     ensures ok { IfOk result (λ group. AreFilesOf (map string_bytes texts.now) group.0 group.1 (map in_flight group.2.items)) }
     ensures err { IfErr result (λ refusal. (refusal ≡ NoMemory) ⊎ ((refusal ≡ BadFlight) × IsNoGroup (map string_bytes texts.now))) }
 {
@@ -94,7 +97,7 @@ fn read_group(alloc: Global, texts: &[String]) -> Result<(Version, Schema, Vec<F
 }
 
 // What the flights hold.
-fn run_of(alloc: Global, flights: Vec<Flight>) -> Result<Flown, AllocError>
+pub(crate) fn run_of(alloc: Global, flights: Vec<Flight>) -> Result<Flown, AllocError>
     ensures lives { IfOk result (λ run. run.lives.items ≡ map (λ f. f.lives) flights.items) }
     ensures answers { IfOk result (λ run. run.answers.items ≡ map (λ f. f.answers) flights.items) }
 {

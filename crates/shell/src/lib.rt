@@ -7,6 +7,7 @@ pub mod command_line;
 mod databases;
 mod group;
 pub mod live_run;
+pub mod report_run;
 pub mod shown_run;
 pub mod sim;
 pub mod stop;

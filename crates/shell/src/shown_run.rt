@@ -1,7 +1,8 @@
-//! The command `sim` in another form than lines, and the command `beliefs`.
+//! The command `sim` in another form than lines, and the commands that draw a script.
 use crate::sim::read_text;
 use forms::{Canvas, Drawing, Look, Tally, draw_script, play_shown};
 use script::run_fault::RunFault;
+use scriptlanes::{Drawing as RunDrawing, Sheet, Span, draw_lanes};
 use std::alloc::Global;
 use std::io;
 
@@ -28,4 +29,17 @@ pub fn run_beliefs<R: io::Read>(
 ) -> Result<Drawing, RunFault> {
     let text = read_text(alloc, reader)?;
     draw_script(alloc, text.as_str(), canvas)
+}
+
+/// Reads a script to its end, plays it, and draws what its members do, in these lines of it. The name stands above. What ends it
+/// is what ends `run_beliefs`.
+pub fn run_lanes<R: io::Read>(
+    alloc: Global,
+    name: &str,
+    sheet: Sheet,
+    span: Span,
+    reader: &mut R,
+) -> Result<RunDrawing, RunFault> {
+    let text = read_text(alloc, reader)?;
+    draw_lanes(alloc, text.as_str(), name, sheet, span)
 }

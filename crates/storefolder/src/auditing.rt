@@ -81,7 +81,41 @@ fn refusal_of(refusal: Refusal, member: Member) -> StoreRefusal {
     }
 }
 
-// Compares each database that is there with what the journals give, and names those that are missing.
+// Compares a member's database with what the journals give. False where it is missing.
+fn is_compared(
+    alloc: Global,
+    database: Option<Database>,
+    form: &Form,
+    member: Member,
+    play: &mut Play,
+) -> Result<bool, StoreRefusal> {
+    let Some(database) = database else {
+        return Ok(false);
+    };
+    let (found, entries) = found_in(alloc, database, form, member)?;
+    play.check_found(member, &found, &entries)?;
+    Ok(true)
+}
+
+// Compares each database that is there, and names those that are missing.
+fn compare_databases(
+    alloc: Global,
+    databases: Vec<Option<Database>>,
+    form: &Form,
+    play: &mut Play,
+) -> Result<Vec<Member>, StoreRefusal> {
+    let mut missing = Vec::new(alloc);
+    let mut member: Member = 0;
+    for database in databases {
+        member = member.saturating_add(1);
+        if !is_compared(alloc, database, form, member, play)? {
+            missing.push(member)?;
+        }
+    }
+    Ok(missing)
+}
+
+// Opens the databases of which the journals tell, and compares them.
 fn check_databases(
     rt: &HostRuntime,
     alloc: Global,
@@ -92,19 +126,7 @@ fn check_databases(
     let mut past = Past::new(alloc, form.members)?;
     tell_all(rt, alloc, dir, form, &mut past)?;
     let databases = open_databases(rt, alloc, dir, &past)?;
-    let mut missing = Vec::new(alloc);
-    let mut member: Member = 0;
-    for database in databases {
-        member = member.saturating_add(1);
-        match database {
-            Some(database) => {
-                let (found, entries) = found_in(alloc, database, form, member)?;
-                play.check_found(member, &found, &entries)?;
-            }
-            None => missing.push(member)?,
-        }
-    }
-    Ok(missing)
+    compare_databases(alloc, databases, form, play)
 }
 
 // Plays all journals, compares the databases, and names those that are missing.

@@ -1,5 +1,5 @@
 //! Opening a store that is in a folder.
-use crate::databases::open_databases;
+use crate::databases::{Database, open_databases};
 use crate::faults::file_refusal;
 use crate::form::Form;
 use crate::journal_file::JournalFile;
@@ -121,6 +121,50 @@ fn read_before(
     })
 }
 
+// Starts each member over its database.
+fn start_members(
+    rt: &HostRuntime,
+    alloc: Global,
+    dir: &str,
+    form: &Form,
+    past: &Past,
+) -> Result<Members<Kept>, StoreRefusal> {
+    let images = open_databases(rt, alloc, dir, past)?;
+    Members::<Kept>::open(alloc, form.schema.clone()?, images, past)
+}
+
+// Cuts what is torn at the last journal's end, and makes the next journal.
+fn next_journal(
+    rt: &HostRuntime,
+    alloc: Global,
+    dir: &str,
+    before: &Before,
+    syncs: bool,
+) -> Result<Scribe<JournalFile>, StoreRefusal> {
+    if let Some(cut) = before.cut {
+        cut_journal(rt, alloc, dir, cut.journal, cut.at)?;
+    }
+    let file = new_journal(rt, alloc, dir, before.next)?;
+    Ok(Scribe::new(alloc, JournalFile::new(alloc, file, syncs), before.sum))
+}
+
+// Opens the store that goes on from this, and names the members whose database is missing.
+fn go_on(
+    rt: &HostRuntime,
+    alloc: Global,
+    dir: &str,
+    form: &Form,
+    before: &Before,
+    syncs: bool,
+    reading: i64,
+) -> Result<(Store<Kept>, Vec<Member>), StoreRefusal> {
+    let members = start_members(rt, alloc, dir, form, &before.past)?;
+    let missing = members.missing()?;
+    let scribe = next_journal(rt, alloc, dir, before, syncs)?;
+    let store = Store::begin(members, scribe, before.next, before.past.marks, reading)?;
+    Ok((store, missing))
+}
+
 /// Opens the store in a folder: reads what its last journal tells, looks whether each member's database is what that says, and only
 /// then cuts what is torn at the journal's end, begins the next journal, and has a member elected. The clock shows `reading`. Where it does
 /// not sync the journal, a kill of the process loses nothing, but a power cut may.
@@ -135,29 +179,29 @@ pub fn open(
     reading: i64,
 ) -> Result<Opened, StoreRefusal> {
     let folder = enter(rt, alloc, dir)?;
-    let Before {
-        past,
-        next,
-        sum,
-        cut,
-    } = read_before(rt, alloc, dir, &folder.form)?;
-    let images = open_databases(rt, alloc, dir, &past)?;
-    let schema = folder.form.schema.clone()?;
-    let members = Members::<Kept>::open(alloc, schema, images, &past)?;
-    let missing = members.missing()?;
-    if let Some(cut) = cut {
-        cut_journal(rt, alloc, dir, cut.journal, cut.at)?;
-    }
-    let file = new_journal(rt, alloc, dir, next)?;
-    let scribe = Scribe::new(alloc, JournalFile::new(alloc, file, syncs), sum);
-    let store = Store::begin(members, scribe, next, past.marks, reading)?;
+    let before = read_before(rt, alloc, dir, &folder.form)?;
+    let (store, missing) = go_on(rt, alloc, dir, &folder.form, &before, syncs, reading)?;
     Ok(Opened {
         store,
         folder,
-        journal: next,
-        cut,
+        journal: before.next,
+        cut: before.cut,
         missing,
     })
+}
+
+fn close_databases(databases: Vec<Database>) {
+    for database in databases {
+        let _ = database.close();
+    }
+}
+
+// Gives the room back that a journal does not need.
+fn finish_journal(file: Option<JournalFile>) -> Result<(), StoreRefusal> {
+    match file {
+        Some(file) => file.finish().map_err(|error| file_refusal(&error)),
+        None => Ok(()),
+    }
 }
 
 impl Opened {
@@ -169,16 +213,13 @@ impl Opened {
     /// Stops every member, and gives the room back that the journal does not need.
     pub fn close(self) -> Result<(), StoreRefusal> {
         let Opened { store, folder, .. } = self;
-        let (images, device, closed) = store.close();
-        for image in images {
-            let _ = image.close();
-        }
-        let finished = match device {
-            Some(file) if closed.is_ok() => file.finish(),
-            _ => Ok(()),
+        let (databases, file, closed) = store.close();
+        close_databases(databases);
+        let ended = match closed {
+            Ok(()) => finish_journal(file),
+            Err(refusal) => Err(refusal),
         };
         drop(folder);
-        closed?;
-        finished.map_err(|error| file_refusal(&error))
+        ended
     }
 }

@@ -1,13 +1,10 @@
-use Rattle.std.proofs.Common.{◌≡◌, ◌≢◌, rules, map}
-use Rattle.std.specs.Prelude.{IfErr, Err}
+use Rattle.std.proofs.Common.{rules, map}
+use Rattle.std.specs.Prelude.{IfErr}
 use Rattle.moments.specs.Behind.{Records}
 use Rattle.moments.specs.Faults.{NoneAre}
-use Rattle.moments.specs.declared.recorded.AuditFault.{AuditFault}
-use Rattle.moments.specs.declared.recorded.AuditFault.TheVariants.{NoMemory as NoMemoryLeft}
 use Rattle.auditor.specs.Audited.{Explains, IsFirst}
 use Rattle.auditor.specs.Faults.{IsOrderFault, OfRun}
 use Rattle.auditor.specs.View.{event_of}
-use Rattle.shell.specs.Audit.{IsFaultOf}
 use Rattle.shell.proofs.Judging.{fault_told}
 use Rattle.shell.proofs.audit.explain.Goals as goal
 

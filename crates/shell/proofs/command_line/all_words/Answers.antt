@@ -1,14 +1,10 @@
-use Rattle.std.proofs.Common.{rules, ◌≡◌, codes}
 use Rattle.std.proofs.lemmas.Result.{IfOk-weaker}
-use Rattle.clap.specs.Words.{app_of, new_app}
-use Rattle.shell.specs.CommandLine.{versioned}
 use Rattle.shell.proofs.CommandLines.{with_sub}
 use Rattle.shell.proofs.command_line.all_words.Goals as goal
 
 pub returns : goal.returns
 returns c =
-    let start : app_of c.after_help.result ≡ versioned (new_app (codes "bitable")) = search rules in
-    let sim = with_sub _ _ _ _ _ c.in_ok-subcommand.ensures start c.in_ok-sim_words.ensures in
+    let sim = with_sub _ _ _ _ _ c.in_ok-subcommand.ensures c.program_words.ensures c.in_ok-sim_words.ensures in
     let live = with_sub _ _ _ _ _ c.in_ok-subcommand-2.ensures sim c.in_ok-live_words.ensures in
     let audit = with_sub _ _ _ _ _ c.in_ok-subcommand-3.ensures live c.in_ok-audit_words.ensures in
     let beliefs = with_sub _ _ _ _ _ c.in_ok-subcommand-4.ensures audit c.in_ok-beliefs_words.ensures in

@@ -1,7 +1,6 @@
-use Rattle.std.proofs.Common.{rules, refl, codes, arith, ◌≡◌, ◌∙◌, ◌<◌, ◌^◌, ℕ, List, Some, None, sym}
+use Rattle.std.proofs.Common.{rules, codes, arith, ◌∙◌}
 use Rattle.std.specs.Str.Parse.{ParsesUnsigned, ExplainsUnsignedError, HasUnsignedDigitsIfOk}
-use Rattle.std.specs.Prelude.{Result}
-use Rattle.clap.specs.Words.{found_of, rows_of}
+use Rattle.clap.specs.Words.{found_of}
 use Rattle.clap.proofs.WalkLemmas.{first_value-rows}
 use Rattle.shell.proofs.CommandLines.{no_number, number_given, one_number}
 use Rattle.shell.proofs.command_line.live_of.Goals as goal

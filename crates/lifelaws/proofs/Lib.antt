@@ -1,0 +1,4 @@
+pub mod Ordering
+pub mod Growing
+pub mod Walking
+pub mod Living

@@ -1,0 +1,140 @@
+//! Deeds of nodes in what was recorded of them.
+use crate::stuck::Records;
+use flight::life::{Ending, Life, Packet, Step};
+use model::member::Member;
+use moments::{Deed, Moment};
+use std::alloc::{AllocError, Global};
+
+/// The lives of a node; none where it is not there.
+pub(crate) fn lives_of<'a>(records: &Records<'a>, node: Member) -> &'a [Life] {
+    let Some(place) = node.checked_sub(1) else {
+        return &[];
+    };
+    match records.lives.get(place) {
+        Some(own) => own.as_slice(),
+        None => &[],
+    }
+}
+
+/// The life in which a moment is; none of an answer.
+pub(crate) fn life_of<'a>(records: &Records<'a>, moment: &Moment) -> Option<&'a Life> {
+    let place = match moment.deed {
+        Deed::Opens { life } => life,
+        Deed::Takes { life, .. } => life,
+        Deed::Tears { life } => life,
+        Deed::Stops { life } => life,
+        Deed::Answers { .. } => return None,
+    };
+    lives_of(records, moment.node).get(place)
+}
+
+/// The step that is taken or cut short at a moment, if one is.
+pub(crate) fn step_of<'a>(records: &Records<'a>, moment: &Moment) -> Option<&'a Step> {
+    let life = life_of(records, moment)?;
+    match (moment.deed, &life.ending) {
+        (Deed::Takes { step, .. }, _) => life.steps.get(step),
+        (Deed::Tears { .. }, Ending::Torn(step)) => Some(step),
+        _ => None,
+    }
+}
+
+/// The deed with an answer named by its place among those of its node.
+pub(crate) fn own_deed(records: &Records<'_>, moment: &Moment) -> Deed {
+    let Deed::Answers { answer } = moment.deed else {
+        return moment.deed;
+    };
+    let mut own = 0usize;
+    for (place, recorded) in records.answers.iter().enumerate() {
+        if place < answer && recorded.node == moment.node {
+            own = own.saturating_add(1);
+        }
+    }
+    Deed::Answers { answer: own }
+}
+
+/// In which life of its node a moment is, from 1 on: of an answer in the last one that began at its mark or before.
+pub(crate) fn life_at(records: &Records<'_>, moment: &Moment) -> usize {
+    match moment.deed {
+        Deed::Opens { life } => life.saturating_add(1),
+        Deed::Takes { life, .. } => life.saturating_add(1),
+        Deed::Tears { life } => life.saturating_add(1),
+        Deed::Stops { life } => life.saturating_add(1),
+        Deed::Answers { .. } => {
+            let lives = lives_of(records, moment.node).iter();
+            let mark = moment.mark.number();
+            lives
+                .filter(|life| life.opening.mark.number() <= mark)
+                .count()
+        }
+    }
+}
+
+// Adds what a node does in a life, in its order.
+fn add_life(
+    node: Member,
+    place: usize,
+    life: &Life,
+    moments: &mut Vec<Moment>,
+) -> Result<(), AllocError> {
+    moments.push(Moment {
+        mark: life.opening.mark,
+        node,
+        deed: Deed::Opens { life: place },
+    })?;
+    for (step, taken) in life.steps.iter().enumerate() {
+        moments.push(Moment {
+            mark: taken.mark,
+            node,
+            deed: Deed::Takes { life: place, step },
+        })?;
+    }
+    if let Ending::Torn(step) = &life.ending {
+        moments.push(Moment {
+            mark: step.mark,
+            node,
+            deed: Deed::Tears { life: place },
+        })?;
+    }
+    Ok(())
+}
+
+// What a node does, in the order of its lives.
+fn moments_of(alloc: Global, node: Member, lives: &[Life]) -> Result<Vec<Moment>, AllocError> {
+    let mut moments = Vec::new(alloc);
+    for (place, life) in lives.iter().enumerate() {
+        add_life(node, place, life, &mut moments)?;
+    }
+    Ok(moments)
+}
+
+// The mark at which what is taken was sent, 0 where nothing was.
+fn sent_at(records: &Records<'_>, moment: &Moment) -> u64 {
+    match step_of(records, moment) {
+        Some(step) => match &step.packet {
+            Packet::Delivered { mark, .. } => mark.number(),
+            Packet::Local(_) => 0,
+        },
+        None => 0,
+    }
+}
+
+/// What a node does, in the order of its lives, and how much of it there is before the first mark that does not rise. The error is
+/// want of memory.
+pub(crate) fn fallen_in(
+    alloc: Global,
+    records: &Records<'_>,
+    node: Member,
+) -> Result<(Vec<Moment>, usize), AllocError> {
+    let moments = moments_of(alloc, node, lives_of(records, node))?;
+    let mut last = 0;
+    let mut before = 0usize;
+    for moment in &moments {
+        let mark = moment.mark.number();
+        if mark <= last || mark <= sent_at(records, moment) {
+            break;
+        }
+        last = mark;
+        before = before.saturating_add(1);
+    }
+    Ok((moments, before))
+}

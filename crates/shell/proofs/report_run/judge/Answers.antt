@@ -1,0 +1,28 @@
+use Rattle.std.proofs.Common.{◌≡◌, map, string_bytes}
+use Rattle.flight.specs.Contents.{in_flight}
+use Rattle.flight.specs.declared.flight.Flight.{Flight}
+use Rattle.report.specs.Digests.{all_said}
+use Rattle.report.specs.Whole.{held_of}
+use Rattle.sha2.specs.Sha256.{sha256}
+use Rattle.shell.specs.Group.{AreHeld}
+use Rattle.shell.proofs.Groups.{held}
+use Rattle.shell.proofs.Judging.{never_another_group}
+use Rattle.shell.proofs.Reporting.{reported_on}
+use Rattle.shell.proofs.report_run.judge.Goals as goal
+
+pub returns-clause-ok : goal.returns-clause-ok
+returns-clause-ok c =
+    let fs = c.in_ok-version.flights.items in
+    let flown = c.in_ok-flown.flown in
+    let are : AreHeld (map in_flight fs) flown.lives.items flown.answers.items = held fs flown.lives.items flown.answers.items c.in_ok-flown.ensures.lives c.in_ok-flown.ensures.answers in
+    let nodes : c.in_ok-contents.contents.nodes.items ≡ map (λ (f : Flight). held_of (in_flight f)) fs = rw c.as_slice.ensures.value at c.in_ok-contents.ensures.nodes in
+    let said : c.in_ok-contents.contents.answers ≡ sha256 (all_said (map in_flight fs)) = rw c.as_slice.ensures.value at c.in_ok-contents.ensures.answers in
+    reported_on c.report_of.result (map string_bytes c.args.texts.now) c.in_ok-version.version c.in_ok-version.schema fs flown.lives.items flown.answers.items c.in_ok-contents.contents
+    c.in_ok-version.ensures.ok are nodes said c.report_of.ensures.verdict c.report_of.ensures.contents c.report_of.ensures.seal
+
+pub returns-clause-err : goal.returns-clause-err
+returns-clause-err c =
+    let fs = c.in_ok-version.flights.items in
+    let flown = c.in_ok-flown.flown in
+    never_another_group c.report_of.result (map string_bytes c.args.texts.now) c.in_ok-version.version c.in_ok-version.schema flown.lives.items flown.answers.items
+    (map in_flight fs, c.in_ok-version.ensures.ok, held fs flown.lives.items flown.answers.items c.in_ok-flown.ensures.lives c.in_ok-flown.ensures.answers) c.report_of.ensures.err

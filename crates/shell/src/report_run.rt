@@ -1,0 +1,221 @@
+//! The command `audit` with a report.
+ghost use Rattle.std.specs.Prelude.{◌≡◌, ◌≢◌, ◌≤◌, ◌++◌, ◌⊎◌, ℕ, List, Some, length, map, string_bytes, Err, IfOk, IfErr, OnErr};
+ghost use Rattle.std.specs.Io.KnownBytes.{Appends};
+ghost use Rattle.fault.specs.declared.refusal.Refusal.TheVariants.{NoMemory, BadFlight};
+ghost use Rattle.fault.specs.declared.refusal.Refusal.{Refusal as AnyRefusal};
+ghost use Rattle.looks.specs.Objects.{line_of};
+ghost use Rattle.moments.specs.declared.recorded.AuditFault.TheVariants.{NoMemory as NoMemoryLeft};
+ghost use Rattle.report.specs.Machine.{report_tokens};
+ghost use Rattle.report.specs.Whole.{seal_of};
+ghost use Rattle.shell.specs.Audit.{records_of};
+ghost use Rattle.shell.specs.Group.{IsNoGroup};
+ghost use Rattle.shell.specs.Reported.{BeginsReported, IsPrinted, IsReported, IsReportOn, IsVerdict, status_of, verdict_line};
+
+use crate::audit::{all_answers, write_line};
+use crate::group::{read_group, run_of};
+use auditor::{AuditFault, audit};
+use fault::Refusal;
+use flight::flight::Version;
+use folder::Flown;
+use report::difference::{Difference, difference_of};
+use report::files::{File, files_of};
+use report::machine::report_as_json;
+use report::page::page_of;
+use report::settled::{Settled, decided_of};
+use report::stuck::Records;
+use report::whole::{Contents, Report, verdict_of};
+use schema::Schema;
+use script::run_fault::RunFault;
+use std::alloc::{AllocError, Global};
+use std::io;
+use world::event::Event;
+
+// What an audit says, and of what run.
+#[derive(Drop)]
+struct Verdict {
+    fault: Option<AuditFault>,
+    difference: Option<Difference>,
+    events: Vec<Event>,
+}
+
+// The verdict of a fault, with what differs there. The error is want of memory, be it the fault itself.
+fn verdict_of_fault(
+    alloc: Global,
+    records: &Records<'_>,
+    files: &[File<'_>],
+    fault: &AuditFault,
+) -> Result<Verdict, AllocError>
+    requires least { 3 ≤ length records.now.lives.now }
+    requires most { length records.now.lives.now ≤ 7 }
+    ensures { IfOk result (λ verdict. (verdict.fault ≡ Some fault.now) × (fault.now ≢ NoMemoryLeft)) }
+{
+    if let AuditFault::NoMemory = *fault {
+        return Err(AllocError);
+    }
+    let (difference, events) = difference_of(alloc, records, files, *fault)?;
+    Ok(Verdict {
+        fault: Some(*fault),
+        difference,
+        events,
+    })
+}
+
+// What an audit says of what was recorded of a group of 3 to 7 nodes. The error is want of memory.
+fn verdict_on(
+    alloc: Global,
+    records: &Records<'_>,
+    files: &[File<'_>],
+) -> Result<Verdict, AllocError>
+    requires least { 3 ≤ length records.now.lives.now }
+    requires most { length records.now.lives.now ≤ 7 }
+    ensures { IfOk result (λ verdict. IsVerdict (record { version = records.now.version; tables = records.now.schema.now; lives = records.now.lives.now; answers = records.now.answers.now }) verdict.fault) }
+{
+    match audit(
+        alloc,
+        records.version,
+        records.schema,
+        records.lives,
+        records.answers,
+    ) {
+        Ok(events) => Ok(Verdict {
+            fault: None,
+            difference: None,
+            events,
+        }),
+        Err(fault) => verdict_of_fault(alloc, records, files, &fault),
+    }
+}
+
+// The status with which an audit ends.
+fn status_of(fault: Option<AuditFault>) -> u8
+    ensures { result ≡ status_of fault }
+{
+    if fault.is_none() { 0 } else { 1 }
+}
+
+// The report on what flights of a group of 3 to 7 nodes with these files hold. The error is want of memory.
+fn report_on(
+    alloc: Global,
+    records: &Records<'_>,
+    files: &[File<'_>],
+    contents: Contents,
+) -> Result<Report, AllocError>
+    requires least { 3 ≤ length records.now.lives.now }
+    requires most { length records.now.lives.now ≤ 7 }
+    ensures verdict { IfOk result (λ r. IsVerdict (record { version = records.now.version; tables = records.now.schema.now; lives = records.now.lives.now; answers = records.now.answers.now }) r.fault) }
+    ensures contents { IfOk result (λ r. r.contents ≡ contents) }
+    ensures seal { IfOk result (λ r. r.seal ≡ seal_of r.contents r.settled r.fault) }
+{
+    let Verdict {
+        fault,
+        difference,
+        events,
+    } = verdict_on(alloc, records, files)?;
+    let schema = records.schema;
+    let list = decided_of(alloc, records.lives.len(), schema, events.as_slice())?;
+    let settled = Settled::of(alloc, schema, list.as_slice())?;
+    Report::of(alloc, files, fault, contents, schema, settled, difference)
+}
+
+// The same, of what was read of flights. 50 exactly of another group than one of 3 to 7 nodes, else 43 for want of memory.
+fn report_of(
+    alloc: Global,
+    version: Version,
+    schema: &Schema,
+    flown: &Flown,
+    files: &[File<'_>],
+    contents: Contents,
+) -> Result<Report, Refusal>
+    ensures verdict { IfOk result (λ r. IsVerdict (records_of version schema.now flown.now.lives.items flown.now.answers.items) r.fault) }
+    ensures contents { IfOk result (λ r. r.contents ≡ contents) }
+    ensures seal { IfOk result (λ r. r.seal ≡ seal_of r.contents r.settled r.fault) }
+    ensures err { IfErr result (λ refusal. (refusal ≡ NoMemory) ⊎ ((refusal ≡ BadFlight) × (3 ≤ length flown.now.lives.items → length flown.now.lives.items ≤ 7 → ⊥))) }
+{
+    if flown.lives.len() < 3 || flown.lives.len() > 7 {
+        return Err(Refusal::BadFlight);
+    }
+    let judged = all_answers(alloc, flown.answers.as_slice())?;
+    let records = Records {
+        version,
+        schema,
+        lives: flown.lives.as_slice(),
+        answers: judged.as_slice(),
+    };
+    Ok(report_on(alloc, &records, files, contents)?)
+}
+
+// The report on the flights in the files of these names, with these texts.
+fn judge(alloc: Global, names: &[&str], texts: &[String]) -> Result<Report, Refusal>
+    ensures ok { IfOk result (IsReportOn (map string_bytes texts.now)) }
+    ensures err { IfErr result (λ refusal. (refusal ≡ NoMemory) ⊎ ((refusal ≡ BadFlight) × IsNoGroup (map string_bytes texts.now))) }
+{
+    let (version, schema, flights) = read_group(alloc, texts)?;
+    let contents = Contents::of(alloc, flights.as_slice())?;
+    let flown = run_of(alloc, flights)?;
+    let files = files_of(alloc, names, texts)?;
+    report_of(alloc, version, &schema, &flown, files.as_slice(), contents)
+}
+
+// A report as JSON.
+fn as_json(alloc: Global, report: &Report) -> Result<String, AllocError>
+    ensures { IfOk result (λ text. string_bytes text ≡ line_of (report_tokens report.now)) }
+{
+    match String::from_utf8(report_as_json(alloc, report)?) {
+        Ok(text) => Ok(text),
+        Err(_) => Err(AllocError),
+    }
+}
+
+// The line of the verdict, and what a report has behind it.
+fn as_text(alloc: Global, report: &Report) -> Result<String, AllocError>
+    ensures { IfOk result (λ text. (more : List ℕ) × (string_bytes text ≡ verdict_line report.now.fault ++ more)) }
+{
+    let verdict = verdict_of(alloc, report.fault)?;
+    let page = page_of(alloc, report)?;
+    format!(in alloc; "audit: {verdict}\n{page}")
+}
+
+// What is printed of a report.
+fn printed(alloc: Global, report: &Report, is_json: bool) -> Result<String, AllocError>
+    ensures { IfOk result (λ text. IsPrinted is_json report.now (string_bytes text)) }
+{
+    if is_json {
+        as_json(alloc, report)
+    } else {
+        as_text(alloc, report)
+    }
+}
+
+// The exit status of an audit of the flights in the files of these names, with these texts, and what is printed of it.
+fn reported(
+    alloc: Global,
+    names: &[&str],
+    texts: &[String],
+    is_json: bool,
+) -> Result<(u8, String), Refusal>
+    ensures ok { IfOk result (λ said. IsReported (map string_bytes texts.now) is_json said.0 (string_bytes said.1)) }
+    ensures err { IfErr result (λ refusal. (refusal ≡ NoMemory) ⊎ ((refusal ≡ BadFlight) × IsNoGroup (map string_bytes texts.now))) }
+{
+    let report = judge(alloc, names, texts)?;
+    let text = printed(alloc, &report, is_json)?;
+    Ok((status_of(report.fault), text))
+}
+
+/// Judges the flights in the files of these names, whose texts these are, as `run_audit` does, and prints a report: the line of the verdict,
+/// and what stands behind it, or the whole as JSON. The exit status and what ends it otherwise are those of `run_audit`; at the
+/// writer's fault a beginning of the report was written.
+pub fn run_report<W: io::Write>(
+    alloc: Global,
+    names: &[&str],
+    texts: &[String],
+    is_json: bool,
+    writer: &mut W,
+) -> Result<u8, RunFault>
+    ensures said { IfOk result (λ status. (text : List ℕ) × IsReported (map string_bytes texts.now) is_json status text × Appends (W.contents writer.old) (W.contents writer.new) text) }
+    ensures begun { OnErr result ((writer.new ≡ writer.old) ⊎ BeginsReported (map string_bytes texts.now) is_json (W.contents writer.old) (W.contents writer.new)) }
+    ensures refused { (refusal : AnyRefusal) → result ≡ Err (RunFault.Refused refusal) → ((refusal ≡ NoMemory) ⊎ ((refusal ≡ BadFlight) × IsNoGroup (map string_bytes texts.now))) × (writer.new ≡ writer.old) }
+{
+    let (status, text) = reported(alloc, names, texts, is_json)?;
+    write_line(text.as_str(), writer)?;
+    Ok(status)
+}
