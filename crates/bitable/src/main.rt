@@ -3,6 +3,7 @@
 
 use causes::{Name, Trouble};
 use clap::error::ErrorKind;
+use console::{Fault, Stop as Ended};
 use diagnosis::{Subject, diagnose};
 use fault::Refusal;
 use forms::{Canvas, Drawing, Form, Look};
@@ -23,6 +24,7 @@ use std::rt::{Env, Files};
 use std::sync::Wait;
 use std::thread::Threads;
 use std::{env, fs, io};
+use storecommands::is_asked;
 
 const SIM: &str = "playing the script";
 
@@ -31,10 +33,64 @@ const TERMINAL: usize = 80;
 
 fn main(rt: HostRuntime) -> ExitCode {
     match words_given(&rt) {
+        Ok(Some(words)) if is_of_store(&rt, words.as_slice()) => {
+            end_store(&rt, run_store(&rt, words.as_slice()))
+        }
         Ok(Some(words)) => end(&rt, run(&rt, &rt, words.as_slice())),
         Ok(None) => end(&rt, refuse_words(&rt)),
         Err(stop) => end(&rt, Err(stop)),
     }
+}
+
+// Whether a command line is one over a store's folder: `audit` is, where it has one name and that is not the name of a file.
+fn is_of_store(rt: &HostRuntime, words: &[String]) -> bool {
+    let Some(word) = words.get(1) else {
+        return false;
+    };
+    if !is_asked(word.as_str()) {
+        return false;
+    }
+    if word.as_str() != "audit" {
+        return true;
+    }
+    match words.get(2) {
+        Some(name) if words.len() == 3 => {
+            !name.as_str().starts_with('-') && !storefolder::is_file(rt, name.as_str())
+        }
+        _ => false,
+    }
+}
+
+// Does what a command line over a store's folder asks for.
+fn run_store<'a>(rt: &HostRuntime, words: &'a [String]) -> Result<u8, Ended<'a>> {
+    match storecommands::read_command(rt.alloc(), words) {
+        Ok(command) => console::run(rt, command),
+        Err(error) if error.kind() == ErrorKind::OutOfMemory => Err(Ended {
+            fault: Fault::from(Refusal::NoMemory),
+            cause: None,
+        }),
+        Err(error) => match error.print(rt) {
+            Ok(()) => Ok(if error.use_stderr() { 2 } else { 0 }),
+            Err(_) => Ok(1),
+        },
+    }
+}
+
+// The exit status; where the command was refused, why: the refusal, below it what is known of the file or the folder, and what to do.
+fn end_store(rt: &impl Eprint, ended: Result<u8, Ended<'_>>) -> ExitCode {
+    let stop = match ended {
+        Ok(status) => return ExitCode::from(status),
+        Err(stop) => stop,
+    };
+    let fault = &stop.fault;
+    let _ = eprintln!(rt; "{fault}");
+    if let Some(cause) = stop.cause {
+        let _ = eprintln!(rt; "{cause}");
+    }
+    if let Some(hint) = stop.hint() {
+        let _ = eprintln!(rt; "        {hint}");
+    }
+    ExitCode::FAILURE
 }
 
 // The exit status; where the command was refused, why: the refusal, and below it what is known of the file.

@@ -1,0 +1,282 @@
+//! The commands.
+use crate::input::Input;
+use crate::printing::{counted, name_of, print};
+use crate::session::{Place, Session, reading_of};
+use crate::stop::{Fault, Stop};
+use causes::{Name, Trouble};
+use fault::Refusal;
+use model::member::Member;
+use playback::Decided;
+use std::alloc::{AllocError, Global};
+use std::fs::File;
+use std::io::{BufReader, IsTerminal, Read};
+use std::{env, fs};
+use store::StoreRefusal;
+use storecommands::{Command, NewStore, OpenStore};
+use storefolder::{Audited, Verdict};
+
+// How many columns a terminal has, where nothing tells.
+const TERMINAL: usize = 80;
+
+// Makes a store with the tables of a text, and says so.
+fn make(rt: &HostRuntime, alloc: Global, new: NewStore<'_>, schema: &str) -> Result<u8, Fault> {
+    let members = usize::from(new.members);
+    storefolder::make(rt, alloc, new.dir, members, schema)?;
+    let name = name_of(new.dir);
+    let members = counted(alloc, members, "member")?;
+    let line = format!(in alloc; "made {name}: {members}\n")?;
+    print(rt, line.as_str())?;
+    Ok(0)
+}
+
+// Whether it is the tables that are refused.
+fn is_of_tables(fault: &Fault) -> bool {
+    match fault {
+        Fault::Refused(StoreRefusal::Refused(refusal)) => refusal.number() < 20,
+        _ => false,
+    }
+}
+
+// Makes a store.
+fn run_new<'a>(rt: &HostRuntime, alloc: Global, new: NewStore<'a>) -> Result<u8, Stop<'a>> {
+    let (file, tried) = (Name::Given(new.schema), "reading the tables");
+    let schema = match fs::read_to_string(rt, new.schema) {
+        Ok(schema) => schema,
+        Err(error) => {
+            let refusal = Refusal::BadScript(0);
+            return Err(Stop::from(Trouble::of_system(file, tried, refusal, error)));
+        }
+    };
+    match make(rt, alloc, new, schema.as_str().trim_end()) {
+        Ok(status) => Ok(status),
+        Err(fault) if is_of_tables(&fault) => Err(Stop::of(fault, file, tried)),
+        Err(fault) => Err(Stop::of(fault, Name::Given(new.dir), "making the store")),
+    }
+}
+
+// What clocks show, if not what the system's clock does. 16 past what a clock can show.
+fn clock_of<'a>(open: OpenStore<'_>) -> Result<Option<i64>, Stop<'a>> {
+    let Some(reading) = open.clock else {
+        return Ok(None);
+    };
+    match i64::try_from(reading) {
+        Ok(reading) => Ok(Some(reading)),
+        Err(_) => {
+            let fault = Fault::from(Refusal::OutOfRange);
+            Err(Stop::of(fault, Name::Given("--clock"), "reading the command line"))
+        }
+    }
+}
+
+// A sitting over a reader. The exit status is 1 where something was refused and nobody sits at a terminal.
+fn sit<R: Read + Drop>(
+    rt: &HostRuntime,
+    alloc: Global,
+    place: Place<'_>,
+    reader: R,
+    syncs: bool,
+    clock: Option<i64>,
+) -> Result<u8, Fault> {
+    let reading = reading_of(rt, clock)?;
+    let opened = storefolder::open(rt, alloc, place.dir, syncs, reading)?;
+    let Ok(reader) = BufReader::new(alloc, reader) else {
+        return Err(Fault::from(Refusal::NoMemory));
+    };
+    let mut input = Input::new(alloc, reader);
+    let mut session = Session::new(alloc, place, opened, clock);
+    session.greet(rt)?;
+    let played = session.play(rt, &mut input);
+    let ended = session.end();
+    played?;
+    let is_refused = ended?;
+    Ok(if is_refused && !place.is_terminal {
+        1
+    } else {
+        0
+    })
+}
+
+// Whether it is the input that can't be read.
+fn is_of_input(fault: &Fault) -> bool {
+    matches!(fault, Fault::Refused(StoreRefusal::Refused(Refusal::BadScript(_))))
+}
+
+// Why a sitting over this input ended before its end.
+fn sitting_stopped<'a>(fault: Fault, dir: &'a str, input: Name<'a>) -> Stop<'a> {
+    if is_of_input(&fault) {
+        Stop::of(fault, input, "taking its lines")
+    } else {
+        Stop::of(fault, Name::Given(dir), "opening the store and taking lines")
+    }
+}
+
+// How many columns a line may have: what COLUMNS says, else 80.
+fn columns(rt: &HostRuntime) -> usize {
+    match env::var(rt, "COLUMNS") {
+        Ok(text) => text.as_str().parse::<usize>().unwrap_or(TERMINAL),
+        Err(_) => TERMINAL,
+    }
+}
+
+// A sitting over standard input.
+fn sit_at_input<'a>(
+    rt: &HostRuntime,
+    alloc: Global,
+    open: OpenStore<'a>,
+    clock: Option<i64>,
+) -> Result<u8, Stop<'a>> {
+    let is_terminal = rt.stdin().is_terminal();
+    let place = Place {
+        dir: open.dir,
+        name: "-",
+        is_terminal,
+        width: if is_terminal { Some(columns(rt)) } else { None },
+    };
+    match sit(rt, alloc, place, rt.reader(), open.syncs, clock) {
+        Ok(status) => Ok(status),
+        Err(fault) => Err(sitting_stopped(fault, open.dir, Name::Input)),
+    }
+}
+
+// A sitting over the lines of a file, or of standard input.
+fn run_open<'a>(rt: &HostRuntime, alloc: Global, open: OpenStore<'a>) -> Result<u8, Stop<'a>> {
+    let clock = clock_of(open)?;
+    let name = match open.script {
+        Some(name) if name != "-" => name,
+        _ => return sit_at_input(rt, alloc, open, clock),
+    };
+    let input = Name::Given(name);
+    let file = match File::open(rt, name) {
+        Ok(file) => file,
+        Err(error) => {
+            let refusal = Refusal::BadScript(0);
+            return Err(Stop::from(Trouble::of_system(input, "opening it", refusal, error)));
+        }
+    };
+    let place = Place {
+        dir: open.dir,
+        name,
+        is_terminal: false,
+        width: None,
+    };
+    match sit(rt, alloc, place, file, open.syncs, clock) {
+        Ok(status) => Ok(status),
+        Err(fault) => Err(sitting_stopped(fault, open.dir, input)),
+    }
+}
+
+// What is said of a store of which an audit says yes.
+fn yes_lines(alloc: Global, audited: &Audited) -> Result<String, AllocError> {
+    let mut text = String::new(alloc);
+    put_missing(audited.missing.as_slice(), &mut text)?;
+    let sessions = audited.sessions;
+    let requests = audited.requests;
+    let members = audited.flown.lives.len();
+    write!(
+        text,
+        "sessions {sessions}, requests {requests}, members {members}: each database is what the journals give\naudit: yes\n"
+    )?;
+    Ok(text)
+}
+
+fn put_missing(missing: &[Member], text: &mut String) -> Result<(), AllocError> {
+    for member in missing {
+        let member = *member;
+        write!(text, "the database of node {member} is missing\n")?;
+    }
+    Ok(())
+}
+
+// Judges the store in a folder. The exit status is 0 where the audit says yes, else 1.
+fn run_audit(rt: &HostRuntime, alloc: Global, dir: &str) -> Result<u8, Fault> {
+    match storefolder::audit(rt, alloc, dir)? {
+        Verdict::Yes(audited) => {
+            let lines = yes_lines(alloc, &audited)?;
+            print(rt, lines.as_str())?;
+            Ok(0)
+        }
+        Verdict::No(fault) => {
+            let line = format!(in alloc; "audit: {fault}\n")?;
+            print(rt, line.as_str())?;
+            if let Some(hint) = fault.hint() {
+                let _ = eprintln!(*rt; "{hint}");
+            }
+            Ok(1)
+        }
+    }
+}
+
+// A text as one line.
+fn put_in_line(text: &str, line: &mut String) -> Result<(), AllocError> {
+    for (at, part) in text.split('\n').enumerate() {
+        if at > 0 {
+            line.push(' ')?;
+        }
+        line.push_str(part)?;
+    }
+    Ok(())
+}
+
+// The line of a decided request. Its text's lines are put into one.
+fn decided_line(alloc: Global, decided: &Decided) -> Result<String, AllocError> {
+    let index = decided.index;
+    let instant = decided.stamp.instant();
+    let client = decided.client.get();
+    let number = decided.number.get();
+    let outcome = decided.outcome.as_str();
+    let mut line = format!(in alloc;
+        "entry {index} {instant} request {client} {number} {outcome} "
+    )?;
+    put_in_line(decided.text.as_str(), &mut line)?;
+    line.push('\n')?;
+    Ok(line)
+}
+
+// Lists the decided requests of the store in a folder.
+fn run_log(rt: &HostRuntime, alloc: Global, dir: &str) -> Result<u8, Fault> {
+    let play = storefolder::replay(rt, alloc, dir)?;
+    for decided in play.decided() {
+        let line = decided_line(alloc, decided)?;
+        print(rt, line.as_str())?;
+    }
+    Ok(0)
+}
+
+// Writes the flights of the store in a folder.
+fn run_flights<'a>(
+    rt: &HostRuntime,
+    alloc: Global,
+    dir: &'a str,
+    out: &'a str,
+) -> Result<u8, Stop<'a>> {
+    let tried = "writing the flights";
+    match storefolder::flights(rt, alloc, dir, out) {
+        Ok(()) => Ok(0),
+        Err(StoreRefusal::NotEmpty) => {
+            Err(Stop::of(Fault::Refused(StoreRefusal::NotEmpty), Name::Given(out), tried))
+        }
+        Err(refusal) => Err(Stop::of(Fault::Refused(refusal), Name::Given(dir), tried)),
+    }
+}
+
+/// Does what a command line asks for, on the standard streams. It gives the exit status: 0; 1 where an audit says no, or something
+/// was refused in a sitting and nobody sits at a terminal.
+///
+/// It ends before its end where standard output fails, or as the store is refused: 38 to 40, 43, 46 to 49, 55 and 56; 10 to 18 of the
+/// tables of a new store; 60 of an input that can't be read.
+pub fn run<'a>(rt: &HostRuntime, command: Command<'a>) -> Result<u8, Stop<'a>> {
+    let alloc: Global = rt.alloc();
+    match command {
+        Command::New(new) => run_new(rt, alloc, new),
+        Command::Open(open) => run_open(rt, alloc, open),
+        Command::Log(dir) => match run_log(rt, alloc, dir) {
+            Ok(status) => Ok(status),
+            Err(fault) => Err(Stop::of(fault, Name::Given(dir), "reading the journals")),
+        },
+        Command::Flights { dir, out } => run_flights(rt, alloc, dir, out),
+        Command::Audit(dir) => match run_audit(rt, alloc, dir) {
+            Ok(status) => Ok(status),
+            Err(fault) => Err(Stop::of(fault, Name::Given(dir), "judging the store")),
+        },
+    }
+}

@@ -1,0 +1,16 @@
+//! The commands over a store that is kept in a folder: making it, opening it, its log, its flights and its audit.
+#![tactic(auto)]
+
+mod commands;
+mod help;
+mod input;
+mod members;
+mod outputs;
+mod printing;
+mod requests;
+mod session;
+mod stop;
+mod taking;
+
+pub use commands::run;
+pub use stop::{Fault, Stop};

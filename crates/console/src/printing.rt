@@ -1,0 +1,153 @@
+//! What is printed of a store.
+use crate::stop::Fault;
+use model::member::Member;
+use std::alloc::{AllocError, Global};
+use std::io;
+use std::io::Write;
+use store::StoreRefusal;
+use store::status::{Standing, Status};
+use storefolder::Opened;
+
+/// Prints bytes on standard output, at once.
+pub(crate) fn print_bytes(rt: &HostRuntime, bytes: &[u8]) -> Result<(), Fault> {
+    match io::writer(rt).write_all(bytes) {
+        Ok(()) => Ok(()),
+        Err(error) => Err(Fault::Output(error)),
+    }
+}
+
+/// Prints a text on standard output, at once.
+pub(crate) fn print(rt: &HostRuntime, text: &str) -> Result<(), Fault> {
+    print_bytes(rt, text.as_bytes())
+}
+
+/// The last name of a folder's path.
+pub(crate) fn name_of(dir: &str) -> &str {
+    let dir = match dir.strip_suffix('/') {
+        Some(dir) => dir,
+        None => dir,
+    };
+    match dir.rsplit_once('/') {
+        Some((_, name)) => name,
+        None => dir,
+    }
+}
+
+/// A refusal as a line, and below it what to do, if that can be said.
+pub(crate) fn refusal_lines(alloc: Global, refusal: &StoreRefusal) -> Result<String, AllocError> {
+    let mut text = format!(in alloc; "{refusal}\n")?;
+    if let Some(hint) = refusal.hint() {
+        write!(text, "        {hint}\n")?;
+    }
+    Ok(text)
+}
+
+/// How many, with the word for one or for several.
+pub(crate) fn counted(alloc: Global, count: usize, one: &str) -> Result<String, AllocError> {
+    if count == 1 {
+        format!(in alloc; "1 {one}")
+    } else {
+        format!(in alloc; "{count} {one}s")
+    }
+}
+
+/// Who leads.
+pub(crate) fn leads(alloc: Global, leader: Option<Member>) -> Result<String, AllocError> {
+    match leader {
+        Some(leader) => format!(in alloc; "node {leader} leads"),
+        None => format!(in alloc; "nobody leads"),
+    }
+}
+
+/// The line that a sitting at a terminal begins with.
+pub(crate) fn banner(alloc: Global, dir: &str, opened: &Opened) -> Result<String, AllocError> {
+    let name = name_of(dir);
+    let members = counted(alloc, opened.store.members(), "member")?;
+    let leads = leads(alloc, opened.store.leader())?;
+    let decided = match opened.store.decided() {
+        0 => String::from_str(alloc, "nothing decided yet")?,
+        count => {
+            let requests = counted(alloc, count, "request")?;
+            format!(in alloc; "{requests} decided")?
+        }
+    };
+    format!(in alloc; "{name}: {members}, {leads}, {decided}. .help tells what can be typed\n")
+}
+
+/// What was cut as the store was opened, and what is missing.
+pub(crate) fn warnings(alloc: Global, opened: &Opened) -> Result<String, AllocError> {
+    let mut text = String::new(alloc);
+    if let Some(cut) = opened.cut {
+        let journal = cut.journal;
+        let at = cut.at;
+        if cut.bytes > 0 {
+            write!(
+                text,
+                "journal {journal} was cut at byte {at}: its end was torn. Nothing that was told is lost\n"
+            )?;
+        }
+    }
+    put_missing(opened.missing.as_slice(), &mut text)?;
+    Ok(text)
+}
+
+fn put_missing(missing: &[Member], text: &mut String) -> Result<(), AllocError> {
+    for member in missing {
+        let member = *member;
+        write!(
+            text,
+            "the database of node {member} is missing: the store goes on without it\n"
+        )?;
+    }
+    Ok(())
+}
+
+fn standing_word(standing: Standing) -> &'static str {
+    match standing {
+        Standing::Leads => "leads",
+        Standing::Follows => "follows",
+        Standing::Down => "down",
+        Standing::Missing => "missing",
+    }
+}
+
+// What a member that is up has.
+fn put_numbers(status: &Status, text: &mut String) -> Result<(), AllocError> {
+    let term = status.term;
+    let entries = status.entries;
+    let applied = status.applied;
+    write!(text, "{term:>5}  {entries:>7}  {applied:>7}  ")?;
+    match status.closed {
+        Some(stamp) => {
+            let instant = stamp.instant();
+            write!(text, "{instant}\n")
+        }
+        None => text.push_str("nothing\n"),
+    }
+}
+
+// The line of a member.
+fn put_status(status: &Status, text: &mut String) -> Result<(), AllocError> {
+    let member = status.member;
+    let word = standing_word(status.standing);
+    match status.standing {
+        Standing::Leads | Standing::Follows => {
+            write!(text, "node {member}  {word:<7}")?;
+            put_numbers(status, text)
+        }
+        Standing::Down | Standing::Missing => write!(text, "node {member}  {word}\n"),
+    }
+}
+
+/// How the members stand, as a table.
+pub(crate) fn status_lines(alloc: Global, all: &[Status]) -> Result<String, AllocError> {
+    let mut text = String::from_str(
+        alloc,
+        "member           term  entries  applied  time is closed to\n",
+    )?;
+    text.push_str("------           ----  -------  -------  --------------------------\n")?;
+    for status in all {
+        put_status(status, &mut text)?;
+    }
+    Ok(text)
+}

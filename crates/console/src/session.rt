@@ -1,0 +1,143 @@
+//! A sitting at a store: lines that come in, and what comes of them at once.
+use crate::outputs::Manner;
+use crate::printing::{banner, name_of, print, refusal_lines, warnings};
+use crate::stop::Fault;
+use fault::Refusal;
+use std::alloc::Global;
+use std::rt::Clock;
+use store::StoreRefusal;
+use storecommands::dot::Form;
+use storefolder::Opened;
+
+/// What is known of the place that lines come from and outcomes go to.
+#[derive(Clone, Copy, Debug)]
+pub(crate) struct Place<'a> {
+    /// The folder.
+    pub dir: &'a str,
+    /// The name of the input: `-` for standard input.
+    pub name: &'a str,
+    /// Whether somebody sits at a terminal.
+    pub is_terminal: bool,
+    /// How many columns a table may have; none for any number.
+    pub width: Option<usize>,
+}
+
+/// A sitting.
+#[derive(Drop)]
+pub(crate) struct Session<'a> {
+    pub alloc: Global,
+    pub place: Place<'a>,
+    pub opened: Opened,
+    /// What clocks show, if not the system's.
+    pub clock: Option<i64>,
+    pub manner: Manner,
+    /// Whether anything was refused.
+    pub is_refused: bool,
+}
+
+/// What clocks show: the microseconds since 1970, or what was set.
+pub(crate) fn reading_of(rt: &HostRuntime, clock: Option<i64>) -> Result<i64, StoreRefusal> {
+    if let Some(reading) = clock {
+        return Ok(reading);
+    }
+    match rt.since_1970() {
+        Ok(since) => Ok(i64::try_from(since.as_micros()).unwrap_or(i64::MAX)),
+        Err(_) => Err(StoreRefusal::Refused(Refusal::StoreFault)),
+    }
+}
+
+impl<'a> Session<'a> {
+    pub fn new(alloc: Global, place: Place<'a>, opened: Opened, clock: Option<i64>) -> Session<'a> {
+        let form = if place.is_terminal {
+            Form::Table
+        } else {
+            Form::Lines
+        };
+        Session {
+            alloc,
+            place,
+            opened,
+            clock,
+            manner: Manner {
+                form,
+                is_terminal: place.is_terminal,
+                width: place.width,
+            },
+            is_refused: false,
+        }
+    }
+
+    /// Closes the store. Whether anything was refused.
+    pub fn end(self) -> Result<bool, StoreRefusal> {
+        let Session {
+            opened,
+            is_refused,
+            ..
+        } = self;
+        opened.close()?;
+        Ok(is_refused)
+    }
+
+    /// Says what was cut and what is missing and, at a terminal, what is there.
+    pub fn greet(&self, rt: &HostRuntime) -> Result<(), Fault> {
+        let warned = warnings(self.alloc, &self.opened)?;
+        if !warned.is_empty() {
+            let _ = eprint!(*rt; "{warned}");
+        }
+        if self.place.is_terminal {
+            let line = banner(self.alloc, self.place.dir, &self.opened)?;
+            print(rt, line.as_str())?;
+        }
+        Ok(())
+    }
+
+    /// At a terminal: the store's name or, for a line that goes on, an arrow.
+    pub fn prompt(&self, rt: &HostRuntime, is_first: bool) -> Result<(), Fault> {
+        if !self.place.is_terminal {
+            return Ok(());
+        }
+        if !is_first {
+            return print(rt, "  -> ");
+        }
+        let alloc = self.alloc;
+        let name = name_of(self.place.dir);
+        let line = format!(in alloc; "{name:.20}> ")?;
+        print(rt, line.as_str())
+    }
+
+    /// Shows a refusal; one after which the store is spent ends the sitting.
+    pub fn refuse(
+        &mut self,
+        rt: &HostRuntime,
+        before: &str,
+        refusal: StoreRefusal,
+    ) -> Result<(), Fault> {
+        self.is_refused = true;
+        if self.opened.store.is_spent() {
+            return Err(Fault::Refused(refusal));
+        }
+        let alloc = self.alloc;
+        let lines = refusal_lines(alloc, &refusal)?;
+        let text = format!(in alloc; "{before}refused {lines}")?;
+        print(rt, text.as_str())
+    }
+
+    /// Says where a line is that asks for nothing.
+    pub fn complain(&mut self, rt: &HostRuntime, line: usize) -> Result<(), Fault> {
+        self.is_refused = true;
+        let alloc = self.alloc;
+        let name = self.place.name;
+        let refusal = Refusal::BadScript(line);
+        let text = format!(in alloc; "{name}:{line}:1: {refusal}\n")?;
+        print(rt, text.as_str())?;
+        if self.place.is_terminal {
+            print(rt, "        .help tells what can be typed\n")?;
+        }
+        Ok(())
+    }
+
+    /// What clocks show.
+    pub fn reading(&self, rt: &HostRuntime) -> Result<i64, StoreRefusal> {
+        reading_of(rt, self.clock)
+    }
+}

@@ -1,0 +1,70 @@
+//! A program that keeps tables of its own: it makes a store in a folder, hands in requests, asks a member what was believed, and goes on
+//! with the folder the next month.
+#![tactic(auto)]
+
+use answertext::Lines;
+use anyhow::Result;
+use std::alloc::Global;
+use storefolder::Opened;
+
+const DIR: &str = "pay";
+
+const SCHEMA: &str = "CREATE TABLE Pay (ENo INTEGER, PStart DATE, PEnd DATE, Salary INTEGER, \
+    SysStart TIMESTAMP(6) GENERATED ALWAYS AS ROW START, SysEnd TIMESTAMP(6) GENERATED ALWAYS AS ROW END, \
+    PERIOD FOR Paid (PStart, PEnd), PERIOD FOR SYSTEM_TIME (SysStart, SysEnd), \
+    PRIMARY KEY (ENo, Paid WITHOUT OVERLAPS)) WITH SYSTEM VERSIONING;";
+
+// What the clock shows in January and in February, so that the program prints the same each time. Others read the system's clock.
+const JANUARY: i64 = 1_767_603_600_000_000;
+
+const FEBRUARY: i64 = 1_770_714_000_000_000;
+
+const HIRED: &str =
+    "INSERT INTO Pay (ENo, PStart, PEnd, Salary) VALUES (1, DATE '2026-01-01', DATE '2028-01-01', 5000);";
+
+const RAISED: &str =
+    "UPDATE Pay FOR PORTION OF Paid FROM DATE '2026-02-01' TO DATE '2028-01-01' SET Salary = Salary + 500 WHERE ENo = 1;";
+
+const THEN: &str =
+    "SELECT * FROM Pay FOR SYSTEM_TIME AS OF TIMESTAMP '2026-01-31 00:00:00.000000';";
+
+const NOW: &str = "SELECT * FROM Pay;";
+
+// Hands in a request, and prints what came of it.
+fn request(rt: &HostRuntime, pay: &mut Opened, reading: i64, text: &str) -> Result<()> {
+    let (number, outcome) = pay.store.execute(reading, text)?;
+    let number = number.get();
+    println!(rt; "request {number} {outcome}")?;
+    Ok(())
+}
+
+// Asks member 2, and prints its answer.
+fn question(rt: &HostRuntime, pay: &mut Opened, reading: i64, text: &str) -> Result<()> {
+    let answer = pay.store.ask(reading, 2, text)?;
+    let lines = Lines(&answer);
+    print!(rt; "{lines}")?;
+    Ok(())
+}
+
+fn january(rt: &HostRuntime, alloc: Global) -> Result<()> {
+    storefolder::make(rt, alloc, DIR, 3, SCHEMA)?;
+    let mut pay = storefolder::open(rt, alloc, DIR, true, JANUARY)?;
+    request(rt, &mut pay, JANUARY, HIRED)?;
+    pay.close()?;
+    Ok(())
+}
+
+fn february(rt: &HostRuntime, alloc: Global) -> Result<()> {
+    let mut pay = storefolder::open(rt, alloc, DIR, true, FEBRUARY)?;
+    request(rt, &mut pay, FEBRUARY, RAISED)?;
+    question(rt, &mut pay, FEBRUARY, THEN)?;
+    question(rt, &mut pay, FEBRUARY, NOW)?;
+    pay.close()?;
+    Ok(())
+}
+
+fn main(rt: HostRuntime) -> Result<()> {
+    let alloc: Global = rt.alloc();
+    january(&rt, alloc)?;
+    february(&rt, alloc)
+}

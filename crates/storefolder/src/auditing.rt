@@ -1,0 +1,204 @@
+//! The audit of a folder: its journals are played again, each database has to be what they give, and what they spell has to be one run.
+ghost use Rattle.std.specs.Prelude.{IfOk};
+ghost use Rattle.storefolder.specs.Audit.{IsUpheld};
+
+use crate::databases::{Database, open_databases};
+use crate::form::Form;
+use crate::journals::tell_all;
+use crate::place::enter;
+use auditor::AuditFault;
+use durable::SqlKeeper;
+use fault::Refusal;
+use journal::Summary;
+use model::entry::Entry;
+use model::member::Member;
+use node::Node;
+use playback::{Flown, Play, judge};
+use schema::Schema;
+use sqlite::{File as DatabaseFile, FileStore};
+use std::alloc::Global;
+use store::chain::Chain;
+use store::{Past, StoreRefusal};
+
+/// What an audit that says yes found.
+#[derive(Drop)]
+pub struct Audited {
+    /// The tables.
+    pub schema: Schema,
+    /// What the journals spell, node by node.
+    pub flown: Flown,
+    /// How many journals there are.
+    pub sessions: u64,
+    /// How many outcomes of requests were given out.
+    pub requests: u64,
+    /// The members whose database is missing.
+    pub missing: Vec<Member>,
+}
+
+/// What an audit says.
+#[derive(Drop)]
+pub enum Verdict {
+    Yes(Audited),
+    /// No: the first fault.
+    No(StoreRefusal),
+}
+
+// What a database holds: in short, and its log. 49 where it holds no state of a member.
+fn found_in(
+    alloc: Global,
+    database: Database,
+    form: &Form,
+    member: Member,
+) -> Result<(Summary, Vec<Entry>), StoreRefusal> {
+    if form.members > 7 || member < 1 || member > form.members {
+        return Err(StoreRefusal::Refused(Refusal::NodeDown));
+    }
+    let schema = form.schema.clone()?;
+    let started: Result<Node<SqlKeeper<FileStore<DatabaseFile>>>, _> = Node::start(
+        alloc,
+        database,
+        schema,
+        form.members,
+        member,
+    );
+    let mut node = match started {
+        Ok(node) => node,
+        Err((error, _)) => return Err(refusal_of(Refusal::from(error), member)),
+    };
+    let entries = node.entries()?;
+    let chain = Chain::of(alloc, &entries)?;
+    Ok((chain.summary(node.hard_state()), entries))
+}
+
+// A database that holds no state of a member is one that was altered.
+fn refusal_of(refusal: Refusal, member: Member) -> StoreRefusal {
+    match refusal {
+        Refusal::BadStore => StoreRefusal::Altered {
+            member,
+            entry: None,
+        },
+        refusal => StoreRefusal::Refused(refusal),
+    }
+}
+
+// Compares a member's database with what the journals give. False where it is missing.
+fn is_compared(
+    alloc: Global,
+    database: Option<Database>,
+    form: &Form,
+    member: Member,
+    play: &mut Play,
+) -> Result<bool, StoreRefusal> {
+    let Some(database) = database else {
+        return Ok(false);
+    };
+    let (found, entries) = found_in(alloc, database, form, member)?;
+    play.check_found(member, &found, &entries)?;
+    Ok(true)
+}
+
+// Compares each database that is there, and names those that are missing.
+fn compare_databases(
+    alloc: Global,
+    databases: Vec<Option<Database>>,
+    form: &Form,
+    play: &mut Play,
+) -> Result<Vec<Member>, StoreRefusal> {
+    let mut missing = Vec::new(alloc);
+    let mut member: Member = 0;
+    for database in databases {
+        member = member.saturating_add(1);
+        if !is_compared(alloc, database, form, member, play)? {
+            missing.push(member)?;
+        }
+    }
+    Ok(missing)
+}
+
+// Opens the databases of which the journals tell, and compares them.
+fn check_databases(
+    rt: &HostRuntime,
+    alloc: Global,
+    dir: &str,
+    form: &Form,
+    play: &mut Play,
+) -> Result<Vec<Member>, StoreRefusal> {
+    let mut past = Past::new(alloc, form.members)?;
+    tell_all(rt, alloc, dir, form, &mut past)?;
+    let databases = open_databases(rt, alloc, dir, &past)?;
+    compare_databases(alloc, databases, form, play)
+}
+
+// Plays all journals, compares the databases, and names those that are missing.
+fn check_all(
+    rt: &HostRuntime,
+    alloc: Global,
+    dir: &str,
+    form: &Form,
+    play: &mut Play,
+) -> Result<Vec<Member>, StoreRefusal> {
+    tell_all(rt, alloc, dir, form, play)?;
+    check_databases(rt, alloc, dir, form, play)
+}
+
+// Whether a refusal is what an audit says no by.
+fn is_verdict(refusal: &StoreRefusal) -> bool {
+    match refusal {
+        StoreRefusal::Altered { .. } => true,
+        StoreRefusal::BadJournal { .. } => true,
+        StoreRefusal::Refused(Refusal::BrokenLife { .. }) => true,
+        StoreRefusal::Refused(Refusal::Unsent { .. }) => true,
+        StoreRefusal::Refused(Refusal::WrongAnswer { .. }) => true,
+        _ => false,
+    }
+}
+
+// What an audit says of what journals spell whose databases are what they give. 43 for want of memory; 50 of another number of members
+// than 3 to 7.
+fn judge_flown(
+    alloc: Global,
+    schema: Schema,
+    flown: Flown,
+    counts: (u64, u64),
+    missing: Vec<Member>,
+) -> Result<Verdict, StoreRefusal>
+    ensures { IfOk result IsUpheld }
+{
+    if flown.lives.len() < 3 || flown.lives.len() > 7 {
+        return Err(StoreRefusal::Refused(Refusal::BadFlight));
+    }
+    let (sessions, requests) = counts;
+    match judge(alloc, &schema, &flown) {
+        Ok(()) => Ok(Verdict::Yes(Audited {
+            schema,
+            flown,
+            sessions,
+            requests,
+            missing,
+        })),
+        Err(AuditFault::NoMemory) => Err(StoreRefusal::Refused(Refusal::NoMemory)),
+        Err(fault) => Ok(Verdict::No(StoreRefusal::Refused(Refusal::from(fault)))),
+    }
+}
+
+/// Audits the store in a folder: whether the events that its journals spell give each outcome and each answer that these tell of, each
+/// database holds what they come to, and an audit of the lives and answers that they spell says yes. A yes comes with these.
+///
+/// A fault is 49 of a database that holds something else, 55 of a journal that spells nothing, 51 of a member that began with what it did
+/// not have, 52 of a message that was not sent, 53 of marks that do not rise, 54 of an outcome or an answer that the events don't give.
+/// Refused is 46 to 48, and 40 and 43.
+pub fn audit(rt: &HostRuntime, alloc: Global, dir: &str) -> Result<Verdict, StoreRefusal>
+    ensures { IfOk result IsUpheld }
+{
+    let folder = enter(rt, alloc, dir)?;
+    let form = &folder.form;
+    let mut play = Play::new(alloc, form.members, form.schema.clone()?, true)?;
+    let missing = match check_all(rt, alloc, dir, form, &mut play) {
+        Ok(missing) => missing,
+        Err(refusal) if is_verdict(&refusal) => return Ok(Verdict::No(refusal)),
+        Err(refusal) => return Err(refusal),
+    };
+    let counts = play.counts();
+    let flown = play.into_flown()?;
+    judge_flown(alloc, form.schema.clone()?, flown, counts, missing)
+}

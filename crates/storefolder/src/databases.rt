@@ -1,0 +1,59 @@
+//! The databases of a store's members.
+use fault::Refusal;
+use model::member::Member;
+use sqlite::{Connection, Error, ErrorCode, File as DatabaseFile, FileStore};
+use std::alloc::Global;
+use std::fs;
+use store::past::Tale;
+use store::{Past, StoreRefusal};
+
+/// A database in a file.
+pub(crate) type Database = Connection<FileStore<DatabaseFile>>;
+
+fn refusal_of(error: &Error) -> StoreRefusal {
+    match error {
+        Error::SqliteFailure(ErrorCode::OutOfMemory) => StoreRefusal::Refused(Refusal::NoMemory),
+        Error::SqliteFailure(ErrorCode::DiskFull) => StoreRefusal::DiskFull,
+        Error::SqliteFailure(ErrorCode::DatabaseBusy) => StoreRefusal::InUse,
+        _ => StoreRefusal::Refused(Refusal::StoreFault),
+    }
+}
+
+// A member's database. One that is not there is made where nothing was ever stored in it; else it is missing.
+fn open_database(
+    rt: &HostRuntime,
+    alloc: Global,
+    dir: &str,
+    member: Member,
+    tale: &Tale,
+) -> Result<Option<Database>, StoreRefusal> {
+    let path = format!(in alloc; "{dir}/node{member}.db")?;
+    let is_there = match fs::exists(rt, path.as_str()) {
+        Ok(is_there) => is_there,
+        Err(_) => return Err(StoreRefusal::Refused(Refusal::StoreFault)),
+    };
+    if !is_there && !tale.is_blank() {
+        return Ok(None);
+    }
+    match Connection::open(rt, path.as_str()) {
+        Ok(database) => Ok(Some(database)),
+        Err(error) => Err(refusal_of(&error)),
+    }
+}
+
+/// The members' databases, in their order; none for one that is missing. 40 and 43 where one can't be opened, 48 where another process
+/// has it.
+pub(crate) fn open_databases(
+    rt: &HostRuntime,
+    alloc: Global,
+    dir: &str,
+    past: &Past,
+) -> Result<Vec<Option<Database>>, StoreRefusal> {
+    let mut databases = Vec::new(alloc);
+    let mut member: Member = 0;
+    for tale in past.members() {
+        member = member.saturating_add(1);
+        databases.push(open_database(rt, alloc, dir, member, tale)?)?;
+    }
+    Ok(databases)
+}

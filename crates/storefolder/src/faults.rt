@@ -1,0 +1,28 @@
+//! What an error of a file comes to.
+use fault::Refusal;
+use std::io;
+use store::{DeviceError, StoreRefusal};
+
+/// What an error of the journal's file is to a store.
+pub(crate) fn device_error(error: &io::Error) -> DeviceError {
+    match error.kind() {
+        io::ErrorKind::OutOfMemory => DeviceError::NoMemory,
+        io::ErrorKind::StorageFull => DeviceError::Full,
+        _ => DeviceError::Failed,
+    }
+}
+
+/// What an error of any other file is: 38, 43, or 40.
+pub(crate) fn file_refusal(error: &io::Error) -> StoreRefusal {
+    StoreRefusal::from(device_error(error))
+}
+
+/// A file that is no part of a store.
+pub(crate) fn no_store() -> StoreRefusal {
+    StoreRefusal::NoStore
+}
+
+/// Want of memory.
+pub(crate) fn no_memory() -> StoreRefusal {
+    StoreRefusal::Refused(Refusal::NoMemory)
+}

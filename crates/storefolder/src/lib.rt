@@ -1,0 +1,19 @@
+//! The folder of a store: its form, its journals and its members' databases.
+#![tactic(auto)]
+
+mod auditing;
+mod databases;
+mod faults;
+mod form;
+mod journal_file;
+mod journals;
+mod opening;
+mod place;
+mod replayed;
+
+pub use auditing::{Audited, Verdict, audit};
+pub use form::{Form, read_form};
+pub use journal_file::JournalFile;
+pub use opening::{Cut, Kept, Opened, open};
+pub use place::{Folder, enter, make};
+pub use replayed::{flights, is_file, replay};

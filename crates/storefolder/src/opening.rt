@@ -1,0 +1,225 @@
+//! Opening a store that is in a folder.
+use crate::databases::{Database, open_databases};
+use crate::faults::file_refusal;
+use crate::form::Form;
+use crate::journal_file::JournalFile;
+use crate::place::{Folder, count_journals, cut_journal, enter, new_journal, read_journal};
+use durable::SqlKeeper;
+use journal::blocks::text_in;
+use model::member::Member;
+use sqlite::{File as DatabaseFile, FileStore};
+use std::alloc::Global;
+use store::announcing::Announcing;
+use store::members::Members;
+use store::past::{End, tell_journal};
+use store::scribe::Scribe;
+use store::{Past, Store, StoreRefusal};
+
+/// What keeps a member of a store in a folder.
+pub type Kept = Announcing<SqlKeeper<FileStore<DatabaseFile>>, JournalFile>;
+
+/// A journal whose end is torn: where its whole blocks end, and how many bytes follow that are not zero.
+#[derive(Clone, Copy, PartialEq, Eq, Debug)]
+pub struct Cut {
+    pub journal: u64,
+    pub at: usize,
+    pub bytes: usize,
+}
+
+// What an opening has to know of what was before.
+#[derive(Drop)]
+struct Before {
+    past: Past,
+    /// The number of the journal that comes next, and the sum that it goes on from.
+    next: u64,
+    sum: u64,
+    cut: Option<Cut>,
+}
+
+/// A store that is open, in its folder.
+#[derive(Drop)]
+pub struct Opened {
+    pub store: Store<Kept>,
+    folder: Folder,
+    /// The number of its journal.
+    pub journal: u64,
+    /// What was torn of the journal before, and is cut.
+    pub cut: Option<Cut>,
+    /// The members whose database is missing.
+    pub missing: Vec<Member>,
+}
+
+// How many bytes from this place on are not zero.
+fn torn_bytes(bytes: &[u8], at: usize) -> usize {
+    match bytes.split_at_checked(at) {
+        Some((_, rest)) => rest.iter().filter(|byte| **byte != 0).count(),
+        None => 0,
+    }
+}
+
+// Where the last journal is to be cut, if anything follows its last whole block.
+fn cut_of(journal: u64, bytes: &[u8], end: End) -> Option<Cut> {
+    if end.at >= bytes.len() {
+        return None;
+    }
+    Some(Cut {
+        journal,
+        at: end.at,
+        bytes: torn_bytes(bytes, end.at),
+    })
+}
+
+// Reads one journal by itself; none where it has no whole block.
+fn read_alone(
+    rt: &HostRuntime,
+    alloc: Global,
+    dir: &str,
+    form: &Form,
+    journal: u64,
+) -> Result<Option<Before>, StoreRefusal> {
+    let bytes = read_journal(rt, alloc, dir, journal)?;
+    let mut past = Past::new(alloc, form.members)?;
+    let before = if journal == 1 { Some(form.sum()) } else { None };
+    match tell_journal(alloc, journal, text_in(&bytes), before, &mut past)? {
+        Some(end) => Ok(Some(Before {
+            past,
+            next: journal.saturating_add(1),
+            sum: end.sum,
+            cut: cut_of(journal, &bytes, end),
+        })),
+        None => Ok(None),
+    }
+}
+
+// Reads the last journal. One without a whole block was begun by an opening that was cut short, and counts as not there.
+fn read_before(
+    rt: &HostRuntime,
+    alloc: Global,
+    dir: &str,
+    form: &Form,
+) -> Result<Before, StoreRefusal> {
+    let count = count_journals(rt, alloc, dir)?;
+    for back in 0..2u64 {
+        let journal = count.saturating_sub(back);
+        if journal > 0 && back <= count {
+            if let Some(before) = read_alone(rt, alloc, dir, form, journal)? {
+                return Ok(before);
+            }
+        }
+    }
+    if count > 1 {
+        return Err(StoreRefusal::BadJournal {
+            journal: count.saturating_sub(1),
+            at: 0,
+        });
+    }
+    Ok(Before {
+        past: Past::new(alloc, form.members)?,
+        next: 1,
+        sum: form.sum(),
+        cut: None,
+    })
+}
+
+// Starts each member over its database.
+fn start_members(
+    rt: &HostRuntime,
+    alloc: Global,
+    dir: &str,
+    form: &Form,
+    past: &Past,
+) -> Result<Members<Kept>, StoreRefusal> {
+    let images = open_databases(rt, alloc, dir, past)?;
+    Members::<Kept>::open(alloc, form.schema.clone()?, images, past)
+}
+
+// Cuts what is torn at the last journal's end, and makes the next journal.
+fn next_journal(
+    rt: &HostRuntime,
+    alloc: Global,
+    dir: &str,
+    before: &Before,
+    syncs: bool,
+) -> Result<Scribe<JournalFile>, StoreRefusal> {
+    if let Some(cut) = before.cut {
+        cut_journal(rt, alloc, dir, cut.journal, cut.at)?;
+    }
+    let file = new_journal(rt, alloc, dir, before.next)?;
+    Ok(Scribe::new(alloc, JournalFile::new(alloc, file, syncs), before.sum))
+}
+
+// Opens the store that goes on from this, and names the members whose database is missing.
+fn go_on(
+    rt: &HostRuntime,
+    alloc: Global,
+    dir: &str,
+    form: &Form,
+    before: &Before,
+    syncs: bool,
+    reading: i64,
+) -> Result<(Store<Kept>, Vec<Member>), StoreRefusal> {
+    let members = start_members(rt, alloc, dir, form, &before.past)?;
+    let missing = members.missing()?;
+    let scribe = next_journal(rt, alloc, dir, before, syncs)?;
+    let store = Store::begin(members, scribe, before.next, before.past.marks, reading)?;
+    Ok((store, missing))
+}
+
+/// Opens the store in a folder: reads what its last journal tells, looks whether each member's database is what that says, and only
+/// then cuts what is torn at the journal's end, begins the next journal, and has a member elected. The clock shows `reading`. Where it does
+/// not sync the journal, a kill of the process loses nothing, but a power cut may.
+///
+/// 39, 46 to 49 and 55 as `StoreRefusal` says them; 38, 40 and 43 where files can't be read or written. After an error nothing is
+/// changed but by 38, 40 and 43, and then what was there is not.
+pub fn open(
+    rt: &HostRuntime,
+    alloc: Global,
+    dir: &str,
+    syncs: bool,
+    reading: i64,
+) -> Result<Opened, StoreRefusal> {
+    let folder = enter(rt, alloc, dir)?;
+    let before = read_before(rt, alloc, dir, &folder.form)?;
+    let (store, missing) = go_on(rt, alloc, dir, &folder.form, &before, syncs, reading)?;
+    Ok(Opened {
+        store,
+        folder,
+        journal: before.next,
+        cut: before.cut,
+        missing,
+    })
+}
+
+fn close_databases(databases: Vec<Database>) {
+    for database in databases {
+        let _ = database.close();
+    }
+}
+
+// Gives the room back that a journal does not need.
+fn finish_journal(file: Option<JournalFile>) -> Result<(), StoreRefusal> {
+    match file {
+        Some(file) => file.finish().map_err(|error| file_refusal(&error)),
+        None => Ok(()),
+    }
+}
+
+impl Opened {
+    /// What the store's form says.
+    pub fn form(&self) -> &Form {
+        &self.folder.form
+    }
+
+    /// Stops every member, and gives the room back that the journal does not need.
+    pub fn close(self) -> Result<(), StoreRefusal> {
+        let Opened { store, folder, .. } = self;
+        let (databases, file, closed) = store.close();
+        close_databases(databases);
+        let ended = match closed {
+            Ok(()) => finish_journal(file),
+            Err(refusal) => Err(refusal),
+        };
+        drop(folder);
+        ended
+    }
+}

@@ -1,0 +1,103 @@
+//! What else the journals of a store give: its decided requests, and the flights of its members.
+use crate::faults::file_refusal;
+use crate::journals::tell_all;
+use crate::place::enter;
+use fault::{Refusal, Text};
+use flight::flight::{Flight, Version};
+use flight::{WriteFault, write_flight};
+use model::member::Member;
+use playback::{Flown, Play};
+use std::alloc::Global;
+use std::fs;
+use std::fs::File;
+use store::StoreRefusal;
+
+/// The journals of the store in a folder, played: its requests that are decided, in the order of the log. What `audit` refuses, and
+/// each of its faults but 49 and 53.
+pub fn replay(rt: &HostRuntime, alloc: Global, dir: &str) -> Result<Play, StoreRefusal> {
+    let folder = enter(rt, alloc, dir)?;
+    let form = &folder.form;
+    let mut play = Play::new(alloc, form.members, form.schema.clone()?, false)?;
+    tell_all(rt, alloc, dir, form, &mut play)?;
+    Ok(play)
+}
+
+fn fault_refusal(fault: WriteFault) -> StoreRefusal {
+    match fault {
+        WriteFault::NoMemory => StoreRefusal::Refused(Refusal::NoMemory),
+        WriteFault::Writer(error) => file_refusal(&error),
+    }
+}
+
+// Writes a flight into a new file; one that is there already is refused 56.
+fn write_one(
+    rt: &HostRuntime,
+    alloc: Global,
+    out: &str,
+    flight: &Flight,
+) -> Result<(), StoreRefusal> {
+    let node = flight.node;
+    let path = format!(in alloc; "{out}/node{node}.flight")?;
+    let mut file = match File::create_new(rt, path.as_str()) {
+        Ok(file) => file,
+        Err(error) if error.kind() == std::io::ErrorKind::AlreadyExists => {
+            return Err(StoreRefusal::NotEmpty);
+        }
+        Err(error) => return Err(file_refusal(&error)),
+    };
+    write_flight(alloc, flight, &mut file).map_err(fault_refusal)
+}
+
+fn write_all(
+    rt: &HostRuntime,
+    alloc: Global,
+    out: &str,
+    schema: &Text,
+    flown: Flown,
+) -> Result<(), StoreRefusal> {
+    let Flown { lives, answers } = flown;
+    let members = lives.len();
+    let mut node: Member = 0;
+    for (lives, answers) in lives.into_iter().zip(answers) {
+        node = node.saturating_add(1);
+        let flight = Flight {
+            version: Version::Three,
+            node,
+            members,
+            schema: schema.clone()?,
+            lives,
+            answers,
+        };
+        write_one(rt, alloc, out, &flight)?;
+    }
+    Ok(())
+}
+
+// Makes a folder where there is none.
+fn make_folder(rt: &HostRuntime, out: &str) -> Result<(), StoreRefusal> {
+    match fs::exists(rt, out) {
+        Ok(true) => Ok(()),
+        Ok(false) => fs::create_dir(rt, out).map_err(|error| file_refusal(&error)),
+        Err(error) => Err(file_refusal(&error)),
+    }
+}
+
+/// Writes the flights of the store in a folder into new files of another folder, which is made if it is not there: `node1.flight` and so
+/// on, as `live` writes them. What `replay` refuses; 56 where one of these files is there already; 40 where one can't be written.
+pub fn flights(rt: &HostRuntime, alloc: Global, dir: &str, out: &str) -> Result<(), StoreRefusal> {
+    let folder = enter(rt, alloc, dir)?;
+    let form = &folder.form;
+    let mut play = Play::new(alloc, form.members, form.schema.clone()?, true)?;
+    tell_all(rt, alloc, dir, form, &mut play)?;
+    let flown = play.into_flown()?;
+    make_folder(rt, out)?;
+    write_all(rt, alloc, out, &form.schema_text, flown)
+}
+
+/// Whether this is the name of a file, which no folder has.
+pub fn is_file(rt: &HostRuntime, name: &str) -> bool {
+    match fs::metadata(rt, name) {
+        Ok(found) => found.is_file(),
+        Err(_) => false,
+    }
+}
