@@ -14,6 +14,6 @@ mod replayed;
 pub use auditing::{Audited, Verdict, audit};
 pub use form::{Form, read_form};
 pub use journal_file::JournalFile;
-pub use opening::{Cut, Kept, Opened, open};
+pub use opening::{Cut, Kept, Opened, close, open};
 pub use place::{Folder, enter, make};
 pub use replayed::{flights, is_file, replay};
