@@ -3,40 +3,13 @@ use crate::outputs::{shown_answer, shown_outcome};
 use crate::printing::print_bytes;
 use crate::session::Session;
 use crate::stop::Fault;
-use looks::Asked;
+use forms::asked_by;
 use model::member::Member;
 use model::request::{Client, RequestNumber};
-use schema::Schema;
-use sqlread::query::{SystemTime, read_query};
-use std::alloc::Global;
 use store::Outcome;
 use store::announcing::Announces;
 use store::chain::OWN_CLIENT;
 use storecommands::{Kind, read_kind};
-
-// The system time that a question asks about.
-fn time_of(alloc: Global, schema: &Schema, text: &str) -> Option<SystemTime> {
-    match read_query(alloc, schema, text) {
-        Ok(query) => query.time,
-        Err(_) => None,
-    }
-}
-
-fn about(time: SystemTime) -> Asked {
-    if time.first == time.last {
-        Asked::AsOf
-    } else {
-        Asked::UpTo
-    }
-}
-
-// Whether a question asks about one instant.
-fn asked_by(alloc: Global, schema: &Schema, text: &str) -> Asked {
-    match time_of(alloc, schema, text) {
-        Some(time) => about(time),
-        None => Asked::AsOf,
-    }
-}
 
 impl<'a, K: Announces> Session<'a, K>
 where
