@@ -9,11 +9,12 @@ use model::member::Member;
 use playback::Decided;
 use std::alloc::{AllocError, Global};
 use std::fs::File;
-use std::io::{BufReader, IsTerminal, Read};
+use std::io::{BufRead, BufReader, IsTerminal, Read};
 use std::{env, fs};
 use store::StoreRefusal;
+use store::announcing::Announces;
 use storecommands::{Command, NewStore, OpenStore};
-use storefolder::{Audited, Verdict};
+use storefolder::{Audited, Opened, Verdict};
 
 // How many columns a terminal has, where nothing tells.
 const TERMINAL: usize = 80;
@@ -68,6 +69,24 @@ fn clock_of<'a>(open: OpenStore<'_>) -> Result<Option<i64>, Stop<'a>> {
     }
 }
 
+// A sitting at a store that is open: what came of it, the store, and whether something was refused.
+fn sit_at<R: BufRead + Drop, K: Announces>(
+    rt: &HostRuntime,
+    alloc: Global,
+    place: Place<'_>,
+    input: &mut Input<R>,
+    opened: Opened<K>,
+    clock: Option<i64>,
+) -> (Result<(), Fault>, Opened<K>, bool)
+where
+    K::Image: Drop,
+{
+    let mut session = Session::new(alloc, place, opened, clock);
+    let played = session.play(rt, input);
+    let (opened, is_refused) = session.end();
+    (played, opened, is_refused)
+}
+
 // A sitting over a reader. The exit status is 1 where something was refused and nobody sits at a terminal.
 fn sit<R: Read + Drop>(
     rt: &HostRuntime,
@@ -78,17 +97,15 @@ fn sit<R: Read + Drop>(
     clock: Option<i64>,
 ) -> Result<u8, Fault> {
     let reading = reading_of(rt, clock)?;
-    let opened = storefolder::open(rt, alloc, place.dir, syncs, reading)?;
     let Ok(reader) = BufReader::new(alloc, reader) else {
         return Err(Fault::from(Refusal::NoMemory));
     };
     let mut input = Input::new(alloc, reader);
-    let mut session = Session::new(alloc, place, opened, clock);
-    session.greet(rt)?;
-    let played = session.play(rt, &mut input);
-    let ended = session.end();
+    let opened = storefolder::open(rt, alloc, place.dir, syncs, reading)?;
+    let (played, opened, is_refused) = sit_at(rt, alloc, place, &mut input, opened, clock);
+    let closed = storefolder::close(opened);
     played?;
-    let is_refused = ended?;
+    closed?;
     Ok(if is_refused && !place.is_terminal {
         1
     } else {
@@ -98,7 +115,10 @@ fn sit<R: Read + Drop>(
 
 // Whether it is the input that can't be read.
 fn is_of_input(fault: &Fault) -> bool {
-    matches!(fault, Fault::Refused(StoreRefusal::Refused(Refusal::BadScript(_))))
+    matches!(
+        fault,
+        Fault::Refused(StoreRefusal::Refused(Refusal::BadScript(_)))
+    )
 }
 
 // Why a sitting over this input ended before its end.
@@ -106,7 +126,11 @@ fn sitting_stopped<'a>(fault: Fault, dir: &'a str, input: Name<'a>) -> Stop<'a> 
     if is_of_input(&fault) {
         Stop::of(fault, input, "taking its lines")
     } else {
-        Stop::of(fault, Name::Given(dir), "opening the store and taking lines")
+        Stop::of(
+            fault,
+            Name::Given(dir),
+            "opening the store and taking lines",
+        )
     }
 }
 
@@ -253,7 +277,11 @@ fn run_flights<'a>(
     match storefolder::flights(rt, alloc, dir, out) {
         Ok(()) => Ok(0),
         Err(StoreRefusal::NotEmpty) => {
-            Err(Stop::of(Fault::Refused(StoreRefusal::NotEmpty), Name::Given(out), tried))
+            Err(Stop::of(
+                Fault::Refused(StoreRefusal::NotEmpty),
+                Name::Given(out),
+                tried,
+            ))
         }
         Err(refusal) => Err(Stop::of(Fault::Refused(refusal), Name::Given(dir), tried)),
     }

@@ -5,9 +5,13 @@ use crate::session::Session;
 use crate::stop::Fault;
 use model::member::Member;
 use store::StoreRefusal;
+use store::announcing::Announces;
 use storecommands::DotCommand;
 
-impl<'a> Session<'a> {
+impl<'a, K: Announces> Session<'a, K>
+where
+    K::Image: Drop,
+{
     fn stop(&mut self, rt: &HostRuntime, member: Member) -> Result<(), Fault> {
         let reading = self.reading(rt)?;
         match self.opened.store.stop(member) {
@@ -66,11 +70,7 @@ impl<'a> Session<'a> {
     }
 
     /// Obeys a command that is a line by itself. Whether the sitting goes on.
-    pub fn obey(
-        &mut self,
-        rt: &HostRuntime,
-        command: DotCommand<'_>,
-    ) -> Result<bool, Fault> {
+    pub fn obey(&mut self, rt: &HostRuntime, command: DotCommand<'_>) -> Result<bool, Fault> {
         match command {
             DotCommand::Stop(member) => self.stop(rt, member)?,
             DotCommand::Start(member) => self.start(rt, member)?,

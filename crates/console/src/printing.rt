@@ -5,6 +5,7 @@ use std::alloc::{AllocError, Global};
 use std::io;
 use std::io::Write;
 use store::StoreRefusal;
+use store::announcing::Announces;
 use store::status::{Standing, Status};
 use storefolder::Opened;
 
@@ -60,7 +61,14 @@ pub(crate) fn leads(alloc: Global, leader: Option<Member>) -> Result<String, All
 }
 
 /// The line that a sitting at a terminal begins with.
-pub(crate) fn banner(alloc: Global, dir: &str, opened: &Opened) -> Result<String, AllocError> {
+pub(crate) fn banner<K: Announces>(
+    alloc: Global,
+    dir: &str,
+    opened: &Opened<K>,
+) -> Result<String, AllocError>
+where
+    K::Image: Drop,
+{
     let name = name_of(dir);
     let members = counted(alloc, opened.store.members(), "member")?;
     let leads = leads(alloc, opened.store.leader())?;
@@ -75,7 +83,13 @@ pub(crate) fn banner(alloc: Global, dir: &str, opened: &Opened) -> Result<String
 }
 
 /// What was cut as the store was opened, and what is missing.
-pub(crate) fn warnings(alloc: Global, opened: &Opened) -> Result<String, AllocError> {
+pub(crate) fn warnings<K: Announces>(
+    alloc: Global,
+    opened: &Opened<K>,
+) -> Result<String, AllocError>
+where
+    K::Image: Drop,
+{
     let mut text = String::new(alloc);
     if let Some(cut) = opened.cut {
         let journal = cut.journal;

@@ -3,41 +3,18 @@ use crate::outputs::{shown_answer, shown_outcome};
 use crate::printing::print_bytes;
 use crate::session::Session;
 use crate::stop::Fault;
-use looks::Asked;
+use forms::asked_by;
 use model::member::Member;
 use model::request::{Client, RequestNumber};
-use schema::Schema;
-use sqlread::query::{SystemTime, read_query};
-use std::alloc::Global;
-use store::chain::OWN_CLIENT;
 use store::Outcome;
+use store::announcing::Announces;
+use store::chain::OWN_CLIENT;
 use storecommands::{Kind, read_kind};
 
-// The system time that a question asks about.
-fn time_of(alloc: Global, schema: &Schema, text: &str) -> Option<SystemTime> {
-    match read_query(alloc, schema, text) {
-        Ok(query) => query.time,
-        Err(_) => None,
-    }
-}
-
-fn about(time: SystemTime) -> Asked {
-    if time.first == time.last {
-        Asked::AsOf
-    } else {
-        Asked::UpTo
-    }
-}
-
-// Whether a question asks about one instant.
-fn asked_by(alloc: Global, schema: &Schema, text: &str) -> Asked {
-    match time_of(alloc, schema, text) {
-        Some(time) => about(time),
-        None => Asked::AsOf,
-    }
-}
-
-impl<'a> Session<'a> {
+impl<'a, K: Announces> Session<'a, K>
+where
+    K::Image: Drop,
+{
     /// Hands in a request of a client, and shows what came of it.
     pub fn submit(
         &mut self,
@@ -80,12 +57,7 @@ impl<'a> Session<'a> {
     }
 
     // Asks a member, or if none is named the one that is asked first, and shows the answer.
-    fn ask(
-        &mut self,
-        rt: &HostRuntime,
-        member: Option<Member>,
-        text: &str,
-    ) -> Result<(), Fault> {
+    fn ask(&mut self, rt: &HostRuntime, member: Option<Member>, text: &str) -> Result<(), Fault> {
         let reading = self.reading(rt)?;
         let member = match member {
             Some(member) => member,
@@ -106,12 +78,7 @@ impl<'a> Session<'a> {
     }
 
     /// Takes a text that is whole, whose first line is this one.
-    pub fn take_text(
-        &mut self,
-        rt: &HostRuntime,
-        text: &str,
-        line: usize,
-    ) -> Result<(), Fault> {
+    pub fn take_text(&mut self, rt: &HostRuntime, text: &str, line: usize) -> Result<(), Fault> {
         match read_kind(text) {
             Some((Kind::Question(member), words)) => self.ask(rt, member, words),
             Some((Kind::Own, words)) => self.execute(rt, words),

@@ -6,6 +6,7 @@ use fault::Refusal;
 use std::alloc::Global;
 use std::rt::Clock;
 use store::StoreRefusal;
+use store::announcing::Announces;
 use storecommands::dot::Form;
 use storefolder::Opened;
 
@@ -24,10 +25,13 @@ pub(crate) struct Place<'a> {
 
 /// A sitting.
 #[derive(Drop)]
-pub(crate) struct Session<'a> {
+pub(crate) struct Session<'a, K: Announces>
+where
+    K::Image: Drop,
+{
     pub alloc: Global,
     pub place: Place<'a>,
-    pub opened: Opened,
+    pub opened: Opened<K>,
     /// What clocks show, if not the system's.
     pub clock: Option<i64>,
     pub manner: Manner,
@@ -46,8 +50,16 @@ pub(crate) fn reading_of(rt: &HostRuntime, clock: Option<i64>) -> Result<i64, St
     }
 }
 
-impl<'a> Session<'a> {
-    pub fn new(alloc: Global, place: Place<'a>, opened: Opened, clock: Option<i64>) -> Session<'a> {
+impl<'a, K: Announces> Session<'a, K>
+where
+    K::Image: Drop,
+{
+    pub fn new(
+        alloc: Global,
+        place: Place<'a>,
+        opened: Opened<K>,
+        clock: Option<i64>,
+    ) -> Session<'a, K> {
         let form = if place.is_terminal {
             Form::Table
         } else {
@@ -67,15 +79,14 @@ impl<'a> Session<'a> {
         }
     }
 
-    /// Closes the store. Whether anything was refused.
-    pub fn end(self) -> Result<bool, StoreRefusal> {
+    /// Ends the sitting: the store, and whether anything was refused.
+    pub fn end(self) -> (Opened<K>, bool) {
         let Session {
             opened,
             is_refused,
             ..
         } = self;
-        opened.close()?;
-        Ok(is_refused)
+        (opened, is_refused)
     }
 
     /// Says what was cut and what is missing and, at a terminal, what is there.

@@ -3,6 +3,7 @@ use crate::input::Input;
 use crate::session::Session;
 use crate::stop::Fault;
 use std::io::BufRead;
+use store::announcing::Announces;
 use storecommands::read_dot_command;
 
 // Whether a line is left out: one with blanks alone, or a comment.
@@ -10,7 +11,10 @@ fn is_skipped(line: &str) -> bool {
     line.trim().is_empty() || line.starts_with('#')
 }
 
-impl<'a> Session<'a> {
+impl<'a, K: Announces> Session<'a, K>
+where
+    K::Image: Drop,
+{
     // The rest of a text whose first line this is: up to a line that ends with a semicolon, or the end of the input.
     fn whole_text<R: BufRead + Drop>(
         &self,
@@ -74,12 +78,13 @@ impl<'a> Session<'a> {
         Ok(true)
     }
 
-    /// Takes lines until there are no more, or one says that it is over.
+    /// Greets, and takes lines until there are no more, or one says that it is over.
     pub fn play<R: BufRead + Drop>(
         &mut self,
         rt: &HostRuntime,
         input: &mut Input<R>,
     ) -> Result<(), Fault> {
+        self.greet(rt)?;
         for _ in 0..u64::MAX {
             self.prompt(rt, true)?;
             let Some(line) = input.next()? else {

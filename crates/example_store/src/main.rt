@@ -5,6 +5,7 @@
 use answertext::Lines;
 use anyhow::Result;
 use std::alloc::Global;
+use store::announcing::Announces;
 use storefolder::Opened;
 
 const DIR: &str = "pay";
@@ -31,7 +32,15 @@ const THEN: &str =
 const NOW: &str = "SELECT * FROM Pay;";
 
 // Hands in a request, and prints what came of it.
-fn request(rt: &HostRuntime, pay: &mut Opened, reading: i64, text: &str) -> Result<()> {
+fn request<K: Announces>(
+    rt: &HostRuntime,
+    pay: &mut Opened<K>,
+    reading: i64,
+    text: &str,
+) -> Result<()>
+where
+    K::Image: Drop,
+{
     let (number, outcome) = pay.store.execute(reading, text)?;
     let number = number.get();
     println!(rt; "request {number} {outcome}")?;
@@ -39,7 +48,15 @@ fn request(rt: &HostRuntime, pay: &mut Opened, reading: i64, text: &str) -> Resu
 }
 
 // Asks member 2, and prints its answer.
-fn question(rt: &HostRuntime, pay: &mut Opened, reading: i64, text: &str) -> Result<()> {
+fn question<K: Announces>(
+    rt: &HostRuntime,
+    pay: &mut Opened<K>,
+    reading: i64,
+    text: &str,
+) -> Result<()>
+where
+    K::Image: Drop,
+{
     let answer = pay.store.ask(reading, 2, text)?;
     let lines = Lines(&answer);
     print!(rt; "{lines}")?;
@@ -50,7 +67,7 @@ fn january(rt: &HostRuntime, alloc: Global) -> Result<()> {
     storefolder::make(rt, alloc, DIR, 3, SCHEMA)?;
     let mut pay = storefolder::open(rt, alloc, DIR, true, JANUARY)?;
     request(rt, &mut pay, JANUARY, HIRED)?;
-    pay.close()?;
+    storefolder::close(pay)?;
     Ok(())
 }
 
@@ -59,7 +76,7 @@ fn february(rt: &HostRuntime, alloc: Global) -> Result<()> {
     request(rt, &mut pay, FEBRUARY, RAISED)?;
     question(rt, &mut pay, FEBRUARY, THEN)?;
     question(rt, &mut pay, FEBRUARY, NOW)?;
-    pay.close()?;
+    storefolder::close(pay)?;
     Ok(())
 }
 

@@ -2,7 +2,7 @@
 ghost use Rattle.std.specs.Prelude.{IfOk};
 ghost use Rattle.storefolder.specs.Audit.{IsUpheld};
 
-use crate::databases::{Database, open_databases};
+use crate::databases::open_databases;
 use crate::form::Form;
 use crate::journals::tell_all;
 use crate::place::enter;
@@ -17,6 +17,7 @@ use playback::{Flown, Play, judge};
 use schema::Schema;
 use sqlite::{File as DatabaseFile, FileStore};
 use std::alloc::Global;
+use store::announcing::Judging;
 use store::chain::Chain;
 use store::{Past, StoreRefusal};
 
@@ -44,24 +45,20 @@ pub enum Verdict {
 }
 
 // What a database holds: in short, and its log. 49 where it holds no state of a member.
-fn found_in(
+fn found_in<K: Judging>(
     alloc: Global,
-    database: Database,
+    database: K::Image,
     form: &Form,
     member: Member,
-) -> Result<(Summary, Vec<Entry>), StoreRefusal> {
+) -> Result<(Summary, Vec<Entry>), StoreRefusal>
+where
+    K::Image: Drop,
+{
     if form.members > 7 || member < 1 || member > form.members {
         return Err(StoreRefusal::Refused(Refusal::NodeDown));
     }
     let schema = form.schema.clone()?;
-    let started: Result<Node<SqlKeeper<FileStore<DatabaseFile>>>, _> = Node::start(
-        alloc,
-        database,
-        schema,
-        form.members,
-        member,
-    );
-    let mut node = match started {
+    let mut node = match Node::<K>::start(alloc, database, schema, form.members, member) {
         Ok(node) => node,
         Err((error, _)) => return Err(refusal_of(Refusal::from(error), member)),
     };
@@ -82,33 +79,39 @@ fn refusal_of(refusal: Refusal, member: Member) -> StoreRefusal {
 }
 
 // Compares a member's database with what the journals give. False where it is missing.
-fn is_compared(
+fn is_compared<K: Judging>(
     alloc: Global,
-    database: Option<Database>,
+    database: Option<K::Image>,
     form: &Form,
     member: Member,
     play: &mut Play,
-) -> Result<bool, StoreRefusal> {
+) -> Result<bool, StoreRefusal>
+where
+    K::Image: Drop,
+{
     let Some(database) = database else {
         return Ok(false);
     };
-    let (found, entries) = found_in(alloc, database, form, member)?;
+    let (found, entries) = found_in::<K>(alloc, database, form, member)?;
     play.check_found(member, &found, &entries)?;
     Ok(true)
 }
 
 // Compares each database that is there, and names those that are missing.
-fn compare_databases(
+fn compare_databases<K: Judging>(
     alloc: Global,
-    databases: Vec<Option<Database>>,
+    databases: Vec<Option<K::Image>>,
     form: &Form,
     play: &mut Play,
-) -> Result<Vec<Member>, StoreRefusal> {
+) -> Result<Vec<Member>, StoreRefusal>
+where
+    K::Image: Drop,
+{
     let mut missing = Vec::new(alloc);
     let mut member: Member = 0;
     for database in databases {
         member = member.saturating_add(1);
-        if !is_compared(alloc, database, form, member, play)? {
+        if !is_compared::<K>(alloc, database, form, member, play)? {
             missing.push(member)?;
         }
     }
@@ -126,7 +129,7 @@ fn check_databases(
     let mut past = Past::new(alloc, form.members)?;
     tell_all(rt, alloc, dir, form, &mut past)?;
     let databases = open_databases(rt, alloc, dir, &past)?;
-    compare_databases(alloc, databases, form, play)
+    compare_databases::<SqlKeeper<FileStore<DatabaseFile>>>(alloc, databases, form, play)
 }
 
 // Plays all journals, compares the databases, and names those that are missing.

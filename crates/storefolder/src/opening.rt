@@ -9,7 +9,7 @@ use journal::blocks::text_in;
 use model::member::Member;
 use sqlite::{File as DatabaseFile, FileStore};
 use std::alloc::Global;
-use store::announcing::Announcing;
+use store::announcing::{Announces, Announcing};
 use store::members::Members;
 use store::past::{End, tell_journal};
 use store::scribe::Scribe;
@@ -38,8 +38,11 @@ struct Before {
 
 /// A store that is open, in its folder.
 #[derive(Drop)]
-pub struct Opened {
-    pub store: Store<Kept>,
+pub struct Opened<K: Announces>
+where
+    K::Image: Drop,
+{
+    pub store: Store<K>,
     folder: Folder,
     /// The number of its journal.
     pub journal: u64,
@@ -47,6 +50,19 @@ pub struct Opened {
     pub cut: Option<Cut>,
     /// The members whose database is missing.
     pub missing: Vec<Member>,
+}
+
+// What is left of a store whose members are stopped.
+#[derive(Drop)]
+struct Stopped<K: Announces>
+where
+    K::Image: Drop,
+{
+    databases: Vec<K::Image>,
+    journal: Option<K::Journal>,
+    /// What could not be written to the journal.
+    closed: Result<(), StoreRefusal>,
+    folder: Folder,
 }
 
 // How many bytes from this place on are not zero.
@@ -121,18 +137,6 @@ fn read_before(
     })
 }
 
-// Starts each member over its database.
-fn start_members(
-    rt: &HostRuntime,
-    alloc: Global,
-    dir: &str,
-    form: &Form,
-    past: &Past,
-) -> Result<Members<Kept>, StoreRefusal> {
-    let images = open_databases(rt, alloc, dir, past)?;
-    Members::<Kept>::open(alloc, form.schema.clone()?, images, past)
-}
-
 // Cuts what is torn at the last journal's end, and makes the next journal.
 fn next_journal(
     rt: &HostRuntime,
@@ -140,29 +144,39 @@ fn next_journal(
     dir: &str,
     before: &Before,
     syncs: bool,
-) -> Result<Scribe<JournalFile>, StoreRefusal> {
+) -> Result<JournalFile, StoreRefusal> {
     if let Some(cut) = before.cut {
         cut_journal(rt, alloc, dir, cut.journal, cut.at)?;
     }
     let file = new_journal(rt, alloc, dir, before.next)?;
-    Ok(Scribe::new(alloc, JournalFile::new(alloc, file, syncs), before.sum))
+    Ok(JournalFile::new(alloc, file, syncs))
 }
 
-// Opens the store that goes on from this, and names the members whose database is missing.
-fn go_on(
-    rt: &HostRuntime,
+// Starts each member over its database and, if each is what was told of it, begins the journal that this gives.
+fn go_on<K: Announces, F: FnOnce() -> Result<K::Journal, StoreRefusal>>(
     alloc: Global,
-    dir: &str,
-    form: &Form,
+    folder: Folder,
     before: &Before,
-    syncs: bool,
+    images: Vec<Option<K::Image>>,
+    begin_journal: F,
     reading: i64,
-) -> Result<(Store<Kept>, Vec<Member>), StoreRefusal> {
-    let members = start_members(rt, alloc, dir, form, &before.past)?;
+) -> Result<Opened<K>, StoreRefusal>
+where
+    K::Image: Drop,
+    requires { F.IsAlwaysCallable begin_journal }
+{
+    let schema = folder.form.schema.clone()?;
+    let members = Members::<K>::open(alloc, schema, images, &before.past)?;
     let missing = members.missing()?;
-    let scribe = next_journal(rt, alloc, dir, before, syncs)?;
+    let scribe = Scribe::new(alloc, begin_journal()?, before.sum);
     let store = Store::begin(members, scribe, before.next, before.past.marks, reading)?;
-    Ok((store, missing))
+    Ok(Opened {
+        store,
+        folder,
+        journal: before.next,
+        cut: before.cut,
+        missing,
+    })
 }
 
 /// Opens the store in a folder: reads what its last journal tells, looks whether each member's database is what that says, and only
@@ -177,17 +191,12 @@ pub fn open(
     dir: &str,
     syncs: bool,
     reading: i64,
-) -> Result<Opened, StoreRefusal> {
+) -> Result<Opened<Kept>, StoreRefusal> {
     let folder = enter(rt, alloc, dir)?;
     let before = read_before(rt, alloc, dir, &folder.form)?;
-    let (store, missing) = go_on(rt, alloc, dir, &folder.form, &before, syncs, reading)?;
-    Ok(Opened {
-        store,
-        folder,
-        journal: before.next,
-        cut: before.cut,
-        missing,
-    })
+    let images = open_databases(rt, alloc, dir, &before.past)?;
+    let begin_journal = || next_journal(rt, alloc, dir, &before, syncs);
+    go_on::<Kept, _>(alloc, folder, &before, images, begin_journal, reading)
 }
 
 fn close_databases(databases: Vec<Database>) {
@@ -204,22 +213,40 @@ fn finish_journal(file: Option<JournalFile>) -> Result<(), StoreRefusal> {
     }
 }
 
-impl Opened {
+impl<K: Announces> Opened<K>
+where
+    K::Image: Drop,
+{
     /// What the store's form says.
     pub fn form(&self) -> &Form {
         &self.folder.form
     }
 
-    /// Stops every member, and gives the room back that the journal does not need.
-    pub fn close(self) -> Result<(), StoreRefusal> {
+    // Stops every member. What comes back of the store, and the folder, which is still this process's own.
+    fn stop(self) -> Stopped<K> {
         let Opened { store, folder, .. } = self;
-        let (databases, file, closed) = store.close();
-        close_databases(databases);
-        let ended = match closed {
-            Ok(()) => finish_journal(file),
-            Err(refusal) => Err(refusal),
-        };
-        drop(folder);
-        ended
+        let (databases, journal, closed) = store.close();
+        Stopped {
+            databases,
+            journal,
+            closed,
+            folder,
+        }
     }
+}
+
+/// Stops every member, and gives the room back that the journal does not need. The refusal of what could not be written: nothing that
+/// was told is lost by it.
+pub fn close(opened: Opened<Kept>) -> Result<(), StoreRefusal> {
+    let Stopped {
+        databases,
+        journal,
+        closed,
+        folder,
+    } = opened.stop();
+    close_databases(databases);
+    let finished = finish_journal(journal);
+    drop(folder);
+    closed?;
+    finished
 }
