@@ -223,7 +223,7 @@ fn run_audit(rt: &HostRuntime, alloc: Global, dir: &str) -> Result<u8, Fault> {
             let line = format!(in alloc; "audit: {fault}\n")?;
             print(rt, line.as_str())?;
             if let Some(hint) = fault.hint() {
-                let _ = eprintln!(*rt; "{hint}");
+                let _ = eprintln!(*rt; "        {hint}");
             }
             Ok(1)
         }

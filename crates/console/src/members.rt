@@ -79,6 +79,7 @@ where
             DotCommand::Help => print(rt, HELP)?,
             DotCommand::Clock(reading) => self.clock = Some(reading),
             DotCommand::Format(form) => self.manner.form = form,
+            DotCommand::Beliefs(text) => self.draw(rt, text)?,
             DotCommand::Submit(client, number, text) => self.submit(rt, client, number, text)?,
             DotCommand::Quit => return Ok(false),
         }
