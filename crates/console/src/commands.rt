@@ -81,10 +81,11 @@ fn sit_at<R: BufRead + Drop, K: Announces>(
 where
     K::Image: Drop,
 {
-    let mut session = Session::new(alloc, place, opened, clock);
+    let Opened { store, found } = opened;
+    let mut session = Session::new(alloc, place, store, &found, clock);
     let played = session.play(rt, input);
-    let (opened, is_refused) = session.end();
-    (played, opened, is_refused)
+    let (store, is_refused) = session.end();
+    (played, Opened { store, found }, is_refused)
 }
 
 // A sitting over a reader. The exit status is 1 where something was refused and nobody sits at a terminal.

@@ -57,7 +57,7 @@ where
 {
     // Up to which instant a member can be asked.
     fn closed_at(&self, member: Member) -> Result<Option<Stamp>, Fault> {
-        let all = self.opened.store.status()?;
+        let all = self.store.status()?;
         let found = all.iter().find(|status| status.member == member);
         Ok(found.and_then(|status| status.closed))
     }
@@ -65,11 +65,11 @@ where
     /// Draws what was ever believed of the rows that a question asks for, up to what the member that is asked first has closed.
     pub fn draw(&mut self, rt: &HostRuntime, text: &str) -> Result<(), Fault> {
         let alloc = self.alloc;
-        let member = self.opened.store.first_asked();
+        let member = self.store.first_asked();
         let closed = self.closed_at(member)?;
-        let question = about_all(alloc, self.opened.store.schema(), text, closed)?;
+        let question = about_all(alloc, self.store.schema(), text, closed)?;
         let reading = self.reading(rt)?;
-        let answer = match self.opened.store.ask(reading, member, question.as_str()) {
+        let answer = match self.store.ask(reading, member, question.as_str()) {
             Ok(answer) => answer,
             Err(refusal) => {
                 let before = format!(in alloc; "node {member} ")?;
@@ -77,7 +77,7 @@ where
             }
         };
         let canvas = Canvas::Text(self.place.width.unwrap_or(WIDE));
-        let schema = self.opened.store.schema();
+        let schema = self.store.schema();
         match draw_answer(alloc, canvas, schema, question.as_str(), member, &answer)? {
             Drawing::Drawn(picture) => print_bytes(rt, picture.as_slice()),
             Drawing::NoAnswer | Drawing::TooMuch => print(rt, "nothing to draw\n"),

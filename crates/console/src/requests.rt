@@ -24,7 +24,7 @@ where
         text: &str,
     ) -> Result<(), Fault> {
         let reading = self.reading(rt)?;
-        match self.opened.store.submit(reading, client, number, text) {
+        match self.store.submit(reading, client, number, text) {
             Ok(outcome) => self.show_outcome(rt, client, number, outcome),
             Err(refusal) => self.refuse(rt, "", refusal),
         }
@@ -36,7 +36,7 @@ where
         let Some(client) = Client::new(OWN_CLIENT) else {
             return Ok(());
         };
-        match self.opened.store.execute(reading, text) {
+        match self.store.execute(reading, text) {
             Ok((number, outcome)) => self.show_outcome(rt, client, number, outcome),
             Err(refusal) => self.refuse(rt, "", refusal),
         }
@@ -61,12 +61,12 @@ where
         let reading = self.reading(rt)?;
         let member = match member {
             Some(member) => member,
-            None => self.opened.store.first_asked(),
+            None => self.store.first_asked(),
         };
         let alloc = self.alloc;
-        match self.opened.store.ask(reading, member, text) {
+        match self.store.ask(reading, member, text) {
             Ok(answer) => {
-                let asked = asked_by(alloc, self.opened.store.schema(), text);
+                let asked = asked_by(alloc, self.store.schema(), text);
                 let shown = shown_answer(alloc, self.manner, member, &answer, asked)?;
                 print_bytes(rt, shown.as_slice())
             }
