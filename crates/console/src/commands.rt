@@ -7,14 +7,15 @@ use causes::{Name, Trouble};
 use fault::Refusal;
 use model::member::Member;
 use playback::Decided;
+use sqlite::Alter;
 use std::alloc::{AllocError, Global};
 use std::fs::File;
 use std::io::{BufRead, BufReader, IsTerminal, Read};
 use std::{env, fs};
-use store::StoreRefusal;
 use store::announcing::Announces;
+use store::{Device, StoreRefusal};
 use storecommands::{Command, NewStore, OpenStore};
-use storefolder::{Audited, Opened, Verdict};
+use storefolder::{Audited, Kept, Opened, Verdict};
 
 // How many columns a terminal has, where nothing tells.
 const TERMINAL: usize = 80;
@@ -88,6 +89,18 @@ where
     (played, Opened { store, found }, is_refused)
 }
 
+// The same of a store whose databases are in S.
+fn sit_over<R: BufRead + Drop, S: Alter + Drop, J: Device>(
+    rt: &HostRuntime,
+    alloc: Global,
+    place: Place<'_>,
+    input: &mut Input<R>,
+    opened: Opened<Kept<S, J>>,
+    clock: Option<i64>,
+) -> (Result<(), Fault>, Opened<Kept<S, J>>, bool) {
+    sit_at(rt, alloc, place, input, opened, clock)
+}
+
 // A sitting over a reader. The exit status is 1 where something was refused and nobody sits at a terminal.
 fn sit<R: Read + Drop>(
     rt: &HostRuntime,
@@ -103,7 +116,7 @@ fn sit<R: Read + Drop>(
     };
     let mut input = Input::new(alloc, reader);
     let opened = storefolder::open(rt, alloc, place.dir, syncs, reading)?;
-    let (played, opened, is_refused) = sit_at(rt, alloc, place, &mut input, opened, clock);
+    let (played, opened, is_refused) = sit_over(rt, alloc, place, &mut input, opened, clock);
     let closed = storefolder::close(opened);
     played?;
     closed?;

@@ -16,6 +16,6 @@ pub use auditing::{Audited, Verdict, audit};
 pub use form::{Form, read_form};
 pub use journal_file::JournalFile;
 pub use memory::{InMemory, open_in_memory};
-pub use opening::{Cut, FolderStore, Found, Opened, close, open};
+pub use opening::{Cut, FolderStore, Found, Kept, Opened, close, open};
 pub use place::{Folder, enter, make};
 pub use replayed::{flights, is_file, replay};

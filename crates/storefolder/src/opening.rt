@@ -15,8 +15,11 @@ use store::past::{End, tell_journal};
 use store::scribe::Scribe;
 use store::{Device, Past, Store, StoreRefusal};
 
+/// What keeps a member of a store: a database in S, and what it is about to store is told to a journal J first.
+pub type Kept<S, J> = Announcing<SqlKeeper<S>, J>;
+
 /// A store that is open in a folder.
-pub type FolderStore = Opened<Announcing<SqlKeeper<FileStore<DatabaseFile>>, JournalFile>>;
+pub type FolderStore = Opened<Kept<FileStore<DatabaseFile>, JournalFile>>;
 
 /// A journal whose end is torn: where its whole blocks end, and how many bytes follow that are not zero.
 #[derive(Clone, Copy, PartialEq, Eq, Debug)]
@@ -60,12 +63,9 @@ where
 
 // What is left of a store whose members are stopped.
 #[derive(Drop)]
-struct Stopped<K: Announces>
-where
-    K::Image: Drop,
-{
-    databases: Vec<K::Image>,
-    journal: Option<K::Journal>,
+struct Stopped<S: Alter + Drop, J: Device> {
+    databases: Vec<Connection<S>>,
+    journal: Option<J>,
     /// What could not be written to the journal.
     closed: Result<(), StoreRefusal>,
     found: Found,
@@ -188,10 +188,10 @@ fn open_over<S: Alter + Drop, J: Device, F: FnOnce() -> Result<J, StoreRefusal>>
     databases: Vec<Option<Connection<S>>>,
     begin_journal: F,
     reading: i64,
-) -> Result<Opened<Announcing<SqlKeeper<S>, J>>, StoreRefusal>
+) -> Result<Opened<Kept<S, J>>, StoreRefusal>
     requires { F.IsAlwaysCallable begin_journal }
 {
-    let (store, missing) = go_on::<Announcing<SqlKeeper<S>, J>, F>(
+    let (store, missing) = go_on::<Kept<S, J>, F>(
         alloc,
         &folder.form,
         before,
@@ -252,10 +252,7 @@ impl Found {
 }
 
 // Stops every member.
-fn stop<K: Announces>(opened: Opened<K>) -> Stopped<K>
-where
-    K::Image: Drop,
-{
+fn stop<S: Alter + Drop, J: Device>(opened: Opened<Kept<S, J>>) -> Stopped<S, J> {
     let Opened { store, found } = opened;
     let (databases, journal, closed) = store.close();
     Stopped {
