@@ -1,11 +1,22 @@
 -- Printable ASCII is text.
-use Rattle.std.proofs.Common.{◌≡◌, ℕ, zero, suc, ◌<◌, Bool, true, false, List, [], ◌∷◌, get_or, IsUtf8, arith}
-use Rattle.std.proofs.lemmas.Str.{IsUtf8-from_ascii}
+use Rattle.std.proofs.Common.{◌≡◌, ℕ, zero, suc, ◌<◌, ◌&&◌, Bool, true, false, List, [], ◌∷◌, refl, arith}
+use Rattle.std.specs.Prelude.{nat_le, slice_index, IsUtf8}
 use Rattle.std.specs.Str.{IsAscii}
+use Rattle.std.proofs.lemmas.Str.{IsUtf8-from_ascii}
+use Rattle.std.proofs.lemmas.Bool.Decides.{nat_tests}
 use Rattle.csvrows.specs.Fields.{is_printable}
 
+both : (a b : Bool) → (a && b) ≡ true → (a ≡ true) × (b ≡ true)
+both true b e = (refl, e)
+both false b e = absurd cc
+
+small : (b : ℕ) → (nat_le 32 b && nat_le b 126) ≡ true → b < 128
+small b e = let most = (both _ _ e).1 in grind (arith, nat_tests)
+
 pub is_ascii : (field : List ℕ) → is_printable field ≡ true → IsAscii field
-is_ascii field e = ?
+is_ascii [] e i = omega arith
+is_ascii (b ∷ bs) e zero = small b (both _ _ e).0
+is_ascii (b ∷ bs) e (suc i) = is_ascii bs (both _ _ e).1 i
 
 pub is_text : (field : List ℕ) → is_printable field ≡ true → IsUtf8 field
 is_text field e = IsUtf8-from_ascii field (is_ascii field e)
