@@ -1,5 +1,5 @@
 -- What the first line of a file names.
-use Rattle.std.specs.Prelude.{ℕ, suc, false, Bool, not, ◌||◌, ◌==◌, if◌then◌else◌, List, [], ◌∷◌, ◌++◌, length, map, slice_get, Option, Some, None, option_to_list, unwrap_or, Result, Ok, Err}
+use Rattle.std.specs.Prelude.{ℕ, ◌+◌, false, Bool, not, ◌||◌, ◌==◌, if◌then◌else◌, List, [], ◌∷◌, ◌++◌, length, map, slice_get, Option, Some, None, option_to_list, unwrap_or, Result, Ok, Err}
 use Rattle.std.specs.List.{list_all, range_with_len}
 use Rattle.std.specs.Option.{option_map_or}
 use Rattle.fault.specs.declared.refusal.Refusal.{Refusal}
@@ -33,7 +33,7 @@ target_in table line before place name =
 abbrev pub targets_after : TableShape → Bytes → List Target → ℕ → List Bytes → Result (List Target) Fault
 targets_after table line before place [] = Ok before
 targets_after table line before place (name ∷ names) =
-    target_in table line before place name >>= λ t. targets_after table line (before ++ option_to_list t) (suc place) names
+    target_in table line before place name >>= λ t. targets_after table line (before ++ option_to_list t) (place + 1) names
 
 -- each column but the system columns has a field
 abbrev pub has_all : TableShape → List Target → Bool

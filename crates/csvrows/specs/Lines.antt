@@ -1,7 +1,6 @@
 -- The lines of a file, and the fields of a line. A line feed is 10, a carriage return 13, a double quote 34, a comma 44.
-use Rattle.std.specs.Prelude.{ℕ, ◌+◌, ◌%◌, zero, suc, Bool, false, true, not, ◌&&◌, ◌==◌, if◌then◌else◌, List, [], ◌∷◌, length, map, count_by, Option, option_map, Result, Ok, Err}
+use Rattle.std.specs.Prelude.{ℕ, ◌+◌, ◌-◌, ◌%◌, Bool, false, not, ◌&&◌, ◌==◌, if◌then◌else◌, List, [], ◌∷◌, length, map, count_by, Option, option_map, Result, Ok, Err}
 use Rattle.std.specs.List.{list_any, slice_split}
-use Rattle.std.specs.Str.Lines.{strip_carriage_return}
 use Rattle.csv.specs.Machine.{next_record}
 use Rattle.csv.specs.Reading.{default_config, strip_bom}
 use Rattle.csv.specs.declared.parser.State.TheVariants.{StartRecord}
@@ -30,9 +29,9 @@ fields_at n line = if is_whole line then Ok (fields_in line) else Err (fault_at 
 
 -- how many bytes of a line stand before a field, by its place; whether they begin between quotes
 abbrev pub before_field : Bool → ℕ → Bytes → ℕ
-before_field quoted zero line = 0
-before_field quoted (suc place) [] = 0
-before_field quoted (suc place) (b ∷ rest) =
-    if b == 34 then suc (before_field (not quoted) (suc place) rest)
-    else if b == 44 && not quoted then suc (before_field false place rest)
-    else suc (before_field quoted (suc place) rest)
+before_field quoted place [] = 0
+before_field quoted place (b ∷ rest) =
+    if place == 0 then 0
+    else if b == 34 then 1 + before_field (not quoted) place rest
+    else if b == 44 && not quoted then 1 + before_field false (place - 1) rest
+    else 1 + before_field quoted place rest

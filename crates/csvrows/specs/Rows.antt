@@ -47,12 +47,13 @@ row_of name table header n line fields =
     >> fault_if (nat_lt 4096 (length (statement_text name header.0 values))) (fault_at n 0 TooLarge)
     >> Ok (n, statement_text name header.0 values)
 
+abbrev pub row_of_fields : Bytes → TableShape → List Target × ℕ → ℕ → Bytes → Option (List Bytes) → Result (Option (ℕ × Bytes)) Fault
+row_of_fields name table header n line None = Ok None
+row_of_fields name table header n line (Some fields) = row_of name table header n line fields >>= λ row. Ok (Some row)
+
 -- the row of a line, by its number and its text: none of a blank one
 unfoldable pub row_in : Bytes → TableShape → List Target × ℕ → ℕ → Bytes → Result (Option (ℕ × Bytes)) Fault
-row_in name table header n line = fields_at n line >>= λ fields. row_of_some fields where
-  row_of_some : Option (List Bytes) → Result (Option (ℕ × Bytes)) Fault
-  row_of_some None = Ok None
-  row_of_some (Some fields) = row_of name table header n line fields >>= λ row. Ok (Some row)
+row_in name table header n line = fields_at n line >>= λ fields. row_of_fields name table header n line fields
 
 -- the lines behind the first, from this one on
 unfoldable pub row_from : Bytes → TableShape → List Target × ℕ → ℕ → ℕ × Bytes → Result (Option (ℕ × Bytes)) Fault

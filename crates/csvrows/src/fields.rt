@@ -1,5 +1,6 @@
 //! What a field is as a value of a column.
-ghost use Rattle.std.specs.Prelude.{◌≡◌, ◌==◌, Some, None, IfSome, not, option_map, if◌then◌else◌};
+ghost use Rattle.std.specs.Prelude.{◌≡◌, ◌<◌, true, Some, None, IsTrue, IfSome, length, option_map, if◌then◌else◌};
+ghost use Rattle.std.specs.Char.{is_ascii_digit};
 ghost use Rattle.std.specs.List.{list_all};
 ghost use Rattle.std.specs.Str.{IsAscii};
 ghost use Rattle.namesyntax.specs.Parsing.{GivesInMemory};
@@ -12,7 +13,6 @@ use sqlchecks::literal::literal_value;
 use sqlsyntax::Literal;
 use sqltokens::{Digits, Quoted};
 use std::alloc::Global;
-use std::str;
 
 fn is_printable(field: &[u8]) -> bool
     ensures { result ≡ is_printable field.now }
@@ -21,7 +21,7 @@ fn is_printable(field: &[u8]) -> bool
 }
 
 /// A field as a text, if each of its bytes is printable ASCII.
-#[tactic(auto, using(crate::proofs::Printable::is_text))]
+#[tactic(auto, using(crate::proofs::Printable::is_text, crate::proofs::Printable::is_ascii))]
 pub(crate) fn plain(field: &[u8]) -> Option<&str>
     ensures text { option_map (λ t. t.now) result ≡ (if is_printable field.entry.now then Some field.entry.now else None) }
     ensures ascii { IfSome result (λ t. IsAscii t.now) }
@@ -29,7 +29,10 @@ pub(crate) fn plain(field: &[u8]) -> Option<&str>
     if !is_printable(field) {
         return None;
     }
-    str::from_utf8(field).ok()
+    match str::from_utf8(field) {
+        Ok(text) => Some(text),
+        Err(_) => None,
+    }
 }
 
 fn is_negative(field: &[u8]) -> bool
@@ -48,8 +51,12 @@ fn magnitude(field: &[u8]) -> &[u8]
     }
 }
 
+#[tactic(auto, using(crate::proofs::Printable::digits_are))]
 fn are_digits(field: &[u8]) -> bool
-    ensures { result ≡ are_digits field.now }
+    ensures value { result ≡ are_digits field.now }
+    ensures some { IsTrue result → 0 < length field.now }
+    ensures digits { IsTrue result → list_all is_ascii_digit field.now ≡ true }
+    ensures printable { IsTrue result → is_printable field.now ≡ true }
 {
     !field.is_empty() && field.iter().all(|b| b.is_ascii_digit())
 }

@@ -142,12 +142,7 @@ fn targets(
 
 // What a header of these names says.
 #[tactic(auto, unfolding(crate::specs::Header::header_of))]
-fn header_of(
-    alloc: Global,
-    table: &Table,
-    line: &[u8],
-    names: &ByteRecord,
-) -> Result<Header, Stop>
+fn header_of(alloc: Global, table: &Table, line: &[u8], names: &ByteRecord) -> Result<Header, Stop>
     ensures { GivesInMemory header_shape result (header_of table.now line.now (fields_of names.now)) }
 {
     let targets = targets(alloc, table, line, names)?;

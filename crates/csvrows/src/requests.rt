@@ -1,10 +1,10 @@
 //! The rows of a file as requests.
-ghost use Rattle.std.specs.Prelude.{◌≡◌, ◌<◌, Some, None, List, ℕ, map, option_map, unwrap_or, slice_get, string_bytes, IfOk};
+ghost use Rattle.std.specs.Prelude.{◌≡◌, ◌<◌, ◌++◌, ◌∷◌, [], ℕ, List, Some, None, map, option_map, unwrap_or, slice_get, IfOk};
 ghost use Rattle.std.specs.List.{enumerate_from};
 ghost use Rattle.std.specs.Str.Lines.{strip_carriage_return};
 ghost use Rattle.csvrows.specs.Faults.{GivesInMemory, found_in};
 ghost use Rattle.csvrows.specs.Requests.{alone, grouped, has_room, request_of, requests_in, with_row};
-ghost use Rattle.csvrows.specs.Rows.{row_from};
+ghost use Rattle.csvrows.specs.Rows.{row_from as row_numbered};
 ghost use Rattle.csvrows.specs.Shapes.{header_shape, row_shape};
 
 use crate::header::header_in;
@@ -31,15 +31,15 @@ pub struct Request {
 }
 
 impl Request {
-    fn alone(row: Row) -> Request
-        ensures { request_of result ≡ alone (row_shape row) }
+    fn alone(row: &Row) -> Result<Request, AllocError>
+        ensures { IfOk result (λ r. request_of r ≡ alone (row_shape row.now)) }
     {
-        Request {
+        Ok(Request {
             first: row.line,
             last: row.line,
             rows: 1,
-            text: row.text,
-        }
+            text: row.text.clone()?,
+        })
     }
 
     fn has_room(&self, row: &Row) -> bool
@@ -71,24 +71,32 @@ impl Request {
     }
 }
 
+// The request that a row joins, or begins behind those that are done.
+fn joined(done: &mut Vec<Request>, begun: Option<Request>, row: &Row) -> Result<Request, AllocError>
+    ensures { IfOk result (λ r. (rest : List (ℕ × List ℕ)) → map request_of done.old.items ++ grouped (option_map request_of begun) (row_shape row.now ∷ rest) ≡ map request_of done.new.items ++ grouped (Some (request_of r)) rest) }
+{
+    match begun {
+        None => Request::alone(row),
+        Some(request) => {
+            if request.has_room(row) {
+                return request.with_row(row);
+            }
+            done.push(request)?;
+            Request::alone(row)
+        }
+    }
+}
+
 // Rows in requests, as many in each as have room there.
-fn grouped(alloc: Global, rows: Vec<Row>) -> Result<Vec<Request>, AllocError>
-    ensures { IfOk result (λ v. map request_of v.items ≡ grouped None (map row_shape rows.items)) }
+fn grouped(alloc: Global, rows: &[Row]) -> Result<Vec<Request>, AllocError>
+    ensures { IfOk result (λ v. map request_of v.items ≡ grouped None (map row_shape rows.now)) }
 {
     let mut done = Vec::new(alloc);
-    let mut open: Option<Request> = None;
+    let mut begun: Option<Request> = None;
     for row in rows {
-        let next = match open {
-            Some(request) if request.has_room(&row) => request.with_row(&row)?,
-            Some(request) => {
-                done.push(request)?;
-                Request::alone(row)
-            }
-            None => Request::alone(row),
-        };
-        open = Some(next);
+        begun = Some(joined(&mut done, begun, row)?);
     }
-    if let Some(request) = open {
+    if let Some(request) = begun {
         done.push(request)?;
     }
     Ok(done)
@@ -102,11 +110,11 @@ fn rows_of(
     from: usize,
     pieces: &[&[u8]],
 ) -> Result<Vec<Row>, Stop>
-    ensures { GivesInMemory (λ v. map row_shape v.items) result (found_in (row_from into.entry.name.now into.entry.table.now (header_shape into.entry.header.now) from) (enumerate_from 1 (map (λ p. strip_carriage_return p.now) pieces.now))) }
+    ensures { GivesInMemory (λ v. map row_shape v.items) result (found_in (row_numbered into.entry.name.now into.entry.table.now (header_shape into.entry.header.now) from) (enumerate_from 1 (map strip_carriage_return (map (λ p. p.now) pieces.now)))) }
 {
     let mut rows = Vec::new(alloc);
     for (at, piece) in pieces.iter().enumerate() {
-        if let Some(row) = row_from(alloc, into, from, at + 1, without_return(piece))? {
+        if let Some(row) = row_from(alloc, into, from, at + 1, without_return(*piece))? {
             rows.push(row)?;
         }
     }
@@ -115,11 +123,11 @@ fn rows_of(
 
 // The first line.
 fn first_line<'a>(pieces: &[&'a [u8]]) -> &'a [u8]
-    ensures { result.now ≡ unwrap_or (slice_get (map (λ p. strip_carriage_return p.now) pieces.now) 0) [] }
+    ensures { result.now ≡ unwrap_or (slice_get (map strip_carriage_return (map (λ p. p.now) pieces.now)) 0) [] }
 {
-    match pieces.first() {
-        Some(piece) => without_return(piece),
-        None => &[],
+    match pieces {
+        [piece, ..] => without_return(*piece),
+        [] => &[],
     }
 }
 
@@ -151,5 +159,5 @@ pub fn read_requests(
         header: &header,
     };
     let rows = rows_of(alloc, into, from, &pieces)?;
-    Ok(grouped(alloc, rows)?)
+    Ok(grouped(alloc, &rows)?)
 }

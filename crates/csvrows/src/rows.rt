@@ -9,8 +9,8 @@ ghost use Rattle.csvrows.specs.Rows.{has_days, is_before, row_from, row_in, row_
 use crate::fields::field_value;
 use crate::header::{Header, Target};
 use crate::line::{before_field, fields_at};
-use crate::written::{Names, Values};
 use crate::stop::Stop;
+use crate::written::{Names, Values};
 use csv::ByteRecord;
 use fault::Refusal;
 use model::value::Value;
@@ -58,7 +58,7 @@ fn target_value(
 
 // The values of the targets.
 #[tactic(auto, using(crate::proofs::Found::found_is))]
-fn values(
+fn target_values(
     alloc: Global,
     number: usize,
     line: &[u8],
@@ -133,7 +133,7 @@ fn row_of(
     if fields.len() != into.header.width {
         return Err(Stop::at(number, 0, Refusal::WrongType));
     }
-    let values = values(alloc, number, line, fields, targets)?;
+    let values = target_values(alloc, number, line, fields, targets)?;
     if !has_days(into.table, targets, &values) {
         return Err(Stop::at(number, 0, Refusal::EmptyPeriod));
     }

@@ -66,7 +66,11 @@ enum Work<'a> {
 }
 
 // Looks at an order before the store is opened: none where its file has a fault, which was told.
-fn look_at<'a>(rt: &HostRuntime, alloc: Global, order: Order<'a>) -> Result<Option<Work<'a>>, Fault> {
+fn look_at<'a>(
+    rt: &HostRuntime,
+    alloc: Global,
+    order: Order<'a>,
+) -> Result<Option<Work<'a>>, Fault> {
     let folder = storefolder::enter(rt, alloc, order.dir())?;
     let schema = &folder.form.schema;
     match order {

@@ -14,22 +14,14 @@ pub(crate) fn now_text(alloc: Global, table: &Name) -> Result<String, AllocError
 }
 
 /// What was believed at an instant.
-pub(crate) fn then_text(
-    alloc: Global,
-    table: &Name,
-    instant: Instant,
-) -> Result<String, AllocError>
+pub(crate) fn then_text(alloc: Global, table: &Name, instant: Instant) -> Result<String, AllocError>
     ensures { IfOk result (λ text. string_bytes text ≡ then_text table.now instant.microseconds) }
 {
     format!(in alloc; "SELECT * FROM {table} FOR SYSTEM_TIME AS OF TIMESTAMP '{instant}';")
 }
 
 /// All that was believed up to an instant.
-pub(crate) fn ever_text(
-    alloc: Global,
-    table: &Name,
-    instant: Instant,
-) -> Result<String, AllocError>
+pub(crate) fn ever_text(alloc: Global, table: &Name, instant: Instant) -> Result<String, AllocError>
     ensures { IfOk result (λ text. string_bytes text ≡ ever_text table.now instant.microseconds) }
 {
     format!(in alloc;

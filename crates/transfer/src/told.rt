@@ -29,7 +29,10 @@ fn put_command(import: Import<'_>, line: usize, text: &mut String) -> Result<(),
         file,
         from: _,
     } = import;
-    write!(text, "bitable import {dir} {table} {file} --from-line {line}\n")
+    write!(
+        text,
+        "bitable import {dir} {table} {file} --from-line {line}\n"
+    )
 }
 
 /// What came of a request, and the command that goes on where it was not accepted.
@@ -67,11 +70,7 @@ pub(crate) fn count_text(
     rows: usize,
     requests: usize,
 ) -> Result<String, AllocError> {
-    let word = if requests == 1 {
-        "request"
-    } else {
-        "requests"
-    };
+    let word = if requests == 1 { "request" } else { "requests" };
     format!(in alloc; "{file}: {stored} of {rows} rows are stored, in {requests} {word}\n")
 }
 
