@@ -66,7 +66,8 @@ Exit status:
   1  no; or the store is refused, on standard error
   2  the command line is not one of these";
 
-const IMPORT_END: &str = "The first line names the columns; each other line is a row. The whole file is read first, and where a
+const IMPORT_END: &str =
+    "The first line names the columns; each other line is a row. The whole file is read first, and where a
 line has a fault it is told with its place, and nothing is stored. Rows go in requests of up to
 sixteen; one that is refused ends it, and --from-line goes on from there.
 
@@ -278,7 +279,9 @@ fn export_words<'a>(alloc: Global) -> Result<Parser<'a>, AllocError>
     ensures { IfOk result (λ c. (app_of c ≡ export_app) × ((out-Command c).has_globals ≡ false)) }
 {
     Parser::new(alloc, "export")
-        .about("Writes the rows of a table as CSV: what is believed now, was at an instant, or ever was")
+        .about(
+            "Writes the rows of a table as CSV: what is believed now, was at an instant, or ever was",
+        )
         .after_help(EXPORT_END)
         .arg(as_of_word(alloc))?
         .arg(all_word(alloc))?
