@@ -3,6 +3,7 @@ use crate::input::Input;
 use crate::printing::{counted, name_of, print};
 use crate::session::{Place, Session, reading_of};
 use crate::stop::{Fault, Stop};
+use crate::transfers::carry_out;
 use causes::{Name, Trouble};
 use fault::Refusal;
 use model::member::Member;
@@ -15,7 +16,7 @@ use store::StoreRefusal;
 use store::announcing::Announces;
 use storecommands::{Command, ExportRows, ImportRows, NewStore, OpenStore};
 use storefolder::{Audited, Opened, Verdict};
-use transfer::{Export, Import, Order, Versions, carry_out};
+use transfer::{Export, Import, Order, Versions};
 
 // How many columns a terminal has, where nothing tells.
 const TERMINAL: usize = 80;

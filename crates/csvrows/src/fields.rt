@@ -51,6 +51,12 @@ fn magnitude(field: &[u8]) -> &[u8]
     }
 }
 
+fn has_digits(field: &[u8]) -> bool
+    ensures { result ≡ list_all is_ascii_digit field.now }
+{
+    field.iter().all(|b| b.is_ascii_digit())
+}
+
 #[tactic(auto, using(crate::proofs::Printable::digits_are))]
 fn are_digits(field: &[u8]) -> bool
     ensures value { result ≡ are_digits field.now }
@@ -58,7 +64,7 @@ fn are_digits(field: &[u8]) -> bool
     ensures digits { IsTrue result → list_all is_ascii_digit field.now ≡ true }
     ensures printable { IsTrue result → is_printable field.now ≡ true }
 {
-    !field.is_empty() && field.iter().all(|b| b.is_ascii_digit())
+    !field.is_empty() && has_digits(field)
 }
 
 // Digits with a minus or none.

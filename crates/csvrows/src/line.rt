@@ -1,5 +1,6 @@
 //! The lines of a file, and the fields of a line.
-ghost use Rattle.std.specs.Prelude.{◌≡◌, ◌==◌, false, IfOk, map, option_map, length};
+ghost use Rattle.std.specs.Prelude.{◌≡◌, ◌==◌, false, IfOk, count_by, map, option_map};
+ghost use Rattle.std.specs.List.{list_any};
 ghost use Rattle.std.specs.Str.Lines.{strip_carriage_return};
 ghost use Rattle.csv.specs.Records.{fields_of};
 ghost use Rattle.csvrows.specs.Faults.{GivesInMemory};
@@ -27,11 +28,23 @@ pub(crate) fn without_return(line: &[u8]) -> &[u8]
     }
 }
 
+fn quote_count(line: &[u8]) -> usize
+    ensures { result ≡ count_by (λ b. b == 34) line.now }
+{
+    line.iter().filter(|b| **b == b'"').count()
+}
+
+fn has_return(line: &[u8]) -> bool
+    ensures { result ≡ list_any (λ b. b == 13) line.now }
+{
+    line.iter().any(|b| *b == b'\r')
+}
+
 // Whether each double quote of a line has its other one, and no carriage return stands in it.
 fn is_whole(line: &[u8]) -> bool
     ensures { result ≡ is_whole line.now }
 {
-    line.iter().filter(|b| **b == b'"').count() % 2 == 0 && !line.iter().any(|b| *b == b'\r')
+    quote_count(line) % 2 == 0 && !has_return(line)
 }
 
 // The fields of a line, none of one that is blank.

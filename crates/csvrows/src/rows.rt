@@ -1,5 +1,5 @@
 //! The statement of a line of a file.
-ghost use Rattle.std.specs.Prelude.{◌≡◌, Some, option_map, string_bytes, IfOk};
+ghost use Rattle.std.specs.Prelude.{◌≡◌, ◌==◌, position, Some, option_map, string_bytes, IfOk};
 ghost use Rattle.std.specs.Option.{option_copied};
 ghost use Rattle.csv.specs.Records.{fields_of};
 ghost use Rattle.csvrows.specs.Faults.{GivesInMemory, found_in};
@@ -75,12 +75,18 @@ fn target_values(
     Ok(values)
 }
 
+fn place_of(targets: &[Target], column: usize) -> Option<usize>
+    ensures { result ≡ position (λ t. t.column == column) targets.now }
+{
+    targets.iter().position(|t| t.column == column)
+}
+
 // The value of a column.
 #[tactic(auto, unfolding(crate::specs::Rows::value_for))]
 fn value_for<'a>(targets: &[Target], values: &'a [Value], column: usize) -> Option<&'a Value>
     ensures { option_copied result ≡ value_for targets.now values.entry.now column }
 {
-    match targets.iter().position(|t| t.column == column) {
+    match place_of(targets, column) {
         Some(place) => values.get(place),
         None => None,
     }

@@ -1,5 +1,5 @@
 //! Rows of a CSV file into a store.
-use crate::order::Import;
+use crate::asked::Import;
 use crate::printing::print;
 use crate::stop::Fault;
 use crate::told::{count_text, fault_text, outcome_text};
@@ -9,17 +9,8 @@ use schema::Schema;
 use sqlchecks::column::find_table;
 use std::alloc::Global;
 use std::fs;
-use store::Outcome;
 use store::announcing::Announces;
-use storefolder::Opened;
-
-/// What a file asks for.
-pub(crate) enum Read {
-    /// These requests.
-    Rows(Vec<Request>),
-    /// Nothing: it has a fault, which was told.
-    Told,
-}
+use store::{Outcome, Store};
 
 // The line of this number, where the first is 1.
 fn line_at(bytes: &[u8], number: usize) -> &[u8] {
@@ -31,13 +22,14 @@ fn line_at(bytes: &[u8], number: usize) -> &[u8] {
     }
 }
 
-/// Reads the file of an import over the tables of a schema. A fault of it is told on standard output. 11 where there is no such table.
+/// The requests of the file of an import over the tables of a schema; none where it has a fault, which is told on standard output. 11 where
+/// there is no such table.
 pub(crate) fn read_rows(
     rt: &HostRuntime,
     alloc: Global,
     import: Import<'_>,
     schema: &Schema,
-) -> Result<Read, Fault> {
+) -> Result<Option<Vec<Request>>, Fault> {
     let place = find_table(schema, import.table)?;
     let (name, table) = schema.table(place);
     let bytes: Vec<u8> = match fs::read(rt, import.file) {
@@ -45,13 +37,13 @@ pub(crate) fn read_rows(
         Err(error) => return Err(Fault::File(error)),
     };
     match read_requests(alloc, name, table, import.from, &bytes) {
-        Ok(requests) => Ok(Read::Rows(requests)),
+        Ok(requests) => Ok(Some(requests)),
         Err(Stop::NoMemory) => Err(Fault::from(Refusal::NoMemory)),
         Err(Stop::At(fault)) => {
             let line = line_at(&bytes, fault.line);
             let text = fault_text(alloc, import.file, &fault, line)?;
             print(rt, text.as_str())?;
-            Ok(Read::Told)
+            Ok(None)
         }
     }
 }
@@ -79,14 +71,14 @@ fn store_all<K: Announces>(
     import: Import<'_>,
     requests: &[Request],
     reading: i64,
-    opened: &mut Opened<K>,
+    store: &mut Store<K>,
     came: &mut Came,
 ) -> Result<(), Fault>
 where
     K::Image: Drop,
 {
     for request in requests {
-        let (_, outcome) = opened.store.execute(reading, request.text.as_str())?;
+        let (_, outcome) = store.execute(reading, request.text.as_str())?;
         let text = outcome_text(alloc, import, request, &outcome)?;
         if !matches!(outcome, Outcome::Accepted(_)) {
             return print(rt, text.as_str());
@@ -107,7 +99,7 @@ pub(crate) fn import_rows<K: Announces>(
     import: Import<'_>,
     requests: &[Request],
     reading: i64,
-    opened: &mut Opened<K>,
+    store: &mut Store<K>,
 ) -> Result<u8, Fault>
 where
     K::Image: Drop,
@@ -117,7 +109,7 @@ where
         requests: 0,
         is_whole: false,
     };
-    let stored = store_all(rt, alloc, import, requests, reading, opened, &mut came);
+    let stored = store_all(rt, alloc, import, requests, reading, store, &mut came);
     let rows = rows_of(requests);
     let text = count_text(alloc, import.file, came.rows, rows, came.requests)?;
     print(rt, text.as_str())?;

@@ -1,13 +1,13 @@
-//! Rows of CSV files into a store that is kept in a folder, and out of it.
+//! Rows of CSV files into a store, and out of it.
 #![tactic(auto)]
 
+mod asked;
 mod export;
 mod import;
-mod order;
 mod printing;
 mod questions;
 mod stop;
 mod told;
 
-pub use order::{Export, Import, Order, Versions, carry_out};
+pub use asked::{Export, Import, Order, Versions, Work, look_at, work_on};
 pub use stop::Fault;

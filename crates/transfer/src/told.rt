@@ -1,8 +1,8 @@
 //! What an import tells.
-ghost use Rattle.std.specs.Prelude.{◌≡◌, IfOk, string_bytes};
-ghost use Rattle.transfer.specs.Told.{lines_text};
+ghost use Rattle.std.specs.Prelude.{◌≡◌, ◌++◌, IfOk, string_bytes};
+ghost use Rattle.transfer.specs.Told.{advice_text, command_text, count_text, lines_text, outcome_text};
 
-use crate::order::Import;
+use crate::asked::Import;
 use csvrows::{Fault, Request};
 use std::alloc::{AllocError, Global};
 use store::Outcome;
@@ -22,17 +22,28 @@ pub(crate) fn lines_text(alloc: Global, first: usize, last: usize) -> Result<Str
 }
 
 // The command that goes on from a line.
-fn put_command(import: Import<'_>, line: usize, text: &mut String) -> Result<(), AllocError> {
-    let Import {
-        dir,
-        table,
-        file,
-        from: _,
-    } = import;
-    write!(
-        text,
-        "bitable import {dir} {table} {file} --from-line {line}\n"
-    )
+fn command_text(alloc: Global, import: Import<'_>, line: usize) -> Result<String, AllocError>
+    ensures { IfOk result (λ text. string_bytes text ≡ command_text import.entry.dir.now import.entry.table.now import.entry.file.now line) }
+{
+    let dir = import.dir;
+    let table = import.table;
+    let file = import.file;
+    format!(in alloc; "bitable import {dir} {table} {file} --from-line {line}\n")
+}
+
+// What stands below a request that was not accepted.
+fn advice_text(alloc: Global, outcome: &Outcome, command: &str) -> Result<String, AllocError>
+    ensures { IfOk result (λ text. string_bytes text ≡ advice_text outcome.now command.now) }
+{
+    match outcome {
+        Outcome::Accepted(_) => Ok(String::new(alloc)),
+        Outcome::Refused(_) => format!(in alloc;
+            "        Nothing of these lines is stored. When it is mended: {command}"
+        ),
+        Outcome::Unanswered => format!(in alloc;
+            "        It is not known whether these lines are stored; where they are, they are refused 20: {command}"
+        ),
+    }
 }
 
 /// What came of a request, and the command that goes on where it was not accepted.
@@ -41,25 +52,15 @@ pub(crate) fn outcome_text(
     import: Import<'_>,
     request: &Request,
     outcome: &Outcome,
-) -> Result<String, AllocError> {
+) -> Result<String, AllocError>
+    ensures { IfOk result (λ text. string_bytes text ≡ outcome_text import.entry.file.now request.now.first request.now.last outcome.now ++ advice_text outcome.now (command_text import.entry.dir.now import.entry.table.now import.entry.file.now request.now.first)) }
+{
     let file = import.file;
     let first = request.first;
     let lines = lines_text(alloc, first, request.last)?;
-    let mut text = format!(in alloc; "{file}:{first}: {outcome}, {lines}\n")?;
-    match outcome {
-        Outcome::Accepted(_) => {}
-        Outcome::Refused(_) => {
-            text.push_str("        Nothing of these lines is stored. When it is mended: ")?;
-            put_command(import, first, &mut text)?;
-        }
-        Outcome::Unanswered => {
-            text.push_str(
-                "        It is not known whether these lines are stored; where they are, they are refused 20: ",
-            )?;
-            put_command(import, first, &mut text)?;
-        }
-    }
-    Ok(text)
+    let command = command_text(alloc, import, first)?;
+    let advice = advice_text(alloc, outcome, command.as_str())?;
+    format!(in alloc; "{file}:{first}: {outcome}, {lines}\n{advice}")
 }
 
 /// How many of the rows are stored.
@@ -69,9 +70,14 @@ pub(crate) fn count_text(
     stored: usize,
     rows: usize,
     requests: usize,
-) -> Result<String, AllocError> {
-    let word = if requests == 1 { "request" } else { "requests" };
-    format!(in alloc; "{file}: {stored} of {rows} rows are stored, in {requests} {word}\n")
+) -> Result<String, AllocError>
+    ensures { IfOk result (λ text. string_bytes text ≡ count_text file.now stored rows requests) }
+{
+    if requests == 1 {
+        format!(in alloc; "{file}: {stored} of {rows} rows are stored, in {requests} request\n")
+    } else {
+        format!(in alloc; "{file}: {stored} of {rows} rows are stored, in {requests} requests\n")
+    }
 }
 
 // A line of a file, as far as it is shown: each byte that is no printable ASCII as `?`.

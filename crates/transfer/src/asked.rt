@@ -1,15 +1,14 @@
-//! Imports and exports over the store in a folder.
+//! What an import or an export is asked for, and what it does with a store that is open.
 use crate::export::{export_rows, instant_of};
-use crate::import::{Read, import_rows, read_rows};
+use crate::import::{import_rows, read_rows};
 use crate::stop::Fault;
 use csvrows::Request;
-use fault::Refusal;
 use period::Instant;
+use schema::Schema;
 use sqlchecks::column::find_table;
 use std::alloc::Global;
-use std::rt::Clock;
+use store::Store;
 use store::announcing::Announces;
-use storefolder::Opened;
 
 /// What is imported.
 #[derive(Clone, Copy, Debug)]
@@ -51,7 +50,8 @@ pub enum Order<'a> {
 }
 
 impl<'a> Order<'a> {
-    fn dir(self) -> &'a str {
+    /// The folder of the store.
+    pub fn dir(self) -> &'a str {
         match self {
             Order::Import(import) => import.dir,
             Order::Export(export) => export.dir,
@@ -59,24 +59,28 @@ impl<'a> Order<'a> {
     }
 }
 
-// What is to be done with the store once it is open.
-enum Work<'a> {
+/// What is to be done with a store once it is open.
+#[derive(Debug, Drop)]
+pub enum Work<'a> {
+    /// To hand in these requests.
     Import(Import<'a>, Vec<Request>),
+    /// To print the rows of a table, as of this instant if one is named.
     Export(Export<'a>, Option<Instant>),
 }
 
-// Looks at an order before the store is opened: none where its file has a fault, which was told.
-fn look_at<'a>(
+/// Looks at an order over the tables of a store, before that is opened: none where its file has a fault, which is told on standard output.
+///
+/// 11 where there is no such table, 10 and 16 where `--as-of` names no instant, 43 for want of memory.
+pub fn look_at<'a>(
     rt: &HostRuntime,
     alloc: Global,
     order: Order<'a>,
+    schema: &Schema,
 ) -> Result<Option<Work<'a>>, Fault> {
-    let folder = storefolder::enter(rt, alloc, order.dir())?;
-    let schema = &folder.form.schema;
     match order {
         Order::Import(import) => match read_rows(rt, alloc, import, schema)? {
-            Read::Rows(requests) => Ok(Some(Work::Import(import, requests))),
-            Read::Told => Ok(None),
+            Some(requests) => Ok(Some(Work::Import(import, requests))),
+            None => Ok(None),
         },
         Order::Export(export) => {
             let _ = find_table(schema, export.table)?;
@@ -85,49 +89,24 @@ fn look_at<'a>(
     }
 }
 
-// What the clock shows, in microseconds since 1970.
-fn reading_of(rt: &HostRuntime) -> Result<i64, Fault> {
-    match rt.since_1970() {
-        Ok(since) => Ok(i64::try_from(since.as_micros()).unwrap_or(i64::MAX)),
-        Err(_) => Err(Fault::from(Refusal::StoreFault)),
-    }
-}
-
-fn work_at<K: Announces>(
+/// Does it with the store, on standard output, and gives the exit status: 0, or 1 where not all rows of a file are stored. What clocks
+/// show is given.
+pub fn work_on<K: Announces>(
     rt: &HostRuntime,
     alloc: Global,
     work: &Work<'_>,
     reading: i64,
-    opened: Opened<K>,
-) -> (Result<u8, Fault>, Opened<K>)
+    store: &mut Store<K>,
+) -> Result<u8, Fault>
 where
     K::Image: Drop,
 {
-    let mut opened = opened;
-    let done = match work {
+    match work {
         Work::Import(import, requests) => {
-            import_rows(rt, alloc, *import, requests, reading, &mut opened)
+            import_rows(rt, alloc, *import, requests, reading, store)
         }
         Work::Export(export, instant) => {
-            export_rows(rt, alloc, *export, *instant, reading, &mut opened)
+            export_rows(rt, alloc, *export, *instant, reading, store)
         }
-    };
-    (done, opened)
-}
-
-/// Imports or exports over the store in a folder, on standard output, and gives the exit status: 0, or 1 where not all rows of a file
-/// were stored.
-///
-/// The whole file is read before the store is opened: where it has a fault, that is told, and the store is not opened.
-pub fn carry_out(rt: &HostRuntime, alloc: Global, order: Order<'_>) -> Result<u8, Fault> {
-    let Some(work) = look_at(rt, alloc, order)? else {
-        return Ok(1);
-    };
-    let reading = reading_of(rt)?;
-    let opened = storefolder::open(rt, alloc, order.dir(), true, reading)?;
-    let (done, opened) = work_at(rt, alloc, &work, reading, opened);
-    let closed = storefolder::close(opened);
-    let status = done?;
-    closed?;
-    Ok(status)
+    }
 }
