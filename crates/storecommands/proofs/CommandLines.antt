@@ -18,9 +18,11 @@ use Rattle.clap.specs.declared.builder.command.Command.TheViews.{out-Command}
 use Rattle.clap.specs.declared.parser.matches.SubCommand.{SubCommand}
 use Rattle.clap.specs.declared.parser.matches.ArgMatches.TheViews.{out-SubCommand}
 use Rattle.clap.specs.declared.parser.matches.Found.{Found}
-use Rattle.storecommands.specs.CommandLine.{AsksFor, AsksNew, GivesClock, GivesNumber, store_app}
+use Rattle.storecommands.specs.CommandLine.{AsksExport, AsksFor, AsksImport, AsksNew, GivesClock, GivesLine, GivesNumber, store_app}
 use Rattle.storecommands.specs.declared.command.Command.{Command as Asked}
-use Rattle.storecommands.specs.declared.command.Command.TheVariants.{New, Open, Log, Flights, Audit}
+use Rattle.storecommands.specs.declared.command.Command.TheVariants.{New, Open, Log, Flights, Audit, Import, Export}
+use Rattle.storecommands.specs.declared.command.ExportRows.{ExportRows}
+use Rattle.storecommands.specs.declared.command.ImportRows.{ImportRows}
 use Rattle.storecommands.specs.declared.command.NewStore.{NewStore}
 
 is_free : is_simple_and_free store_app ≡ true
@@ -57,6 +59,12 @@ module _ (E : Type 0) (G : List ℕ → Result ℕ E → Type 0) (k : ℕ) (only
       go (Some t) e =
           let parsed = only t (Ok n) (read t (one_text-rows f id ∙ e)) in
           record { text = t; given = e; numeral = parsed.0.0; value = sym parsed.1 }
+
+-- an option that is read as a line was given that number, and one that is not was given none
+pub line_given : (E : Type 0) (G : List ℕ → Result ℕ E → Type 0) (only : (t : List ℕ) (r : Result ℕ E) → G t r → ParsesUnsigned 64 10 t r) (f : Found) (id : Text)
+    (line : Option ℕ) → (one_text f id ≡ None → line ≡ None) → ((t : Text) → one_text f id ≡ Some t → ReadsOne G t line) → GivesLine id (rows_of f) line
+line_given E G only f id None none read = λ n fits given. no_number E G 64 only f id n read fits given
+line_given E G only f id (Some n) none read = number_given E G 64 only f id n none read
 
 -- an option was given one number
 pub one_number : (id : Text) (rows : List Row) (n m : ℕ) → GivesNumber id rows n → GivesNumber id rows m → n ≡ m
@@ -110,3 +118,25 @@ no_new rows none (Open opened) h = let bad : 110 ≡ 111 = ap (λ t. get_or t 0 
 no_new rows none (Log dir) h = let bad : 110 ≡ 108 = ap (λ t. get_or t 0 0) h.0 in absurd (omega (arith, bad))
 no_new rows none (Flights dir out) h = let bad : 110 ≡ 102 = ap (λ t. get_or t 0 0) h.0 in absurd (omega (arith, bad))
 no_new rows none (Audit dir) h = let bad : 110 ≡ 97 = ap (λ t. get_or t 0 0) h.0 in absurd (omega (arith, bad))
+no_new rows none (Import import) h = let bad : 110 ≡ 105 = ap (λ t. get_or t 0 0) h.0 in absurd (omega (arith, bad))
+no_new rows none (Export export) h = let bad : 110 ≡ 101 = ap (λ t. get_or t 0 0) h.0 in absurd (omega (arith, bad))
+
+-- where `import` is asked for nothing, nothing is
+pub no_import : (rows : List Row) → ((import : ImportRows) → ¬ AsksImport rows import) → (command : Asked) → AsksFor (Some (codes "import", rows)) command → ⊥
+no_import rows none (New made) h = let bad : 105 ≡ 110 = ap (λ t. get_or t 0 0) h.0 in absurd (omega (arith, bad))
+no_import rows none (Open opened) h = let bad : 105 ≡ 111 = ap (λ t. get_or t 0 0) h.0 in absurd (omega (arith, bad))
+no_import rows none (Log dir) h = let bad : 105 ≡ 108 = ap (λ t. get_or t 0 0) h.0 in absurd (omega (arith, bad))
+no_import rows none (Flights dir out) h = let bad : 105 ≡ 102 = ap (λ t. get_or t 0 0) h.0 in absurd (omega (arith, bad))
+no_import rows none (Audit dir) h = let bad : 105 ≡ 97 = ap (λ t. get_or t 0 0) h.0 in absurd (omega (arith, bad))
+no_import rows none (Import import) h = none import h.1
+no_import rows none (Export export) h = let bad : 105 ≡ 101 = ap (λ t. get_or t 0 0) h.0 in absurd (omega (arith, bad))
+
+-- where `export` is asked for nothing, nothing is
+pub no_export : (rows : List Row) → ((export : ExportRows) → ¬ AsksExport rows export) → (command : Asked) → AsksFor (Some (codes "export", rows)) command → ⊥
+no_export rows none (New made) h = let bad : 101 ≡ 110 = ap (λ t. get_or t 0 0) h.0 in absurd (omega (arith, bad))
+no_export rows none (Open opened) h = let bad : 101 ≡ 111 = ap (λ t. get_or t 0 0) h.0 in absurd (omega (arith, bad))
+no_export rows none (Log dir) h = let bad : 101 ≡ 108 = ap (λ t. get_or t 0 0) h.0 in absurd (omega (arith, bad))
+no_export rows none (Flights dir out) h = let bad : 101 ≡ 102 = ap (λ t. get_or t 0 0) h.0 in absurd (omega (arith, bad))
+no_export rows none (Audit dir) h = let bad : 101 ≡ 97 = ap (λ t. get_or t 0 0) h.0 in absurd (omega (arith, bad))
+no_export rows none (Import import) h = let bad : 101 ≡ 105 = ap (λ t. get_or t 0 0) h.0 in absurd (omega (arith, bad))
+no_export rows none (Export export) h = none export h.1
