@@ -3,7 +3,7 @@ use Rattle.std.proofs.lemmas.List.{at_drop_all}
 use Rattle.std.specs.Prelude.{option_to_list}
 use Rattle.csv.specs.Records.{fields_of}
 use Rattle.csvrows.specs.Faults.{◌>>=◌}
-use Rattle.csvrows.specs.Header.{targets_after}
+use Rattle.csvrows.specs.Header.{target_in, targets_after}
 use Rattle.csvrows.proofs.Places.{drop_field}
 use Rattle.csvrows.proofs.header.targets.Goals as goal
 
@@ -17,9 +17,10 @@ loop-place-preserved c =
     let rest = drop (place + 1) fields in (
       c.loop-place.invariant.0,
       c.loop-place.invariant.1
-      ∙ ap (λ fs. targets_after table line before place fs) (drop_field fields place c.name_at.result.now c.name_at.ensures)
-      ∙ ap (λ r. r >>= λ t. targets_after table line (before ++ option_to_list t) (place + 1) rest) c.in_ok-target.ensures
-      ∙ ap (λ ts. targets_after table line ts (place + 1) rest) (sym c.in_ok-keep.ensures),
+          ∙ ap (λ fs. targets_after table line before place fs) (drop_field fields place c.name_at-name.result.now c.name_at-name.ensures)
+          ∙ ap (λ ts. target_in table line ts place c.name_at-name.result.now >>= λ t. targets_after table line (before ++ option_to_list t) (place + 1) rest) (sym c.deref.ensures.value)
+          ∙ ap (λ r. r >>= λ t. targets_after table line (before ++ option_to_list t) (place + 1) rest) c.in_ok-target.ensures
+          ∙ ap (λ ts. targets_after table line ts (place + 1) rest) (sym c.in_ok-keep.ensures),
     )
 
 pub returns : goal.returns
