@@ -103,6 +103,14 @@ fn sit_over<R: BufRead + Drop, S: Alter + Drop, J: Device>(
     sit_at(rt, alloc, place, input, opened, clock)
 }
 
+// Makes a store of a folder with the flights of a run, and says so on standard error.
+fn adopt(rt: &HostRuntime, alloc: Global, dir: &str) -> Result<(), Fault> {
+    if let Some(flights) = storefolder::adopt(rt, alloc, dir)? {
+        let _ = eprintln!(*rt; "made a store of the run in {dir}: its {flights} flights are journal 1");
+    }
+    Ok(())
+}
+
 // A sitting over a reader. The exit status is 1 where something was refused and nobody sits at a terminal.
 fn sit<R: Read + Drop>(
     rt: &HostRuntime,
@@ -117,6 +125,7 @@ fn sit<R: Read + Drop>(
         return Err(Fault::from(Refusal::NoMemory));
     };
     let mut input = Input::new(alloc, reader);
+    adopt(rt, alloc, place.dir)?;
     let opened = storefolder::open(rt, alloc, place.dir, syncs, reading)?;
     let (played, opened, is_refused) = sit_over(rt, alloc, place, &mut input, opened, clock);
     let closed = storefolder::close(opened);

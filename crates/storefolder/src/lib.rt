@@ -1,6 +1,7 @@
 //! The folder of a store: its form, its journals and its members' databases.
 #![tactic(auto)]
 
+mod adopting;
 mod auditing;
 mod databases;
 mod faults;
@@ -12,6 +13,7 @@ mod opening;
 mod place;
 mod replayed;
 
+pub use adopting::adopt;
 pub use auditing::{Audited, Verdict, audit};
 pub use form::{Form, read_form};
 pub use journal_file::JournalFile;
