@@ -65,6 +65,7 @@ where
 }
 
 // In January somebody is hired.
+#[derive(Drop)]
 struct January;
 
 impl Task for January {
@@ -79,6 +80,7 @@ impl Task for January {
 }
 
 // In February there is a raise, and questions.
+#[derive(Drop)]
 struct February;
 
 impl Task for February {

@@ -7,7 +7,7 @@ use store::announcing::Announces;
 use store::{Device, Store, StoreRefusal};
 
 /// What a program does with a store while it is open, whatever keeps its members.
-pub trait Task {
+pub trait Task: Drop {
     /// What comes of it.
     type Output: Drop;
 
