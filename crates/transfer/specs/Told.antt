@@ -18,11 +18,24 @@ advice_text (Accepted stamp) command = []
 advice_text (Refused refusal) command = codes "        Nothing of these lines is stored. When it is mended: " ++ command
 advice_text Unanswered command = codes "        It is not known whether these lines are stored; where they are, they are refused 20: " ++ command
 
--- what came of the request of these lines, and what stands below it
+-- where a request begins in its file
+abbrev pub place_text : List ℕ → ℕ → List ℕ
+place_text file first = file ++ (codes ":" ++ decimal first)
+
+-- what came of the request of these lines
+abbrev pub told_text : Outcome → ℕ → ℕ → List ℕ
+told_text outcome first last = words_of outcome ++ (codes ", " ++ lines_text first last)
+
+-- the same with its place, and what stands below it
 abbrev pub outcome_text : List ℕ → ℕ → ℕ → Outcome → List ℕ → List ℕ
-outcome_text file first last outcome advice = file ++ (codes ":" ++ (decimal first ++ (codes ": " ++ (words_of outcome ++ (codes ", " ++ (lines_text first last ++ (codes "\n" ++ advice)))))))
+outcome_text file first last outcome advice = place_text file first ++ (codes ": " ++ (told_text outcome first last ++ (codes "\n" ++ advice)))
 
 -- how many of the rows are stored
+abbrev pub stored_text : ℕ → ℕ → List ℕ
+stored_text stored rows = decimal stored ++ (codes " of " ++ (decimal rows ++ codes " rows are stored"))
+
+abbrev pub requests_text : ℕ → List ℕ
+requests_text requests = if requests == 1 then codes "1 request" else (decimal requests ++ codes " requests")
+
 abbrev pub count_text : List ℕ → ℕ → ℕ → ℕ → List ℕ
-count_text file stored rows requests =
-    file ++ (codes ": " ++ (decimal stored ++ (codes " of " ++ (decimal rows ++ (codes " rows are stored, in " ++ (decimal requests ++ (if requests == 1 then codes " request\n" else codes " requests\n")))))))
+count_text file stored rows requests = file ++ (codes ": " ++ (stored_text stored rows ++ (codes ", in " ++ (requests_text requests ++ codes "\n"))))

@@ -1,6 +1,6 @@
 //! What an import tells.
 ghost use Rattle.std.specs.Prelude.{◌≡◌, IfOk, string_bytes};
-ghost use Rattle.transfer.specs.Told.{advice_text, command_text, count_text, lines_text, outcome_text};
+ghost use Rattle.transfer.specs.Told.{advice_text, command_text, count_text, lines_text, outcome_text, place_text, requests_text, stored_text, told_text};
 
 use crate::asked::Import;
 use csvrows::{Fault, Request};
@@ -46,6 +46,26 @@ fn advice_text(alloc: Global, outcome: &Outcome, command: &str) -> Result<String
     }
 }
 
+// Where a request begins in its file.
+fn place_text(alloc: Global, file: &str, first: usize) -> Result<String, AllocError>
+    ensures { IfOk result (λ text. string_bytes text ≡ place_text file.now first) }
+{
+    format!(in alloc; "{file}:{first}")
+}
+
+// What came of the request of these lines.
+fn told_text(
+    alloc: Global,
+    outcome: &Outcome,
+    first: usize,
+    last: usize,
+) -> Result<String, AllocError>
+    ensures { IfOk result (λ text. string_bytes text ≡ told_text outcome.now first last) }
+{
+    let lines = lines_text(alloc, first, last)?;
+    format!(in alloc; "{outcome}, {lines}")
+}
+
 /// What came of a request, and the command that goes on where it was not accepted.
 pub(crate) fn outcome_text(
     alloc: Global,
@@ -55,15 +75,31 @@ pub(crate) fn outcome_text(
 ) -> Result<String, AllocError>
     ensures { IfOk result (λ text. string_bytes text ≡ outcome_text import.entry.file.now request.now.first request.now.last outcome.now (advice_text outcome.now (command_text import.entry.dir.now import.entry.table.now import.entry.file.now request.now.first))) }
 {
-    let file = import.file;
-    let first = request.first;
-    let lines = lines_text(alloc, first, request.last)?;
-    let command = command_text(alloc, import, first)?;
+    let place = place_text(alloc, import.file, request.first)?;
+    let told = told_text(alloc, outcome, request.first, request.last)?;
+    let command = command_text(alloc, import, request.first)?;
     let advice = advice_text(alloc, outcome, command.as_str())?;
-    format!(in alloc; "{file}:{first}: {outcome}, {lines}\n{advice}")
+    format!(in alloc; "{place}: {told}\n{advice}")
 }
 
-/// How many of the rows are stored.
+// How many of the rows are stored.
+fn stored_text(alloc: Global, stored: usize, rows: usize) -> Result<String, AllocError>
+    ensures { IfOk result (λ text. string_bytes text ≡ stored_text stored rows) }
+{
+    format!(in alloc; "{stored} of {rows} rows are stored")
+}
+
+fn requests_text(alloc: Global, requests: usize) -> Result<String, AllocError>
+    ensures { IfOk result (λ text. string_bytes text ≡ requests_text requests) }
+{
+    if requests == 1 {
+        String::from_str(alloc, "1 request")
+    } else {
+        format!(in alloc; "{requests} requests")
+    }
+}
+
+/// How many of the rows are stored, in how many requests.
 pub(crate) fn count_text(
     alloc: Global,
     file: &str,
@@ -73,11 +109,9 @@ pub(crate) fn count_text(
 ) -> Result<String, AllocError>
     ensures { IfOk result (λ text. string_bytes text ≡ count_text file.now stored rows requests) }
 {
-    if requests == 1 {
-        format!(in alloc; "{file}: {stored} of {rows} rows are stored, in {requests} request\n")
-    } else {
-        format!(in alloc; "{file}: {stored} of {rows} rows are stored, in {requests} requests\n")
-    }
+    let stored = stored_text(alloc, stored, rows)?;
+    let requests = requests_text(alloc, requests)?;
+    format!(in alloc; "{file}: {stored}, in {requests}\n")
 }
 
 // A line of a file, as far as it is shown: each byte that is no printable ASCII as `?`.
