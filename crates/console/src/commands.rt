@@ -106,7 +106,9 @@ fn sit_over<R: BufRead + Drop, S: Alter + Drop, J: Device>(
 // Makes a store of a folder with the flights of a run, and says so on standard error.
 fn adopt(rt: &HostRuntime, alloc: Global, dir: &str) -> Result<(), Fault> {
     if let Some(flights) = storefolder::adopt(rt, alloc, dir)? {
-        let _ = eprintln!(*rt; "made a store of the run in {dir}: its {flights} flights are journal 1");
+        let _ = eprintln!(*rt;
+            "made a store of the run in {dir}: its {flights} flights are journal 1"
+        );
     }
     Ok(())
 }
