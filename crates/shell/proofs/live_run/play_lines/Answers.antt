@@ -21,5 +21,5 @@ loop-line-preserved g c =
 pub returns-in_err-play_line-clause-begun : goal.returns-in_err-play_line-clause-begun
 returns-in_err-play_line-clause-begun g c =
     let less : c.loop-line.line-index < length c.args.lines.now = search rules in
-    on_err c.from_residual-in_err-play_line.result _ (begun-at g.P.Pilot.plays g.O.Outlet.holds c.args.pilot.now c.args.lines.now c.loop-line.line-index c.loop-line.pilot c.line-item.result c.play_line.new.pilot
+    on_err c.from_residual.result _ (begun-at g.P.Pilot.plays g.O.Outlet.holds c.args.pilot.now c.args.lines.now c.loop-line.line-index c.loop-line.pilot c.line-item.result c.play_line.new.pilot
     (g.O.Outlet.holds c.args.outlet.now) c.loop-line.outlet c.play_line.new.outlet less c.line-item.is c.loop-line.invariant c.in_err-play_line.ensures.begun)
