@@ -1,7 +1,7 @@
 pub mod CommandLines
 pub mod CommandRows
 pub mod Groups
-pub mod Growing
 pub mod Judging
+pub mod Playing
 pub mod Reporting
 pub mod Scripts

@@ -1,6 +1,5 @@
 -- What an audit says of what was recorded, and what is printed of it.
 use Rattle.std.specs.Prelude.{◌≡◌, ◌≢◌, ◌++◌, ℕ, zero, suc, List, [], ◌∷◌, Option, codes, length, map}
-use Rattle.std.specs.Io.KnownBytes.{Appends}
 use Rattle.std.specs.declared.vec.Vec.{Vec}
 use Rattle.std.specs.declared.alloc.Global.{Global}
 use Rattle.moments.specs.Behind.{Records}
@@ -78,7 +77,3 @@ BeginsSaid r old new = (status : ℕ) × (line : List ℕ) × IsSaid r status li
 -- known bytes grow by a beginning of what is said of the flight files in these texts
 abbrev pub BeginsJudged : List (List ℕ) → Option (List ℕ) → Option (List ℕ) → Type 0
 BeginsJudged texts old new = (status : ℕ) × (line : List ℕ) × IsJudged texts status line × AppendsBeginning old new line
-
--- known bytes grow by some text
-abbrev pub Grows : Option (List ℕ) → Option (List ℕ) → Type 0
-Grows old new = (text : List ℕ) × Appends old new text

@@ -1,15 +1,16 @@
 //! The command `audit`, and the audit at the end of `live`.
 ghost use Rattle.std.specs.Prelude.{◌≡◌, ◌≢◌, ◌≤◌, ◌++◌, ◌⊎◌, ℕ, List, length, map, string_bytes, Err, IfOk, IfErr, OnErr, OnOk};
 ghost use Rattle.std.specs.Io.KnownBytes.{Appends};
-ghost use Rattle.answertext.specs.Sinks.{WritesOrBegins};
+ghost use Rattle.std.specs.declared.io.Error.{Error};
 ghost use Rattle.moments.specs.declared.recorded.AuditFault.TheVariants.{NoMemory as NoMemoryLeft};
 ghost use Rattle.fault.specs.declared.refusal.Refusal.TheVariants.{NoMemory, BadFlight};
 ghost use Rattle.fault.specs.declared.refusal.Refusal.{Refusal as AnyRefusal};
 ghost use Rattle.shell.specs.Audit.{BeginsJudged, IsExplained, IsFaultOf, IsJudged, IsSaid, judged_of, judged_from, line_of, records_of};
 ghost use Rattle.shell.specs.Group.{IsNoGroup};
+ghost use Rattle.shell.specs.Outlets.{IsLastError};
 
 use crate::group::read_run;
-use answertext::sink::write_whole;
+use crate::outlet::{Outlet, tell};
 use auditor::{AuditFault, Recorded as Judged, audit};
 use fault::Refusal;
 use flight::flight::{Recorded, Version};
@@ -19,7 +20,6 @@ use model::member::Member;
 use schema::Schema;
 use script::run_fault::RunFault;
 use std::alloc::{AllocError, Global};
-use std::io;
 
 // The answers of a node, as an audit takes them.
 fn add_answers(
@@ -125,29 +125,24 @@ fn judge(alloc: Global, texts: &[String]) -> Result<(u8, String), Refusal>
     audit_line(alloc, version, &schema, &flown)
 }
 
-// Writes a line, and lets it go on its way. Where the writer fails a beginning of it was written.
-pub(crate) fn write_line<W: io::Write>(line: &str, writer: &mut W) -> io::Result<()>
-    ensures { WritesOrBegins (W.contents writer.old) (W.contents writer.new) result line.now }
-{
-    write_whole(line, writer)?;
-    writer.flush()
-}
-
 /// Judges the flights in these texts, one of each node in any order, and prints what an audit says of them: the one line
 /// `audit: yes` with exit status 0, where the events of one run explain the lives and answers that the flights hold, or
 /// `audit: ` and the fault with 1, where none do or marks do not rise. Else it gives what ended the command, and no other
 /// line is printed: 50 exactly where the texts are not the flight files of a group, since one is no flight file, two differ in
-/// version, members or schema, or a node is missing or doubled; or 43; or the writer's fault, after a beginning of that line.
-pub fn run_audit<W: io::Write>(
+/// version, members or schema, or a node is missing or doubled; or 43; or the error of the outlet's last call, after a
+/// beginning of that line.
+pub fn run_audit<O: Outlet>(
     alloc: Global,
     texts: &[String],
-    writer: &mut W,
+    outlet: &mut O,
 ) -> Result<u8, RunFault>
-    ensures said { IfOk result (λ status. (line : List ℕ) × IsJudged (map string_bytes texts.now) status line × Appends (W.contents writer.old) (W.contents writer.new) line) }
-    ensures begun { OnErr result ((writer.new ≡ writer.old) ⊎ BeginsJudged (map string_bytes texts.now) (W.contents writer.old) (W.contents writer.new)) }
-    ensures refused { (refusal : AnyRefusal) → result ≡ Err (RunFault.Refused refusal) → ((refusal ≡ NoMemory) ⊎ ((refusal ≡ BadFlight) × IsNoGroup (map string_bytes texts.now))) × (writer.new ≡ writer.old) }
+    ensures said { IfOk result (λ status. (line : List ℕ) × IsJudged (map string_bytes texts.now) status line × Appends (O.holds outlet.old) (O.holds outlet.new) line) }
+    ensures sent { OnOk result (O.is_sent outlet.new) }
+    ensures begun { OnErr result ((outlet.new ≡ outlet.old) ⊎ BeginsJudged (map string_bytes texts.now) (O.holds outlet.old) (O.holds outlet.new)) }
+    ensures refused { (refusal : AnyRefusal) → result ≡ Err (RunFault.Refused refusal) → ((refusal ≡ NoMemory) ⊎ ((refusal ≡ BadFlight) × IsNoGroup (map string_bytes texts.now))) × (outlet.new ≡ outlet.old) }
+    ensures failed { (error : Error) → result ≡ Err (RunFault.Output error) → IsLastError O.fails error outlet.new }
 {
     let (status, line) = judge(alloc, texts)?;
-    write_line(line.as_str(), writer)?;
+    tell(line.as_str(), outlet)?;
     Ok(status)
 }

@@ -1,31 +1,35 @@
 //! The command `live`.
-ghost use Rattle.std.specs.Prelude.{◌≡◌, ◌≤◌, ◌⊎◌, ℕ, List, IfOk, OnErr, OnOk, vec_len};
+ghost use Rattle.std.specs.Prelude.{◌≡◌, ◌≤◌, ◌⊎◌, ℕ, List, Err, IfOk, IfErr, OnErr, OnOk, string_bytes, vec_len};
 ghost use Rattle.std.specs.Io.KnownBytes.{Appends};
+ghost use Rattle.std.specs.declared.io.Error.{Error};
 ghost use Rattle.flight.specs.declared.flight.Version.TheVariants.{Three};
-ghost use Rattle.shell.specs.Audit.{BeginsSaid, Grows, IsSaid, records_of};
-ghost use Rattle.shell.specs.Live.{EndsRun};
+ghost use Rattle.answertext.specs.Sinks.{AppendsBeginning};
+ghost use Rattle.shell.specs.Audit.{BeginsSaid, IsSaid, records_of};
+ghost use Rattle.shell.specs.Live.{BeginsLines, BeginsRun, EndsRun, PlaysAll, PrintsRun};
+ghost use Rattle.shell.specs.Outlets.{IsLastError};
 ghost use Rattle.shell.specs.Sim.{IsOfText};
 
-use crate::audit::{audit_line, write_line};
+use crate::audit::audit_line;
 use crate::command::Live;
 use crate::databases::databases_in_memory;
+use crate::outlet::{Outlet, tell};
+use crate::pilot::Pilot;
 use crate::sim::read_text;
 use crate::stop::Stop;
-use causes::{Cause, Found, Name};
+use causes::{Cause, Found, Name, Trouble};
 use durable::SqlKeeper;
 use fault::{Refusal, Text};
-use flight::flight::{Recorded, Version};
+use flight::flight::Version;
 use flight::life::{Ending, Life};
 use folder::{Flown, Folder, Made, make_databases};
 use lines::line::Line;
 use live::driver::stations;
-use live::station::Station;
 use live::{Cluster, Config, Driver, Gate, LiveScript, Point, read_live};
 use model::member::Member;
 use network::Weather;
 use script::run_fault::RunFault;
 use sqlite::{Alter, Connection};
-use std::alloc::{AllocError, Global};
+use std::alloc::Global;
 use std::io;
 use std::rt::Files;
 use std::sync::{Arc, Wait};
@@ -39,42 +43,56 @@ impl Gate for OpenGate {
     fn pass(&self, _node: Member, _point: Point) {}
 }
 
-// Plays one line, and writes what it prints.
-fn play_line<R: Wait, W: io::Write>(
+// Plays one line, and writes what it prints. The error is the outlet's, or what the play was refused by.
+fn play_line<R: Wait, P: Pilot, O: Outlet>(
     rt: &R,
-    driver: &mut Driver,
+    pilot: &mut P,
     line: &Line,
-    writer: &mut W,
+    outlet: &mut O,
 ) -> Result<(), RunFault>
-    ensures { OnOk result (Grows (W.contents writer.old) (W.contents writer.new)) }
+    ensures played { OnOk result ((text : List ℕ) × P.plays pilot.old line.now text pilot.new × Appends (O.holds outlet.old) (O.holds outlet.new) text) }
+    ensures begun { OnErr result ((outlet.new ≡ outlet.old) ⊎ ((text : List ℕ) × P.plays pilot.old line.now text pilot.new × AppendsBeginning (O.holds outlet.old) (O.holds outlet.new) text)) }
+    ensures failed { (error : Error) → result ≡ Err (RunFault.Output error) → IsLastError O.fails error outlet.new }
 {
-    let text = driver.play(rt, line)?;
-    writer.write_all(text.as_bytes())?;
-    writer.flush()?;
+    let text = pilot.play(rt, line)?;
+    tell(text.as_str(), outlet)?;
     Ok(())
 }
 
 // Plays the lines in turn, and writes what each prints before the next one is played.
-fn play_lines<R: Wait, W: io::Write>(
+fn play_lines<R: Wait, P: Pilot, O: Outlet>(
     rt: &R,
-    driver: &mut Driver,
+    pilot: &mut P,
     lines: &[Line],
-    writer: &mut W,
+    outlet: &mut O,
 ) -> Result<(), RunFault>
-    ensures { OnOk result (Grows (W.contents writer.old) (W.contents writer.new)) }
+    ensures played { OnOk result ((printed : List ℕ) × PlaysAll P.plays pilot.old lines.now printed pilot.new × Appends (O.holds outlet.old) (O.holds outlet.new) printed) }
+    ensures begun { OnErr result (BeginsLines P.plays lines.now pilot.old (O.holds outlet.old) (O.holds outlet.new)) }
+    ensures failed { (error : Error) → result ≡ Err (RunFault.Output error) → IsLastError O.fails error outlet.new }
 {
     for line in lines {
-        play_line(rt, driver, line, writer)?;
+        play_line(rt, pilot, line, outlet)?;
     }
     Ok(())
 }
 
-fn answers_of(alloc: Global, stations: Vec<Station>) -> Result<Vec<Vec<Recorded>>, AllocError> {
-    let mut answers = Vec::new(alloc);
-    for station in stations {
-        answers.push(station.answers)?;
-    }
-    Ok(answers)
+// Plays the lines, and stops all nodes, also after a fault: nobody has a database open then.
+fn fly<R: Wait + Threads, P: Pilot, O: Outlet>(
+    rt: &R,
+    alloc: Global,
+    mut pilot: P,
+    lines: &[Line],
+    outlet: &mut O,
+) -> Result<Flown, RunFault>
+    ensures flown { IfOk result (λ flown. (printed : List ℕ) × (last : P) × PlaysAll P.plays pilot lines.now printed last
+        × P.recorded last flown.lives.items flown.answers.items × Appends (O.holds outlet.old) (O.holds outlet.new) printed) }
+    ensures begun { OnErr result (BeginsLines P.plays lines.now pilot (O.holds outlet.old) (O.holds outlet.new)) }
+    ensures failed { (error : Error) → result ≡ Err (RunFault.Output error) → IsLastError O.fails error outlet.new }
+{
+    let played = play_lines(rt, &mut pilot, lines, outlet);
+    let ended = pilot.end(rt, alloc);
+    played?;
+    Ok(ended?)
 }
 
 // Starts a node over each database. After an error no thread is left, and nobody has a database open.
@@ -102,48 +120,6 @@ where
     Ok(Driver::new(alloc, schema, cluster, stations, weather))
 }
 
-// Plays the lines, and stops all nodes, also after a fault: nobody has a database open then.
-fn fly<R, W>(
-    rt: &R,
-    alloc: Global,
-    mut driver: Driver,
-    script: &LiveScript,
-    writer: &mut W,
-) -> Result<Flown, RunFault>
-where
-    R: Wait + Threads + Copy + Send + Drop + 'static,
-    W: io::Write,
-    ensures { OnOk result (Grows (W.contents writer.old) (W.contents writer.new)) }
-{
-    let played = play_lines(rt, &mut driver, script.lines.as_slice(), writer);
-    let (cluster, stations) = driver.into_parts();
-    let ended = cluster.stop(rt);
-    played?;
-    let answers = answers_of(alloc, stations)?;
-    Ok(Flown {
-        lives: ended.lives,
-        answers,
-    })
-}
-
-// Plays the script over new databases in memory.
-fn fly_in_memory<R, W>(
-    rt: &R,
-    live: Live<'_>,
-    script: &LiveScript,
-    writer: &mut W,
-) -> Result<Flown, RunFault>
-where
-    R: AllocGlobal + Wait + Threads + Copy + Send + Drop + 'static,
-    W: io::Write,
-    ensures { OnOk result (Grows (W.contents writer.old) (W.contents writer.new)) }
-{
-    let alloc: Global = rt.alloc();
-    let images = databases_in_memory(alloc, live.nodes)?;
-    let driver = start(rt, alloc, live, script, images)?;
-    fly(rt, alloc, driver, script, writer)
-}
-
 // A node over each of new databases in the folder. After an error the files that were made are removed, and no others.
 fn start_in<'a, R>(
     rt: &R,
@@ -155,6 +131,7 @@ fn start_in<'a, R>(
 where
     R: AllocGlobal + Files + Wait + Threads + Copy + Send + Drop + 'static,
     requires { folder.nodes ≤ 7 }
+    ensures { IfErr result (λ stop. (error : Error) → stop.fault ≡ RunFault.Output error → ⊥) }
 {
     let alloc: Global = rt.alloc();
     let (made, images) = make_databases(rt, host, alloc, folder)?;
@@ -174,47 +151,28 @@ where
     }
 }
 
-// Plays the script over new databases in the folder of this name. After a fault they are closed, where they can be.
-fn fly_in<'a, R, W>(
+// A node over each of new databases, in the folder or in memory.
+fn start_somewhere<'a, R>(
     rt: &R,
     host: &HostRuntime,
     live: Live<'a>,
     script: &LiveScript,
-    name: &'a str,
-    writer: &mut W,
-) -> Result<(Option<Made<'a>>, Flown), Stop<'a>>
+) -> Result<(Option<Made<'a>>, Driver), Stop<'a>>
 where
     R: AllocGlobal + Files + Wait + Threads + Copy + Send + Drop + 'static,
-    W: io::Write,
-    ensures { OnOk result (Grows (W.contents writer.old) (W.contents writer.new)) }
+    ensures { IfErr result (λ stop. (error : Error) → stop.fault ≡ RunFault.Output error → ⊥) }
 {
     let nodes = live.nodes;
-    let (made, driver) = start_in(rt, host, live, script, Folder { name, nodes })?;
-    match fly(rt, rt.alloc(), driver, script, writer) {
-        Ok(flown) => Ok((Some(made), flown)),
-        Err(fault) => {
-            let _ = made.close(rt, host);
-            Err(Stop::from(fault))
-        }
-    }
-}
-
-// Plays the script over new databases, in the folder or in memory.
-fn fly_somewhere<'a, R, W>(
-    rt: &R,
-    host: &HostRuntime,
-    live: Live<'a>,
-    script: &LiveScript,
-    writer: &mut W,
-) -> Result<(Option<Made<'a>>, Flown), Stop<'a>>
-where
-    R: AllocGlobal + Files + Wait + Threads + Copy + Send + Drop + 'static,
-    W: io::Write,
-    ensures { OnOk result (Grows (W.contents writer.old) (W.contents writer.new)) }
-{
     match live.dir {
-        None => Ok((None, fly_in_memory(rt, live, script, writer)?)),
-        Some(name) => fly_in(rt, host, live, script, name, writer),
+        None => {
+            let alloc: Global = rt.alloc();
+            let images = databases_in_memory(alloc, nodes)?;
+            Ok((None, start(rt, alloc, live, script, images)?))
+        }
+        Some(name) => {
+            let (made, driver) = start_in(rt, host, live, script, Folder { name, nodes })?;
+            Ok((Some(made), driver))
+        }
     }
 }
 
@@ -252,57 +210,100 @@ fn finish<'a, R: Files>(
     made: Option<Made<'a>>,
     schema: &Text,
     flown: Flown,
-) -> Result<(), Stop<'a>> {
+) -> Result<(), Trouble<'a>> {
     match made {
-        Some(made) => Ok(made.finish(rt, host, schema, flown)?),
+        Some(made) => made.finish(rt, host, schema, flown),
         None => Ok(()),
     }
 }
 
 // Leaves the folder whole, where there is one, and then writes what an audit says of the run. It gives the exit status.
-fn end_run<'a, R: AllocGlobal + Files, W: io::Write>(
+fn end_run<'a, R: AllocGlobal + Files, O: Outlet>(
     rt: &R,
     host: &HostRuntime,
     made: Option<Made<'a>>,
     script: &LiveScript,
     flown: Flown,
-    writer: &mut W,
+    outlet: &mut O,
 ) -> Result<u8, Stop<'a>>
-    ensures said { IfOk result (λ status. (line : List ℕ) × IsSaid (records_of Three script.now.schema flown.lives.items flown.answers.items) status line × Appends (W.contents writer.old) (W.contents writer.new) line) }
-    ensures begun { OnErr result ((writer.new ≡ writer.old) ⊎ BeginsSaid (records_of Three script.now.schema flown.lives.items flown.answers.items) (W.contents writer.old) (W.contents writer.new)) }
+    ensures said { IfOk result (λ status. (line : List ℕ) × IsSaid (records_of Three script.now.schema flown.lives.items flown.answers.items) status line × Appends (O.holds outlet.old) (O.holds outlet.new) line) }
+    ensures sent { OnOk result (O.is_sent outlet.new) }
+    ensures begun { OnErr result ((outlet.new ≡ outlet.old) ⊎ BeginsSaid (records_of Three script.now.schema flown.lives.items flown.answers.items) (O.holds outlet.old) (O.holds outlet.new)) }
+    ensures failed { IfErr result (λ stop. (error : Error) → stop.fault ≡ RunFault.Output error → IsLastError O.fails error outlet.new) }
 {
     let said = audit_line(rt.alloc(), Version::Three, &script.schema, &flown);
     finish(rt, host, made, &script.schema_text, flown)?;
     let (status, line) = said?;
-    write_line(line.as_str(), writer)?;
+    tell(line.as_str(), outlet)?;
     Ok(status)
+}
+
+// Closes the databases of a folder, where there is one and they can be closed.
+fn give_up<R: Files>(rt: &R, host: &HostRuntime, made: Option<Made<'_>>) {
+    if let Some(made) = made {
+        let _ = made.close(rt, host);
+    }
+}
+
+// Has a pilot play the script, leaves the folder whole, where there is one, and prints what an audit says of what the
+// nodes recorded. After a fault the databases are closed, where they can be.
+fn run_by<'a, R, P, O>(
+    rt: &R,
+    host: &HostRuntime,
+    live: Live<'a>,
+    made: Option<Made<'a>>,
+    script: &LiveScript,
+    pilot: P,
+    outlet: &mut O,
+) -> Result<u8, Stop<'a>>
+where
+    R: AllocGlobal + Files + Eprint + Wait + Threads,
+    P: Pilot,
+    O: Outlet,
+    ensures printed { IfOk result (λ status. PrintsRun P.plays P.recorded script.now.schema script.now.lines.items pilot status (O.holds outlet.old) (O.holds outlet.new)) }
+    ensures sent { OnOk result (O.is_sent outlet.new) }
+    ensures begun { OnErr result (BeginsLines P.plays script.now.lines.items pilot (O.holds outlet.old) (O.holds outlet.new)
+        ⊎ BeginsRun P.plays P.recorded script.now.schema script.now.lines.items pilot (O.holds outlet.old) (O.holds outlet.new)) }
+    ensures failed { IfErr result (λ stop. (error : Error) → stop.fault ≡ RunFault.Output error → IsLastError O.fails error outlet.new) }
+{
+    match fly(rt, rt.alloc(), pilot, script.lines.as_slice(), outlet) {
+        Ok(flown) => {
+            tell_fallen(rt, live, flown.lives.as_slice());
+            end_run(rt, host, made, script, flown, outlet)
+        }
+        Err(fault) => {
+            give_up(rt, host, made);
+            Err(Stop::from(fault))
+        }
+    }
 }
 
 /// Reads a script to its end, plays it on nodes that run on threads of their own, and prints what its lines give and then
 /// what an audit says of the run. It gives the exit status, 0 or where the audit says no 1, or what ended the command:
-/// want of memory, the writer's fault, or a refusal, with the file that a refusal of the folder came of. 60 and 10 to 18
-/// are of the script; then 44 where the folder has a file of one of the nodes already, and 40 where there is no such
-/// folder, or a database or a flight can't be made there. After a refusal of the script nothing is printed; where the
-/// nodes do not start, the files that were made are removed. Else each database is closed in the end, also after a
-/// fault of the writer, and whole without its log. A node that went down in a step, as its store failed or memory was
+/// want of memory, the error of the outlet's last call, or a refusal, with the file that a refusal of the folder came of. 60
+/// and 10 to 18 are of the script; then 44 where the folder has a file of one of the nodes already, and 40 where there is no
+/// such folder, or a database or a flight can't be made there. After a refusal of the script nothing is printed; where the
+/// nodes do not start, the files that were made are removed. Else each database is closed in the end, also after an
+/// error of the outlet, and whole without its log. A node that went down in a step, as its store failed or memory was
 /// refused, is told on standard error.
-pub fn run_live<'a, R, I, W>(
+pub fn run_live<'a, R, I, O>(
     rt: &R,
     host: &HostRuntime,
     live: Live<'a>,
     reader: &mut I,
-    writer: &mut W,
+    outlet: &mut O,
 ) -> Result<u8, Stop<'a>>
 where
     R: AllocGlobal + Files + Eprint + Wait + Threads + Copy + Send + Drop + 'static,
     I: io::Read,
-    W: io::Write,
-    ensures said { IfOk result (λ status. IsOfText (I.remaining reader.old) (EndsRun live.entry.nodes status (W.contents writer.old) (W.contents writer.new))) }
+    O: Outlet,
+    ensures said { IfOk result (λ status. IsOfText (I.remaining reader.old) (EndsRun live.entry.nodes status (O.holds outlet.old) (O.holds outlet.new))) }
+    ensures sent { OnOk result (O.is_sent outlet.new) }
+    ensures failed { IfErr result (λ stop. (error : Error) → stop.fault ≡ RunFault.Output error → IsLastError O.fails error outlet.new) }
 {
     let alloc: Global = rt.alloc();
     let text = read_text(alloc, reader)?;
     let script = read_live(alloc, text.as_str(), live.nodes)?;
-    let (made, flown) = fly_somewhere(rt, host, live, &script, writer)?;
-    tell_fallen(rt, live, flown.lives.as_slice());
-    end_run(rt, host, made, &script, flown, writer)
+    let (made, driver) = start_somewhere(rt, host, live, &script)?;
+    run_by(rt, host, live, made, &script, driver, outlet)
 }

@@ -1,6 +1,7 @@
 //! The command `audit` with a report.
-ghost use Rattle.std.specs.Prelude.{◌≡◌, ◌≢◌, ◌≤◌, ◌++◌, ◌⊎◌, ℕ, List, Some, length, map, string_bytes, Err, IfOk, IfErr, OnErr};
+ghost use Rattle.std.specs.Prelude.{◌≡◌, ◌≢◌, ◌≤◌, ◌++◌, ◌⊎◌, ℕ, List, Some, length, map, string_bytes, Err, IfOk, IfErr, OnErr, OnOk};
 ghost use Rattle.std.specs.Io.KnownBytes.{Appends};
+ghost use Rattle.std.specs.declared.io.Error.{Error};
 ghost use Rattle.fault.specs.declared.refusal.Refusal.TheVariants.{NoMemory, BadFlight};
 ghost use Rattle.fault.specs.declared.refusal.Refusal.{Refusal as AnyRefusal};
 ghost use Rattle.looks.specs.Objects.{line_of};
@@ -9,10 +10,12 @@ ghost use Rattle.report.specs.Machine.{report_tokens};
 ghost use Rattle.report.specs.Whole.{seal_of};
 ghost use Rattle.shell.specs.Audit.{records_of};
 ghost use Rattle.shell.specs.Group.{IsNoGroup};
+ghost use Rattle.shell.specs.Outlets.{IsLastError};
 ghost use Rattle.shell.specs.Reported.{BeginsReported, IsPrinted, IsReported, IsReportOn, IsVerdict, status_of, verdict_line};
 
-use crate::audit::{all_answers, write_line};
+use crate::audit::all_answers;
 use crate::group::{read_group, run_of};
+use crate::outlet::{Outlet, tell};
 use auditor::{AuditFault, audit};
 use fault::Refusal;
 use flight::flight::Version;
@@ -27,7 +30,6 @@ use report::whole::{Contents, Report, verdict_of};
 use schema::Schema;
 use script::run_fault::RunFault;
 use std::alloc::{AllocError, Global};
-use std::io;
 use world::event::Event;
 
 // What an audit says, and of what run.
@@ -202,20 +204,22 @@ fn reported(
 }
 
 /// Judges the flights in the files of these names, whose texts these are, as `run_audit` does, and prints a report: the line of the verdict,
-/// and what stands behind it, or the whole as JSON. The exit status and what ends it otherwise are those of `run_audit`; at the
-/// writer's fault a beginning of the report was written.
-pub fn run_report<W: io::Write>(
+/// and what stands behind it, or the whole as JSON. The exit status and what ends it otherwise are those of `run_audit`; at an
+/// error of the outlet a beginning of the report was written.
+pub fn run_report<O: Outlet>(
     alloc: Global,
     names: &[&str],
     texts: &[String],
     is_json: bool,
-    writer: &mut W,
+    outlet: &mut O,
 ) -> Result<u8, RunFault>
-    ensures said { IfOk result (λ status. (text : List ℕ) × IsReported (map string_bytes texts.now) is_json status text × Appends (W.contents writer.old) (W.contents writer.new) text) }
-    ensures begun { OnErr result ((writer.new ≡ writer.old) ⊎ BeginsReported (map string_bytes texts.now) is_json (W.contents writer.old) (W.contents writer.new)) }
-    ensures refused { (refusal : AnyRefusal) → result ≡ Err (RunFault.Refused refusal) → ((refusal ≡ NoMemory) ⊎ ((refusal ≡ BadFlight) × IsNoGroup (map string_bytes texts.now))) × (writer.new ≡ writer.old) }
+    ensures said { IfOk result (λ status. (text : List ℕ) × IsReported (map string_bytes texts.now) is_json status text × Appends (O.holds outlet.old) (O.holds outlet.new) text) }
+    ensures sent { OnOk result (O.is_sent outlet.new) }
+    ensures begun { OnErr result ((outlet.new ≡ outlet.old) ⊎ BeginsReported (map string_bytes texts.now) is_json (O.holds outlet.old) (O.holds outlet.new)) }
+    ensures refused { (refusal : AnyRefusal) → result ≡ Err (RunFault.Refused refusal) → ((refusal ≡ NoMemory) ⊎ ((refusal ≡ BadFlight) × IsNoGroup (map string_bytes texts.now))) × (outlet.new ≡ outlet.old) }
+    ensures failed { (error : Error) → result ≡ Err (RunFault.Output error) → IsLastError O.fails error outlet.new }
 {
     let (status, text) = reported(alloc, names, texts, is_json)?;
-    write_line(text.as_str(), writer)?;
+    tell(text.as_str(), outlet)?;
     Ok(status)
 }

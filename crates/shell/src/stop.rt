@@ -1,4 +1,8 @@
 //! What ends a command before its end, with what is known of why.
+ghost use Rattle.std.specs.Prelude.{◌≡◌};
+ghost use Rattle.fault.specs.declared.refusal.Refusal.TheVariants.{NoMemory};
+ghost use Rattle.script.specs.declared.run_fault.RunFault.TheVariants.{Refused, Output};
+
 use causes::{Cause, Found, Name, Trouble, why_no_group};
 use fault::Refusal;
 use script::run_fault::RunFault;
@@ -13,36 +17,48 @@ pub struct Stop<'a> {
 }
 
 impl<'a> From<RunFault> for Stop<'a> {
+    ghost from_gives = { λ fault stop. stop.fault ≡ fault };
+
     fn from(fault: RunFault) -> Stop<'a> {
         Stop { fault, cause: None }
     }
 }
 
 impl<'a> From<Refusal> for Stop<'a> {
+    ghost from_gives = { λ refusal stop. stop.fault ≡ Refused refusal };
+
     fn from(refusal: Refusal) -> Stop<'a> {
         Stop::from(RunFault::Refused(refusal))
     }
 }
 
 impl<'a> From<AllocError> for Stop<'a> {
+    ghost from_gives = { λ _ stop. stop.fault ≡ Refused NoMemory };
+
     fn from(_error: AllocError) -> Stop<'a> {
         Stop::from(RunFault::Refused(Refusal::NoMemory))
     }
 }
 
 impl<'a, T: Drop> From<AllocFailed<T>> for Stop<'a> {
+    ghost from_gives = { λ _ stop. stop.fault ≡ Refused NoMemory };
+
     fn from(_error: AllocFailed<T>) -> Stop<'a> {
         Stop::from(RunFault::Refused(Refusal::NoMemory))
     }
 }
 
 impl<'a> From<io::Error> for Stop<'a> {
+    ghost from_gives = { λ error stop. stop.fault ≡ Output error };
+
     fn from(error: io::Error) -> Stop<'a> {
         Stop::from(RunFault::Output(error))
     }
 }
 
 impl<'a> From<Trouble<'a>> for Stop<'a> {
+    ghost from_gives = { λ trouble stop. stop.fault ≡ Refused trouble.refusal };
+
     fn from(trouble: Trouble<'a>) -> Stop<'a> {
         let Trouble { refusal, cause } = trouble;
         Stop {

@@ -1,0 +1,65 @@
+//! Who plays a script's lines on nodes, and gives what they recorded.
+ghost use Rattle.std.specs.Prelude.{ℕ, List, ⊤, IfOk, string_bytes};
+ghost use Rattle.std.specs.declared.vec.Vec.{Vec as AnyVec};
+ghost use Rattle.std.specs.declared.alloc.Global.{Global as AnyGlobal};
+ghost use Rattle.flight.specs.declared.flight.Recorded.{Recorded as AnyRecorded};
+ghost use Rattle.flight.specs.declared.life.Life.{Life as AnyLife};
+ghost use Rattle.lines.specs.declared.line.Line.{Line as AnyLine};
+
+use fault::Refusal;
+use flight::flight::Recorded;
+use folder::Flown;
+use lines::line::Line;
+use live::Driver;
+use live::station::Station;
+use std::alloc::{AllocError, Global};
+use std::sync::Wait;
+use std::thread::Threads;
+
+/// Who plays a script's lines on nodes. Of a line `plays` is known only where it was played, and `recorded` of lives and
+/// answers only where the end gave them: who promises them over any pilot can't invent what was printed, nor what nodes
+/// recorded.
+pub trait Pilot {
+    /// The pilot before a line, the line, what it prints, and the pilot after it.
+    ghost plays: { Self → AnyLine → List ℕ → Self → Type 0 };
+
+    /// The pilot before its end, and the lives and answers that its nodes recorded, node by node.
+    ghost recorded: { Self → List (AnyVec AnyLife AnyGlobal) → List (AnyVec AnyRecorded AnyGlobal) → Type 0 };
+
+    /// Plays a line, and gives what it prints.
+    fn play<R: Wait>(&mut self, rt: &R, line: &Line) -> Result<String, Refusal>
+        ensures { IfOk result (λ text. plays self.old line.now (string_bytes text) self.new) };
+
+    /// Stops all nodes, and gives what they recorded. The error is want of memory.
+    fn end<R: Wait + Threads>(self, rt: &R, alloc: Global) -> Result<Flown, AllocError>
+        ensures { IfOk result (λ flown. recorded self flown.lives.items flown.answers.items) };
+}
+
+impl Pilot for Driver {
+    ghost plays = { λ _ _ _ _. ⊤ };
+
+    ghost recorded = { λ _ _ _. ⊤ };
+
+    fn play<R: Wait>(&mut self, rt: &R, line: &Line) -> Result<String, Refusal> {
+        Driver::play(self, rt, line)
+    }
+
+    fn end<R: Wait + Threads>(self, rt: &R, alloc: Global) -> Result<Flown, AllocError> {
+        let (cluster, stations) = self.into_parts();
+        let ended = cluster.stop(rt);
+        let answers = answers_of(alloc, stations)?;
+        Ok(Flown {
+            lives: ended.lives,
+            answers,
+        })
+    }
+}
+
+// What the stations' views answered.
+fn answers_of(alloc: Global, stations: Vec<Station>) -> Result<Vec<Vec<Recorded>>, AllocError> {
+    let mut answers = Vec::new(alloc);
+    for station in stations {
+        answers.push(station.answers)?;
+    }
+    Ok(answers)
+}
