@@ -1,7 +1,7 @@
 -- One step of a list after the other.
-use Rattle.std.proofs.Common.{◌≡◌, List, [], ◌∷◌, ◌++◌, Option, Some, None, Result, Ok, Err, refl, sym, ap, ◌∙◌, append_assoc}
+use Rattle.std.proofs.Common.{◌≡◌, List, [], ◌∷◌, ◌++◌, map, Option, Some, None, Result, Ok, Err, refl, sym, ap, ◌∙◌, append_assoc}
 use Rattle.std.proofs.lemmas.List.{append-nil}
-use Rattle.std.specs.Prelude.{option_to_list}
+use Rattle.std.specs.Prelude.{option_map, option_to_list}
 use Rattle.csvrows.specs.declared.stop.Fault.{Fault}
 use Rattle.csvrows.specs.Faults.{◌>>=◌, found_in}
 
@@ -32,3 +32,9 @@ no_front (Err e) = refl
 -- each in turn, from nothing on
 pub found_is : {A B : Type 0} (f : A → Result (Option B) Fault) (xs : List A) → found_in f xs ≡ found_after f [] xs
 found_is f xs = no_front (found_in f xs) ∙ found_behind f [] xs
+
+-- the images of a list and of one more, if there is one
+pub map_kept : {A B : Type 0} (f : A → B) (xs : List A) (o : Option A) → map f (xs ++ option_to_list o) ≡ map f xs ++ option_to_list (option_map f o)
+map_kept f [] None = refl
+map_kept f [] (Some x) = refl
+map_kept f (x ∷ xs) o = ap (λ ys. f x ∷ ys) (map_kept f xs o)

@@ -13,12 +13,12 @@ both true b e = (refl, e)
 both false b e = absurd cc
 
 small : (b : ℕ) → (nat_le 32 b && nat_le b 126) ≡ true → b < 128
-small b e = let most = (both _ _ e).1 in grind (arith, nat_tests)
+small b e = let most : nat_le b 126 ≡ true = (both (nat_le 32 b) (nat_le b 126) e).1 in grind (arith, nat_tests)
 
 pub is_ascii : (field : List ℕ) → is_printable field ≡ true → IsAscii field
 is_ascii [] e i = omega arith
-is_ascii (b ∷ bs) e zero = small b (both _ _ e).0
-is_ascii (b ∷ bs) e (suc i) = is_ascii bs (both _ _ e).1 i
+is_ascii (b ∷ bs) e zero = small b (both (nat_le 32 b && nat_le b 126) (is_printable bs) e).0
+is_ascii (b ∷ bs) e (suc i) = is_ascii bs (both (nat_le 32 b && nat_le b 126) (is_printable bs) e).1 i
 
 pub is_text : (field : List ℕ) → is_printable field ≡ true → IsUtf8 field
 is_text field e = IsUtf8-from_ascii field (is_ascii field e)
@@ -34,4 +34,4 @@ join false b p q = absurd cc
 -- digits are printable
 pub digits_are : (field : List ℕ) → list_all is_ascii_digit field ≡ true → is_printable field ≡ true
 digits_are [] e = refl
-digits_are (b ∷ bs) e = join _ _ (digit b (both _ _ e).0) (digits_are bs (both _ _ e).1)
+digits_are (b ∷ bs) e = join (nat_le 32 b && nat_le b 126) (is_printable bs) (digit b (both (is_ascii_digit b) (list_all is_ascii_digit bs) e).0) (digits_are bs (both (is_ascii_digit b) (list_all is_ascii_digit bs) e).1)

@@ -1,6 +1,6 @@
 //! The columns that the first line of a file names.
-ghost use Rattle.std.specs.Prelude.{◌≡◌, ◌<◌, [], IfOk, map, length};
-ghost use Rattle.csv.specs.Records.{fields_of};
+ghost use Rattle.std.specs.Prelude.{◌≡◌, ◌<◌, [], Some, IfOk, map, length};
+ghost use Rattle.csv.specs.Records.{field_at, fields_of};
 ghost use Rattle.sqlread.specs.Changes.{is_system, is_among};
 ghost use Rattle.csvrows.specs.Faults.{GivesInMemory};
 ghost use Rattle.csvrows.specs.Header.{column_in, has_all, header_in, header_of, target_for, target_in, targets_after};
@@ -8,6 +8,7 @@ ghost use Rattle.csvrows.specs.Shapes.{header_shape};
 ghost use Rattle.namesyntax.specs.Parsing.{GivesInMemory as GivesRefusal};
 
 use crate::fields::plain;
+use crate::keep::keep;
 use crate::line::{before_field, fields_at};
 use crate::stop::Stop;
 use csv::ByteRecord;
@@ -118,8 +119,20 @@ fn target_in(
     }
 }
 
+// The field at this place.
+#[tactic(auto, using(crate::proofs::Places::some_at))]
+fn name_at(names: &ByteRecord, place: usize) -> &[u8]
+    requires { place < length (fields_of names.now) }
+    ensures { field_at (fields_of names.entry.now) place ≡ Some result.now }
+{
+    match names.get(place) {
+        Some(name) => name,
+        None => unreachable!(),
+    }
+}
+
 // What the fields of the header are for.
-#[tactic(auto, using(crate::proofs::Places::drop_field, crate::proofs::Places::drop_none))]
+#[tactic(auto, using(crate::proofs::Places::drop_field))]
 fn targets(
     alloc: Global,
     table: &Table,
@@ -130,12 +143,9 @@ fn targets(
 {
     let mut targets = Vec::new(alloc);
     for place in 0..names.len() {
-        let Some(name) = names.get(place) else {
-            break;
-        };
-        if let Some(target) = target_in(table, line, &targets, place, name)? {
-            targets.push(target)?;
-        }
+        let name = name_at(names, place);
+        let target = target_in(table, line, &targets, place, name)?;
+        keep(&mut targets, target)?;
     }
     Ok(targets)
 }

@@ -3,6 +3,7 @@
 
 mod fields;
 mod header;
+mod keep;
 mod line;
 mod requests;
 mod rows;

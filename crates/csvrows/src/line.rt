@@ -79,6 +79,7 @@ pub(crate) fn fields_at(
 }
 
 /// How many bytes of a line stand before a field, by its place.
+#[tactic(auto, using(crate::proofs::Places::none_left))]
 pub(crate) fn before_field(line: &[u8], place: usize) -> usize
     ensures { result ≡ before_field false place line.now }
 {

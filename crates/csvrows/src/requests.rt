@@ -8,6 +8,7 @@ ghost use Rattle.csvrows.specs.Rows.{row_from as row_numbered};
 ghost use Rattle.csvrows.specs.Shapes.{header_shape, row_shape};
 
 use crate::header::header_in;
+use crate::keep::keep;
 use crate::line::{pieces_of, without_return};
 use crate::rows::{Destination, MAX_TEXT, Row, row_from};
 use crate::stop::Stop;
@@ -103,7 +104,7 @@ fn grouped(alloc: Global, rows: &[Row]) -> Result<Vec<Request>, AllocError>
 }
 
 // The rows of lines.
-#[tactic(auto, using(crate::proofs::Found::found_is))]
+#[tactic(auto, using(crate::proofs::Found::found_is, crate::proofs::Found::map_kept))]
 fn rows_of(
     alloc: Global,
     into: Destination<'_>,
@@ -114,9 +115,8 @@ fn rows_of(
 {
     let mut rows = Vec::new(alloc);
     for (at, piece) in pieces.iter().enumerate() {
-        if let Some(row) = row_from(alloc, into, from, at + 1, without_return(*piece))? {
-            rows.push(row)?;
-        }
+        let row = row_from(alloc, into, from, at + 1, without_return(*piece))?;
+        keep(&mut rows, row)?;
     }
     Ok(rows)
 }

@@ -1,10 +1,11 @@
 //! The statement of a line of a file.
-ghost use Rattle.std.specs.Prelude.{◌≡◌, ◌==◌, position, Some, option_map, string_bytes, IfOk};
+ghost use Rattle.std.specs.Prelude.{◌≡◌, ◌==◌, map, position, Some, option_map, string_bytes, IfOk};
 ghost use Rattle.std.specs.Option.{option_copied};
 ghost use Rattle.csv.specs.Records.{fields_of};
+ghost use Rattle.csvrows.specs.Fields.{literal_text};
 ghost use Rattle.csvrows.specs.Faults.{GivesInMemory, found_in};
 ghost use Rattle.csvrows.specs.Shapes.{header_shape, row_shape};
-ghost use Rattle.csvrows.specs.Rows.{has_days, is_before, row_from, row_in, row_of, statement_text, target_value, value_for};
+ghost use Rattle.csvrows.specs.Rows.{has_days, is_before, listed, row_from, row_in, row_of, statement_text, target_value, value_for};
 
 use crate::fields::field_value;
 use crate::header::{Header, Target};
@@ -110,6 +111,20 @@ fn has_days(table: &Table, targets: &[Target], values: &[Value]) -> bool
     is_before(start, end)
 }
 
+fn names_text(alloc: Global, targets: &[Target]) -> Result<String, AllocError>
+    ensures { IfOk result (λ text. string_bytes text ≡ listed (map (λ t. t.name) targets.now)) }
+{
+    let names = Names(targets);
+    format!(in alloc; "{names}")
+}
+
+fn values_text(alloc: Global, values: &[Value]) -> Result<String, AllocError>
+    ensures { IfOk result (λ text. string_bytes text ≡ listed (map literal_text values.now)) }
+{
+    let values = Values(values);
+    format!(in alloc; "{values}")
+}
+
 // The row of these values as a statement.
 fn statement_text(
     alloc: Global,
@@ -119,9 +134,16 @@ fn statement_text(
 ) -> Result<String, AllocError>
     ensures { IfOk result (λ text. string_bytes text ≡ statement_text name.now targets.now values.now) }
 {
-    let names = Names(targets);
-    let values = Values(values);
-    format!(in alloc; "INSERT INTO {name} ({names}) VALUES ({values});")
+    let names = names_text(alloc, targets)?;
+    let values = values_text(alloc, values)?;
+    let mut text = String::from_str(alloc, "INSERT INTO ")?;
+    text.push_str(name.as_str())?;
+    text.push_str(" (")?;
+    text.push_str(names.as_str())?;
+    text.push_str(") VALUES (")?;
+    text.push_str(values.as_str())?;
+    text.push_str(");")?;
+    Ok(text)
 }
 
 // The row of the fields that this line has.

@@ -1,21 +1,22 @@
 -- Lemmas on the program's command line as clap reads it.
-use Rattle.std.proofs.Common.{get_or, arith, ◌≡◌, ◌∙◌, ◌<◌, ◌^◌, ◌||◌, ◌⊎◌, ℕ, List, [], true, false, Option, Some, None, Result, Ok, Err, option_map, ap, ap₂, sym, subst, refl, inl}
+use Rattle.std.proofs.Common.{get_or, arith, ◌≡◌, ◌∙◌, ◌<◌, ◌^◌, ◌||◌, ◌⊎◌, ℕ, List, [], true, false, Option, Some, None, Result, Ok, Err, option_map, ap, ap₂, sym, subst, refl, inl, inr}
 use Rattle.std.specs.Str.Parse.{ParsesUnsigned, digits_value, without_leading_plus}
 use Rattle.clap.specs.Built.{AddsArg, AddsSubcommand}
-use Rattle.std.specs.Prelude.{Box, IfErr, IsErrAnd, codes}
+use Rattle.std.specs.Prelude.{Box, IfErr, IfNone, IfSome, IsErrAnd, codes}
 use Rattle.std.specs.Box.{box_value}
 use Rattle.clap.specs.Faults.{fault_of, is_simple_and_free}
 use Rattle.clap.specs.Kinds.{HasKind}
 use Rattle.clap.specs.Matches.{ReadsOne, one_text}
 use Rattle.clap.proofs.OnLiterals.{clap_on_literals}
 use Rattle.clap.specs.declared.error.Error.{Error}
-use Rattle.clap.specs.Simple.{App, app_of, subcommand_of, subcommand_rows, with_rule, with_subcommand}
+use Rattle.clap.specs.Simple.{App, HasMatchesOf, app_of, is_simple, subcommand_of, subcommand_rows, subcommand_rows_of, with_rule, with_subcommand}
 use Rattle.clap.specs.Walk.{Row, Rule, Text, one_of, rule_of, rows_of}
 use Rattle.clap.proofs.WalkLemmas.{one_text-rows}
 use Rattle.clap.specs.declared.builder.arg.Arg.{Arg}
 use Rattle.clap.specs.declared.builder.command.Command.{Command}
 use Rattle.clap.specs.declared.builder.command.Command.TheViews.{out-Command}
 use Rattle.clap.specs.declared.parser.matches.SubCommand.{SubCommand}
+use Rattle.clap.specs.declared.parser.matches.ArgMatches.{ArgMatches}
 use Rattle.clap.specs.declared.parser.matches.ArgMatches.TheViews.{out-SubCommand}
 use Rattle.clap.specs.declared.parser.matches.Found.{Found}
 use Rattle.storecommands.specs.CommandLine.{AsksExport, AsksFor, AsksImport, AsksNew, GivesClock, GivesLine, GivesNumber, store_app}
@@ -28,6 +29,10 @@ use Rattle.storecommands.specs.declared.command.NewStore.{NewStore}
 is_free : is_simple_and_free store_app ≡ true
 unfolding clap_on_literals
 is_free = refl
+
+is_plain : is_simple store_app ≡ true
+unfolding clap_on_literals
+is_plain = refl
 
 -- a command with one more argument, which is not global
 pub with_arg : (old : Command) (a : Arg) (new : Command) (app : App) (r : Rule) → AddsArg old a new
@@ -100,6 +105,24 @@ module _ (app : App) (words : List Text) (is : app ≡ store_app) where
   -- words that a parser of the program takes
   pub none_refused : (is_simple_and_free app ≡ true → fault_of app words ≡ []) → fault_of store_app words ≡ []
   none_refused h = subst (λ a. fault_of a words ≡ []) is (h (ap is_simple_and_free is ∙ is_free))
+
+  -- the subcommand that was met, as the program's words have it
+  pub rows_same : (m : ArgMatches) → HasMatchesOf app words m → subcommand_rows_of m ≡ subcommand_of store_app words
+  rows_same m h = subst (λ a. subcommand_rows_of m ≡ subcommand_of a words) is (h (ap is_simple is ∙ is_plain)).1
+
+  -- what it asks for
+  pub asked : (m : ArgMatches) (found : Option Asked) (command : Asked) → HasMatchesOf app words m → IfSome found (AsksFor (subcommand_rows_of m)) → found ≡ Some command
+      → AsksFor (subcommand_of store_app words) command
+  asked m found command h some e =
+      let now : AsksFor (subcommand_rows_of m) command = subst (λ f. IfSome f (AsksFor (subcommand_rows_of m))) e some in
+      subst (λ rows. AsksFor rows command) (rows_same m h) now
+
+  -- words that ask for nothing
+  pub none_asked : (m : ArgMatches) (found : Option Asked) (P : Type 0) → HasMatchesOf app words m → IfNone found ((command : Asked) → ¬ AsksFor (subcommand_rows_of m) command)
+      → found ≡ None → P ⊎ ((command : Asked) → ¬ AsksFor (subcommand_of store_app words) command)
+  none_asked m found P h none e =
+      let now : (command : Asked) → ¬ AsksFor (subcommand_rows_of m) command = subst (λ f. IfNone f ((command : Asked) → ¬ AsksFor (subcommand_rows_of m) command)) e none in
+      inr (subst (λ rows. (command : Asked) → ¬ AsksFor rows command) (rows_same m h) now)
 
   -- how it refuses words
   pub refused_by : (e : Error) → (is_simple_and_free app ≡ true → HasKind (fault_of app words) e)

@@ -1,7 +1,7 @@
 //! The command line.
 ghost use Rattle.std.specs.Prelude.{◌≡◌, ◌⊎◌, ◌∷◌, List, [], ℕ, IsTrue, ◌↔◌, map, option_map, string_bytes, codes, false, IfSome, IfNone, IfOk, IfErr, OnOk};
 ghost use Rattle.clap.specs.declared.builder.command.Command.TheViews.{out-Command};
-ghost use Rattle.clap.specs.Words.{app_of, fault_of, found_of, rows_of, rule_of, subcommand_of, subcommand_rows_of, HasKind};
+ghost use Rattle.clap.specs.Words.{app_of, new_app, fault_of, found_of, rows_of, rule_of, subcommand_of, subcommand_rows_of, HasKind};
 ghost use Rattle.clap.specs.Words.{first_of};
 ghost use Rattle.storecommands.specs.declared.command.Command.{Command as Asked};
 ghost use Rattle.storecommands.specs.declared.command.NewStore.{NewStore as Made};
@@ -289,11 +289,18 @@ fn export_words<'a>(alloc: Global) -> Result<Parser<'a>, AllocError>
         .arg(table_word(alloc))
 }
 
+fn bare_words<'a>(alloc: Global) -> Parser<'a>
+    ensures { app_of result ≡ new_app (codes "bitable") }
+{
+    Parser::new(alloc, "bitable").about(
+        "Tables that answer what was believed when, kept in a folder",
+    )
+}
+
 fn all_words<'a>(alloc: Global) -> Result<Parser<'a>, AllocError>
     ensures { IfOk result (λ c. app_of c ≡ store_app) }
 {
-    Parser::new(alloc, "bitable")
-        .about("Tables that answer what was believed when, kept in a folder")
+    bare_words(alloc)
         .subcommand(new_words(alloc)?)?
         .subcommand(open_words(alloc)?)?
         .subcommand(log_words(alloc)?)?

@@ -40,9 +40,11 @@ fn read_texts(rt: &HostRuntime, alloc: Global, dir: &str) -> Result<Vec<String>,
 // Whether the folder has flights, and nothing of a store but the first journal.
 fn is_run(rt: &HostRuntime, alloc: Global, dir: &str) -> Result<bool, StoreRefusal> {
     let flight = format!(in alloc; "{dir}/node1.flight")?;
-    Ok(exists(rt, flight.as_str())?
-        && !exists(rt, form_path(alloc, dir)?.as_str())?
-        && !exists(rt, journal_path(alloc, dir, 2)?.as_str())?)
+    Ok(
+        exists(rt, flight.as_str())?
+            && !exists(rt, form_path(alloc, dir)?.as_str())?
+            && !exists(rt, journal_path(alloc, dir, 2)?.as_str())?,
+    )
 }
 
 // The file that becomes the form, with its lock, which is then the folder's: 48 where another process has it.
@@ -67,12 +69,7 @@ fn put_file(rt: &HostRuntime, new: &str, path: &str, text: &str, mut file: File)
 }
 
 // Puts the first journal there. One that is there already has to be this one: else 56.
-fn put_journal(
-    rt: &HostRuntime,
-    alloc: Global,
-    dir: &str,
-    text: &str,
-) -> Result<(), StoreRefusal> {
+fn put_journal(rt: &HostRuntime, alloc: Global, dir: &str, text: &str) -> Result<(), StoreRefusal> {
     let path = journal_path(alloc, dir, 1)?;
     if exists(rt, path.as_str())? {
         let bytes: Vec<u8> = fs::read(rt, path.as_str()).map_err(|error| file_refusal(&error))?;
@@ -117,8 +114,9 @@ pub fn adopt(rt: &HostRuntime, alloc: Global, dir: &str) -> Result<Option<Member
     }
     put_journal(rt, alloc, dir, journal.as_str())?;
     let path = form_path(alloc, dir)?;
-    put_file(rt, new.as_str(), path.as_str(), form.as_str(), lock)
-        .map_err(|error| file_refusal(&error))?;
+    put_file(rt, new.as_str(), path.as_str(), form.as_str(), lock).map_err(|error| file_refusal(
+        &error,
+    ))?;
     sync_folder(rt, dir).map_err(|error| file_refusal(&error))?;
     Ok(Some(run.members()))
 }

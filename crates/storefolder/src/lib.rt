@@ -12,6 +12,7 @@ mod memory;
 mod opening;
 mod place;
 mod replayed;
+mod task;
 
 pub use adopting::adopt;
 pub use auditing::{Audited, Verdict, audit};
@@ -21,3 +22,4 @@ pub use memory::{InMemory, open_in_memory};
 pub use opening::{Cut, FolderStore, Found, Kept, Opened, close, open};
 pub use place::{Folder, enter, make};
 pub use replayed::{flights, is_file, replay};
+pub use task::{Task, with_store};

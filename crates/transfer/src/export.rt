@@ -30,8 +30,7 @@ fn ask_all<K: Announces>(
 where
     K::Image: Drop,
 {
-    let (member, answer) = store
-        .ask_any(reading, now_text(alloc, name)?.as_str())?;
+    let (member, answer) = store.ask_any(reading, now_text(alloc, name)?.as_str())?;
     let text = ever_text(alloc, name, answer.last.instant())?;
     store.ask(reading, member, text.as_str())
 }

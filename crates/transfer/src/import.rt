@@ -58,6 +58,7 @@ fn rows_of(requests: &[Request]) -> usize {
 }
 
 // How far an import came.
+#[derive(Drop)]
 struct Came {
     rows: usize,
     requests: usize,

@@ -1,5 +1,5 @@
 //! What an import tells.
-ghost use Rattle.std.specs.Prelude.{◌≡◌, ◌++◌, IfOk, string_bytes};
+ghost use Rattle.std.specs.Prelude.{◌≡◌, IfOk, string_bytes};
 ghost use Rattle.transfer.specs.Told.{advice_text, command_text, count_text, lines_text, outcome_text};
 
 use crate::asked::Import;
@@ -53,7 +53,7 @@ pub(crate) fn outcome_text(
     request: &Request,
     outcome: &Outcome,
 ) -> Result<String, AllocError>
-    ensures { IfOk result (λ text. string_bytes text ≡ outcome_text import.entry.file.now request.now.first request.now.last outcome.now ++ advice_text outcome.now (command_text import.entry.dir.now import.entry.table.now import.entry.file.now request.now.first)) }
+    ensures { IfOk result (λ text. string_bytes text ≡ outcome_text import.entry.file.now request.now.first request.now.last outcome.now (advice_text outcome.now (command_text import.entry.dir.now import.entry.table.now import.entry.file.now request.now.first))) }
 {
     let file = import.file;
     let first = request.first;

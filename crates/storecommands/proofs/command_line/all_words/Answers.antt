@@ -1,13 +1,10 @@
-use Rattle.std.proofs.Common.{rules, ◌≡◌, codes}
 use Rattle.std.proofs.lemmas.Result.{IfOk-weaker}
-use Rattle.clap.specs.Words.{app_of, new_app}
 use Rattle.storecommands.proofs.CommandLines.{with_sub}
 use Rattle.storecommands.proofs.command_line.all_words.Goals as goal
 
 pub returns : goal.returns
 returns c =
-    let start : app_of c.about.result ≡ new_app (codes "bitable") = search rules in
-    let made = with_sub _ _ _ _ _ c.in_ok-subcommand.ensures start c.in_ok-new_words.ensures in
+    let made = with_sub _ _ _ _ _ c.in_ok-subcommand.ensures c.bare_words.ensures c.in_ok-new_words.ensures in
     let opened = with_sub _ _ _ _ _ c.in_ok-subcommand-2.ensures made c.in_ok-open_words.ensures in
     let log = with_sub _ _ _ _ _ c.in_ok-subcommand-3.ensures opened c.in_ok-log_words.ensures in
     let flights = with_sub _ _ _ _ _ c.in_ok-subcommand-4.ensures log c.in_ok-flights_words.ensures in
