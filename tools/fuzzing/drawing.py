@@ -25,7 +25,7 @@ class Tongue:
         self.chance = chance
         self.days = sorted(chance.sample(DAYS, chance.randint(4, 8)))
         self.names = chance.sample(NAMES, len(NAMES))
-        self.keys = chance.choice([2, 3, 3, 6])
+        self.keys = chance.choice([2, 5, 8, 12])
         self.parts = []
         for at in range(chance.randint(1, most_tables)):
             self.parts.append(self.table(at))
@@ -79,10 +79,16 @@ class Tongue:
             first, second = second, first
         return f"DATE '{first}'", f"DATE '{second}'"
 
+    def is_odd(self):
+        """Whether something that is refused stands here."""
+        return self.chance.random() < 0.01
+
     def literal(self, column):
+        if self.is_odd():
+            column = self.chance.choice([language.Column("", kind, 3) for kind in ("INTEGER", "VARCHAR", "DATE")])
         if column.kind == "DATE":
             return self.day()
-        if column.kind == "INTEGER":
+        if column.kind in ("INTEGER", "START", "END"):
             small = self.chance.randint(0, self.keys)
             return str(small if self.chance.random() < 0.97 else self.chance.choice([-small, 2**63 - 1, -(2**63), 2**63]))
         fitting = [it for it in WORDS if len(it) <= column.length]
@@ -92,8 +98,8 @@ class Tongue:
     def comparisons(self, table, count):
         found = []
         for _ in range(count):
-            place = self.chance.choice([*table.key, *table.values])
-            column = table.columns[place]
+            places = range(len(table.columns)) if self.is_odd() else [*table.key, *table.values]
+            column = table.columns[self.chance.choice(places)]
             sign = self.chance.choice(["=", "=", "=", "<>", "<", "<=", ">", ">="])
             found.append(f"{cased(self.chance, column.name)} {sign} {self.literal(column)}")
         return found
@@ -107,8 +113,8 @@ class Tongue:
     def statement(self):
         chance = self.chance
         table = chance.choice(self.tables)
-        name = cased(chance, table.name)
-        kind = chance.choice(["insert", "insert", "insert", "update", "update", "delete"])
+        name = "Nowhere" if self.is_odd() else cased(chance, table.name)
+        kind = chance.choice(["insert"] * 5 + ["update"] * 3 + ["delete"])
         if kind == "insert":
             return self.insert(table, name)
         portion = " FOR PORTION OF P FROM {} TO {}".format(*self.span()) if chance.random() < 0.7 else ""
@@ -116,6 +122,8 @@ class Tongue:
         if kind == "delete" or not table.values:
             return f"DELETE FROM {name}{portion}{where};"
         sets = chance.sample(table.values, chance.randint(1, len(table.values)))
+        if self.is_odd():
+            sets.append(chance.randrange(len(table.columns)))
         return f"UPDATE {name}{portion} SET {', '.join(self.set(table.columns[it]) for it in sets)}{where};"
 
     def insert(self, table, name):
@@ -123,6 +131,8 @@ class Tongue:
         if self.chance.random() < 0.3:
             self.chance.shuffle(places)
         first, second = self.span()
+        if self.is_odd():
+            places = self.chance.choice([places[1:], places * 2, [*places, table.system[0]]])
         said = {table.period[0]: first, table.period[1]: second}
         values = [said.get(it) or self.literal(table.columns[it]) for it in places]
         return f"INSERT INTO {name} ({', '.join(table.columns[it].name for it in places)}) VALUES ({', '.join(values)});"
@@ -135,11 +145,13 @@ class Tongue:
 
     def transaction(self):
         """The text of a request; some are changed in one byte."""
-        count = self.chance.choice([1, 1, 1, 2, 3, 5, 16])
+        count = self.chance.choice([16, 17]) if self.is_odd() else self.chance.choice([1, 1, 1, 1, 2, 2, 3, 5])
         text = self.chance.choice([" ", ""]).join(self.statement() for _ in range(count))
         return self.perhaps_changed(text)
 
     def perhaps_changed(self, text):
+        if self.is_odd():
+            text += " " * (self.chance.choice([4096, 4097]) - len(text))
         if self.chance.random() < 0.04:
             text = changed(self.chance, text.encode()).decode("ascii", "replace").replace("\n", " ").replace("�", "?")
         return text
@@ -147,10 +159,11 @@ class Tongue:
     def question(self, stamps):
         """A question; its system time is near these instants."""
         table = self.chance.choice(self.tables)
+        name = "Nowhere" if self.is_odd() else cased(self.chance, table.name)
         terms = self.comparisons(table, self.some() // 2)
         if self.chance.random() < 0.4:
             terms.append(self.period_term())
-        text = f"SELECT * FROM {cased(self.chance, table.name)}{self.system_time(stamps)}{self.where(terms)};"
+        text = f"SELECT * FROM {name}{self.system_time(stamps)}{self.where(terms)};"
         return self.perhaps_changed(text)
 
     def period_term(self):
