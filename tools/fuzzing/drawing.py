@@ -206,14 +206,22 @@ class Drawn:
             self.stop: 2, self.torn: 3, self.start: 7, self.settle: 18, self.clock: 3, self.ask: 8, self.recover: 0.4, self.odd: 0.5,
         }
         if chance.random() < 0.7:
-            self.add("timeout", 1)
-            self.add("settle")
+            self.begin()
         for kind in chance.choices(list(kinds), kinds.values(), k=steps):
             kind()
         if chance.random() < 0.5:
             self.add("recover")
             for number in self.group.nodes:
                 self.add("ask", number, self.tongue.question(self.stamps))
+
+    def begin(self):
+        """A leader is elected, and has some rows stored, of parents first."""
+        self.add("timeout", 1)
+        self.add("settle")
+        for number in range(1, self.chance.choice([2, 5, 9])):
+            table = self.tongue.tables[(number - 1) % len(self.tongue.tables)]
+            self.add("submit", 1, 3, number, " ".join(self.tongue.insert(table, table.name) for _ in range(2)))
+        self.add("settle")
 
     def text(self):
         lines = "".join(f"{line}\n" for line in self.lines)

@@ -8,21 +8,13 @@ import shutil
 import sqlite3
 
 import drawing
-import language
-import tables as tabled
-from language import Refused
-from texts import lines_of, write
+import network
+from texts import first_difference, lines_of, write
 from trying import Fault
 
 NOON = 1772442000000000
-OUTCOME = re.compile("request ([0-9]+) ([0-9]+) (unanswered|accepted .*|refused .*)")
-KEPT = 8
 # A piece of a flight: what it is, its bytes, and the mark of the life, step, torn step or answer that it is of.
 Piece = collections.namedtuple("Piece", "kind text mark")
-
-
-def micros(text):
-    return language.instant_of(text)
 
 
 # Scripts for `live`.
@@ -59,123 +51,88 @@ class Run:
     """A run of `live` in a folder, its script, what it printed and its flights."""
 
     def __init__(self, program, folder, chance, small=False):
-        self.program, self.place = program, os.path.join(folder, "run")
-        shutil.rmtree(self.place, ignore_errors=True)
-        os.mkdir(self.place)
+        self.program, self.folder, self.place = program, folder, os.path.join(folder, "run")
         self.members = 3 if small else chance.choice([3, 3, 3, 4, 5, 6, 7])
         self.tongue = drawing.Tongue(chance, 2)
-        lines = draw_lines(chance, self.tongue, self.members)
         self.head = f"members {self.members}\nschema\n{self.tongue.schema}\nend\n"
-        self.lines = [f"{line}\n" for line in lines]
-        self.script = (self.head + "".join(self.lines)).encode()
-        loss = chance.choice([0, 5, 20, 20, 30, 50, 70])
-        self.words = ["live", "--nodes", self.members, "--seed", chance.choice([chance.randint(0, 9), chance.getrandbits(64)]), "--loss", loss]
+        self.lines = [f"{line}\n" for line in draw_lines(chance, self.tongue, self.members)]
+        self.seed = chance.choice([chance.randint(0, 9), chance.getrandbits(64), 2**64 - chance.randint(1, 8)])
+        self.loss = chance.choice([0, 5, 20, 20, 30, 50, 70])
+        self.words = ["live", "--nodes", self.members, "--seed", self.seed, "--loss", self.loss]
+        self.play(self.lines)
+
+    def play(self, lines):
+        shutil.rmtree(self.place, ignore_errors=True)
+        os.mkdir(self.place)
+        self.script = (self.head + "".join(lines)).encode()
         self.files = {"script": self.script, "words": " ".join(map(str, self.words)).encode()}
-        self.path = write(folder, "live.script", self.script)
+        self.path = write(self.folder, "live.script", self.script)
         self.ended = self.program.run(*self.words, "--dir", self.place, self.path, files=self.files)
         self.printed = lines_of(self.ended.out)
 
-    def fault(self, why, ended=None):
+    def fault(self, why, ended=None, fails=None):
         files = dict(self.files)
         for path in glob.glob(f"{self.place}/*.flight"):
             with open(path, "rb") as file:
                 files[os.path.basename(path)] = file.read()
-        return Fault(why, ended or self.ended, files)
+        return Fault(why, ended or self.ended, files, self.lines if fails else None, fails)
 
     def flights(self):
         return [os.path.join(self.place, f"node{number}.flight") for number in range(1, self.members + 1)]
 
     def look(self):
-        """What the run said, against its databases and its flights."""
-        if self.ended.status or self.ended.err or self.printed[-1:] != ["audit: yes"]:
-            raise self.fault(f"it ends with status {self.ended.status}, {self.printed[-1:]} and {self.ended.err[:200]!r}")
+        """What the run printed, recorded and stored, against what is predicted of it; and what the audit says of its files."""
+        differs = self.differs()
+        if differs:
+            raise self.fault(differs, None, self.fails)
         audit = self.program.run("audit", *self.flights(), files=self.files)
         if audit.out != b"audit: yes\n" or audit.err or audit.status:
             raise self.fault(f"of its files the audit says {audit.out!r}", audit)
-        self.look_at_log(self.log())
+
+    def fails(self, lines):
+        try:
+            self.play(lines)
+            return bool(self.differs())
+        except Fault:
+            return True
+        except Exception:
+            return False
+
+    def differs(self):
+        predicted = network.Network(self.script, self.seed, self.loss)
+        wanted, flights = predicted.play_all()
+        differs = first_difference(self.printed, wanted)
+        if differs or self.ended.status or self.ended.err:
+            return differs or f"it ends with status {self.ended.status} and says {self.ended.err[:200]!r}"
+        for path, flight in zip(self.flights(), flights):
+            with open(path, newline="") as file:
+                differs = first_difference(file.read().split("\n"), flight.split("\n"))
+            if differs:
+                return f"{os.path.basename(path)}: {differs}"
+        for node in predicted.group.nodes.values():
+            stored = self.stored(node.number)
+            if stored != wanted_in(node):
+                return f"node{node.number}.db has {str(stored)[:300]}, and not {str(wanted_in(node))[:300]}"
+        return None
 
     def look_again(self):
         again = self.program.run(*self.words, self.path, files=self.files)
         if again.out != self.ended.out:
-            raise self.fault("the same run prints something else", again)
+            raise self.fault("the same run prints something else without a folder", again)
 
-    def log(self):
-        """The log that is most up to date: it has all that was decided."""
-        logs = []
-        for number in range(1, self.members + 1):
-            connection = sqlite3.connect(f"file:{self.place}/node{number}.db?mode=ro&immutable=1", uri=True)
-            logs.append(connection.execute("SELECT term, stamp, client, number, body FROM log ORDER BY idx").fetchall())
+    def stored(self, number):
+        """The term, the vote, the floor and the log in a database."""
+        connection = sqlite3.connect(f"file:{self.place}/node{number}.db?mode=ro&immutable=1", uri=True)
+        try:
+            return [connection.execute(words).fetchall() for words in (
+                "SELECT id, term, vote FROM meta", "SELECT id, t FROM floor", "SELECT idx, term, stamp, client, number, body FROM log ORDER BY idx")]
+        finally:
             connection.close()
-        return max(logs, key=lambda log: (log[-1][0] if log else 0, len(log)))
 
-    def look_at_log(self, log):
-        """Each outcome and each answer against what the requests of the log come to, one after the other."""
-        read = {body: language.transaction_of(self.tongue.tables, body.encode()) for *_, client, _, body in log if client}
-        days = list(tabled.days_in([[tuple(it) for it in said] for said in read.values()]))
-        questions, outcomes, at = [], collections.defaultdict(list), 0
-        for line in self.lines:
-            if line.startswith("ask "):
-                questions.append(self.question(line.rstrip("\n").split(" ", 2)[2]))
-                days += tabled.days_in(tuple(questions[-1])) if not isinstance(questions[-1], str) else []
-        state, executed = tabled.Tables(self.tongue.tables, tabled.Axis(days)), collections.Counter()
-        kept = {}
-        for _, stamp, client, number, body in log:
-            if client:
-                outcomes[client, number].append(self.outcome(state, executed, kept, (client, number), read[body], stamp))
-        self.look_at_lines(questions, outcomes, state)
 
-    def question(self, text):
-        try:
-            return language.question_of(self.tongue.tables, text.encode())
-        except Refused as refusal:
-            return str(refusal)
-
-    def outcome(self, state, executed, kept, request, said, stamp):
-        client, number = request
-        if number > executed[client] + 1:
-            return "refused 31 gap in requests"
-        if number == executed[client] + 1:
-            executed[client] = number
-            kept[request] = state.run(said, stamp)
-        return kept[request] if number > executed[client] - KEPT else "refused 30 old request"
-
-    def look_at_lines(self, questions, outcomes, state):
-        lines = collections.deque(self.printed)
-        for line in self.lines:
-            words = line.rstrip("\n").split(" ", 4)
-            if words[0] == "submit":
-                self.look_at_outcome(words, lines.popleft(), outcomes)
-            elif words[0] == "ask":
-                self.look_at_answer(questions.pop(0), lines, state)
-        if list(lines) != ["audit: yes"]:
-            raise self.fault(f"it prints {list(lines)[:3]} at its end")
-
-    def look_at_outcome(self, words, line, outcomes):
-        found = OUTCOME.fullmatch(line)
-        if not found or [found[1], found[2]] != words[2:4]:
-            raise self.fault(f"of {' '.join(words)!r} it prints {line!r}")
-        try:
-            language.transaction_of(self.tongue.tables, words[4].encode())
-            can_be = ["unanswered", *outcomes[int(found[1]), int(found[2])]]
-        except Refused as refusal:
-            can_be = [f"refused {refusal}"]
-        if found[3] not in can_be:
-            raise self.fault(f"of {' '.join(words)!r} it prints {line!r}, and not one of {can_be}")
-
-    def look_at_answer(self, question, lines, state):
-        first = lines.popleft()
-        if isinstance(question, str):
-            if first.partition(" refused ")[2] != question:
-                raise self.fault(f"of a question it prints {first!r}, and not {question!r}")
-            return
-        if first.endswith(" answer"):
-            closed = micros(lines[0].removeprefix("last "))
-            wanted = state.answer(question, closed)
-            printed = [lines.popleft() for _ in range(min(len(wanted), len(lines)))]
-            if printed != wanted:
-                raise self.fault(f"an answer is {printed}, and not {wanted}")
-        elif not re.search(" refused (33|41) ", first):
-            raise self.fault(f"of a question it prints {first!r}")
+def wanted_in(node):
+    log = [(at, it.term, it.stamp, *(it.request or (0, 0, ""))) for at, it in enumerate(node.log, 1)]
+    return [[(1, node.term, node.vote or 0)], [(1, -1 if node.floor is None else node.floor)], log]
 
 
 def live(program, folder, chance):
@@ -185,7 +142,13 @@ def live(program, folder, chance):
         run.look_again()
     if chance.random() < 0.1:
         refuse_folders(run, folder)
-    return {"runs": 1, "told": len(run.printed)}
+    return {"runs": 1, "lines": len(run.printed), "steps": sum(it.kind == "step" for it in run_pieces(run))}
+
+
+def run_pieces(run):
+    for path in run.flights():
+        with open(path, "rb") as file:
+            yield from pieces_of(file.read())
 
 
 def refuse_folders(run, folder):
