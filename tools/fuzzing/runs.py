@@ -57,7 +57,7 @@ class Run:
         self.head = f"members {self.members}\nschema\n{self.tongue.schema}\nend\n"
         self.lines = [f"{line}\n" for line in draw_lines(chance, self.tongue, self.members)]
         self.seed = chance.choice([chance.randint(0, 9), chance.getrandbits(64), 2**64 - chance.randint(1, 8)])
-        self.loss = chance.choice([0, 5, 20, 20, 30, 50, 70])
+        self.loss = chance.choice([0, 5, 20, 20, 30, 40, 50])
         self.words = ["live", "--nodes", self.members, "--seed", self.seed, "--loss", self.loss]
         self.play(self.lines)
 

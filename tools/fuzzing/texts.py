@@ -3,10 +3,12 @@ import functools
 import glob
 import os
 import re
+import xml.etree.ElementTree
 
 import drawing
 import language
 import scripts
+import shapes
 from language import Refused
 from trying import Fault
 
@@ -57,6 +59,38 @@ class Texts:
         if differs:
             raise Fault(differs, ended, {"script": text}, text.splitlines(keepends=True), lambda parts: self.still(parts, self.played))
         return len(lines_of(ended.out))
+
+    def look_at_forms(self, text, chance):
+        """The same script in another form, and as pictures."""
+        path, lines = write(self.folder, "shown.script", text), scripts.predicted(text)[0]
+        quiet = [line for line in lines if not line.startswith("sent ")]
+        lines, words = (quiet, ["--quiet"]) if chance.random() < 0.5 else (lines, [])
+        out, err = "".join(f"{line}\n" for line in lines), ""
+        form = chance.choice(["lines", "json", "csv"])
+        if form == "json":
+            out = shapes.as_json(lines)
+        elif form == "csv":
+            out, err = shapes.as_csv(lines)
+        ended = self.program.run("sim", *words, "--format", form, path, files={"script": text})
+        differs = first_difference(ended.out.decode().split("\n"), out.split("\n")) or first_difference(lines_of(ended.err), err.split("\n")[:-1])
+        if differs or ended.status:
+            raise Fault(f"as {form} {differs}, with status {ended.status}", ended, {"script": text})
+        for words in (["sim", "--format", "table", path], ["sim", "--strict", path], ["beliefs", path], ["lanes", path]):
+            self.program.run(*words, files={"script": text})
+        for command in ("beliefs", "lanes"):
+            self.look_at_picture(command, path, text)
+
+    def look_at_picture(self, command, path, text):
+        page = os.path.join(self.folder, "page.svg")
+        write(self.folder, "page.svg", b"")
+        ended = self.program.run(command, "--svg", page, path, files={"script": text})
+        if ended.out or (ended.status and not ended.err):
+            raise Fault(f"{command} prints {ended.out[:100]!r}", ended, {"script": text})
+        if not ended.status:
+            try:
+                xml.etree.ElementTree.parse(page)
+            except xml.etree.ElementTree.ParseError as fault:
+                raise Fault(f"the picture of {command}: {fault}", ended, {"script": text}) from None
 
     def still(self, parts, tried):
         try:
@@ -167,6 +201,8 @@ def draw_script(program, folder, chance):
     script = drawing.Drawn(chance, chance.choice([60, 150, 250])).text()
     lines = texts.play(script)
     texts.check(script)
+    if chance.random() < 0.3:
+        texts.look_at_forms(script, chance)
     return {"scripts": 1, "lines": lines}
 
 
