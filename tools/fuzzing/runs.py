@@ -1,5 +1,6 @@
 """Runs of `live` with seeds and losses, and their flights with changes."""
 import collections
+import functools
 import glob
 import json
 import os
@@ -7,9 +8,10 @@ import re
 import shutil
 import sqlite3
 
+import audits
 import drawing
 import network
-from texts import first_difference, lines_of, write
+from texts import ROOT, first_difference, lines_of, write
 from trying import Fault
 
 NOON = 1772442000000000
@@ -194,219 +196,197 @@ def with_number(chance, line, place):
     return b" ".join(words) + b"\n"
 
 
-# Where numbers stand in what a step takes, behind `from NODE MARK KIND`.
-FIELDS = {"votereq": 3, "vote": 3, "append": 4, "reply": 3, "seek": 3, "stored": 3, "seal": 3}
-
-
 class Forged:
-    """A group of flights of which one gets a change, and what then has to be said, if that is known."""
+    """A group of flights of which one gets a change."""
 
     def __init__(self, chance, texts):
-        self.chance, self.texts = chance, texts
-        self.node = chance.randint(1, len(texts))
-        self.pieces = pieces_of(texts[self.node - 1])
+        self.chance, self.texts = chance, list(texts)
+        self.node = chance.randrange(len(texts))
+        self.pieces = pieces_of(texts[self.node])
+
+    def changed(self):
+        """The texts with a change of any kind, and the kind; some kinds have nothing to change in some flights."""
+        while True:
+            kind = self.chance.choice(KINDS)
+            if getattr(self, kind)() is not False:
+                self.texts[self.node] = b"".join(piece.text for piece in self.pieces)
+                return kind
 
     def any(self, *kinds):
         found = [at for at, piece in enumerate(self.pieces) if piece.kind in kinds]
         return self.chance.choice(found) if found else None
 
-    def no(self, number, at):
-        words = {51: "broken life of node {} at {}", 52: "unsent message to node {} at {}", 53: "marks out of order at node {} at {}",
-                 54: "wrong answer of node {} at {}"}
-        return f"audit: {number} " + words[number].format(self.node, self.pieces[at].mark)
-
     def put(self, at, text):
-        """The piece with another text; whether that is another one."""
-        differs = self.pieces[at].text != text
         self.pieces[at] = self.pieces[at]._replace(text=text)
-        return differs
 
-    # Each gives what has to be said: one verdict, `any`, or nothing where there is nothing to change.
-
-    def life(self):
-        at = self.any("life")
-        before = self.pieces[at].text
-        place = self.chance.choice([2, 3])
-        return self.no(51, at) if self.put(at, with_number(self.chance, before, place)) else None
-
-    def life_floor(self):
-        at = self.any("life")
-        words = self.pieces[at].text.split(b" ")
-        words[4] = b"%d" % (int(words[4]) + 1)
-        return self.no(51, at) if self.put(at, b" ".join(words)) else None
-
-    def life_entry(self):
-        return self.entry("entry", 51)
-
-    def sent_entry(self):
-        return self.entry("sent", 52)
-
-    def entry(self, kind, number):
-        at = self.any(kind)
+    def number_in(self, *kinds):
+        """A number of such a line is another one."""
+        at = self.any(*kinds)
         if at is None:
-            return None
-        words = self.pieces[at].text.split(b" ")
-        place = self.chance.choice([1, 2]) if words[3] == b"close\n" else self.chance.choice([1, 2, 3, 4])
-        text = with_number(self.chance, self.pieces[at].text, place)
-        is_readable = place < 3 or int(text.split(b" ")[place]) > 0
-        return (self.no(number, at) if is_readable else "any") if self.put(at, text) else None
+            return False
+        words = self.pieces[at].text.split()
+        places = [place for place, word in enumerate(words) if word.isdigit()]
+        self.put(at, with_number(self.chance, self.pieces[at].text, self.chance.choice(places)))
 
-    def message(self):
-        takes = [at for at, it in enumerate(self.pieces) if it.kind in ("step", "torn") and it.text.split(b" ")[3] == b"from"]
-        if not takes:
-            return None
-        at = self.chance.choice(takes)
-        words = self.pieces[at].text.rstrip(b"\n").split(b" ")
-        kind = words[6].decode()
-        place = 7 + self.chance.randrange(FIELDS[kind])
-        if words[place] == b"-1":
-            words[place] = b"0"
-        elif kind in ("vote", "reply") and place == 8:
-            words[place] = b"0" if words[place] == b"1" else b"1"
-        else:
-            words[place] = b"%d" % (int(words[place]) + self.chance.choice([1, 2, 1000]))
-        return self.no(52, at) if self.put(at, b" ".join(words) + b"\n") else None
+    def opening(self):
+        return self.number_in("life")
+
+    def stored(self):
+        return self.number_in("entry")
+
+    def sent(self):
+        return self.number_in("sent")
+
+    def step(self):
+        return self.number_in("step", "torn")
 
     def outcome(self):
-        at = self.any("outcome")
-        if at is None:
-            return None
-        text = with_number(self.chance, self.pieces[at].text, self.chance.choice([1, 2, 3]))
-        is_readable = all(int(word) > 0 for word in text.split(b" ")[1:])
-        return (self.no(54, at) if is_readable else "any") if self.put(at, text) else None
+        return self.number_in("outcome")
 
-    def told(self):
-        at = self.any("told text")
-        return at is not None and self.digit(at)
+    def line(self):
+        return self.number_in(*(it.kind for it in self.pieces if not it.kind.endswith("text") and re.search(rb" [0-9]", it.text)))
 
-    def answered(self):
-        at = self.any("answer text")
-        return at is not None and self.digit(at)
-
-    def digit(self, at):
-        """Another digit in what was told."""
+    def floor(self):
+        """No floor where there is one, or one where there is none."""
+        at = self.any("life", "step", "torn")
         text = self.pieces[at].text
+        self.put(at, text.replace(b" -1", b" 0", 1) if b" -1" in text else re.sub(b" [0-9]+( [0-9]+)?\n$", rb" -1\1\n", text))
+
+    def word(self):
+        """Another word of the language of flights in a line."""
+        at = self.any(*(it.kind for it in self.pieces if not it.kind.endswith("text")))
+        words = self.pieces[at].text.split(b" ")
+        words[self.chance.randrange(len(words))] = self.chance.choice(WORDS)
+        self.put(at, b" ".join(words).rstrip(b"\n") + b"\n")
+
+    def digit(self):
+        """Another digit in what was told, asked or answered."""
+        at = self.any("told text", "answer text", "query text", "step text", "sent text", "entry text")
+        text = self.pieces[at].text if at is not None else b""
         places = [it.start() for it in re.finditer(b"[0-9]", text)]
         if not places:
-            return None
+            return False
         place = self.chance.choice(places)
-        digit = b"%d" % ((int(text[place : place + 1]) + self.chance.randint(1, 9)) % 10)
-        self.put(at, text[:place] + digit + text[place + 1 :])
-        return self.no(54, at)
+        self.put(at, text[:place] + b"%d" % self.chance.randrange(10) + text[place + 1 :])
 
-    def lacks_outcome(self):
-        at = self.any("outcome")
+    def part(self, *kinds):
+        """Where a part begins and ends: a step with its outcomes, an outcome, an answer, or a life's ending."""
+        at = self.any(*kinds)
         if at is None:
             return None
-        verdict = self.no(54, at)
-        del self.pieces[at : at + 3]
-        return verdict
-
-    def lacks_answer(self):
-        at = self.any("answer")
-        if at is None:
-            return None
-        del self.pieces[at : at + 5]
-        return "audit: yes"
-
-    def has_answer_twice(self):
-        at = self.any("answer")
-        if at is None:
-            return None
-        self.pieces[at:at] = self.pieces[at : at + 5]
-        return "audit: yes"
-
-    def step_ends(self, at):
-        end = at + 1
-        while self.pieces[end].kind not in ("step", "torn", "up", "stopped"):
+        kind, end = self.pieces[at].kind, at + 1
+        if kind in ("outcome", "answer"):
+            return at, at + (3 if kind == "outcome" else 5)
+        while kind == "step" and self.pieces[end].kind not in ("step", "torn", "up", "stopped"):
             end += 1
-        return end
+        return at, end
 
-    def steps_exchanged(self):
-        at = self.any("step")
-        if at is None:
-            return None
-        end = self.step_ends(at)
-        if self.pieces[end].kind != "step":
-            return None
-        verdict, last = self.no(53, at), self.step_ends(end)
-        self.pieces[at:last] = self.pieces[end:last] + self.pieces[at:end]
-        return verdict
+    def lacks(self):
+        place = self.part("step", "outcome", "answer", "step", "outcome", "stopped", "up")
+        if place is None:
+            return False
+        del self.pieces[slice(*place)]
 
-    def step_twice(self):
-        at = self.any("step")
-        if at is None:
-            return None
-        verdict, end = self.no(53, at), self.step_ends(at)
-        self.pieces[at:at] = self.pieces[at:end]
-        return verdict
+    def twice(self):
+        place = self.part("step", "outcome", "answer")
+        if place is None:
+            return False
+        self.pieces[place[0] : place[0]] = self.pieces[slice(*place)]
 
-    def lacks_step(self):
-        at = self.any("step")
-        if at is None:
-            return None
-        del self.pieces[at : self.step_ends(at)]
-        return "any"
-
-    def number(self):
-        """Any number of any line."""
-        places = [(at, place) for at, it in enumerate(self.pieces) if not it.kind.endswith(" text")
-                  for place, word in enumerate(it.text.split()) if word.isdigit()]
-        at, place = self.chance.choice(places)
-        self.put(at, with_number(self.chance, self.pieces[at].text, place))
-        return "any"
+    def elsewhere(self):
+        """A step, an outcome or an answer in another place of its kind."""
+        place, other = self.part("step"), self.part("step")
+        if self.chance.random() < 0.5:
+            place, other = self.part("outcome", "answer"), self.part("outcome", "answer")
+        if place is None or place == other:
+            return False
+        first, second = sorted((place, other))
+        parts = self.pieces[slice(*first)], self.pieces[slice(*second)]
+        self.pieces[slice(*second)] = parts[0]
+        self.pieces[slice(*first)] = parts[1]
 
     def bytes(self):
-        text = drawing.changed(self.chance, b"".join(it.text for it in self.pieces))
-        self.pieces = [Piece("whole", text, 0)]
-        return "any"
+        self.whole(drawing.changed(self.chance, b"".join(it.text for it in self.pieces)))
 
     def lines(self):
-        text = drawing.changed_lines(self.chance, b"".join(it.text for it in self.pieces))
+        self.whole(drawing.changed_lines(self.chance, b"".join(it.text for it in self.pieces)))
+
+    def whole(self, text):
         self.pieces = [Piece("whole", text, 0)]
-        return "any"
 
     def exchanged(self):
         """The flights of two nodes, each as the other's."""
-        other = self.chance.randint(1, len(self.texts))
-        if other == self.node:
-            return None
-        heads = [b"node %d of" % it for it in (self.node, other)]
-        one, two = self.texts[self.node - 1], self.texts[other - 1]
-        self.texts[other - 1] = one.replace(heads[0], heads[1], 1)
-        self.pieces = [Piece("whole", two.replace(heads[1], heads[0], 1), 0)]
-        return "any"
+        other = self.chance.randrange(len(self.texts))
+        heads = [b"node %d of" % (it + 1) for it in (self.node, other)]
+        one, two = self.texts[self.node], self.texts[other]
+        self.texts[other] = one.replace(heads[0], heads[1], 1)
+        self.whole(two.replace(heads[1], heads[0], 1))
+
+    def other(self):
+        """A flight that is there twice, or another one that is not there."""
+        others = [at for at in range(len(self.texts)) if at != self.node]
+        if self.chance.random() < 0.5 or not others:
+            self.texts.append(self.texts[self.node])
+        else:
+            gone = self.chance.choice(others)
+            del self.texts[gone]
+            self.node -= gone < self.node
 
 
-KINDS = ["life", "life_floor", "life_entry", "sent_entry", "message", "message", "outcome", "told", "answered", "lacks_outcome", "lacks_answer",
-         "has_answer_twice", "steps_exchanged", "step_twice", "lacks_step", "number", "number", "bytes", "bytes", "lines", "lines", "exchanged"]
+KINDS = ["opening", "opening", "stored", "sent", "step", "step", "step", "outcome", "line", "floor", "word", "digit", "digit", "digit", "lacks",
+         "lacks", "twice", "elsewhere", "elsewhere", "bytes", "bytes", "lines", "exchanged", "other"]
+WORDS = [b"timeout", b"beat", b"close", b"floor", b"submit", b"from", b"votereq", b"vote", b"append", b"reply", b"seek", b"stored", b"seal",
+         b"up", b"stopped", b"torn", b"step", b"life", b"0", b"1", b"-1", b"9223372036854775807", b"18446744073709551616", b"00", b""]
 VERDICT = re.compile(rb"audit: (yes|5[1-4] .*)\n")
 
 
-def flights(program, folder, chance):
-    """Flights of a run, one change at a time."""
-    run = Run(program, folder, chance, small=chance.random() < 0.6)
-    counts = collections.Counter(changes=0)
-    texts = []
-    for path in run.flights():
+@functools.cache
+def stored_groups():
+    """Flights of the repository, of all versions."""
+    found = []
+    for path in sorted(glob.glob(f"{ROOT}/crates/rows/data/*.flights")):
         with open(path, "rb") as file:
-            texts.append(file.read())
-    if any(b"".join(it.text for it in pieces_of(text)) != text for text in texts):
-        raise run.fault("in this tool: the pieces of a flight are not the flight")
-    for kind in chance.sample(KINDS, 14):
-        forged = Forged(chance, list(texts))
-        wanted = getattr(forged, kind)()
-        if not wanted:
-            continue
-        forged.texts[forged.node - 1] = b"".join(it.text for it in forged.pieces)
-        verdict = judge(program, folder, chance, forged.texts, wanted, kind)
+            texts = re.split(rb"(?<=\nend\n)(?=bitable flight )", file.read())
+        found.append([text for text in texts if text])
+    for names in (f"{ROOT}/crates/rows/data/node[123].flight", f"{ROOT}/examples/flights/node[123].flight"):
+        texts = []
+        for path in sorted(glob.glob(names)):
+            with open(path, "rb") as file:
+                texts.append(file.read())
+        found.append(texts)
+    return [texts for texts in found if sum(map(len, texts)) < 150_000]
+
+
+def flights(program, folder, chance):
+    """Flights of a run, or of the repository, one change at a time, or some."""
+    counts = collections.Counter(changes=0)
+    texts = chance.choice(stored_groups())
+    if chance.random() < 0.6:
+        run = Run(program, folder, chance, small=chance.random() < 0.6)
+        texts = []
+        for path in run.flights():
+            with open(path, "rb") as file:
+                texts.append(file.read())
+    for _ in range(14):
+        forged, kinds = Forged(chance, texts), []
+        kinds.append(forged.changed())
+        while kinds[-1] not in ("bytes", "lines", "exchanged", "other") and chance.random() < 0.2:
+            kinds.append(forged.changed())
         counts["changes"] += 1
-        counts[f"a {verdict}"] += 1
+        counts[judge(program, folder, chance, forged.texts, " and ".join(kinds))] += 1
     return counts
 
 
-def judge(program, folder, chance, texts, wanted, kind):
-    """What the program says of flights: whether that is a verdict and, if it is known, the one that is wanted."""
+def wanted_of(texts):
+    """The verdict that has to come, or nothing where what is recorded is nothing that the second group can do."""
+    try:
+        return audits.verdict(texts)
+    except AssertionError:
+        return None
+
+
+def judge(program, folder, chance, texts, kind):
+    """What the program says of flights, which has to be what the audit of this tool says."""
     files = {f"node{at}.flight": text for at, text in enumerate(texts, 1)}
     paths = [write(folder, f"forged{at}.flight", text) for at, text in enumerate(texts, 1)]
     if chance.random() < 0.2:
@@ -414,26 +394,21 @@ def judge(program, folder, chance, texts, wanted, kind):
     ended = program.run("audit", *paths, files=files)
     if ended.out == b"":
         said, status = program.refusal(ended, files), 1
-        if said != "50 bad flight file":
-            raise Fault(f"{kind}: it says {said}", ended, files)
     else:
         if not VERDICT.fullmatch(ended.out) or ended.err:
             raise Fault(f"{kind}: it prints {ended.out[:200]!r} and {ended.err[:200]!r}", ended, files)
         said = ended.out.decode()[:-1]
-        status = 0 if said == "audit: yes" else 1
-    if ended.status != status:
-        raise Fault(f"{kind}: it says {said} with status {ended.status}", ended, files)
-    if wanted not in ("any", said):
-        raise Fault(f"{kind}: it says {said}, and not {wanted}", ended, files)
-    if chance.random() < 0.1:
+        status = 0 if said == audits.YES else 1
+    wanted = wanted_of(texts)
+    if ended.status != status or said != (wanted or said):
+        raise Fault(f"{kind}: it says {said} with status {ended.status}, and not {wanted}", ended, files)
+    if chance.random() < 0.1 and said != audits.BAD:
         report(program, paths, said, files)
     return said.removeprefix("audit: ").partition(" ")[0]
 
 
 def report(program, paths, said, files):
     ended = program.run("audit", "--json", *paths, files=files)
-    if said.startswith("50"):
-        return
     try:
         found = json.loads(ended.out)
     except ValueError:
