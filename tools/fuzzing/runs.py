@@ -6,10 +6,10 @@ import json
 import os
 import re
 import shutil
-import sqlite3
 
 import audits
 import drawing
+import journals
 import network
 from texts import ROOT, first_difference, lines_of, write
 from trying import Fault
@@ -112,29 +112,16 @@ class Run:
             if differs:
                 return f"{os.path.basename(path)}: {differs}"
         for node in predicted.group.nodes.values():
-            stored = self.stored(node.number)
-            if stored != wanted_in(node):
-                return f"node{node.number}.db has {str(stored)[:300]}, and not {str(wanted_in(node))[:300]}"
+            stored = journals.stored_in(os.path.join(self.place, f"node{node.number}.db"))
+            wanted = journals.wanted_in(*node.kept())
+            if stored != wanted:
+                return f"node{node.number}.db has {str(stored)[:300]}, and not {str(wanted)[:300]}"
         return None
 
     def look_again(self):
         again = self.program.run(*self.words, self.path, files=self.files)
         if again.out != self.ended.out:
             raise self.fault("the same run prints something else without a folder", again)
-
-    def stored(self, number):
-        """The term, the vote, the floor and the log in a database."""
-        connection = sqlite3.connect(f"file:{self.place}/node{number}.db?mode=ro&immutable=1", uri=True)
-        try:
-            return [connection.execute(words).fetchall() for words in (
-                "SELECT id, term, vote FROM meta", "SELECT id, t FROM floor", "SELECT idx, term, stamp, client, number, body FROM log ORDER BY idx")]
-        finally:
-            connection.close()
-
-
-def wanted_in(node):
-    log = [(at, it.term, it.stamp, *(it.request or (0, 0, ""))) for at, it in enumerate(node.log, 1)]
-    return [[(1, node.term, node.vote or 0)], [(1, -1 if node.floor is None else node.floor)], log]
 
 
 def live(program, folder, chance):

@@ -7,7 +7,9 @@ import shutil
 import subprocess
 import threading
 
+import audits
 import drawing
+import journals
 import language
 import tables as tabled
 from language import Refused
@@ -183,7 +185,7 @@ class Store:
         self.tongue = drawing.Tongue(chance, 2)
         self.schema, self.tables, self.name = self.tongue.schema, self.tongue.tables, "-"
         self.executed, self.outcomes, self.decided, self.last = collections.Counter(), {}, [], -1
-        self.said, self.sittings, self.is_known = [], [], True
+        self.said, self.sittings, self.is_known, self.outcomes_printed = [], [], True, []
         self.state = tabled.Tables(self.tables, tabled.Axis([]))
         made = write(folder, "tables.sql", self.schema.encode() + b"\n")
         ended = self.run("new", self.place, "--nodes", self.members, "--schema", made)
@@ -264,6 +266,7 @@ class Store:
         ended = self.killed(text) if is_killed else self.run(*self.words(self.place), text=text)
         sitting = Sitting(self)
         why = sitting.judge(self.sittings[-1], lines_of(ended.out))
+        self.outcomes_printed += [line for line in lines_of(ended.out) if re.match("request [0-9]+ [0-9]+ (accepted|unanswered|refused [23])", line)]
         if why:
             raise self.fault(why, ended)
         if sitting.ended and self.program.refusal(ended) != sitting.ended:
@@ -317,6 +320,31 @@ class Store:
         differs = first_difference(told, self.decided)
         if differs and self.is_known:
             raise self.fault(f"of what the log lists {differs}", log)
+
+        self.look_at_journals()
+        self.look_at_flights()
+
+    def look_at_journals(self):
+        """The journals, played here, give what was printed and what is stored."""
+        try:
+            played = journals.Journals(self.place)
+            played.look_at_databases()
+        except (journals.Wrong, audits.Bad) as wrong:
+            raise Fault(f"its journals: {wrong}", None, {**self.files(), **files_in(self.place, "kept")}) from None
+        differs = first_difference(played.printed, self.outcomes_printed)
+        if differs:
+            raise Fault(f"what its journals say was printed: {differs}", None, {**self.files(), **files_in(self.place, "kept")})
+
+    def look_at_flights(self):
+        out = os.path.join(self.folder, "flights")
+        shutil.rmtree(out, ignore_errors=True)
+        ended = self.run("flights", self.place, out)
+        texts = list(files_in(out, "").values())
+        if ended.status or audits.verdict(texts) != audits.YES:
+            raise Fault(f"of its flights an audit says {audits.verdict(texts)}", ended, {**self.files(), **files_in(self.place, "kept")})
+        said = self.run("audit", *sorted(glob.glob(f"{out}/*")))
+        if said.out != b"audit: yes\n":
+            raise self.fault(f"of its flights the audit says {said.out!r}", said)
 
     def questions(self):
         return "".join(f"SELECT * FROM {table.name};\n" for table in self.tables).encode()
