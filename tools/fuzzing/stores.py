@@ -327,7 +327,7 @@ class Store:
     def look_at_journals(self):
         """The journals, played here, give what was printed and what is stored."""
         try:
-            played = journals.Journals(self.place)
+            played = journals.Journals(copied(self, "read"))
             played.look_at_databases()
         except (journals.Wrong, audits.Bad) as wrong:
             raise Fault(f"its journals: {wrong}", None, {**self.files(), **files_in(self.place, "kept")}) from None
