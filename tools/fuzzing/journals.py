@@ -122,7 +122,10 @@ class Journals:
             check(message.to == number, f"node {number} takes the message {message}")
             group.take(message)
         else:
-            group.input(number, kind, self.reader.request(list(rest)) if rest else None)
+            request = self.reader.request(list(rest)) if rest else None
+            group.input(number, kind, request)
+            if request and group.printed[printed:] and not group.printed[-1].startswith("sent "):
+                self.told.setdefault(request[:2], set()).add(group.printed[-1].partition(f"node {number} ")[2])
         self.marks += 1
         told = [OUTCOME.fullmatch(line) for line in group.printed[printed:]]
         self.finish(number, before, messages, [(int(it[1]), int(it[2]), int(it[3]), it[4]) for it in told if it])

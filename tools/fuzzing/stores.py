@@ -266,7 +266,7 @@ class Store:
         ended = self.killed(text) if is_killed else self.run(*self.words(self.place), text=text)
         sitting = Sitting(self)
         why = sitting.judge(self.sittings[-1], lines_of(ended.out))
-        self.outcomes_printed += [line for line in lines_of(ended.out) if re.match("request [0-9]+ [0-9]+ (accepted|unanswered|refused [23])", line)]
+        self.outcomes_printed += [line for line in lines_of(ended.out) if line.startswith("request ")]
         if why:
             raise self.fault(why, ended)
         if sitting.ended and self.program.refusal(ended) != sitting.ended:
