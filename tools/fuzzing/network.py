@@ -130,7 +130,6 @@ class Network:
             member.mark += 1
             kind, request = packet
             said = block("submit {} {}".format(*request[:2]), request[2]) if kind == "submit" else f"{kind}\n"
-            reading = 0 if kind in ("timeout", "beat") else reading
             group.input(member.number, kind, request)
         outcomes = [it for it in map(OUTCOME.fullmatch, group.printed[printed:]) if it]
         told = "".join(block("outcome {} {} {}\ntext".format(*it.groups()[1:4]), it[5]) for it in outcomes)

@@ -56,8 +56,8 @@ class Run:
         self.program, self.folder, self.place = program, folder, os.path.join(folder, "run")
         self.members = 3 if small else chance.choice([3, 3, 3, 4, 5, 6, 7])
         self.tongue = drawing.Tongue(chance, 2)
-        self.head = f"members {self.members}\nschema\n{self.tongue.schema}\nend\n"
-        self.lines = [f"{line}\n" for line in draw_lines(chance, self.tongue, self.members)]
+        self.head = f"members {self.members}\nschema\n{self.tongue.schema}\nend\n".encode()
+        self.lines = [f"{line}\n".encode() for line in draw_lines(chance, self.tongue, self.members)]
         self.seed = chance.choice([chance.randint(0, 9), chance.getrandbits(64), 2**64 - chance.randint(1, 8)])
         self.loss = chance.choice([0, 5, 20, 20, 30, 40, 50])
         self.words = ["live", "--nodes", self.members, "--seed", self.seed, "--loss", self.loss]
@@ -66,7 +66,7 @@ class Run:
     def play(self, lines):
         shutil.rmtree(self.place, ignore_errors=True)
         os.mkdir(self.place)
-        self.script = (self.head + "".join(lines)).encode()
+        self.script = self.head + b"".join(lines)
         self.files = {"script": self.script, "words": " ".join(map(str, self.words)).encode()}
         self.path = write(self.folder, "live.script", self.script)
         self.ended = self.program.run(*self.words, "--dir", self.place, self.path, files=self.files)

@@ -9,7 +9,7 @@ import time
 from pathlib import Path
 
 # How many processor seconds a command may take, and how many by the clock, on a machine that has other work.
-SECONDS, PATIENCE = 10, 600
+SECONDS, PATIENCE = 10, 120
 # How long, and how often, a smaller form is looked for.
 SEEKING, TRIES = 60, 400
 FORMATS = Path(__file__).resolve().parent.parent.parent / "docs" / "FORMATS.md"
