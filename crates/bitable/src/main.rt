@@ -42,7 +42,15 @@ fn main(rt: HostRuntime) -> ExitCode {
     }
 }
 
-// Whether a command line is one over a store's folder: `audit` is, where it has one name and that is not the name of a file.
+// Whether this is the name of a folder.
+fn is_folder(rt: &HostRuntime, name: &str) -> bool {
+    match fs::exists(rt, name) {
+        Ok(true) => !storefolder::is_file(rt, name),
+        _ => false,
+    }
+}
+
+// Whether a command line is one over a store's folder: `audit` is, where it has one name and that is the name of a folder.
 fn is_of_store(rt: &HostRuntime, words: &[String]) -> bool {
     let Some(word) = words.get(1) else {
         return false;
@@ -54,9 +62,7 @@ fn is_of_store(rt: &HostRuntime, words: &[String]) -> bool {
         return true;
     }
     match words.get(2) {
-        Some(name) if words.len() == 3 => {
-            !name.as_str().starts_with('-') && !storefolder::is_file(rt, name.as_str())
-        }
+        Some(name) if words.len() == 3 => is_folder(rt, name.as_str()),
         _ => false,
     }
 }
