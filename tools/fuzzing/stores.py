@@ -330,7 +330,7 @@ class Store:
             played = journals.Journals(copied(self, "read"))
             played.look_at_databases()
         except (journals.Wrong, audits.Bad) as wrong:
-            raise Fault(f"its journals: {wrong}", None, {**self.files(), **files_in(self.place, "kept")}) from None
+            raise Fault(f"its journals: {str(wrong) or 'a line of no form'}", None, {**self.files(), **files_in(self.place, "kept")}) from None
         differs = first_difference(played.printed, self.outcomes_printed)
         if differs:
             raise Fault(f"what its journals say was printed: {differs}", None, {**self.files(), **files_in(self.place, "kept")})
