@@ -134,7 +134,7 @@ class Reader:
 
     def told(self):
         found = []
-        while self.peek().startswith("outcome "):
+        while self.at < len(self.text) and self.peek().startswith("outcome "):
             words = self.line()
             check(len(words) == 4)
             found.append((number(words[1]), number(words[2], 1, 65535), number(words[3], 1, 2**62), self.block("text")))

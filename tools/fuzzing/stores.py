@@ -243,7 +243,7 @@ class Store:
             elif kind == "clock":
                 lines.append(f".clock {NOON + self.chance.choice([-5, 0, 10**6, 10**9])}")
             elif kind == "odd":
-                lines.append(self.chance.choice(["", "# a line", "@9", ".stop", ".stop 99", ".clock", ".format xml", "  ", "@1 DELETE;", ".Help"]))
+                lines.append(self.chance.choice(["", "# a line", "@9;", ".stop", ".stop 99", ".clock", ".format xml", "  ", "@1 DELETE;", ".Help"]))
             elif kind in ("status", "help", "schema"):
                 lines.append("." + kind)
         return "".join(f"{line}\n" for line in lines).encode()
@@ -330,7 +330,7 @@ class Store:
             played = journals.Journals(copied(self, "read"))
             played.look_at_databases()
         except (journals.Wrong, audits.Bad) as wrong:
-            raise Fault(f"its journals: {wrong}", None, {**self.files(), **files_in(self.place, "kept")}) from None
+            raise Fault(f"its journals: {str(wrong) or 'a line of no form'}", None, {**self.files(), **files_in(self.place, "kept")}) from None
         differs = first_difference(played.printed, self.outcomes_printed)
         if differs:
             raise Fault(f"what its journals say was printed: {differs}", None, {**self.files(), **files_in(self.place, "kept")})
@@ -368,6 +368,7 @@ def alter(chance, place, older):
     prefix = chance.choices(list(kinds), kinds.values())[0]
     name = chance.choice(sorted(it for it in names if it.startswith(prefix)))
     path = os.path.join(place, name)
+    others = sorted(it for it in names if it.startswith(prefix) and it != name)
     with open(path, "rb") as file:
         text = file.read()
     kind = chance.choices(["byte", "bytes", "cut", "more", "none", "gone", "older", "exchanged"], [12, 3, 3, 1, 1, 2, 2, 1])[0]
@@ -375,11 +376,11 @@ def alter(chance, place, older):
         os.remove(path)
     elif kind == "older" and os.path.exists(os.path.join(older, name)):
         shutil.copy(os.path.join(older, name), path)
-    elif kind == "exchanged":
-        other = os.path.join(place, chance.choice(sorted(it for it in names if it.startswith(prefix))))
-        os.rename(path, path + ".moved")
-        shutil.copy(other, path)
-        shutil.move(path + ".moved", other)
+    elif kind == "exchanged" and others:
+        other = os.path.join(place, chance.choice(others))
+        shutil.move(other, path)
+        with open(other, "wb") as file:
+            file.write(text)
     else:
         with open(path, "wb") as file:
             file.write(with_change(chance, text, kind))
