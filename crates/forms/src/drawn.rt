@@ -1,5 +1,5 @@
 //! The picture of a script's last answer.
-ghost use Rattle.std.specs.Prelude.{ℕ, List, None, OnOk};
+ghost use Rattle.std.specs.Prelude.{◌≤◌, ℕ, List, None, OnOk};
 ghost use Rattle.lines.specs.declared.line.Line.{Line as AnyLine};
 ghost use Rattle.lines.specs.Script.{HasLines};
 ghost use Rattle.sqlchecks.specs.Columns.{Tables};
@@ -70,6 +70,16 @@ impl Sketch {
         self.drawing = drawing_of(self.alloc, self.canvas, node, answer, &asking)?;
         Ok(())
     }
+
+    fn into_drawing(self) -> Drawing {
+        let Sketch {
+            alloc: _,
+            canvas: _,
+            question: _,
+            drawing,
+        } = self;
+        drawing
+    }
 }
 
 fn drawing_of(
@@ -107,27 +117,30 @@ impl Printer for Sketch {
 pub fn draw_script(alloc: Global, text: &str, canvas: Canvas) -> Result<Drawing, RunFault>
     ensures { OnOk result ((members : ℕ) × (schema : Tables) × (lines : List AnyLine) × HasLines text.now members schema lines) }
 {
-    let Script {
-        members,
-        schema,
-        lines,
-    } = read_script(alloc, text)?;
-    let asked = schema.clone()?;
-    let mut player = Player::new(alloc, members, schema)?;
+    let script = read_script(alloc, text)?;
     let mut sketch = Sketch {
         alloc,
         canvas,
         question: None,
         drawing: Drawing::NoAnswer,
     };
-    play_lines(alloc, &asked, lines.as_slice(), &mut player, &mut sketch)?;
-    let Sketch {
-        alloc: _,
-        canvas: _,
-        question: _,
-        drawing,
-    } = sketch;
-    Ok(drawing)
+    play_script(alloc, &script, &mut sketch)?;
+    Ok(sketch.into_drawing())
+}
+
+// Plays a script of 3 to 7 members, and draws each answer.
+fn play_script(alloc: Global, script: &Script, sketch: &mut Sketch) -> Result<(), RunFault>
+    requires least { 3 ≤ script.now.members }
+    requires most { script.now.members ≤ 7 }
+{
+    let mut player = Player::new(alloc, script.members, script.schema.clone()?)?;
+    play_lines(
+        alloc,
+        &script.schema,
+        script.lines.as_slice(),
+        &mut player,
+        sketch,
+    )
 }
 
 fn play_lines(

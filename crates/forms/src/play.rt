@@ -1,5 +1,5 @@
 //! Scripts played, and shown in a form.
-ghost use Rattle.std.specs.Prelude.{ℕ, List, OnOk};
+ghost use Rattle.std.specs.Prelude.{◌≤◌, ℕ, List, OnOk};
 ghost use Rattle.lines.specs.declared.line.Line.{Line as AnyLine};
 ghost use Rattle.lines.specs.Script.{HasLines};
 ghost use Rattle.sqlchecks.specs.Columns.{Tables};
@@ -29,19 +29,32 @@ pub fn play_shown<W: io::Write + Drop, E: io::Write + Drop>(
 ) -> Result<Tally, RunFault>
     ensures { OnOk result ((members : ℕ) × (schema : Tables) × (lines : List AnyLine) × HasLines text.now members schema lines) }
 {
-    let Script {
-        members,
-        schema,
-        lines,
-    } = read_script(alloc, text)?;
-    let asked = schema.clone()?;
-    let mut player = Player::new(alloc, members, schema)?;
+    let script = read_script(alloc, text)?;
     let mut shown = Shown::new(alloc, look, writer, beside);
-    play_lines(alloc, &asked, lines.as_slice(), &mut player, &mut shown)?;
-    shown.flush()?;
+    play_script(alloc, &script, &mut shown)?;
     Ok(shown.into_tally())
 }
 
+// Plays a script of 3 to 7 members, and shows what its lines give.
+fn play_script<W: io::Write + Drop, E: io::Write + Drop>(
+    alloc: Global,
+    script: &Script,
+    shown: &mut Shown<W, E>,
+) -> Result<(), RunFault>
+    requires least { 3 ≤ script.now.members }
+    requires most { script.now.members ≤ 7 }
+{
+    let mut player = Player::new(alloc, script.members, script.schema.clone()?)?;
+    play_lines(
+        alloc,
+        &script.schema,
+        script.lines.as_slice(),
+        &mut player,
+        shown,
+    )
+}
+
+// Plays lines, and hands on all that is shown of them.
 fn play_lines<W: io::Write + Drop, E: io::Write + Drop>(
     alloc: Global,
     schema: &Schema,
@@ -53,6 +66,7 @@ fn play_lines<W: io::Write + Drop, E: io::Write + Drop>(
         shown.begin(line, asked_in(alloc, schema, line));
         player.play(line, shown)?;
     }
+    shown.flush()?;
     Ok(())
 }
 
