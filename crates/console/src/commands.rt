@@ -7,14 +7,15 @@ use causes::{Name, Trouble};
 use fault::Refusal;
 use model::member::Member;
 use playback::Decided;
+use sqlite::Alter;
 use std::alloc::{AllocError, Global};
 use std::fs::File;
 use std::io::{BufRead, BufReader, IsTerminal, Read};
 use std::{env, fs};
-use store::StoreRefusal;
 use store::announcing::Announces;
+use store::{Device, StoreRefusal};
 use storecommands::{Command, NewStore, OpenStore};
-use storefolder::{Audited, Opened, Verdict};
+use storefolder::{Audited, Kept, Opened, Verdict};
 
 // How many columns a terminal has, where nothing tells.
 const TERMINAL: usize = 80;
@@ -81,10 +82,23 @@ fn sit_at<R: BufRead + Drop, K: Announces>(
 where
     K::Image: Drop,
 {
-    let mut session = Session::new(alloc, place, opened, clock);
+    let Opened { store, found } = opened;
+    let mut session = Session::new(alloc, place, store, &found, clock);
     let played = session.play(rt, input);
-    let (opened, is_refused) = session.end();
-    (played, opened, is_refused)
+    let (store, is_refused) = session.end();
+    (played, Opened { store, found }, is_refused)
+}
+
+// The same of a store whose databases are in S.
+fn sit_over<R: BufRead + Drop, S: Alter + Drop, J: Device>(
+    rt: &HostRuntime,
+    alloc: Global,
+    place: Place<'_>,
+    input: &mut Input<R>,
+    opened: Opened<Kept<S, J>>,
+    clock: Option<i64>,
+) -> (Result<(), Fault>, Opened<Kept<S, J>>, bool) {
+    sit_at(rt, alloc, place, input, opened, clock)
 }
 
 // A sitting over a reader. The exit status is 1 where something was refused and nobody sits at a terminal.
@@ -102,7 +116,7 @@ fn sit<R: Read + Drop>(
     };
     let mut input = Input::new(alloc, reader);
     let opened = storefolder::open(rt, alloc, place.dir, syncs, reading)?;
-    let (played, opened, is_refused) = sit_at(rt, alloc, place, &mut input, opened, clock);
+    let (played, opened, is_refused) = sit_over(rt, alloc, place, &mut input, opened, clock);
     let closed = storefolder::close(opened);
     played?;
     closed?;
@@ -223,7 +237,7 @@ fn run_audit(rt: &HostRuntime, alloc: Global, dir: &str) -> Result<u8, Fault> {
             let line = format!(in alloc; "audit: {fault}\n")?;
             print(rt, line.as_str())?;
             if let Some(hint) = fault.hint() {
-                let _ = eprintln!(*rt; "{hint}");
+                let _ = eprintln!(*rt; "        {hint}");
             }
             Ok(1)
         }

@@ -12,6 +12,7 @@ request) or a question (SELECT). It may go over several lines.
   .. FOR PORTION OF Paid FROM DATE '2026-02-01' TO DATE '2026-03-01'
                                           changes these days alone
 
+  .beliefs SELECT ..;     draw what was ever believed
   .format table           how answers are shown: table, lines, csv, json
   .status                 the members: who leads, what they have, closed time
   .stop 2  .start 2       a member goes down, comes up

@@ -2,6 +2,7 @@
 #![tactic(auto)]
 
 mod commands;
+mod drawing;
 mod help;
 mod input;
 mod members;

@@ -14,9 +14,9 @@ where
 {
     fn stop(&mut self, rt: &HostRuntime, member: Member) -> Result<(), Fault> {
         let reading = self.reading(rt)?;
-        match self.opened.store.stop(member) {
+        match self.store.stop(member) {
             Ok(()) => {
-                let leader = self.opened.store.lead(reading)?;
+                let leader = self.store.lead(reading)?;
                 self.tell_of(rt, member, "down", leader)
             }
             Err(refusal) => self.refuse_member(rt, member, refusal),
@@ -25,9 +25,9 @@ where
 
     fn start(&mut self, rt: &HostRuntime, member: Member) -> Result<(), Fault> {
         let reading = self.reading(rt)?;
-        match self.opened.store.start(reading, member) {
+        match self.store.start(reading, member) {
             Ok(()) => {
-                let leader = self.opened.store.leader();
+                let leader = self.store.leader();
                 self.tell_of(rt, member, "up", leader)
             }
             Err(refusal) => self.refuse_member(rt, member, refusal),
@@ -59,13 +59,13 @@ where
     }
 
     fn show_status(&self, rt: &HostRuntime) -> Result<(), Fault> {
-        let all = self.opened.store.status()?;
+        let all = self.store.status()?;
         let lines = status_lines(self.alloc, all.as_slice())?;
         print(rt, lines.as_str())
     }
 
     fn show_schema(&self, rt: &HostRuntime) -> Result<(), Fault> {
-        print(rt, self.opened.form().schema_text.as_str())?;
+        print(rt, self.found.form().schema_text.as_str())?;
         print(rt, "\n")
     }
 
@@ -79,6 +79,7 @@ where
             DotCommand::Help => print(rt, HELP)?,
             DotCommand::Clock(reading) => self.clock = Some(reading),
             DotCommand::Format(form) => self.manner.form = form,
+            DotCommand::Beliefs(text) => self.draw(rt, text)?,
             DotCommand::Submit(client, number, text) => self.submit(rt, client, number, text)?,
             DotCommand::Quit => return Ok(false),
         }

@@ -4,10 +4,10 @@ use model::member::Member;
 use std::alloc::{AllocError, Global};
 use std::io;
 use std::io::Write;
-use store::StoreRefusal;
 use store::announcing::Announces;
 use store::status::{Standing, Status};
-use storefolder::Opened;
+use store::{Store, StoreRefusal};
+use storefolder::Found;
 
 /// Prints bytes on standard output, at once.
 pub(crate) fn print_bytes(rt: &HostRuntime, bytes: &[u8]) -> Result<(), Fault> {
@@ -64,15 +64,15 @@ pub(crate) fn leads(alloc: Global, leader: Option<Member>) -> Result<String, All
 pub(crate) fn banner<K: Announces>(
     alloc: Global,
     dir: &str,
-    opened: &Opened<K>,
+    store: &Store<K>,
 ) -> Result<String, AllocError>
 where
     K::Image: Drop,
 {
     let name = name_of(dir);
-    let members = counted(alloc, opened.store.members(), "member")?;
-    let leads = leads(alloc, opened.store.leader())?;
-    let decided = match opened.store.decided() {
+    let members = counted(alloc, store.members(), "member")?;
+    let leads = leads(alloc, store.leader())?;
+    let decided = match store.decided() {
         0 => String::from_str(alloc, "nothing decided yet")?,
         count => {
             let requests = counted(alloc, count, "request")?;
@@ -83,15 +83,9 @@ where
 }
 
 /// What was cut as the store was opened, and what is missing.
-pub(crate) fn warnings<K: Announces>(
-    alloc: Global,
-    opened: &Opened<K>,
-) -> Result<String, AllocError>
-where
-    K::Image: Drop,
-{
+pub(crate) fn warnings(alloc: Global, found: &Found) -> Result<String, AllocError> {
     let mut text = String::new(alloc);
-    if let Some(cut) = opened.cut {
+    if let Some(cut) = found.cut {
         let journal = cut.journal;
         let at = cut.at;
         if cut.bytes > 0 {
@@ -101,7 +95,7 @@ where
             )?;
         }
     }
-    put_missing(opened.missing.as_slice(), &mut text)?;
+    put_missing(found.missing.as_slice(), &mut text)?;
     Ok(text)
 }
 

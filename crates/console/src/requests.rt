@@ -3,40 +3,13 @@ use crate::outputs::{shown_answer, shown_outcome};
 use crate::printing::print_bytes;
 use crate::session::Session;
 use crate::stop::Fault;
-use looks::Asked;
+use forms::asked_by;
 use model::member::Member;
 use model::request::{Client, RequestNumber};
-use schema::Schema;
-use sqlread::query::{SystemTime, read_query};
-use std::alloc::Global;
 use store::Outcome;
 use store::announcing::Announces;
 use store::chain::OWN_CLIENT;
 use storecommands::{Kind, read_kind};
-
-// The system time that a question asks about.
-fn time_of(alloc: Global, schema: &Schema, text: &str) -> Option<SystemTime> {
-    match read_query(alloc, schema, text) {
-        Ok(query) => query.time,
-        Err(_) => None,
-    }
-}
-
-fn about(time: SystemTime) -> Asked {
-    if time.first == time.last {
-        Asked::AsOf
-    } else {
-        Asked::UpTo
-    }
-}
-
-// Whether a question asks about one instant.
-fn asked_by(alloc: Global, schema: &Schema, text: &str) -> Asked {
-    match time_of(alloc, schema, text) {
-        Some(time) => about(time),
-        None => Asked::AsOf,
-    }
-}
 
 impl<'a, K: Announces> Session<'a, K>
 where
@@ -51,7 +24,7 @@ where
         text: &str,
     ) -> Result<(), Fault> {
         let reading = self.reading(rt)?;
-        match self.opened.store.submit(reading, client, number, text) {
+        match self.store.submit(reading, client, number, text) {
             Ok(outcome) => self.show_outcome(rt, client, number, outcome),
             Err(refusal) => self.refuse(rt, "", refusal),
         }
@@ -63,7 +36,7 @@ where
         let Some(client) = Client::new(OWN_CLIENT) else {
             return Ok(());
         };
-        match self.opened.store.execute(reading, text) {
+        match self.store.execute(reading, text) {
             Ok((number, outcome)) => self.show_outcome(rt, client, number, outcome),
             Err(refusal) => self.refuse(rt, "", refusal),
         }
@@ -88,12 +61,12 @@ where
         let reading = self.reading(rt)?;
         let member = match member {
             Some(member) => member,
-            None => self.opened.store.first_asked(),
+            None => self.store.first_asked(),
         };
         let alloc = self.alloc;
-        match self.opened.store.ask(reading, member, text) {
+        match self.store.ask(reading, member, text) {
             Ok(answer) => {
-                let asked = asked_by(alloc, self.opened.store.schema(), text);
+                let asked = asked_by(alloc, self.store.schema(), text);
                 let shown = shown_answer(alloc, self.manner, member, &answer, asked)?;
                 print_bytes(rt, shown.as_slice())
             }

@@ -5,10 +5,10 @@ use crate::stop::Fault;
 use fault::Refusal;
 use std::alloc::Global;
 use std::rt::Clock;
-use store::StoreRefusal;
 use store::announcing::Announces;
+use store::{Store, StoreRefusal};
 use storecommands::dot::Form;
-use storefolder::Opened;
+use storefolder::Found;
 
 /// What is known of the place that lines come from and outcomes go to.
 #[derive(Clone, Copy, Debug)]
@@ -31,7 +31,9 @@ where
 {
     pub alloc: Global,
     pub place: Place<'a>,
-    pub opened: Opened<K>,
+    pub store: Store<K>,
+    /// What its opening found.
+    pub found: &'a Found,
     /// What clocks show, if not the system's.
     pub clock: Option<i64>,
     pub manner: Manner,
@@ -57,7 +59,8 @@ where
     pub fn new(
         alloc: Global,
         place: Place<'a>,
-        opened: Opened<K>,
+        store: Store<K>,
+        found: &'a Found,
         clock: Option<i64>,
     ) -> Session<'a, K> {
         let form = if place.is_terminal {
@@ -68,7 +71,8 @@ where
         Session {
             alloc,
             place,
-            opened,
+            store,
+            found,
             clock,
             manner: Manner {
                 form,
@@ -80,23 +84,23 @@ where
     }
 
     /// Ends the sitting: the store, and whether anything was refused.
-    pub fn end(self) -> (Opened<K>, bool) {
+    pub fn end(self) -> (Store<K>, bool) {
         let Session {
-            opened,
+            store,
             is_refused,
             ..
         } = self;
-        (opened, is_refused)
+        (store, is_refused)
     }
 
     /// Says what was cut and what is missing and, at a terminal, what is there.
     pub fn greet(&self, rt: &HostRuntime) -> Result<(), Fault> {
-        let warned = warnings(self.alloc, &self.opened)?;
+        let warned = warnings(self.alloc, self.found)?;
         if !warned.is_empty() {
             let _ = eprint!(*rt; "{warned}");
         }
         if self.place.is_terminal {
-            let line = banner(self.alloc, self.place.dir, &self.opened)?;
+            let line = banner(self.alloc, self.place.dir, &self.store)?;
             print(rt, line.as_str())?;
         }
         Ok(())
@@ -124,7 +128,7 @@ where
         refusal: StoreRefusal,
     ) -> Result<(), Fault> {
         self.is_refused = true;
-        if self.opened.store.is_spent() {
+        if self.store.is_spent() {
             return Err(Fault::Refused(refusal));
         }
         let alloc = self.alloc;

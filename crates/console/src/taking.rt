@@ -45,7 +45,7 @@ where
         line: &str,
     ) -> Result<bool, Fault> {
         let at = input.count();
-        let text = if line.starts_with(".submit ") {
+        let text = if line.starts_with(".submit ") || line.starts_with(".beliefs ") {
             self.whole_text(rt, input, line)?
         } else {
             String::from_str(self.alloc, line)?

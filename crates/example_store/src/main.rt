@@ -4,9 +4,10 @@
 
 use answertext::Lines;
 use anyhow::Result;
+use sqlite::Alter;
 use std::alloc::Global;
-use store::announcing::Announces;
-use storefolder::Opened;
+use store::Device;
+use storefolder::{Kept, Opened};
 
 const DIR: &str = "pay";
 
@@ -32,15 +33,12 @@ const THEN: &str =
 const NOW: &str = "SELECT * FROM Pay;";
 
 // Hands in a request, and prints what came of it.
-fn request<K: Announces>(
+fn request<S: Alter + Drop, J: Device>(
     rt: &HostRuntime,
-    pay: &mut Opened<K>,
+    pay: &mut Opened<Kept<S, J>>,
     reading: i64,
     text: &str,
-) -> Result<()>
-where
-    K::Image: Drop,
-{
+) -> Result<()> {
     let (number, outcome) = pay.store.execute(reading, text)?;
     let number = number.get();
     println!(rt; "request {number} {outcome}")?;
@@ -48,15 +46,12 @@ where
 }
 
 // Asks member 2, and prints its answer.
-fn question<K: Announces>(
+fn question<S: Alter + Drop, J: Device>(
     rt: &HostRuntime,
-    pay: &mut Opened<K>,
+    pay: &mut Opened<Kept<S, J>>,
     reading: i64,
     text: &str,
-) -> Result<()>
-where
-    K::Image: Drop,
-{
+) -> Result<()> {
     let answer = pay.store.ask(reading, 2, text)?;
     let lines = Lines(&answer);
     print!(rt; "{lines}")?;

@@ -57,18 +57,46 @@ struct Sketch {
     drawing: Drawing,
 }
 
+impl Question {
+    // Draws the answer that a member gave to it.
+    fn draw(
+        &self,
+        alloc: Global,
+        canvas: Canvas,
+        node: Member,
+        answer: &Answer,
+    ) -> Result<Drawing, AllocError> {
+        let asking = Asking {
+            table: self.table.as_str(),
+            text: self.text.as_str(),
+            time: self.time,
+        };
+        drawing_of(alloc, canvas, node, answer, &asking)
+    }
+}
+
 impl Sketch {
     fn draw(&mut self, node: Member, answer: &Answer) -> Result<(), AllocError> {
-        let Some(question) = &self.question else {
-            return Ok(());
-        };
-        let asking = Asking {
-            table: question.table.as_str(),
-            text: question.text.as_str(),
-            time: question.time,
-        };
-        self.drawing = drawing_of(self.alloc, self.canvas, node, answer, &asking)?;
+        if let Some(question) = &self.question {
+            self.drawing = question.draw(self.alloc, self.canvas, node, answer)?;
+        }
         Ok(())
+    }
+}
+
+/// Draws the answer that a member gave to the question of a text, over these tables; `NoAnswer` where the text is no question. The
+/// error is want of memory.
+pub fn draw_answer(
+    alloc: Global,
+    canvas: Canvas,
+    schema: &Schema,
+    text: &str,
+    node: Member,
+    answer: &Answer,
+) -> Result<Drawing, AllocError> {
+    match question_in(alloc, schema, text)? {
+        Some(question) => question.draw(alloc, canvas, node, answer),
+        None => Ok(Drawing::NoAnswer),
     }
 }
 
@@ -150,19 +178,24 @@ fn question_of(
     schema: &Schema,
     line: &Line,
 ) -> Result<Option<Question>, AllocError> {
-    let Line::Ask { text, .. } = line else {
-        return Ok(None);
-    };
+    match line {
+        Line::Ask { text, .. } => question_in(alloc, schema, text.as_str()),
+        _ => Ok(None),
+    }
+}
+
+// The question of a text, if it is one.
+fn question_in(alloc: Global, schema: &Schema, text: &str) -> Result<Option<Question>, AllocError> {
     let Some(name) = table_name(alloc, schema, text) else {
         return Ok(None);
     };
-    let time = match time_of(alloc, schema, line) {
+    let time = match time_of(alloc, schema, text) {
         Some(time) => about(time),
         None => Time::Now,
     };
     Ok(Some(Question {
         table: Text::new(alloc, name)?,
-        text: text.clone()?,
+        text: Text::new(alloc, text)?,
         time,
     }))
 }
@@ -176,8 +209,8 @@ fn about(time: SystemTime) -> Time {
 }
 
 // The name of the table that a question asks, as declared.
-fn table_name<'a>(alloc: Global, schema: &'a Schema, text: &Text) -> Option<&'a str> {
-    match read_query(alloc, schema, text.as_str()) {
+fn table_name<'a>(alloc: Global, schema: &'a Schema, text: &str) -> Option<&'a str> {
+    match read_query(alloc, schema, text) {
         Ok(query) => name_at(schema, query.table),
         Err(_) => None,
     }

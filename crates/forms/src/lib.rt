@@ -8,8 +8,8 @@ mod play;
 mod shown;
 mod tally;
 
-pub use drawn::{Canvas, Drawing, draw_script};
+pub use drawn::{Canvas, Drawing, draw_answer, draw_script};
 pub use form::{Form, Look};
-pub use play::play_shown;
+pub use play::{asked_by, play_shown};
 pub use shown::Shown;
 pub use tally::Tally;

@@ -56,19 +56,24 @@ fn play_lines<W: io::Write + Drop, E: io::Write + Drop>(
     Ok(())
 }
 
-// Which instants a line asks about, if it is a question.
-pub(crate) fn time_of(alloc: Global, schema: &Schema, line: &Line) -> Option<SystemTime> {
-    let Line::Ask { text, .. } = line else {
-        return None;
-    };
-    match read_query(alloc, schema, text.as_str()) {
+// Which instants a text asks about, if it is a question that names any.
+pub(crate) fn time_of(alloc: Global, schema: &Schema, text: &str) -> Option<SystemTime> {
+    match read_query(alloc, schema, text) {
         Ok(query) => query.time,
         Err(_) => None,
     }
 }
 
 fn asked_in(alloc: Global, schema: &Schema, line: &Line) -> Asked {
-    match time_of(alloc, schema, line) {
+    match line {
+        Line::Ask { text, .. } => asked_by(alloc, schema, text.as_str()),
+        _ => Asked::AsOf,
+    }
+}
+
+/// Whether a question asks about one instant, or about those up to one; of another text it is one.
+pub fn asked_by(alloc: Global, schema: &Schema, text: &str) -> Asked {
+    match time_of(alloc, schema, text) {
         Some(time) => about(time),
         None => Asked::AsOf,
     }

@@ -22,15 +22,18 @@ use std::alloc::{AllocError, Global};
 pub const VERSION: &str = "0.2.0 (rattle-kit-13f)";
 
 const EXAMPLES: &str = "Examples:
-  bitable sim examples/payroll.script
   bitable sim --quiet --format table examples/payroll.script
-  bitable sim --strict examples/failover.script
   bitable live --nodes 3 --seed 1 --loss 20 --dir run examples/insurance.script
-  bitable audit run/node1.flight run/node2.flight run/node3.flight
   bitable audit --report run/node1.flight run/node2.flight run/node3.flight
   bitable beliefs examples/payroll.script
   bitable lanes examples/failover.script
   bitable check examples/payroll.script
+A store that is kept in a folder (each of these commands has a --help of its own):
+  bitable new pay --nodes 3 --schema examples/store.sql
+  bitable open pay
+  bitable log pay
+  bitable flights pay out
+  bitable audit pay
 Without a command it plays the script on standard input, as sim does.";
 
 const SIM_END: &str = "Example:
@@ -63,6 +66,7 @@ const AUDIT_END: &str = "Example:
 
 With --report what was judged, what is in it and what was decided follow, in counts and in
 SHA-256, and what the verdict means; of a no where it differs, and what came before.
+With the name of a folder it judges the store that is kept there: bitable audit pay
 
 Exit status:
   0  yes: the events of one run explain what the flights have

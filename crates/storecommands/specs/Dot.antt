@@ -6,7 +6,7 @@ use Rattle.lines.specs.Line.{IsRequest, request_text}
 use Rattle.storecommands.specs.declared.dot.Form.{Form}
 use Rattle.storecommands.specs.declared.dot.Form.TheVariants.{Table, Lines, Csv, Json}
 use Rattle.storecommands.specs.declared.dot.DotCommand.{DotCommand}
-use Rattle.storecommands.specs.declared.dot.DotCommand.TheVariants.{Status, Schema, Help, Quit, Stop, Start, Clock, Format, Submit}
+use Rattle.storecommands.specs.declared.dot.DotCommand.TheVariants.{Status, Schema, Help, Quit, Stop, Start, Clock, Format, Beliefs, Submit}
 
 abbrev pub form_text : Form → List ℕ
 form_text Table = codes "table"
@@ -23,6 +23,7 @@ dot_text (Stop member) = codes ".stop " ++ decimal member
 dot_text (Start member) = codes ".start " ++ decimal member
 dot_text (Clock reading) = codes ".clock " ++ signed_decimal reading
 dot_text (Format form) = codes ".format " ++ form_text form
+dot_text (Beliefs text) = codes ".beliefs " ++ text.now
 dot_text (Submit client number text) = codes ".submit " ++ request_text client number text.now
 
 -- its numbers are in range
@@ -35,6 +36,7 @@ IsInRange (Stop member) = member < 2 ^ 64
 IsInRange (Start member) = member < 2 ^ 64
 IsInRange (Clock reading) = IsSigned reading
 IsInRange (Format form) = ⊤
+IsInRange (Beliefs text) = ⊤
 IsInRange (Submit client number text) = IsRequest client number
 
 -- the text of no command in range

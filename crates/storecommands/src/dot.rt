@@ -37,6 +37,8 @@ pub enum DotCommand<'a> {
     Clock(i64),
     /// That answers are shown so from here on.
     Format(Form),
+    /// That a picture is drawn of what was ever believed, of the rows that this question asks for.
+    Beliefs(&'a str),
     /// A request of a client, with its number and its text.
     Submit(Client, RequestNumber, &'a str),
 }
@@ -120,6 +122,9 @@ pub fn read_dot_command(line: &str) -> Option<DotCommand<'_>>
     }
     if let Some(rest) = after(line, ".format ") {
         return Some(DotCommand::Format(form_of(rest)?));
+    }
+    if let Some(rest) = after(line, ".beliefs ") {
+        return Some(DotCommand::Beliefs(rest));
     }
     let rest = after(line, ".submit ")?;
     match read_submit(rest) {

@@ -15,7 +15,7 @@ use model::member::Member;
 use node::Node;
 use playback::{Flown, Play, judge};
 use schema::Schema;
-use sqlite::{File as DatabaseFile, FileStore};
+use sqlite::{Alter, Connection};
 use std::alloc::Global;
 use store::announcing::Judging;
 use store::chain::Chain;
@@ -118,6 +118,16 @@ where
     Ok(missing)
 }
 
+// Compares databases of any kind.
+fn compare_stored<S: Alter + Drop>(
+    alloc: Global,
+    databases: Vec<Option<Connection<S>>>,
+    form: &Form,
+    play: &mut Play,
+) -> Result<Vec<Member>, StoreRefusal> {
+    compare_databases::<SqlKeeper<S>>(alloc, databases, form, play)
+}
+
 // Opens the databases of which the journals tell, and compares them.
 fn check_databases(
     rt: &HostRuntime,
@@ -129,7 +139,7 @@ fn check_databases(
     let mut past = Past::new(alloc, form.members)?;
     tell_all(rt, alloc, dir, form, &mut past)?;
     let databases = open_databases(rt, alloc, dir, &past)?;
-    compare_databases::<SqlKeeper<FileStore<DatabaseFile>>>(alloc, databases, form, play)
+    compare_stored(alloc, databases, form, play)
 }
 
 // Plays all journals, compares the databases, and names those that are missing.

@@ -7,16 +7,19 @@ use crate::place::{Folder, count_journals, cut_journal, enter, new_journal, read
 use durable::SqlKeeper;
 use journal::blocks::text_in;
 use model::member::Member;
-use sqlite::{File as DatabaseFile, FileStore};
+use sqlite::{Alter, Connection, File as DatabaseFile, FileStore};
 use std::alloc::Global;
 use store::announcing::{Announces, Announcing};
 use store::members::Members;
 use store::past::{End, tell_journal};
 use store::scribe::Scribe;
-use store::{Past, Store, StoreRefusal};
+use store::{Device, Past, Store, StoreRefusal};
 
-/// What keeps a member of a store in a folder.
-pub type Kept = Announcing<SqlKeeper<FileStore<DatabaseFile>>, JournalFile>;
+/// What keeps a member of a store: a database in S, and what it is about to store is told to a journal J first.
+pub type Kept<S, J> = Announcing<SqlKeeper<S>, J>;
+
+/// A store that is open in a folder.
+pub type FolderStore = Opened<Kept<FileStore<DatabaseFile>, JournalFile>>;
 
 /// A journal whose end is torn: where its whole blocks end, and how many bytes follow that are not zero.
 #[derive(Clone, Copy, PartialEq, Eq, Debug)]
@@ -36,15 +39,11 @@ struct Before {
     cut: Option<Cut>,
 }
 
-/// A store that is open, in its folder.
+/// What an opening found, and the folder, which is this process's own.
 #[derive(Drop)]
-pub struct Opened<K: Announces>
-where
-    K::Image: Drop,
-{
-    pub store: Store<K>,
+pub struct Found {
     folder: Folder,
-    /// The number of its journal.
+    /// The number of the journal that was begun.
     pub journal: u64,
     /// What was torn of the journal before, and is cut.
     pub cut: Option<Cut>,
@@ -52,17 +51,24 @@ where
     pub missing: Vec<Member>,
 }
 
-// What is left of a store whose members are stopped.
+/// A store that is open, and what its opening found.
 #[derive(Drop)]
-struct Stopped<K: Announces>
+pub struct Opened<K: Announces>
 where
     K::Image: Drop,
 {
-    databases: Vec<K::Image>,
-    journal: Option<K::Journal>,
+    pub store: Store<K>,
+    pub found: Found,
+}
+
+// What is left of a store whose members are stopped.
+#[derive(Drop)]
+struct Stopped<S: Alter + Drop, J: Device> {
+    databases: Vec<Connection<S>>,
+    journal: Option<J>,
     /// What could not be written to the journal.
     closed: Result<(), StoreRefusal>,
-    folder: Folder,
+    found: Found,
 }
 
 // How many bytes from this place on are not zero.
@@ -152,30 +158,55 @@ fn next_journal(
     Ok(JournalFile::new(alloc, file, syncs))
 }
 
-// Starts each member over its database and, if each is what was told of it, begins the journal that this gives.
+// Starts each member over its database and, if each is what was told of it, begins the journal that this gives. The store, and the
+// members whose database is missing.
 fn go_on<K: Announces, F: FnOnce() -> Result<K::Journal, StoreRefusal>>(
     alloc: Global,
-    folder: Folder,
+    form: &Form,
     before: &Before,
     images: Vec<Option<K::Image>>,
     begin_journal: F,
     reading: i64,
-) -> Result<Opened<K>, StoreRefusal>
+) -> Result<(Store<K>, Vec<Member>), StoreRefusal>
 where
     K::Image: Drop,
     requires { F.IsAlwaysCallable begin_journal }
 {
-    let schema = folder.form.schema.clone()?;
+    let schema = form.schema.clone()?;
     let members = Members::<K>::open(alloc, schema, images, &before.past)?;
     let missing = members.missing()?;
     let scribe = Scribe::new(alloc, begin_journal()?, before.sum);
     let store = Store::begin(members, scribe, before.next, before.past.marks, reading)?;
+    Ok((store, missing))
+}
+
+// Opens a store whose databases are in S.
+fn open_over<S: Alter + Drop, J: Device, F: FnOnce() -> Result<J, StoreRefusal>>(
+    alloc: Global,
+    folder: Folder,
+    before: &Before,
+    databases: Vec<Option<Connection<S>>>,
+    begin_journal: F,
+    reading: i64,
+) -> Result<Opened<Kept<S, J>>, StoreRefusal>
+    requires { F.IsAlwaysCallable begin_journal }
+{
+    let (store, missing) = go_on::<Kept<S, J>, F>(
+        alloc,
+        &folder.form,
+        before,
+        databases,
+        begin_journal,
+        reading,
+    )?;
     Ok(Opened {
         store,
-        folder,
-        journal: before.next,
-        cut: before.cut,
-        missing,
+        found: Found {
+            folder,
+            journal: before.next,
+            cut: before.cut,
+            missing,
+        },
     })
 }
 
@@ -191,12 +222,12 @@ pub fn open(
     dir: &str,
     syncs: bool,
     reading: i64,
-) -> Result<Opened<Kept>, StoreRefusal> {
+) -> Result<FolderStore, StoreRefusal> {
     let folder = enter(rt, alloc, dir)?;
     let before = read_before(rt, alloc, dir, &folder.form)?;
-    let images = open_databases(rt, alloc, dir, &before.past)?;
+    let databases = open_databases(rt, alloc, dir, &before.past)?;
     let begin_journal = || next_journal(rt, alloc, dir, &before, syncs);
-    go_on::<Kept, _>(alloc, folder, &before, images, begin_journal, reading)
+    open_over(alloc, folder, &before, databases, begin_journal, reading)
 }
 
 fn close_databases(databases: Vec<Database>) {
@@ -213,40 +244,37 @@ fn finish_journal(file: Option<JournalFile>) -> Result<(), StoreRefusal> {
     }
 }
 
-impl<K: Announces> Opened<K>
-where
-    K::Image: Drop,
-{
+impl Found {
     /// What the store's form says.
     pub fn form(&self) -> &Form {
         &self.folder.form
     }
+}
 
-    // Stops every member. What comes back of the store, and the folder, which is still this process's own.
-    fn stop(self) -> Stopped<K> {
-        let Opened { store, folder, .. } = self;
-        let (databases, journal, closed) = store.close();
-        Stopped {
-            databases,
-            journal,
-            closed,
-            folder,
-        }
+// Stops every member.
+fn stop<S: Alter + Drop, J: Device>(opened: Opened<Kept<S, J>>) -> Stopped<S, J> {
+    let Opened { store, found } = opened;
+    let (databases, journal, closed) = store.close();
+    Stopped {
+        databases,
+        journal,
+        closed,
+        found,
     }
 }
 
 /// Stops every member, and gives the room back that the journal does not need. The refusal of what could not be written: nothing that
 /// was told is lost by it.
-pub fn close(opened: Opened<Kept>) -> Result<(), StoreRefusal> {
+pub fn close(opened: FolderStore) -> Result<(), StoreRefusal> {
     let Stopped {
         databases,
         journal,
         closed,
-        folder,
-    } = opened.stop();
+        found,
+    } = stop(opened);
     close_databases(databases);
     let finished = finish_journal(journal);
-    drop(folder);
+    drop(found);
     closed?;
     finished
 }
