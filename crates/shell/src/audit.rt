@@ -131,11 +131,7 @@ fn judge(alloc: Global, texts: &[String]) -> Result<(u8, String), Refusal>
 /// line is printed: 50 exactly where the texts are not the flight files of a group, since one is no flight file, two differ in
 /// version, members or schema, or a node is missing or doubled; or 43; or the error of the outlet's last call, after a
 /// beginning of that line.
-pub fn run_audit<O: Outlet>(
-    alloc: Global,
-    texts: &[String],
-    outlet: &mut O,
-) -> Result<u8, RunFault>
+pub fn run_audit<O: Outlet>(alloc: Global, texts: &[String], outlet: &mut O) -> Result<u8, RunFault>
     ensures said { IfOk result (λ status. (line : List ℕ) × IsJudged (map string_bytes texts.now) status line × Appends (O.holds outlet.old) (O.holds outlet.new) line) }
     ensures sent { OnOk result (O.is_sent outlet.new) }
     ensures begun { OnErr result ((outlet.new ≡ outlet.old) ⊎ BeginsJudged (map string_bytes texts.now) (O.holds outlet.old) (O.holds outlet.new)) }

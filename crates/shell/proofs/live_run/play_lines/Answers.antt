@@ -11,8 +11,7 @@ pub loop-line-preserved : goal.loop-line-preserved
 loop-line-preserved g c =
     let so_far = c.loop-line.invariant in
     let now = c.in_ok-play_line.ensures.played in
-    let less : c.loop-line.line-index < length c.args.lines.now = search rules in
-    (
+    let less : c.loop-line.line-index < length c.args.lines.now = search rules in (
       so_far.0 ++ now.0,
       plays-next g.P.Pilot.plays c.args.pilot.now c.args.lines.now c.loop-line.line-index so_far.0 c.loop-line.pilot c.line-item.result now.0 _ less c.line-item.is so_far.1 now.1,
       appends-more _ _ _ so_far.0 now.0 so_far.2 now.2,
