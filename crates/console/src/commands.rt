@@ -3,6 +3,7 @@ use crate::input::Input;
 use crate::printing::{counted, name_of, print};
 use crate::session::{Place, Session, reading_of};
 use crate::stop::{Fault, Stop};
+use crate::transfers::carry_out;
 use causes::{Name, Trouble};
 use fault::Refusal;
 use model::member::Member;
@@ -14,8 +15,9 @@ use std::io::{BufRead, BufReader, IsTerminal, Read};
 use std::{env, fs};
 use store::announcing::Announces;
 use store::{Device, StoreRefusal};
-use storecommands::{Command, NewStore, OpenStore};
+use storecommands::{Command, ExportRows, ImportRows, NewStore, OpenStore};
 use storefolder::{Audited, Kept, Opened, Verdict};
+use transfer::{Export, Import, Order, Versions};
 
 // How many columns a terminal has, where nothing tells.
 const TERMINAL: usize = 80;
@@ -101,6 +103,16 @@ fn sit_over<R: BufRead + Drop, S: Alter + Drop, J: Device>(
     sit_at(rt, alloc, place, input, opened, clock)
 }
 
+// Makes a store of a folder with the flights of a run, and says so on standard error.
+fn adopt(rt: &HostRuntime, alloc: Global, dir: &str) -> Result<(), Fault> {
+    if let Some(flights) = storefolder::adopt(rt, alloc, dir)? {
+        let _ = eprintln!(*rt;
+            "made a store of the run in {dir}: its {flights} flights are journal 1"
+        );
+    }
+    Ok(())
+}
+
 // A sitting over a reader. The exit status is 1 where something was refused and nobody sits at a terminal.
 fn sit<R: Read + Drop>(
     rt: &HostRuntime,
@@ -115,6 +127,7 @@ fn sit<R: Read + Drop>(
         return Err(Fault::from(Refusal::NoMemory));
     };
     let mut input = Input::new(alloc, reader);
+    adopt(rt, alloc, place.dir)?;
     let opened = storefolder::open(rt, alloc, place.dir, syncs, reading)?;
     let (played, opened, is_refused) = sit_over(rt, alloc, place, &mut input, opened, clock);
     let closed = storefolder::close(opened);
@@ -301,6 +314,71 @@ fn run_flights<'a>(
     }
 }
 
+// Why an import or an export ended before its end.
+fn fault_of(fault: transfer::Fault) -> Fault {
+    match fault {
+        transfer::Fault::Refused(refusal) => Fault::Refused(refusal),
+        transfer::Fault::Output(error) => Fault::Output(error),
+        transfer::Fault::File(_) => Fault::from(Refusal::BadScript(0)),
+    }
+}
+
+// Stores the rows of a CSV file. The exit status is 1 where not all are stored.
+fn run_import<'a>(rt: &HostRuntime, alloc: Global, import: ImportRows<'a>) -> Result<u8, Stop<'a>> {
+    let ImportRows {
+        dir,
+        table,
+        file,
+        from,
+    } = import;
+    let from = match from {
+        Some(line) => line as usize,
+        None => 1,
+    };
+    let order = Order::Import(Import {
+        dir,
+        table,
+        file,
+        from,
+    });
+    match carry_out(rt, alloc, order) {
+        Ok(status) => Ok(status),
+        Err(transfer::Fault::File(error)) => {
+            let (file, refusal) = (Name::Given(file), Refusal::BadScript(0));
+            Err(Stop::from(Trouble::of_system(file, "reading the rows", refusal, error)))
+        }
+        Err(fault) => Err(Stop::of(fault_of(fault), Name::Given(dir), "importing rows")),
+    }
+}
+
+// Which versions are written; none where the words name both an instant and all.
+fn versions_of<'a>(export: ExportRows<'a>) -> Option<Versions<'a>> {
+    match (export.as_of, export.is_all) {
+        (None, false) => Some(Versions::Current),
+        (Some(instant), false) => Some(Versions::AsOf(instant)),
+        (None, true) => Some(Versions::All),
+        (Some(_), true) => None,
+    }
+}
+
+// Writes the rows of a table as CSV.
+fn run_export<'a>(rt: &HostRuntime, alloc: Global, export: ExportRows<'a>) -> Result<u8, Stop<'a>> {
+    let Some(versions) = versions_of(export) else {
+        let fault = Fault::from(Refusal::OutOfRange);
+        return Err(Stop::of(fault, Name::Given("--as-of"), "reading the command line"));
+    };
+    let ExportRows { dir, table, .. } = export;
+    let order = Order::Export(Export {
+        dir,
+        table,
+        versions,
+    });
+    match carry_out(rt, alloc, order) {
+        Ok(status) => Ok(status),
+        Err(fault) => Err(Stop::of(fault_of(fault), Name::Given(dir), "exporting rows")),
+    }
+}
+
 /// Does what a command line asks for, on the standard streams. It gives the exit status: 0; 1 where an audit says no, or something
 /// was refused in a sitting and nobody sits at a terminal.
 ///
@@ -320,5 +398,7 @@ pub fn run<'a>(rt: &HostRuntime, command: Command<'a>) -> Result<u8, Stop<'a>> {
             Ok(status) => Ok(status),
             Err(fault) => Err(Stop::of(fault, Name::Given(dir), "judging the store")),
         },
+        Command::Import(import) => run_import(rt, alloc, import),
+        Command::Export(export) => run_export(rt, alloc, export),
     }
 }

@@ -12,6 +12,7 @@ mod requests;
 mod session;
 mod stop;
 mod taking;
+mod transfers;
 
 pub use commands::run;
 pub use stop::{Fault, Stop};

@@ -4,10 +4,10 @@
 
 use answertext::Lines;
 use anyhow::Result;
-use sqlite::Alter;
 use std::alloc::Global;
-use store::Device;
-use storefolder::{Kept, Opened};
+use store::Store;
+use store::announcing::Announces;
+use storefolder::{Found, Task, with_store};
 
 const DIR: &str = "pay";
 
@@ -33,50 +33,72 @@ const THEN: &str =
 const NOW: &str = "SELECT * FROM Pay;";
 
 // Hands in a request, and prints what came of it.
-fn request<S: Alter + Drop, J: Device>(
+fn request<K: Announces>(
     rt: &HostRuntime,
-    pay: &mut Opened<Kept<S, J>>,
+    pay: &mut Store<K>,
     reading: i64,
     text: &str,
-) -> Result<()> {
-    let (number, outcome) = pay.store.execute(reading, text)?;
+) -> Result<()>
+where
+    K::Image: Drop,
+{
+    let (number, outcome) = pay.execute(reading, text)?;
     let number = number.get();
     println!(rt; "request {number} {outcome}")?;
     Ok(())
 }
 
 // Asks member 2, and prints its answer.
-fn question<S: Alter + Drop, J: Device>(
+fn question<K: Announces>(
     rt: &HostRuntime,
-    pay: &mut Opened<Kept<S, J>>,
+    pay: &mut Store<K>,
     reading: i64,
     text: &str,
-) -> Result<()> {
-    let answer = pay.store.ask(reading, 2, text)?;
+) -> Result<()>
+where
+    K::Image: Drop,
+{
+    let answer = pay.ask(reading, 2, text)?;
     let lines = Lines(&answer);
     print!(rt; "{lines}")?;
     Ok(())
 }
 
-fn january(rt: &HostRuntime, alloc: Global) -> Result<()> {
-    storefolder::make(rt, alloc, DIR, 3, SCHEMA)?;
-    let mut pay = storefolder::open(rt, alloc, DIR, true, JANUARY)?;
-    request(rt, &mut pay, JANUARY, HIRED)?;
-    storefolder::close(pay)?;
-    Ok(())
+// In January somebody is hired.
+#[derive(Drop)]
+struct January;
+
+impl Task for January {
+    type Output = Result<()>;
+
+    fn work<K: Announces>(self, rt: &HostRuntime, pay: &mut Store<K>, _found: &Found) -> Result<()>
+    where
+        K::Image: Drop,
+    {
+        request(rt, pay, JANUARY, HIRED)
+    }
 }
 
-fn february(rt: &HostRuntime, alloc: Global) -> Result<()> {
-    let mut pay = storefolder::open(rt, alloc, DIR, true, FEBRUARY)?;
-    request(rt, &mut pay, FEBRUARY, RAISED)?;
-    question(rt, &mut pay, FEBRUARY, THEN)?;
-    question(rt, &mut pay, FEBRUARY, NOW)?;
-    storefolder::close(pay)?;
-    Ok(())
+// In February there is a raise, and questions.
+#[derive(Drop)]
+struct February;
+
+impl Task for February {
+    type Output = Result<()>;
+
+    fn work<K: Announces>(self, rt: &HostRuntime, pay: &mut Store<K>, _found: &Found) -> Result<()>
+    where
+        K::Image: Drop,
+    {
+        request(rt, pay, FEBRUARY, RAISED)?;
+        question(rt, pay, FEBRUARY, THEN)?;
+        question(rt, pay, FEBRUARY, NOW)
+    }
 }
 
 fn main(rt: HostRuntime) -> Result<()> {
     let alloc: Global = rt.alloc();
-    january(&rt, alloc)?;
-    february(&rt, alloc)
+    storefolder::make(&rt, alloc, DIR, 3, SCHEMA)?;
+    with_store(&rt, alloc, DIR, true, JANUARY, January)??;
+    with_store(&rt, alloc, DIR, true, FEBRUARY, February)?
 }

@@ -30,7 +30,9 @@ const EXAMPLES: &str = "Examples:
   bitable check examples/payroll.script
 A store that is kept in a folder (each of these commands has a --help of its own):
   bitable new pay --nodes 3 --schema examples/store.sql
+  bitable import pay Emp examples/import.staff.csv
   bitable open pay
+  bitable export pay Pay --all
   bitable log pay
   bitable flights pay out
   bitable audit pay

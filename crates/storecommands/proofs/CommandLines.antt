@@ -1,31 +1,38 @@
 -- Lemmas on the program's command line as clap reads it.
-use Rattle.std.proofs.Common.{get_or, arith, ◌≡◌, ◌∙◌, ◌<◌, ◌^◌, ◌||◌, ◌⊎◌, ℕ, List, [], true, false, Option, Some, None, Result, Ok, Err, option_map, ap, ap₂, sym, subst, refl, inl}
+use Rattle.std.proofs.Common.{get_or, arith, ◌≡◌, ◌∙◌, ◌<◌, ◌^◌, ◌||◌, ◌⊎◌, ℕ, List, [], true, false, Option, Some, None, Result, Ok, Err, option_map, ap, ap₂, sym, subst, refl, inl, inr}
 use Rattle.std.specs.Str.Parse.{ParsesUnsigned, digits_value, without_leading_plus}
 use Rattle.clap.specs.Built.{AddsArg, AddsSubcommand}
-use Rattle.std.specs.Prelude.{Box, IfErr, IsErrAnd, codes}
+use Rattle.std.specs.Prelude.{Box, IfErr, IfNone, IfSome, IsErrAnd, codes}
 use Rattle.std.specs.Box.{box_value}
 use Rattle.clap.specs.Faults.{fault_of, is_simple_and_free}
 use Rattle.clap.specs.Kinds.{HasKind}
 use Rattle.clap.specs.Matches.{ReadsOne, one_text}
 use Rattle.clap.proofs.OnLiterals.{clap_on_literals}
 use Rattle.clap.specs.declared.error.Error.{Error}
-use Rattle.clap.specs.Simple.{App, app_of, subcommand_of, subcommand_rows, with_rule, with_subcommand}
+use Rattle.clap.specs.Simple.{App, HasMatchesOf, app_of, is_simple, subcommand_of, subcommand_rows, subcommand_rows_of, with_rule, with_subcommand}
 use Rattle.clap.specs.Walk.{Row, Rule, Text, one_of, rule_of, rows_of}
 use Rattle.clap.proofs.WalkLemmas.{one_text-rows}
 use Rattle.clap.specs.declared.builder.arg.Arg.{Arg}
 use Rattle.clap.specs.declared.builder.command.Command.{Command}
 use Rattle.clap.specs.declared.builder.command.Command.TheViews.{out-Command}
 use Rattle.clap.specs.declared.parser.matches.SubCommand.{SubCommand}
+use Rattle.clap.specs.declared.parser.matches.ArgMatches.{ArgMatches}
 use Rattle.clap.specs.declared.parser.matches.ArgMatches.TheViews.{out-SubCommand}
 use Rattle.clap.specs.declared.parser.matches.Found.{Found}
-use Rattle.storecommands.specs.CommandLine.{AsksFor, AsksNew, GivesClock, GivesNumber, store_app}
+use Rattle.storecommands.specs.CommandLine.{AsksExport, AsksFor, AsksImport, AsksNew, GivesClock, GivesLine, GivesNumber, store_app}
 use Rattle.storecommands.specs.declared.command.Command.{Command as Asked}
-use Rattle.storecommands.specs.declared.command.Command.TheVariants.{New, Open, Log, Flights, Audit}
+use Rattle.storecommands.specs.declared.command.Command.TheVariants.{New, Open, Log, Flights, Audit, Import, Export}
+use Rattle.storecommands.specs.declared.command.ExportRows.{ExportRows}
+use Rattle.storecommands.specs.declared.command.ImportRows.{ImportRows}
 use Rattle.storecommands.specs.declared.command.NewStore.{NewStore}
 
 is_free : is_simple_and_free store_app ≡ true
 unfolding clap_on_literals
 is_free = refl
+
+is_plain : is_simple store_app ≡ true
+unfolding clap_on_literals
+is_plain = refl
 
 -- a command with one more argument, which is not global
 pub with_arg : (old : Command) (a : Arg) (new : Command) (app : App) (r : Rule) → AddsArg old a new
@@ -57,6 +64,12 @@ module _ (E : Type 0) (G : List ℕ → Result ℕ E → Type 0) (k : ℕ) (only
       go (Some t) e =
           let parsed = only t (Ok n) (read t (one_text-rows f id ∙ e)) in
           record { text = t; given = e; numeral = parsed.0.0; value = sym parsed.1 }
+
+-- an option that is read as a line was given that number, and one that is not was given none
+pub line_given : (E : Type 0) (G : List ℕ → Result ℕ E → Type 0) (only : (t : List ℕ) (r : Result ℕ E) → G t r → ParsesUnsigned 64 10 t r) (f : Found) (id : Text)
+    (line : Option ℕ) → (one_text f id ≡ None → line ≡ None) → ((t : Text) → one_text f id ≡ Some t → ReadsOne G t line) → GivesLine id (rows_of f) line
+line_given E G only f id None none read = λ n fits given. no_number E G 64 only f id n read fits given
+line_given E G only f id (Some n) none read = number_given E G 64 only f id n none read
 
 -- an option was given one number
 pub one_number : (id : Text) (rows : List Row) (n m : ℕ) → GivesNumber id rows n → GivesNumber id rows m → n ≡ m
@@ -93,6 +106,24 @@ module _ (app : App) (words : List Text) (is : app ≡ store_app) where
   pub none_refused : (is_simple_and_free app ≡ true → fault_of app words ≡ []) → fault_of store_app words ≡ []
   none_refused h = subst (λ a. fault_of a words ≡ []) is (h (ap is_simple_and_free is ∙ is_free))
 
+  -- the subcommand that was met, as the program's words have it
+  pub rows_same : (m : ArgMatches) → HasMatchesOf app words m → subcommand_rows_of m ≡ subcommand_of store_app words
+  rows_same m h = subst (λ a. subcommand_rows_of m ≡ subcommand_of a words) is (h (ap is_simple is ∙ is_plain)).1
+
+  -- what it asks for
+  pub asked : (m : ArgMatches) (found : Option Asked) (command : Asked) → HasMatchesOf app words m → IfSome found (AsksFor (subcommand_rows_of m)) → found ≡ Some command
+      → AsksFor (subcommand_of store_app words) command
+  asked m found command h some e =
+      let now : AsksFor (subcommand_rows_of m) command = subst (λ f. IfSome f (AsksFor (subcommand_rows_of m))) e some in
+      subst (λ rows. AsksFor rows command) (rows_same m h) now
+
+  -- words that ask for nothing
+  pub none_asked : (m : ArgMatches) (found : Option Asked) (P : Type 0) → HasMatchesOf app words m → IfNone found ((command : Asked) → ¬ AsksFor (subcommand_rows_of m) command)
+      → found ≡ None → P ⊎ ((command : Asked) → ¬ AsksFor (subcommand_of store_app words) command)
+  none_asked m found P h none e =
+      let now : (command : Asked) → ¬ AsksFor (subcommand_rows_of m) command = subst (λ f. IfNone f ((command : Asked) → ¬ AsksFor (subcommand_rows_of m) command)) e none in
+      inr (subst (λ rows. (command : Asked) → ¬ AsksFor rows command) (rows_same m h) now)
+
   -- how it refuses words
   pub refused_by : (e : Error) → (is_simple_and_free app ≡ true → HasKind (fault_of app words) e)
       → HasKind (fault_of store_app words) e ⊎ ((command : Asked) → ¬ AsksFor (subcommand_of store_app words) command)
@@ -110,3 +141,25 @@ no_new rows none (Open opened) h = let bad : 110 ≡ 111 = ap (λ t. get_or t 0 
 no_new rows none (Log dir) h = let bad : 110 ≡ 108 = ap (λ t. get_or t 0 0) h.0 in absurd (omega (arith, bad))
 no_new rows none (Flights dir out) h = let bad : 110 ≡ 102 = ap (λ t. get_or t 0 0) h.0 in absurd (omega (arith, bad))
 no_new rows none (Audit dir) h = let bad : 110 ≡ 97 = ap (λ t. get_or t 0 0) h.0 in absurd (omega (arith, bad))
+no_new rows none (Import import) h = let bad : 110 ≡ 105 = ap (λ t. get_or t 0 0) h.0 in absurd (omega (arith, bad))
+no_new rows none (Export export) h = let bad : 110 ≡ 101 = ap (λ t. get_or t 0 0) h.0 in absurd (omega (arith, bad))
+
+-- where `import` is asked for nothing, nothing is
+pub no_import : (rows : List Row) → ((import : ImportRows) → ¬ AsksImport rows import) → (command : Asked) → AsksFor (Some (codes "import", rows)) command → ⊥
+no_import rows none (New made) h = let bad : 105 ≡ 110 = ap (λ t. get_or t 0 0) h.0 in absurd (omega (arith, bad))
+no_import rows none (Open opened) h = let bad : 105 ≡ 111 = ap (λ t. get_or t 0 0) h.0 in absurd (omega (arith, bad))
+no_import rows none (Log dir) h = let bad : 105 ≡ 108 = ap (λ t. get_or t 0 0) h.0 in absurd (omega (arith, bad))
+no_import rows none (Flights dir out) h = let bad : 105 ≡ 102 = ap (λ t. get_or t 0 0) h.0 in absurd (omega (arith, bad))
+no_import rows none (Audit dir) h = let bad : 105 ≡ 97 = ap (λ t. get_or t 0 0) h.0 in absurd (omega (arith, bad))
+no_import rows none (Import import) h = none import h.1
+no_import rows none (Export export) h = let bad : 105 ≡ 101 = ap (λ t. get_or t 0 0) h.0 in absurd (omega (arith, bad))
+
+-- where `export` is asked for nothing, nothing is
+pub no_export : (rows : List Row) → ((export : ExportRows) → ¬ AsksExport rows export) → (command : Asked) → AsksFor (Some (codes "export", rows)) command → ⊥
+no_export rows none (New made) h = let bad : 101 ≡ 110 = ap (λ t. get_or t 0 0) h.0 in absurd (omega (arith, bad))
+no_export rows none (Open opened) h = let bad : 101 ≡ 111 = ap (λ t. get_or t 0 0) h.0 in absurd (omega (arith, bad))
+no_export rows none (Log dir) h = let bad : 101 ≡ 108 = ap (λ t. get_or t 0 0) h.0 in absurd (omega (arith, bad))
+no_export rows none (Flights dir out) h = let bad : 101 ≡ 102 = ap (λ t. get_or t 0 0) h.0 in absurd (omega (arith, bad))
+no_export rows none (Audit dir) h = let bad : 101 ≡ 97 = ap (λ t. get_or t 0 0) h.0 in absurd (omega (arith, bad))
+no_export rows none (Import import) h = let bad : 101 ≡ 105 = ap (λ t. get_or t 0 0) h.0 in absurd (omega (arith, bad))
+no_export rows none (Export export) h = none export h.1

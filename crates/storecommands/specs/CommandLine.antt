@@ -4,10 +4,12 @@ use Rattle.std.specs.Prelude.{◌≡◌, ◌⊎◌, ◌<◌, ◌^◌, ℕ, Bool,
 use Rattle.std.specs.Str.Parse.{IsNumeral, digits_value, without_leading_plus}
 use Rattle.clap.specs.Walk.{Row, Rule, Text, first_of, one_of}
 use Rattle.clap.specs.Simple.{App, new_app, new_rule, with_rule, with_subcommand}
-use Rattle.clap.specs.declared.builder.action.ArgAction.TheVariants.{Set}
+use Rattle.clap.specs.declared.builder.action.ArgAction.TheVariants.{Set, SetTrue}
 use Rattle.clap.specs.declared.builder.value_parser.ValueParser.TheVariants as parser
 use Rattle.storecommands.specs.declared.command.Command.{Command}
-use Rattle.storecommands.specs.declared.command.Command.TheVariants.{New, Open, Log, Flights, Audit}
+use Rattle.storecommands.specs.declared.command.Command.TheVariants.{New, Open, Log, Flights, Audit, Import, Export}
+use Rattle.storecommands.specs.declared.command.ExportRows.{ExportRows}
+use Rattle.storecommands.specs.declared.command.ImportRows.{ImportRows}
 use Rattle.storecommands.specs.declared.command.NewStore.{NewStore}
 use Rattle.storecommands.specs.declared.command.OpenStore.{OpenStore}
 
@@ -57,6 +59,37 @@ clock_rule = record (new_rule (codes "clock")) {
   parser = Some (parser.Unsigned 0 18446744073709551615);
 }
 
+-- TABLE
+abbrev pub table_rule : Rule
+table_rule = record (new_rule (codes "TABLE")) { required = true; action = Some Set }
+
+-- FILE
+abbrev pub csv_rule : Rule
+csv_rule = record (new_rule (codes "FILE")) { required = true; action = Some Set }
+
+-- [--from-line N], an unsigned number of 64 bits
+abbrev pub from_line_rule : Rule
+from_line_rule = record (new_rule (codes "from-line")) {
+  long = Some (codes "from-line");
+  value_names = 1;
+  parser = Some (parser.Unsigned 0 18446744073709551615);
+}
+
+-- [--as-of INSTANT]
+abbrev pub as_of_rule : Rule
+as_of_rule = record (new_rule (codes "as-of")) {
+  long = Some (codes "as-of");
+  value_names = 1;
+  action = Some Set;
+}
+
+-- [--all]
+abbrev pub all_rule : Rule
+all_rule = record (new_rule (codes "all")) {
+  long = Some (codes "all");
+  action = Some SetTrue;
+}
+
 -- new --nodes N --schema FILE DIR
 abbrev pub new_app_words : App
 new_app_words = with_rule (with_rule (with_rule (new_app (codes "new")) nodes_rule) schema_rule) dir_rule
@@ -77,13 +110,21 @@ flights_app = with_rule (with_rule (new_app (codes "flights")) dir_rule) out_rul
 abbrev pub audit_app : App
 audit_app = with_rule (new_app (codes "audit")) dir_rule
 
+-- import [--from-line N] DIR TABLE FILE
+abbrev pub import_app : App
+import_app = with_rule (with_rule (with_rule (with_rule (new_app (codes "import")) from_line_rule) dir_rule) table_rule) csv_rule
+
+-- export [--as-of INSTANT] [--all] DIR TABLE
+abbrev pub export_app : App
+export_app = with_rule (with_rule (with_rule (with_rule (new_app (codes "export")) as_of_rule) all_rule) dir_rule) table_rule
+
 -- the commands over a store's folder
 abbrev pub store_app : App
-store_app = with_subcommand (with_subcommand (with_subcommand (with_subcommand (with_subcommand (new_app (codes "bitable")) new_app_words.top) open_app.top) log_app.top) flights_app.top) audit_app.top
+store_app = with_subcommand (with_subcommand (with_subcommand (with_subcommand (with_subcommand (with_subcommand (with_subcommand (new_app (codes "bitable")) new_app_words.top) open_app.top) log_app.top) flights_app.top) audit_app.top) import_app.top) export_app.top
 
 -- the name of one of them
 abbrev pub IsCommandName : Text → Type 0
-IsCommandName word = (word ≡ codes "new") ⊎ (word ≡ codes "open") ⊎ (word ≡ codes "log") ⊎ (word ≡ codes "flights") ⊎ (word ≡ codes "audit")
+IsCommandName word = (word ≡ codes "new") ⊎ (word ≡ codes "open") ⊎ (word ≡ codes "log") ⊎ (word ≡ codes "flights") ⊎ (word ≡ codes "audit") ⊎ (word ≡ codes "import") ⊎ (word ≡ codes "export")
 
 -- the matches give the option a decimal numeral of this number
 pub record GivesNumber (id : Text) (rows : List Row) (n : ℕ) : Type 0 where
@@ -116,6 +157,31 @@ pub record AsksOpen (rows : List Row) (opened : OpenStore) : Type 0 where
   pub sync : GivesSync (first_of (codes "sync") rows) opened.syncs
   pub clock : GivesClock rows opened.clock
 
+-- the matches give the option this number; or none, where they give it no number of 64 bits
+abbrev pub GivesLine : Text → List Row → Option ℕ → Type 0
+GivesLine id rows None = (n : ℕ) → n < 2 ^ 64 → ¬ GivesNumber id rows n
+GivesLine id rows (Some n) = GivesNumber id rows n
+
+-- the matches give the flag this value: it is on where it is used
+pub record GivesFlag (id : Text) (rows : List Row) (is_on : Bool) : Type 0 where
+  pub unused : one_of id rows ≡ None → is_on ≡ false
+  pub off : one_of id rows ≡ Some (codes "false") → is_on ≡ false
+  pub on : one_of id rows ≡ Some (codes "true") → is_on ≡ true
+
+-- the matches of `import` give these values
+pub record AsksImport (rows : List Row) (import : ImportRows) : Type 0 where
+  pub dir : Some import.dir.now ≡ first_of (codes "DIR") rows
+  pub table : Some import.table.now ≡ first_of (codes "TABLE") rows
+  pub file : Some import.file.now ≡ first_of (codes "FILE") rows
+  pub from : GivesLine (codes "from-line") rows import.from
+
+-- the matches of `export` give these values
+pub record AsksExport (rows : List Row) (export : ExportRows) : Type 0 where
+  pub dir : Some export.dir.now ≡ first_of (codes "DIR") rows
+  pub table : Some export.table.now ≡ first_of (codes "TABLE") rows
+  pub as_of : option_map (λ text. text.now) export.as_of ≡ first_of (codes "as-of") rows
+  pub all : GivesFlag (codes "all") rows export.is_all
+
 -- What the subcommand that was found, with its matches, asks for.
 abbrev pub AsksFor : Option (Text × List Row) → Command → Type 0
 AsksFor None command = ⊥
@@ -124,3 +190,5 @@ AsksFor (Some (name, rows)) (Open opened) = (name ≡ codes "open") × AsksOpen 
 AsksFor (Some (name, rows)) (Log dir) = (name ≡ codes "log") × (Some dir.now ≡ first_of (codes "DIR") rows)
 AsksFor (Some (name, rows)) (Flights dir out) = (name ≡ codes "flights") × (Some dir.now ≡ first_of (codes "DIR") rows) × (Some out.now ≡ first_of (codes "OUT") rows)
 AsksFor (Some (name, rows)) (Audit dir) = (name ≡ codes "audit") × (Some dir.now ≡ first_of (codes "DIR") rows)
+AsksFor (Some (name, rows)) (Import import) = (name ≡ codes "import") × AsksImport rows import
+AsksFor (Some (name, rows)) (Export export) = (name ≡ codes "export") × AsksExport rows export

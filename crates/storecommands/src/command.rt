@@ -28,6 +28,32 @@ pub struct OpenStore<'a> {
     pub clock: Option<u64>,
 }
 
+/// What a command line asks `import` for.
+#[derive(Debug, PartialEq, Clone, Copy)]
+pub struct ImportRows<'a> {
+    /// The folder.
+    pub dir: &'a str,
+    /// The name of the table.
+    pub table: &'a str,
+    /// The name of the CSV file.
+    pub file: &'a str,
+    /// The line from which on rows are taken; none for all of them.
+    pub from: Option<u64>,
+}
+
+/// What a command line asks `export` for.
+#[derive(Debug, PartialEq, Clone, Copy)]
+pub struct ExportRows<'a> {
+    /// The folder.
+    pub dir: &'a str,
+    /// The name of the table.
+    pub table: &'a str,
+    /// The instant as of which rows are written; none for those that are believed now.
+    pub as_of: Option<&'a str>,
+    /// Whether all versions are written.
+    pub is_all: bool,
+}
+
 /// What a command line asks for.
 #[derive(Debug, PartialEq, Clone, Copy)]
 pub enum Command<'a> {
@@ -41,4 +67,8 @@ pub enum Command<'a> {
     Flights { dir: &'a str, out: &'a str },
     /// To judge the store in the folder of this name.
     Audit(&'a str),
+    /// To store the rows of a CSV file.
+    Import(ImportRows<'a>),
+    /// To write the rows of a table as CSV.
+    Export(ExportRows<'a>),
 }

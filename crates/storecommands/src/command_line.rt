@@ -1,14 +1,16 @@
 //! The command line.
 ghost use Rattle.std.specs.Prelude.{◌≡◌, ◌⊎◌, ◌∷◌, List, [], ℕ, IsTrue, ◌↔◌, map, option_map, string_bytes, codes, false, IfSome, IfNone, IfOk, IfErr, OnOk};
 ghost use Rattle.clap.specs.declared.builder.command.Command.TheViews.{out-Command};
-ghost use Rattle.clap.specs.Words.{app_of, fault_of, found_of, rows_of, rule_of, subcommand_of, subcommand_rows_of, HasKind};
+ghost use Rattle.clap.specs.Words.{app_of, new_app, fault_of, found_of, rows_of, rule_of, subcommand_of, subcommand_rows_of, HasKind};
 ghost use Rattle.clap.specs.Words.{first_of};
 ghost use Rattle.storecommands.specs.declared.command.Command.{Command as Asked};
 ghost use Rattle.storecommands.specs.declared.command.NewStore.{NewStore as Made};
 ghost use Rattle.storecommands.specs.declared.command.OpenStore.{OpenStore as Opened};
-ghost use Rattle.storecommands.specs.CommandLine.{AsksFor, AsksNew, AsksOpen, GivesClock, GivesSync, clock_rule, dir_rule, file_rule, nodes_rule, out_rule, schema_rule, sync_rule, new_app_words, open_app, log_app, flights_app, audit_app, store_app, IsCommandName};
+ghost use Rattle.storecommands.specs.declared.command.ExportRows.{ExportRows as Exported};
+ghost use Rattle.storecommands.specs.declared.command.ImportRows.{ImportRows as Imported};
+ghost use Rattle.storecommands.specs.CommandLine.{AsksExport, AsksFor, AsksImport, AsksNew, AsksOpen, GivesClock, GivesFlag, GivesLine, GivesSync, all_rule, as_of_rule, csv_rule, from_line_rule, table_rule, import_app, export_app, clock_rule, dir_rule, file_rule, nodes_rule, out_rule, schema_rule, sync_rule, new_app_words, open_app, log_app, flights_app, audit_app, store_app, IsCommandName};
 
-use crate::command::{Command, NewStore, OpenStore};
+use crate::command::{Command, ExportRows, ImportRows, NewStore, OpenStore};
 use clap::error::ErrorKind;
 use clap::{Arg, ArgAction, ArgMatches, Command as Parser, Error, value_parser};
 use std::alloc::{AllocError, Global};
@@ -62,6 +64,35 @@ const AUDIT_END: &str = "Example:
 Exit status:
   0  yes: the events that the journals spell give each outcome and answer, and what each database holds
   1  no; or the store is refused, on standard error
+  2  the command line is not one of these";
+
+const IMPORT_END: &str =
+    "The first line names the columns; each other line is a row. The whole file is read first, and where a
+line has a fault it is told with its place, and nothing is stored. Rows go in requests of up to
+sixteen; one that is refused ends it, and --from-line goes on from there.
+
+Example:
+  bitable import pay Pay raises.csv
+
+  raises.csv:2: accepted 2026-04-20 15:20:07.118240, lines 2 to 17
+  raises.csv:18: accepted 2026-04-20 15:20:07.118241, line 18
+  raises.csv: 17 of 17 rows are stored, in 2 requests
+
+Exit status:
+  0  all rows are stored
+  1  a line has a fault, or a request is refused, on standard output; or the store is refused, on
+     standard error
+  2  the command line is not one of these";
+
+const EXPORT_END: &str = "Example:
+  bitable export pay Pay --as-of '2026-03-15 00:00:00.000000'
+
+  ENo,PStart,PEnd,Salary,SysStart,SysEnd
+  1,2026-01-01,2028-01-01,5000,2026-01-05 09:12:59.370867,9999-12-31 23:59:59.999999
+
+Exit status:
+  0  the rows are written
+  1  the table or the instant is refused, or the store is, on standard error
   2  the command line is not one of these";
 
 fn dir_word<'a>(alloc: Global) -> Arg<'a>
@@ -134,6 +165,53 @@ fn clock_word<'a>(alloc: Global) -> Arg<'a>
         .help("What clocks show, in microseconds since 1970, in place of the system's clock")
 }
 
+fn table_word<'a>(alloc: Global) -> Arg<'a>
+    ensures { (rule_of result ≡ table_rule) × (result.global ≡ false) }
+{
+    Arg::new(alloc, "TABLE")
+        .required(true)
+        .action(ArgAction::Set)
+        .help("The name of the table")
+}
+
+fn csv_word<'a>(alloc: Global) -> Arg<'a>
+    ensures { (rule_of result ≡ csv_rule) × (result.global ≡ false) }
+{
+    Arg::new(alloc, "FILE")
+        .required(true)
+        .action(ArgAction::Set)
+        .help("The CSV file with the rows")
+}
+
+fn from_line_word<'a>(alloc: Global) -> Arg<'a>
+    ensures { (rule_of result ≡ from_line_rule) × (result.global ≡ false) }
+{
+    Arg::new(alloc, "from-line")
+        .long("from-line")
+        .value_name("N")
+        .value_parser(value_parser!(u64))
+        .help("Takes the rows from this line on; the first line of the file is 1")
+}
+
+fn as_of_word<'a>(alloc: Global) -> Arg<'a>
+    ensures { (rule_of result ≡ as_of_rule) × (result.global ≡ false) }
+{
+    Arg::new(alloc, "as-of")
+        .long("as-of")
+        .value_name("INSTANT")
+        .action(ArgAction::Set)
+        .help("What was believed then, as '2026-03-15 00:00:00.000000'")
+}
+
+fn all_word<'a>(alloc: Global) -> Arg<'a>
+    ensures { (rule_of result ≡ all_rule) × (result.global ≡ false) }
+{
+    Arg::new(alloc, "all")
+        .long("all")
+        .action(ArgAction::SetTrue)
+        .help("All that was ever believed")
+}
+
 fn new_words<'a>(alloc: Global) -> Result<Parser<'a>, AllocError>
     ensures { IfOk result (λ c. (app_of c ≡ new_app_words) × ((out-Command c).has_globals ≡ false)) }
 {
@@ -185,16 +263,51 @@ fn audit_words<'a>(alloc: Global) -> Result<Parser<'a>, AllocError>
         .arg(dir_word(alloc))
 }
 
+fn import_words<'a>(alloc: Global) -> Result<Parser<'a>, AllocError>
+    ensures { IfOk result (λ c. (app_of c ≡ import_app) × ((out-Command c).has_globals ≡ false)) }
+{
+    Parser::new(alloc, "import")
+        .about("Stores the rows of a CSV file in a table")
+        .after_help(IMPORT_END)
+        .arg(from_line_word(alloc))?
+        .arg(dir_word(alloc))?
+        .arg(table_word(alloc))?
+        .arg(csv_word(alloc))
+}
+
+fn export_words<'a>(alloc: Global) -> Result<Parser<'a>, AllocError>
+    ensures { IfOk result (λ c. (app_of c ≡ export_app) × ((out-Command c).has_globals ≡ false)) }
+{
+    Parser::new(alloc, "export")
+        .about(
+            "Writes the rows of a table as CSV: what is believed now, was at an instant, or ever was",
+        )
+        .after_help(EXPORT_END)
+        .arg(as_of_word(alloc))?
+        .arg(all_word(alloc))?
+        .arg(dir_word(alloc))?
+        .arg(table_word(alloc))
+}
+
+fn bare_words<'a>(alloc: Global) -> Parser<'a>
+    ensures { app_of result ≡ new_app (codes "bitable") }
+{
+    Parser::new(alloc, "bitable").about(
+        "Tables that answer what was believed when, kept in a folder",
+    )
+}
+
 fn all_words<'a>(alloc: Global) -> Result<Parser<'a>, AllocError>
     ensures { IfOk result (λ c. app_of c ≡ store_app) }
 {
-    Parser::new(alloc, "bitable")
-        .about("Tables that answer what was believed when, kept in a folder")
+    bare_words(alloc)
         .subcommand(new_words(alloc)?)?
         .subcommand(open_words(alloc)?)?
         .subcommand(log_words(alloc)?)?
         .subcommand(flights_words(alloc)?)?
-        .subcommand(audit_words(alloc)?)
+        .subcommand(audit_words(alloc)?)?
+        .subcommand(import_words(alloc)?)?
+        .subcommand(export_words(alloc)?)
 }
 
 fn text_of<'a>(matches: &ArgMatches<'a>, id: &str) -> Option<&'a str>
@@ -294,7 +407,75 @@ fn command_of<'a>(matches: &ArgMatches<'a>) -> Option<Command<'a>>
     if name == "audit" {
         return text_of(given, "DIR").map(Command::Audit);
     }
+    if name == "import" {
+        return import_command(given);
+    }
+    if name == "export" {
+        return export_command(given);
+    }
     None
+}
+
+// The line that an option names.
+fn line_of(matches: &ArgMatches, id: &str) -> Option<u64>
+    ensures { GivesLine id.now (rows_of (found_of matches.now)) result }
+{
+    matches.get_one(id)
+}
+
+fn flag_of(matches: &ArgMatches, id: &str) -> bool
+    ensures { GivesFlag id.now (rows_of (found_of matches.now)) result }
+{
+    matches.get_flag(id)
+}
+
+fn import_of<'a>(matches: &ArgMatches<'a>) -> Option<ImportRows<'a>>
+    ensures some { IfSome result (AsksImport (rows_of (found_of matches.now))) }
+    ensures none { IfNone result ((rows : Imported) → ¬ AsksImport (rows_of (found_of matches.now)) rows) }
+{
+    let dir = text_of(matches, "DIR")?;
+    let table = text_of(matches, "TABLE")?;
+    let file = text_of(matches, "FILE")?;
+    Some(ImportRows {
+        dir,
+        table,
+        file,
+        from: line_of(matches, "from-line"),
+    })
+}
+
+fn export_of<'a>(matches: &ArgMatches<'a>) -> Option<ExportRows<'a>>
+    ensures some { IfSome result (AsksExport (rows_of (found_of matches.now))) }
+    ensures none { IfNone result ((rows : Exported) → ¬ AsksExport (rows_of (found_of matches.now)) rows) }
+{
+    let dir = text_of(matches, "DIR")?;
+    let table = text_of(matches, "TABLE")?;
+    Some(ExportRows {
+        dir,
+        table,
+        as_of: text_of(matches, "as-of"),
+        is_all: flag_of(matches, "all"),
+    })
+}
+
+fn import_command<'a>(matches: &ArgMatches<'a>) -> Option<Command<'a>>
+    ensures some { IfSome result (AsksFor (Some (codes "import", rows_of (found_of matches.now)))) }
+    ensures none { IfNone result ((command : Asked) → ¬ AsksFor (Some (codes "import", rows_of (found_of matches.now))) command) }
+{
+    match import_of(matches) {
+        Some(import) => Some(Command::Import(import)),
+        None => None,
+    }
+}
+
+fn export_command<'a>(matches: &ArgMatches<'a>) -> Option<Command<'a>>
+    ensures some { IfSome result (AsksFor (Some (codes "export", rows_of (found_of matches.now)))) }
+    ensures none { IfNone result ((command : Asked) → ¬ AsksFor (Some (codes "export", rows_of (found_of matches.now))) command) }
+{
+    match export_of(matches) {
+        Some(export) => Some(Command::Export(export)),
+        None => None,
+    }
 }
 
 fn flights_of<'a>(matches: &ArgMatches<'a>) -> Option<Command<'a>>
@@ -310,7 +491,13 @@ fn flights_of<'a>(matches: &ArgMatches<'a>) -> Option<Command<'a>>
 pub fn is_asked(word: &str) -> bool
     ensures { IsTrue result ↔ IsCommandName word.now }
 {
-    word == "new" || word == "open" || word == "log" || word == "flights" || word == "audit"
+    word == "new"
+        || word == "open"
+        || word == "log"
+        || word == "flights"
+        || word == "audit"
+        || word == "import"
+        || word == "export"
 }
 
 /// What a command line asks for, the program's name first. The error is clap's: help that was asked for, words that it

@@ -7,7 +7,7 @@ pub mod dot;
 pub mod text;
 mod words;
 
-pub use command::{Command, NewStore, OpenStore};
+pub use command::{Command, ExportRows, ImportRows, NewStore, OpenStore};
 pub use command_line::{is_asked, read_command};
 pub use dot::{DotCommand, read_dot_command};
 pub use text::{Kind, read_kind};

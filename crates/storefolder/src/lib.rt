@@ -1,6 +1,7 @@
 //! The folder of a store: its form, its journals and its members' databases.
 #![tactic(auto)]
 
+mod adopting;
 mod auditing;
 mod databases;
 mod faults;
@@ -11,7 +12,9 @@ mod memory;
 mod opening;
 mod place;
 mod replayed;
+mod task;
 
+pub use adopting::adopt;
 pub use auditing::{Audited, Verdict, audit};
 pub use form::{Form, read_form};
 pub use journal_file::JournalFile;
@@ -19,3 +22,4 @@ pub use memory::{InMemory, open_in_memory};
 pub use opening::{Cut, FolderStore, Found, Kept, Opened, close, open};
 pub use place::{Folder, enter, make};
 pub use replayed::{flights, is_file, replay};
+pub use task::{Task, with_store};

@@ -16,15 +16,18 @@ pub struct Folder {
     _lock: File,
 }
 
-fn form_path(alloc: Global, dir: &str) -> Result<String, AllocError> {
+/// Where the form of a store is.
+pub(crate) fn form_path(alloc: Global, dir: &str) -> Result<String, AllocError> {
     format!(in alloc; "{dir}/form")
 }
 
-fn journal_path(alloc: Global, dir: &str, journal: u64) -> Result<String, AllocError> {
+/// Where the journal of this number is.
+pub(crate) fn journal_path(alloc: Global, dir: &str, journal: u64) -> Result<String, AllocError> {
     format!(in alloc; "{dir}/journal{journal}")
 }
 
-fn exists(rt: &HostRuntime, path: &str) -> Result<bool, StoreRefusal> {
+/// Whether there is such a file: 40 where that can't be told.
+pub(crate) fn exists(rt: &HostRuntime, path: &str) -> Result<bool, StoreRefusal> {
     match fs::exists(rt, path) {
         Ok(is) => Ok(is),
         Err(error) => Err(file_refusal(&error)),
@@ -48,8 +51,8 @@ fn is_taken(rt: &HostRuntime, alloc: Global, dir: &str) -> Result<bool, StoreRef
     Ok(false)
 }
 
-// Brings to the disk what was made in the folder.
-fn sync_folder(rt: &HostRuntime, dir: &str) -> io::Result<()> {
+/// Brings to the disk what was made in the folder.
+pub(crate) fn sync_folder(rt: &HostRuntime, dir: &str) -> io::Result<()> {
     File::open(rt, dir)?.sync_all()
 }
 

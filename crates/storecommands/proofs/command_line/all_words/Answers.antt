@@ -1,14 +1,13 @@
-use Rattle.std.proofs.Common.{rules, ◌≡◌, codes}
 use Rattle.std.proofs.lemmas.Result.{IfOk-weaker}
-use Rattle.clap.specs.Words.{app_of, new_app}
 use Rattle.storecommands.proofs.CommandLines.{with_sub}
 use Rattle.storecommands.proofs.command_line.all_words.Goals as goal
 
 pub returns : goal.returns
 returns c =
-    let start : app_of c.about.result ≡ new_app (codes "bitable") = search rules in
-    let made = with_sub _ _ _ _ _ c.in_ok-subcommand.ensures start c.in_ok-new_words.ensures in
+    let made = with_sub _ _ _ _ _ c.in_ok-subcommand.ensures c.bare_words.ensures c.in_ok-new_words.ensures in
     let opened = with_sub _ _ _ _ _ c.in_ok-subcommand-2.ensures made c.in_ok-open_words.ensures in
     let log = with_sub _ _ _ _ _ c.in_ok-subcommand-3.ensures opened c.in_ok-log_words.ensures in
     let flights = with_sub _ _ _ _ _ c.in_ok-subcommand-4.ensures log c.in_ok-flights_words.ensures in
-    IfOk-weaker c.subcommand-5.result _ _ (λ r added. with_sub _ _ _ _ _ added flights c.in_ok-audit_words.ensures) c.subcommand-5.ensures
+    let audit = with_sub _ _ _ _ _ c.in_ok-subcommand-5.ensures flights c.in_ok-audit_words.ensures in
+    let import = with_sub _ _ _ _ _ c.in_ok-subcommand-6.ensures audit c.in_ok-import_words.ensures in
+    IfOk-weaker c.subcommand-7.result _ _ (λ r added. with_sub _ _ _ _ _ added import c.in_ok-export_words.ensures) c.subcommand-7.ensures

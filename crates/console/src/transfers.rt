@@ -1,0 +1,45 @@
+//! Imports and exports over a store's folder.
+use crate::session::reading_of;
+use sqlite::Alter;
+use std::alloc::Global;
+use store::Device;
+use storefolder::{Kept, Opened};
+use transfer::{Fault, Order, Work, look_at, work_on};
+
+// Looks at an order before the store is opened: none where its file has a fault, which was told.
+fn work_of<'a>(
+    rt: &HostRuntime,
+    alloc: Global,
+    order: Order<'a>,
+) -> Result<Option<Work<'a>>, Fault> {
+    let folder = storefolder::enter(rt, alloc, order.dir())?;
+    look_at(rt, alloc, order, &folder.form.schema)
+}
+
+// Does it with a store that is open: what came of it, and the store.
+fn work_at<S: Alter + Drop, J: Device>(
+    rt: &HostRuntime,
+    alloc: Global,
+    work: &Work<'_>,
+    reading: i64,
+    opened: Opened<Kept<S, J>>,
+) -> (Result<u8, Fault>, Opened<Kept<S, J>>) {
+    let mut opened = opened;
+    let done = work_on(rt, alloc, work, reading, &mut opened.store);
+    (done, opened)
+}
+
+/// Imports or exports over the store in a folder, on standard output, and gives the exit status: 0, or 1 where not all rows of a file
+/// are stored. The whole file is read before the store is opened: where it has a fault, that is told, and the store is not opened.
+pub(crate) fn carry_out(rt: &HostRuntime, alloc: Global, order: Order<'_>) -> Result<u8, Fault> {
+    let Some(work) = work_of(rt, alloc, order)? else {
+        return Ok(1);
+    };
+    let reading = reading_of(rt, None)?;
+    let opened = storefolder::open(rt, alloc, order.dir(), true, reading)?;
+    let (done, opened) = work_at(rt, alloc, &work, reading, opened);
+    let closed = storefolder::close(opened);
+    let status = done?;
+    closed?;
+    Ok(status)
+}
