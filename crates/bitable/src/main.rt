@@ -1,12 +1,15 @@
-//! The program `bitable`: commands of the crate `shell` over files and the standard streams.
+//! The program `bitable`: commands of the crates `shell` and `console` over files, folders and the standard streams.
 #![tactic(auto)]
 
+use beginnings::line::read_line;
 use causes::{Name, Trouble};
+use clap::Error;
 use clap::error::ErrorKind;
-use console::{Fault, Stop as Ended};
+use console::Stop as Ended;
 use diagnosis::{Subject, diagnose};
 use fault::Refusal;
 use forms::{Canvas, Drawing, Form, Look};
+use progressline::{Progress, ProgressLine, Uncovered};
 use scriptlanes::{Drawing as RunDrawing, Sheet, Span};
 use shell::audit::run_audit;
 use shell::command::{Audit, Beliefs, Check, Command, Lanes, Live, Sim};
@@ -15,6 +18,7 @@ use shell::live_run::run_live;
 use shell::report_run::run_report;
 use shell::shown_run::{run_beliefs, run_lanes, run_shown};
 use shell::sim::run_sim;
+use shell::since_run::run_since;
 use shell::stop::Stop;
 use std::alloc::Global;
 use std::fs::File;
@@ -24,7 +28,7 @@ use std::rt::{Env, Files};
 use std::sync::Wait;
 use std::thread::Threads;
 use std::{env, fs, io};
-use storecommands::is_asked;
+use storecommands::Command as StoreCommand;
 
 const SIM: &str = "playing the script";
 
@@ -33,13 +37,38 @@ const TERMINAL: usize = 80;
 
 fn main(rt: HostRuntime) -> ExitCode {
     match words_given(&rt) {
-        Ok(Some(words)) if is_of_store(&rt, words.as_slice()) => {
-            end_store(&rt, run_store(&rt, words.as_slice()))
-        }
-        Ok(Some(words)) => end(&rt, run(&rt, &rt, words.as_slice())),
+        Ok(Some(words)) => do_asked(&rt, &rt, words.as_slice()),
         Ok(None) => end(&rt, refuse_words(&rt)),
         Err(stop) => end(&rt, Err(stop)),
     }
+}
+
+// Does what a command line asks for.
+fn do_asked<R>(rt: &R, host: &HostRuntime, words: &[String]) -> ExitCode
+where
+    R: AllocGlobal + Files + Print + Eprint,
+    R: Wait + Threads + Copy + Send + Drop + 'static,
+{
+    match read_command(host.alloc(), words) {
+        Ok(Command::Store(command)) => end_store(host, console::run(host, command)),
+        Ok(Command::Audit(asked)) => judge(host, &asked),
+        Ok(Command::Beliefs(beliefs)) => draw_beliefs(host, beliefs),
+        Ok(Command::PlayInput) => end(host, play_input(host)),
+        Ok(Command::Sim(sim)) => end(host, play_sim(host, host, sim)),
+        Ok(Command::Live(live)) => end(host, play_live(rt, host, live)),
+        Ok(Command::Lanes(lanes)) => end(host, draw_run(host, host, lanes)),
+        Ok(Command::Check(check)) => end(host, check_file(host, check)),
+        Err(error) => end(host, tell_of_words(host, error)),
+    }
+}
+
+// Prints the help that a command line asks for, or why it is refused.
+fn tell_of_words<'a, R: Print + Eprint>(rt: &R, error: Error) -> Result<u8, Stop<'a>> {
+    if error.kind() == ErrorKind::OutOfMemory {
+        return Err(Stop::from(Refusal::NoMemory));
+    }
+    error.print(rt)?;
+    Ok(if error.use_stderr() { 2 } else { 0 })
 }
 
 // Whether this is the name of a folder.
@@ -50,35 +79,27 @@ fn is_folder(rt: &HostRuntime, name: &str) -> bool {
     }
 }
 
-// Whether a command line is one over a store's folder: `audit` is, where it has one name and that is the name of a folder.
-fn is_of_store(rt: &HostRuntime, words: &[String]) -> bool {
-    let Some(word) = words.get(1) else {
-        return false;
-    };
-    if !is_asked(word.as_str()) {
-        return false;
-    }
-    if word.as_str() != "audit" {
-        return true;
-    }
-    match words.get(2) {
-        Some(name) if words.len() == 3 => is_folder(rt, name.as_str()),
-        _ => false,
+// Judges the store in a folder, where nothing but the name of a folder is given, else flights.
+fn judge(rt: &HostRuntime, asked: &Audit<'_>) -> ExitCode {
+    match asked.lone_name() {
+        Some(name) if is_folder(rt, name) => {
+            end_store(rt, console::run(rt, StoreCommand::Audit(name)))
+        }
+        _ => end(rt, audit(rt, rt, asked)),
     }
 }
 
-// Does what a command line over a store's folder asks for.
-fn run_store<'a>(rt: &HostRuntime, words: &'a [String]) -> Result<u8, Ended<'a>> {
-    match storecommands::read_command(rt.alloc(), words) {
-        Ok(command) => console::run(rt, command),
-        Err(error) if error.kind() == ErrorKind::OutOfMemory => Err(Ended {
-            fault: Fault::from(Refusal::NoMemory),
-            cause: None,
-        }),
-        Err(error) => match error.print(rt) {
-            Ok(()) => Ok(if error.use_stderr() { 2 } else { 0 }),
-            Err(_) => Ok(1),
-        },
+// Draws what was ever believed, as the store in a folder answers a question, or as a script's last answer says.
+fn draw_beliefs(rt: &HostRuntime, beliefs: Beliefs<'_>) -> ExitCode {
+    match beliefs.query {
+        Some(query) => {
+            let (dir, width) = (beliefs.script, columns(rt));
+            end_store(
+                rt,
+                console::draw_beliefs(rt, dir, query, beliefs.svg, width),
+            )
+        }
+        None => end(rt, draw(rt, beliefs)),
     }
 }
 
@@ -110,27 +131,6 @@ fn end(rt: &impl Eprint, ended: Result<u8, Stop<'_>>) -> ExitCode {
         let _ = eprintln!(rt; "{cause}");
     }
     ExitCode::FAILURE
-}
-
-fn run<'a, R>(rt: &R, host: &HostRuntime, words: &'a [String]) -> Result<u8, Stop<'a>>
-where
-    R: AllocGlobal + Env + Files + Input + Print + Eprint,
-    R: Wait + Threads + Copy + Send + Drop + 'static,
-{
-    match read_command(rt.alloc(), words) {
-        Ok(Command::PlayInput) => { script_ended(play(rt, &mut rt.reader()), Name::Input, SIM) }
-        Ok(Command::Sim(sim)) => play_sim(rt, host, sim),
-        Ok(Command::Beliefs(beliefs)) => draw(rt, beliefs),
-        Ok(Command::Lanes(lanes)) => draw_run(rt, host, lanes),
-        Ok(Command::Live(live)) => play_live(rt, host, live),
-        Ok(Command::Audit(asked)) => audit(rt, &asked),
-        Ok(Command::Check(check)) => check_file(rt, check),
-        Err(error) if error.kind() == ErrorKind::OutOfMemory => Err(Stop::from(Refusal::NoMemory)),
-        Err(error) => {
-            error.print(rt)?;
-            Ok(if error.use_stderr() { 2 } else { 0 })
-        }
-    }
 }
 
 // The words of the command line, the program's name first, or none where one is not UTF-8.
@@ -168,6 +168,11 @@ fn script_ended<'a>(
     }
 }
 
+// Plays the script on standard input.
+fn play_input<'a, R: AllocGlobal + Input + Print>(rt: &R) -> Result<u8, Stop<'a>> {
+    script_ended(play(rt, &mut rt.reader()), Name::Input, SIM)
+}
+
 // Plays the script that the reader has, on standard output.
 fn play<'a, R: AllocGlobal + Print, I: Read>(rt: &R, reader: &mut I) -> Result<u8, Stop<'a>> {
     let alloc: Global = rt.alloc();
@@ -203,6 +208,20 @@ fn columns<R: AllocGlobal + Env>(rt: &R) -> usize {
     }
 }
 
+// How outputs are shown in this form: tables at a terminal in its columns.
+fn look_of<R: AllocGlobal + Env>(rt: &R, host: &HostRuntime, form: Form, is_quiet: bool) -> Look {
+    let width = if host.stdout().is_terminal() {
+        Some(columns(rt))
+    } else {
+        None
+    };
+    Look {
+        form,
+        is_quiet,
+        width,
+    }
+}
+
 // Plays a script as it is asked for.
 fn play_sim<'a, R>(rt: &R, host: &HostRuntime, sim: Sim<'a>) -> Result<u8, Stop<'a>>
 where
@@ -216,15 +235,7 @@ where
     let ended = if form == Form::Lines && !sim.is_quiet && !sim.is_strict {
         play(rt, &mut script)
     } else {
-        let look = Look {
-            form,
-            is_quiet: sim.is_quiet,
-            width: if host.stdout().is_terminal() {
-                Some(columns(rt))
-            } else {
-                None
-            },
-        };
+        let look = look_of(rt, host, form, sim.is_quiet);
         show(rt, host, look, sim.is_strict, &mut script)
     };
     script_ended(ended, Name::Given(sim.script), SIM)
@@ -357,6 +368,11 @@ where
     }
 }
 
+// What shows on standard error, where that is a terminal, how far a long work is.
+fn progress_on(host: &HostRuntime) -> ProgressLine<'_, HostRuntime> {
+    ProgressLine::new(host, host.stderr().is_terminal())
+}
+
 // Plays a script on nodes that run on threads of their own.
 fn play_live<'a, R>(rt: &R, host: &HostRuntime, live: Live<'a>) -> Result<u8, Stop<'a>>
 where
@@ -371,15 +387,20 @@ where
     script_ended(ended, file, "playing the script with live")
 }
 
-// The texts of the files of these names.
-fn read_flights<'a, R: AllocGlobal + Files>(
+// The texts of the files of these names. How many are read is told to who asks for it.
+fn read_flights<'a, R: AllocGlobal + Files, Q: Progress>(
     rt: &R,
     names: &[&'a str],
+    progress: &Q,
 ) -> Result<Vec<String>, Stop<'a>> {
     let mut texts = Vec::new(rt.alloc());
+    progress.begin("files", names.len());
     for name in names {
         match fs::read_to_string(rt, *name) {
-            Ok(text) => texts.push(text)?,
+            Ok(text) => {
+                texts.push(text)?;
+                progress.tell(texts.len());
+            }
             Err(error) => {
                 let (file, tried) = (Name::Given(*name), "reading the flight");
                 return Err(Stop::from(Trouble::of_system(file, tried, Refusal::BadFlight, error)));
@@ -389,17 +410,63 @@ fn read_flights<'a, R: AllocGlobal + Files>(
     Ok(texts)
 }
 
+// How many steps flights have, each in a line of its own.
+fn steps_in(texts: &[String]) -> usize {
+    let mut steps: usize = 0;
+    for text in texts {
+        let lines = text.as_str().split('\n');
+        steps = steps.saturating_add(lines.filter(|line| line.starts_with("step ")).count());
+    }
+    steps
+}
+
+// That a report and a line that was kept do not go together, in the words that the command line has for such.
+fn refuse_both(rt: &impl Eprint) -> Result<u8, Stop<'static>> {
+    let _ = eprintln!(rt;
+        "error: the argument '--since <LINE>' cannot be used with '--report' or '--json'\n\nFor more information, try '--help'."
+    );
+    Ok(2)
+}
+
+// That no report ends with this line, in the words that the command line has for a value that it does not take.
+fn refuse_since(rt: &impl Eprint, line: &str) -> Result<u8, Stop<'static>> {
+    let _ = eprintln!(rt;
+        "error: invalid value '{line}' for '--since <LINE>': it is no line that 'audit --report' gives\n\nFor more information, try '--help'."
+    );
+    Ok(2)
+}
+
 // Judges flights in files, as it is asked for.
-fn audit<'a, R: AllocGlobal + Files + Print>(rt: &R, asked: &Audit<'a>) -> Result<u8, Stop<'a>> {
+fn audit<'a, R>(rt: &R, host: &HostRuntime, asked: &Audit<'a>) -> Result<u8, Stop<'a>>
+where
+    R: AllocGlobal + Files + Print + Eprint,
+{
     let alloc: Global = rt.alloc();
     let names = asked.files.as_slice();
-    let texts = read_flights(rt, names)?;
-    let mut writer = io::writer(rt);
-    let ended = if asked.is_report || asked.is_json {
+    let seen = match asked.since {
+        Some(_) if asked.is_report || asked.is_json => return refuse_both(rt),
+        Some(line) => match read_line(alloc, line)? {
+            Some(seen) => Some(seen),
+            None => return refuse_since(rt, line),
+        },
+        None => None,
+    };
+    let progress = progress_on(host);
+    let read = read_flights(rt, names, &progress);
+    progress.hide();
+    let texts = read?;
+    if progress.is_on() {
+        progress.judge(steps_in(texts.as_slice()));
+    }
+    let mut writer = Uncovered::new(io::writer(rt), &progress);
+    let ended = if let Some(seen) = seen {
+        run_since(alloc, seen.as_slice(), texts.as_slice(), &mut writer)
+    } else if asked.is_report || asked.is_json {
         run_report(alloc, names, texts.as_slice(), asked.is_json, &mut writer)
     } else {
         run_audit(alloc, texts.as_slice(), &mut writer)
     };
+    progress.hide();
     ended.map_err(|fault| Stop::of_flights(alloc, fault, names, texts.as_slice()))
 }
 
