@@ -1,5 +1,5 @@
 -- Items in which stamps rise, one after another.
-use Rattle.std.proofs.Common.{◌≡◌, ◌∙◌, ℕ, zero, suc, ◌+◌, ◌<◌, Option, Some, List, [], ◌∷◌, ◌++◌, length, take, drop, slice_get, get_or, refl, sym, ap, subst, arith, length-append}
+use Rattle.std.proofs.Common.{◌≡◌, ◌∙◌, ℕ, zero, suc, ◌+◌, ◌≤◌, Bool, true, false, MatchBool, Option, Some, List, [], ◌∷◌, ◌++◌, length, take, drop, slice_get, refl, sym, ap, subst, arith, length-append}
 use Rattle.std.proofs.lemmas.List.{take-append-drop, take-append-le}
 use Rattle.boxcar.specs.Table.{Shelves, Where}
 use Rattle.history.specs.declared.item.Item.{Item}
@@ -41,3 +41,20 @@ grown_more queued items more ys count log h e =
     let same : take count more ≡ take count items = ap (λ (xs : List Item). take count xs) e ∙ take-append-le count items ys h.3 in
     let longer : length more ≡ length items + length ys = ap (λ (xs : List Item). length xs) e ∙ length-append items ys in
     (h.0 ∙ sym same, h.1, h.2, omega (arith, h.3, longer))
+
+within : (items : List Item) (n : ℕ) (item : Item) → slice_get items n ≡ Some item → n + 1 ≤ length items
+within [] n item h = absurd cc
+within (x ∷ items) zero item h = omega arith
+within (x ∷ items) (suc n) item h = omega (arith, within items n item h)
+
+-- the history has the next item, or what it had
+pub remembered : (done : Bool) (placed : ℕ) (items : List Item) (count more : ℕ) (log longer : List Item) (item : Item) → IsGrown placed items count log → count ≡ placed → slice_get items count ≡ Some item
+    → count ≡ length log → more ≡ length longer → MatchBool done (longer ≡ log ++ item ∷ []) (longer ≡ log) → IsGrown placed items more longer
+remembered true placed items count more log longer item h level here counts grows is =
+    let one : more ≡ count + 1 = grows ∙ ap (λ (xs : List Item). length xs) is ∙ length-append log (item ∷ []) ∙ ap (λ (n : ℕ). n + 1) (sym counts) in
+    let all : longer ≡ take more items = is ∙ ap (λ (xs : List Item). xs ++ item ∷ []) h.0 ∙ sym (taken_more items count item here) ∙ ap (λ (n : ℕ). take n items) (sym one) in
+    (all, omega (arith, one, level), omega (arith, one, level), omega (arith, one, within items count item here))
+remembered false placed items count more log longer item h level here counts grows is =
+    let same : more ≡ count = grows ∙ ap (λ (xs : List Item). length xs) is ∙ sym counts in
+    let all : longer ≡ take more items = is ∙ h.0 ∙ ap (λ (n : ℕ). take n items) (sym same) in
+    (all, omega (arith, same, h.1), omega (arith, same, h.2), omega (arith, same, h.3))

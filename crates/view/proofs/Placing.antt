@@ -31,9 +31,12 @@ pub read_there : (items : List Item) (n : ℕ) (read item : Item) → n < length
 read_there items n read item within there copied = got_there items n read within ∙ ap Some (sym there ∙ sym copied)
 
 -- one item more stands in the list
-pub placed_more : (list : Shelves) (items : List Item) (places more : List (Where Shown)) (q : Where Shown) → ArePlaced list items places
-    → Shows list q → q.index ≡ length places → slice_get items (length places) ≡ Some q.value.item → more ≡ places ++ q ∷ [] → ArePlaced list items more
-placed_more list items places more q h shows at here is k p got =
+pub placed_more : (list : Shelves) (items : List Item) (places more : List (Where Shown)) (q : Where Shown) (s : Shown) (n : ℕ) → ArePlaced list items places
+    → Shows list q → q.index ≡ n → q.value ≡ s → n ≡ length places → slice_get items n ≡ Some s.item → more ≡ places ++ q ∷ [] → ArePlaced list items more
+placed_more list items places more q s n h shows at value end here is k p got =
+    let there : slice_get items n ≡ Some q.value.item = here ∙ ap (λ (v : Shown). Some v.item) (sym value) in
     ⊎_elim (λ (e : slice_get places k ≡ Some p). h k p e)
-    (λ (t : (k ≡ length places) × (q ≡ p)). subst (λ (w : Where Shown). Shows list w × (w.index ≡ k) × (slice_get items k ≡ Some w.value.item)) t.1 (shows, at ∙ sym t.0, ap (λ (i : ℕ). slice_get items i) t.0 ∙ here))
+    (λ (t : (k ≡ length places) × (q ≡ p)).
+        let same : n ≡ k = end ∙ sym t.0 in
+        subst (λ (w : Where Shown). Shows list w × (w.index ≡ k) × (slice_get items k ≡ Some w.value.item)) t.1 (shows, at ∙ same, ap (λ (i : ℕ). slice_get items i) (sym same) ∙ there))
     (got_more places q p k (ap (λ (xs : List (Where Shown)). slice_get xs k) (sym is) ∙ got))

@@ -1,7 +1,6 @@
 //! What a life shares with its views.
 ghost use Rattle.std.specs.Prelude.{◌≡◌, IfOk};
 ghost use Rattle.view.specs.Rules.{named_book};
-ghost use Rattle.view.specs.Lists.{IsCounter};
 
 use crate::rule::{Counted, Listed, Named, Sets};
 use atomic_table::Seat;
@@ -36,6 +35,8 @@ pub struct Published {
 }
 
 impl Published {
+    ghost use Rattle.view.specs.Lists.{IsCounter};
+
     /// No items, of the history that the token is of. The error is want of memory.
     pub fn new(alloc: Global, front: &Front) -> Result<(Published, Counter), AllocError>
         ensures book { IfOk result (λ p. named_book p.0.list.tag ≡ front.now.seen.book) }

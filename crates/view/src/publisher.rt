@@ -127,7 +127,9 @@ impl Publisher {
         }
         let schema = self.schema.clone()?;
         let replay = Replay::new(self.alloc, schema, self.origin.again())?;
-        let published = Arc::try_clone(&self.published)?;
+        let Ok(published) = Arc::try_clone(&self.published) else {
+            return Err(Refusal::NoMemory);
+        };
         self.given += 1;
         Ok(View::of(self.name, published, replay, self.front.again()))
     }
@@ -146,9 +148,11 @@ impl Publisher {
         ensures same { IsSameLife self.old self.new × (given_of self.new ≡ given_of self.old) × (published self.new ≡ published self.old) }
         ensures pending { MatchResult result (λ _. pending self.new ≡ pending self.old ++ item ∷ []) (λ _. pending self.new ≡ pending self.old) }
     {
-        let closed = item.closed_after(self.closed);
-        self.items.push(item)?;
-        self.closed = closed;
+        if self.items.reserve(1).is_err() {
+            return Err(AllocError);
+        }
+        self.closed = item.closed_after(self.closed);
+        self.items.push_reserved(item);
         Ok(())
     }
 
