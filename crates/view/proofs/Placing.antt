@@ -37,6 +37,6 @@ placed_more list items places more q s n h shows at value end here is k p got =
     let there : slice_get items n ≡ Some q.value.item = here ∙ ap (λ (v : Shown). Some v.item) (sym value) in
     ⊎_elim (λ (e : slice_get places k ≡ Some p). h k p e)
     (λ (t : (k ≡ length places) × (q ≡ p)).
-        let same : n ≡ k = end ∙ sym t.0 in
-        subst (λ (w : Where Shown). Shows list w × (w.index ≡ k) × (slice_get items k ≡ Some w.value.item)) t.1 (shows, at ∙ same, ap (λ (i : ℕ). slice_get items i) (sym same) ∙ there))
+    let same : n ≡ k = end ∙ sym t.0 in
+    subst (λ (w : Where Shown). Shows list w × (w.index ≡ k) × (slice_get items k ≡ Some w.value.item)) t.1 (shows, at ∙ same, ap (λ (i : ℕ). slice_get items i) (sym same) ∙ there))
     (got_more places q p k (ap (λ (xs : List (Where Shown)). slice_get xs k) (sym is) ∙ got))

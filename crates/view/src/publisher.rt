@@ -183,7 +183,8 @@ impl Publisher {
         self.places.reserve(1)?;
         self.remember(&item)?;
         let front = self.history.front.again();
-        match self.published.list.set_placed(rt, at, Shown { item, front }) {
+        let shown = Shown { item, front };
+        match self.published.list.set_placed(rt, at, shown) {
             Ok(place) => {
                 self.places.push_reserved(place);
                 Ok(())

@@ -17,7 +17,7 @@ remember-requires g c =
 pub invariant_of-self-clause-placed : goal.invariant_of-self-clause-placed
 invariant_of-self-clause-placed g c =
     let old = c.args.self.now in
-    subst (λ (places : List (Where Shown)). ArePlaced (arc_value old.published).list old.items.items places) (sym c.reserve.ensures.items) old.placed
+    subst (λ (places : List (Where Shown)). ArePlaced (arc_value old.published).list old.items.items places) (sym {A = List (Where Shown)} c.reserve.ensures.items) old.placed
 
 pub invariant_of-self-in-Ok-clause-placed : goal.invariant_of-self-in-Ok-clause-placed
 invariant_of-self-in-Ok-clause-placed g c =
