@@ -1,10 +1,17 @@
 -- What a member has applied after the first entries of its log.
 use Rattle.std.specs.Prelude.{◌≡◌, ℕ, true, take, slice_range}
 use Rattle.model.specs.Members.{closed_time}
+use Rattle.fault.specs.declared.refusal.Refusal.TheVariants.{NodeDown}
 use Rattle.journal.specs.Digests.{digest_of}
 use Rattle.node.specs.declared.node.Node.{Node}
 use Rattle.node.specs.Member.{member_of}
 use Rattle.store.specs.declared.applied.Since.{Since}
+use Rattle.store.specs.declared.refusal.StoreRefusal.{StoreRefusal}
+use Rattle.store.specs.declared.refusal.StoreRefusal.TheVariants.{Refused}
+
+-- that a member is not up
+abbrev pub SaysDown : StoreRefusal → Type 0
+SaysDown r = r ≡ Refused NodeDown
 
 module _ {K I : Type 0} {g : _} {s : _} where
   -- the node is up. It has applied so many entries, of which these come after the first ones, and answers up to this instant; of the first

@@ -1,8 +1,8 @@
 //! What a member has applied, for who keeps a copy of it.
-ghost use Rattle.std.specs.Prelude.{◌≡◌, ◌≢◌, ◌-◌, ◌<◌, ℕ, true, false, None, Some, slice_get, slice_range, IsErr, IfOk, IfSome, OnOk, MatchOption};
+ghost use Rattle.std.specs.Prelude.{◌≡◌, ◌≢◌, ◌-◌, ◌<◌, ℕ, true, false, None, Some, slice_get, slice_range, IsErr, IfOk, IfErr, IfSome, OnOk, MatchOption};
 ghost use Rattle.std.specs.Option.{ForSome};
 ghost use Rattle.node.specs.Member.{me_of, member_of};
-ghost use Rattle.store.specs.Applied.{IsSince};
+ghost use Rattle.store.specs.Applied.{IsSince, SaysDown};
 ghost use Rattle.store.specs.Chains.{links_of};
 ghost use Rattle.store.specs.Journals.{IsSpent};
 
@@ -42,6 +42,7 @@ where
     ensures member { node.new.is_up ≡ true → K.is_honest node.new.keeper → member_of node.new ≡ member_of node.old }
     ensures honest { K.is_honest node.new.keeper → K.is_honest node.old.keeper }
     ensures me { me_of node.new ≡ me_of node.old }
+    ensures why { IfErr result (λ refusal. SaysDown refusal → ⊥) }
 {
     match node.entry(place + 1) {
         Ok(Some(entry)) => Ok(entry),
@@ -66,6 +67,7 @@ where
     ensures member { node.new.is_up ≡ true → K.is_honest node.new.keeper → member_of node.new ≡ member_of node.old }
     ensures honest { K.is_honest node.new.keeper → K.is_honest node.old.keeper }
     ensures me { me_of node.new ≡ me_of node.old }
+    ensures why { IfErr result (λ refusal. SaysDown refusal → ⊥) }
 {
     let mut entries = Vec::new(alloc);
     if commit <= after {
@@ -92,6 +94,7 @@ where
     ensures none { IfOk result (λ found. found ≡ None → (node.old.is_up ≡ false) × (node.new ≡ node.old)) }
     ensures member { node.new.is_up ≡ true → (node.old.is_up ≡ true) × (K.is_honest node.new.keeper → K.is_honest node.old.keeper × (member_of node.new ≡ member_of node.old)) }
     ensures me { me_of node.new ≡ me_of node.old }
+    ensures why { IfErr result (λ refusal. SaysDown refusal → ⊥) }
 {
     let Some(applied) = node.commit() else {
         return Ok(None);
@@ -115,6 +118,7 @@ where
     fn applied_since(&mut self, after: usize) -> Result<Option<Since>, StoreRefusal>
         ensures since { IfOk result (λ found. IfSome found (λ since. MatchOption self.new.node ⊥ (λ n. IsSince K.is_honest n after since))) }
         ensures none { IfOk result (λ found. found ≡ None → ForSome self.old.node (λ n. n.is_up ≡ false) × (self.new ≡ self.old)) }
+        ensures why { IfErr result (λ refusal. SaysDown refusal → ⊥) }
     {
         match &mut self.node {
             Some(node) => since_of(self.alloc, node, &self.chain, after),
@@ -150,6 +154,7 @@ where
         ensures none { IfOk result (λ found. found ≡ None → (self.new ≡ self.old) × (0 < member → ForSome (slice_get self.old.seats.items (member - 1)) (λ seat. ForSome seat.node (λ n. n.is_up ≡ false)))) }
         ensures others { OnOk result ((at : ℕ) → at ≢ member - 1 → slice_get self.new.seats.items at ≡ slice_get self.old.seats.items at) }
         ensures same { OnOk result (self.new ≡ record self.old { seats = self.new.seats }) }
+        ensures why { IfErr result (λ refusal. SaysDown refusal → ⊥) }
         ensures spent { IsSpent self.old.scribe → IsErr result × (self.new ≡ self.old) }
     {
         self.check()?;
@@ -160,21 +165,21 @@ where
         match seat.applied_since(after) {
             Ok(found) => Ok(found),
             Err(refusal) => {
-                self.end_failed(at, member)?;
+                self.end_failed(at, member);
                 Err(refusal)
             }
         }
     }
 
-    // Where a member's database failed as it was read, the member is down, and the journal says so.
-    fn end_failed(&mut self, at: usize, member: Member) -> Result<(), StoreRefusal> {
+    // Where a member's database failed as it was read, the member goes down, and the journal says so; where that can't be written the
+    // store is spent.
+    fn end_failed(&mut self, at: usize, member: Member) {
         let failed = match self.seats.get(at) {
             Some(seat) => seat.has_failed(),
             None => false,
         };
         if failed {
-            self.stop(member)?;
+            let _ = self.stop(member);
         }
-        Ok(())
     }
 }
