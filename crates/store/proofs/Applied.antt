@@ -1,8 +1,12 @@
--- The entries of a log after the first so many.
-use Rattle.std.proofs.Common.{◌≡◌, ℕ, zero, suc, ◌+◌, ◌-◌, ◌≤◌, Some, List, [], ◌∷◌, ◌++◌, take, drop, slice_range, refl, ap, subst, sym, arith}
+-- The entries of a log after the first so many, and the digest of these.
+use Rattle.std.proofs.Common.{◌≡◌, ◌∙◌, ℕ, zero, suc, ◌+◌, ◌-◌, ◌≤◌, Some, List, [], ◌∷◌, ◌++◌, take, drop, slice_range, refl, ap, subst, sym, arith}
 use Rattle.std.specs.Prelude.{slice_get}
 use Rattle.model.specs.Lists.{nth}
 use Rattle.model.specs.declared.entry.Entry.{Entry}
+use Rattle.journal.specs.Digests.{digest_of}
+use Rattle.store.specs.declared.chain.Link.{Link}
+use Rattle.store.specs.Chains.{last_link, links_of}
+use Rattle.store.proofs.Links.{links_take, links_digest}
 
 -- counted from 1 and counted from 0
 pub nth_next : (log : List Entry) (n : ℕ) → nth log (n + 1) ≡ slice_get log n
@@ -28,3 +32,10 @@ range_next log after i e low got =
 -- none
 pub range_none : (log : List Entry) (after commit : ℕ) → commit ≤ after → slice_range log after commit ≡ []
 range_none log after commit h = let e : commit - after ≡ 0 = omega (arith, h) in rw e refl
+
+-- the digest of the first entries
+pub digest_first : (n : ℕ) (links : List Link) (log : List Entry) → links ≡ links_of log → (last_link (take n links)).digest ≡ digest_of (take n log)
+digest_first n links log is =
+    ap (λ (all : List Link). (last_link (take n all)).digest) is
+    ∙ ap (λ (first : List Link). (last_link first).digest) (links_take n log)
+    ∙ links_digest (take n log)
