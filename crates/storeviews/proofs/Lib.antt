@@ -1,3 +1,4 @@
 pub mod Listing
 pub mod Copying
 pub mod Bringing
+pub mod Places
