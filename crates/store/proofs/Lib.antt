@@ -1,4 +1,5 @@
 pub mod Heard
 pub mod Links
+pub mod Places
 pub mod Ranges
 pub mod Written

@@ -5,7 +5,7 @@ use Rattle.fault.specs.declared.refusal.Refusal.TheVariants.{NodeDown}
 use Rattle.journal.specs.Digests.{digest_of}
 use Rattle.node.specs.declared.node.Node.{Node}
 use Rattle.node.specs.Member.{member_of}
-use Rattle.store.specs.declared.applied.Since.{Since}
+use Rattle.store.specs.declared.since.Since.{Since}
 use Rattle.store.specs.declared.refusal.StoreRefusal.{StoreRefusal}
 use Rattle.store.specs.declared.refusal.StoreRefusal.TheVariants.{Refused}
 

@@ -2,7 +2,6 @@
 #![tactic(auto)]
 
 pub mod announcing;
-pub mod applied;
 pub mod chain;
 pub mod device;
 mod leading;
@@ -14,6 +13,7 @@ pub mod refusal;
 mod requests;
 pub mod scribe;
 mod seat;
+pub mod since;
 mod standing;
 pub mod status;
 mod steps;

@@ -1,22 +1,33 @@
 -- That a window is brought up to what its member has.
-use Rattle.std.proofs.Common.{◌≡◌, ◌∙◌, inl, inr, ℕ, ◌≤◌, false, Option, Some, None, MatchOption, List, [], ◌++◌, slice_range, refl, sym, ap, arith}
+use Rattle.std.proofs.Common.{◌≡◌, ◌∙◌, inl, inr, ⊎_elim, ℕ, ◌+◌, ◌<◌, ◌≤◌, false, Option, Some, None, MatchOption, List, [], ◌++◌, slice_range, refl, sym, ap, subst, arith}
 use Rattle.std.specs.Option.{ForSome}
 use Rattle.std.proofs.lemmas.List.{append-nil}
 use Rattle.model.specs.declared.entry.Entry.{Entry}
 use Rattle.history.specs.Items.{entries_in, closed_in}
 use Rattle.node.specs.declared.node.Node.{Node}
 use Rattle.node.specs.Member.{member_of}
-use Rattle.store.specs.declared.applied.Since.{Since}
+use Rattle.store.specs.declared.since.Since.{Since}
 use Rattle.store.specs.Applied.{IsSince}
 use Rattle.storeviews.specs.Listing.{items_since}
 use Rattle.storeviews.specs.Showing.{list_of, shown_of, GoesOn, IsBrought, IsLater}
 use Rattle.storeviews.specs.declared.window.Window.{Window}
 use Rattle.storeviews.proofs.Listing.{entries_since}
 use Rattle.storeviews.proofs.Copying.{same_digest, same_entries}
+use Rattle.storeviews.proofs.Places.{before_or, same_or}
 
 pub later_same : (o : Option Window) → IsLater o o
 later_same None = refl
 later_same (Some w) = (((refl, refl, refl), refl), ([], append-nil (shown_of w)))
+
+-- with one brought up
+pub later_next : (at : ℕ) (first old new : ℕ → Option Window) → ((i : ℕ) → IsLater (first i) (old i)) → ((i : ℕ) → at ≤ i → old i ≡ first i) → IsLater (old at) (new at) → ((i : ℕ) → (i ≡ at → ⊥) → new i ≡ old i) → (i : ℕ) → IsLater (first i) (new i)
+later_next at first old new later rest here others i =
+    ⊎_elim
+      (λ (same : i ≡ at).
+          let now : IsLater (first at) (new at) = subst (λ (o : Option Window). IsLater o (new at)) (rest at (omega arith)) here in
+          subst (λ (k : ℕ). IsLater (first k) (new k)) (sym same) now)
+      (λ (other : i ≡ at → ⊥). subst (λ (o : Option Window). IsLater (first i) o) (sym (others i other)) (later i))
+      (same_or i at)
 
 module _ {K I : Type 0} {g : _} {s : _} where
   -- what goes on with what was shown
@@ -56,3 +67,26 @@ module _ {K I : Type 0} {g : _} {s : _} where
   pub down_at : (honest : K → Type 0) (found : Option (Node K I g s)) (w : Window) → ForSome found (λ n. n.is_up ≡ false) → IsBrought honest found (Some w) None
   down_at honest None w down = tt
   down_at honest (Some n) w down = inl down
+
+  -- ---- one member after another
+
+  -- one more
+  pub brought_next : (honest : K → Type 0) (at : ℕ) (n n' : ℕ → Option (Node K I g s)) (first old new : ℕ → Option Window)
+      → ((i : ℕ) → i < at → IsBrought honest (n i) (first i) (old i)) → ((i : ℕ) → at ≤ i → old i ≡ first i) → IsBrought honest (n' at) (old at) (new at)
+      → ((i : ℕ) → (i ≡ at → ⊥) → new i ≡ old i) → ((i : ℕ) → (i ≡ at → ⊥) → n' i ≡ n i) → (i : ℕ) → i < at + 1 → IsBrought honest (n' i) (first i) (new i)
+  brought_next honest at n n' first old new done rest here others seats i low =
+      ⊎_elim
+        (λ (same : i ≡ at).
+            let now : IsBrought honest (n' at) (first at) (new at) = subst (λ (o : Option Window). IsBrought honest (n' at) o (new at)) (rest at (omega arith)) here in
+            subst (λ (k : ℕ). IsBrought honest (n' k) (first k) (new k)) (sym same) now)
+        (λ (other : i ≡ at → ⊥).
+            let less : i < at = omega (arith, low, other) in
+            let was : IsBrought honest (n' i) (first i) (old i) = subst (λ (m : Option (Node K I g s)). IsBrought honest m (first i) (old i)) (sym (seats i other)) (done i less) in
+            subst (λ (o : Option Window). IsBrought honest (n' i) (first i) o) (sym (others i other)) was)
+        (same_or i at)
+
+  -- all of them
+  pub brought_all : (honest : K → Type 0) (many : ℕ) (n : ℕ → Option (Node K I g s)) (first new : ℕ → Option Window)
+      → ((i : ℕ) → i < many → IsBrought honest (n i) (first i) (new i)) → ((i : ℕ) → many ≤ i → new i ≡ first i) → ((i : ℕ) → many ≤ i → first i ≡ None) → (i : ℕ) → IsBrought honest (n i) (first i) (new i)
+  brought_all honest many n first new done rest beyond i =
+      ⊎_elim (λ (low : i < many). done i low) (λ (far : many ≤ i). subst (λ (o : Option Window). IsBrought honest (n i) o (new i)) (sym (beyond i far)) (rest i far ∙ beyond i far)) (before_or i many)

@@ -1,4 +1,4 @@
 pub mod Listing
 pub mod Copying
-pub mod Bringing
 pub mod Places
+pub mod Bringing

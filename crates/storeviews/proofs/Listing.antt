@@ -11,7 +11,7 @@ use Rattle.history.specs.declared.item.Item.{Item}
 use Rattle.history.specs.declared.item.Item.TheVariants.{Applied, Sealed}
 use Rattle.history.specs.Items.{entry_of, entries_in, closed_in, Rises}
 use Rattle.history.proofs.Rising.{closed_more}
-use Rattle.store.specs.declared.applied.Since.{Since}
+use Rattle.store.specs.declared.since.Since.{Since}
 use Rattle.storeviews.specs.Listing.{marked, marked_time, marked_rise, items_since}
 
 -- ---- two parts of one list

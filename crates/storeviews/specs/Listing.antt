@@ -7,7 +7,7 @@ use Rattle.history.specs.declared.item.Item.TheVariants.{Applied, Sealed}
 use Rattle.history.specs.Items.{closed_in}
 use Rattle.view.specs.declared.publisher.Publisher.{Publisher}
 use Rattle.view.specs.Publishing.{published, pending}
-use Rattle.store.specs.declared.applied.Since.{Since}
+use Rattle.store.specs.declared.since.Since.{Since}
 
 -- all that a publisher was given: what is published, and what is pending
 abbrev pub listed : Publisher → List Item

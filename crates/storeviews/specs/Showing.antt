@@ -9,7 +9,7 @@ use Rattle.history.specs.Items.{entries_in, closed_in}
 use Rattle.view.specs.Publishing.{published, given_of, IsSameLife}
 use Rattle.node.specs.declared.node.Node.{Node}
 use Rattle.node.specs.Member.{member_of}
-use Rattle.store.specs.declared.applied.Since.{Since}
+use Rattle.store.specs.declared.since.Since.{Since}
 use Rattle.store.specs.Applied.{IsSince}
 use Rattle.storeviews.specs.Listing.{listed}
 use Rattle.storeviews.specs.Copies.{IsCopyOf}

@@ -21,7 +21,7 @@ use schema::Schema;
 use std::alloc::{AllocError, Global};
 use std::sync::Wait;
 use store::announcing::Announces;
-use store::applied::Since;
+use store::since::Since;
 use store::{Store, StoreRefusal};
 use view::{Name, Publisher, View};
 

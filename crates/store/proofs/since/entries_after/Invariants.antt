@@ -1,6 +1,6 @@
 use Rattle.std.proofs.Common.{◌≡◌, true, slice_range}
 use Rattle.node.specs.Member.{me_of, member_of}
-use Rattle.store.proofs.applied.entries_after.Given as goal
+use Rattle.store.proofs.since.entries_after.Given as goal
 
 abbrev pub invariant-loop-place : goal.invariant-loop-place
 invariant-loop-place g l = record {

@@ -1,5 +1,5 @@
 //! What a member has applied, for who keeps a copy of it.
-ghost use Rattle.std.specs.Prelude.{◌≡◌, ◌≢◌, ◌-◌, ◌<◌, ℕ, true, false, None, Some, slice_get, slice_range, IsErr, IfOk, IfErr, IfSome, OnOk, MatchOption};
+ghost use Rattle.std.specs.Prelude.{◌≡◌, ◌≢◌, ◌-◌, ◌<◌, ℕ, true, false, None, Some, slice_get, slice_range, IsErr, IfOk, IfErr, IfSome, OnOk, MatchBool, MatchOption};
 ghost use Rattle.std.specs.Option.{ForSome};
 ghost use Rattle.node.specs.Member.{me_of, member_of};
 ghost use Rattle.store.specs.Applied.{IsSince, SaysDown};
@@ -82,50 +82,58 @@ where
     Ok(entries)
 }
 
-// What a node has applied after the first so many entries; none where it is down. The chain is that of its log.
+// What a node that is up has applied after the first so many entries. The chain is that of its log. Where its store failed the node is down.
 #[tactic(auto, using(crate::proofs::Ranges::digest_first))]
 fn since_of<K: Announces>(
     alloc: Global,
     node: &mut Node<K>,
     chain: &Chain,
     after: usize,
-) -> Result<Option<Since>, StoreRefusal>
+) -> Result<Since, StoreRefusal>
 where
     K::Image: Drop,
-    requires linked { node.old.is_up ≡ true → K.is_honest node.old.keeper → chain.now.links.items ≡ links_of (member_of node.old).log }
-    ensures since { IfOk result (λ found. IfSome found (λ since. IsSince K.is_honest node.new after since)) }
-    ensures none { IfOk result (λ found. found ≡ None → (node.old.is_up ≡ false) × (node.new ≡ node.old)) }
-    ensures member { node.new.is_up ≡ true → (node.old.is_up ≡ true) × (K.is_honest node.new.keeper → K.is_honest node.old.keeper × (member_of node.new ≡ member_of node.old)) }
+    requires up { node.old.is_up ≡ true }
+    requires linked { K.is_honest node.old.keeper → chain.now.links.items ≡ links_of (member_of node.old).log }
+    ensures since { IfOk result (λ since. IsSince K.is_honest node.new after since) }
+    ensures member { node.new.is_up ≡ true → K.is_honest node.new.keeper → K.is_honest node.old.keeper × (member_of node.new ≡ member_of node.old) }
     ensures me { me_of node.new ≡ me_of node.old }
     ensures why { IfErr result (λ refusal. SaysDown refusal → ⊥) }
 {
-    let Some(applied) = node.commit() else {
-        return Ok(None);
-    };
+    let applied = node.commit().unwrap_or(0);
     let closed = node.closed_time();
     let digest = chain.digest_at(after);
     let entries = entries_after(alloc, node, after, applied)?;
-    Ok(Some(Since {
+    Ok(Since {
         applied,
         entries,
         closed,
         digest,
-    }))
+    })
 }
 
 impl<K: Announces> Seat<K>
 where
     K::Image: Drop,
 {
-    // What it has applied after the first so many entries; none where it is not up.
-    fn applied_since(&mut self, after: usize) -> Result<Option<Since>, StoreRefusal>
-        ensures since { IfOk result (λ found. IfSome found (λ since. MatchOption self.new.node ⊥ (λ n. IsSince K.is_honest n after since))) }
-        ensures none { IfOk result (λ found. found ≡ None → ForSome self.old.node (λ n. n.is_up ≡ false) × (self.new ≡ self.old)) }
+    // Whether it has a node that is up.
+    fn is_running(&self) -> bool
+        ensures { MatchBool result (MatchOption self.now.node ⊥ (λ n. n.is_up ≡ true)) (ForSome self.now.node (λ n. n.is_up ≡ false)) }
+    {
+        match &self.node {
+            Some(node) => node.is_up,
+            None => false,
+        }
+    }
+
+    // What its node, which is up, has applied after the first so many entries.
+    fn applied_since(&mut self, after: usize) -> Result<Since, StoreRefusal>
+        requires { MatchOption self.old.node ⊥ (λ n. n.is_up ≡ true) }
+        ensures since { IfOk result (λ since. MatchOption self.new.node ⊥ (λ n. IsSince K.is_honest n after since)) }
         ensures why { IfErr result (λ refusal. SaysDown refusal → ⊥) }
     {
         match &mut self.node {
             Some(node) => since_of(self.alloc, node, &self.chain, after),
-            None => Ok(None),
+            None => Err(StoreRefusal::Refused(Refusal::StoreFault)),
         }
     }
 
@@ -164,9 +172,12 @@ where
         let Some(at) = self.place_of(member) else {
             return Ok(None);
         };
+        if !self.seats[at].is_running() {
+            return Ok(None);
+        }
         let seat = &mut self.seats[at];
         match seat.applied_since(after) {
-            Ok(found) => Ok(found),
+            Ok(since) => Ok(Some(since)),
             Err(refusal) => {
                 self.end_failed(at, member);
                 Err(refusal)
