@@ -1,3 +1,4 @@
+pub mod Times
 pub mod Listing
 pub mod Copying
 pub mod Places

@@ -6,13 +6,20 @@ ghost use Rattle.node.specs.View.{risen};
 use model::stamp::Stamp;
 
 /// Whether less is closed than was shown as closed.
+#[tactic(auto, using(crate::proofs::Times::is_above, crate::proofs::Times::is_level))]
 pub(crate) fn is_below(closed: Option<Stamp>, shown: Option<Stamp>) -> bool
     ensures { MatchBool result (greater shown closed ≢ closed) (greater shown closed ≡ closed) }
 {
     match (shown, closed) {
         (None, _) => false,
         (Some(_), None) => true,
-        (Some(shown), Some(closed)) => closed.micros() < shown.micros(),
+        (Some(shown), Some(closed)) => {
+            if closed.micros() < shown.micros() {
+                true
+            } else {
+                false
+            }
+        }
     }
 }
 
