@@ -1,7 +1,7 @@
 //! The commands.
 use crate::input::Input;
 use crate::printing::{counted, name_of, print};
-use crate::session::{Place, Session, reading_of};
+use crate::session::{Place, Session};
 use crate::stop::{Fault, Stop};
 use crate::transfers::carry_out;
 use causes::{Name, Trouble};
@@ -16,7 +16,7 @@ use std::{env, fs};
 use store::announcing::Announces;
 use store::{Device, StoreRefusal};
 use storecommands::{Command, ExportRows, ImportRows, NewStore, OpenStore};
-use storefolder::{Audited, Kept, Opened, Verdict};
+use storefolder::{Audited, Kept, Opened, Verdict, reading_of};
 use transfer::{Export, Import, Order, Versions};
 
 // How many columns a terminal has, where nothing tells.

@@ -4,11 +4,10 @@ use crate::printing::{banner, name_of, print, refusal_lines, warnings};
 use crate::stop::Fault;
 use fault::Refusal;
 use std::alloc::Global;
-use std::rt::Clock;
 use store::announcing::Announces;
 use store::{Store, StoreRefusal};
 use storecommands::dot::Form;
-use storefolder::Found;
+use storefolder::{Found, reading_of};
 
 /// What is known of the place that lines come from and outcomes go to.
 #[derive(Clone, Copy, Debug)]
@@ -39,17 +38,6 @@ where
     pub manner: Manner,
     /// Whether anything was refused.
     pub is_refused: bool,
-}
-
-/// What clocks show: the microseconds since 1970, or what was set.
-pub(crate) fn reading_of(rt: &HostRuntime, clock: Option<i64>) -> Result<i64, StoreRefusal> {
-    if let Some(reading) = clock {
-        return Ok(reading);
-    }
-    match rt.since_1970() {
-        Ok(since) => Ok(i64::try_from(since.as_micros()).unwrap_or(i64::MAX)),
-        Err(_) => Err(StoreRefusal::Refused(Refusal::StoreFault)),
-    }
 }
 
 impl<'a, K: Announces> Session<'a, K>

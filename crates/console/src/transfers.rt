@@ -1,9 +1,8 @@
 //! Imports and exports over a store's folder.
-use crate::session::reading_of;
 use sqlite::Alter;
 use std::alloc::Global;
 use store::Device;
-use storefolder::{Kept, Opened};
+use storefolder::{Kept, Opened, reading_of};
 use transfer::{Fault, Order, Work, look_at, work_on};
 
 // Looks at an order before the store is opened: none where its file has a fault, which was told.
