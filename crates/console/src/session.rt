@@ -1,4 +1,8 @@
 //! A sitting at a store: lines that come in, and what comes of them at once.
+ghost use Rattle.std.specs.Prelude.{◌≡◌, true, IfErr};
+ghost use Rattle.store.specs.Journals.{IsSpent};
+ghost use Rattle.console.specs.Sittings.{IsOfPrinting};
+
 use crate::outputs::Manner;
 use crate::printing::{banner, name_of, print, refusal_lines, warnings};
 use crate::stop::Fault;
@@ -88,7 +92,7 @@ where
             let _ = eprint!(*rt; "{warned}");
         }
         if self.place.is_terminal {
-            let line = banner(self.alloc, self.place.dir, &self.store)?;
+            let line = banner(self.alloc, self.place.dir, &self.store, self.place.width)?;
             print(rt, line.as_str())?;
         }
         Ok(())
@@ -108,13 +112,17 @@ where
         print(rt, line.as_str())
     }
 
-    /// Shows a refusal; one after which the store is spent ends the sitting.
+    /// Shows a refusal; one of a store that is spent ends the sitting.
     pub fn refuse(
         &mut self,
         rt: &HostRuntime,
         before: &str,
         refusal: StoreRefusal,
-    ) -> Result<(), Fault> {
+    ) -> Result<(), Fault>
+        ensures noted { self.new ≡ record self.old { is_refused = true } }
+        ensures ends { IsSpent self.old.store.scribe → result ≡ Err (Fault.Refused refusal) }
+        ensures goes_on { ¬ IsSpent self.old.store.scribe → IfErr result IsOfPrinting }
+    {
         self.is_refused = true;
         if self.store.is_spent() {
             return Err(Fault::Refused(refusal));
