@@ -2,7 +2,6 @@ pub mod Audit
 pub mod CommandLine
 pub mod Group
 pub mod Live
-pub mod Outlets
 pub mod Reading
 pub mod Reported
 pub mod Sim

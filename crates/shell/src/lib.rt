@@ -7,7 +7,6 @@ pub mod command_line;
 mod databases;
 mod group;
 pub mod live_run;
-pub mod outlet;
 pub mod pilot;
 pub mod report_run;
 pub mod shown_run;

@@ -6,16 +6,16 @@ ghost use Rattle.flight.specs.declared.flight.Version.TheVariants.{Three};
 ghost use Rattle.answertext.specs.Sinks.{AppendsBeginning};
 ghost use Rattle.shell.specs.Audit.{BeginsSaid, IsSaid, records_of};
 ghost use Rattle.shell.specs.Live.{BeginsLines, BeginsRun, EndsRun, PlaysAll, PrintsRun};
-ghost use Rattle.shell.specs.Outlets.{IsLastError};
+ghost use Rattle.answertext.specs.Outlets.{IsLastError};
 ghost use Rattle.shell.specs.Sim.{IsOfText};
 
 use crate::audit::audit_line;
 use crate::command::Live;
 use crate::databases::databases_in_memory;
-use crate::outlet::{Outlet, tell};
 use crate::pilot::Pilot;
 use crate::sim::read_text;
 use crate::stop::Stop;
+use answertext::outlet::{Outlet, tell};
 use causes::{Cause, Found, Name, Trouble};
 use durable::SqlKeeper;
 use fault::{Refusal, Text};

@@ -10,12 +10,12 @@ ghost use Rattle.report.specs.Machine.{report_tokens};
 ghost use Rattle.report.specs.Whole.{seal_of};
 ghost use Rattle.shell.specs.Audit.{records_of};
 ghost use Rattle.shell.specs.Group.{IsNoGroup};
-ghost use Rattle.shell.specs.Outlets.{IsLastError};
+ghost use Rattle.answertext.specs.Outlets.{IsLastError};
 ghost use Rattle.shell.specs.Reported.{BeginsReported, IsPrinted, IsReported, IsReportOn, IsVerdict, status_of, verdict_line};
 
 use crate::audit::all_answers;
 use crate::group::{read_group, run_of};
-use crate::outlet::{Outlet, tell};
+use answertext::outlet::{Outlet, tell};
 use auditor::{AuditFault, audit};
 use fault::Refusal;
 use flight::flight::Version;
