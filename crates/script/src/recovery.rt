@@ -1,8 +1,9 @@
 //! Bringing a group to where one member leads and all have applied its log.
-ghost use Rattle.std.specs.Prelude.{◌≡◌, false, suc, length, IfOk, OnOk};
+ghost use Rattle.std.specs.Prelude.{◌≡◌, false, suc, length, IfOk, IfErr, OnOk};
 ghost use Rattle.model.specs.Lists.{nth};
 ghost use Rattle.model.specs.Members.{term_of};
 ghost use Rattle.world.specs.View.{entry_in};
+ghost use Rattle.script.specs.Faults.{IsFaultOf};
 ghost use Rattle.script.specs.Standing.{foremost, is_well, longest, standing_at};
 ghost use Rattle.script.specs.Stage.{all_led_on, deliveries_from, led_by, led_on, recovery, spread_or_said, starts, stirred, turn, turns};
 
@@ -120,6 +121,7 @@ impl Play {
     fn start_all<P: Printer>(&mut self, printer: &mut P) -> Result<(), RunFault>
         requires live { self.old.world.is_spent ≡ false }
         ensures { Plays self.old.world result self.new (starts (tables_of self.old) (members_of self.old) (length (stage_of self.old).clocks) 1 (stage_of self.old)) (P.printed printer.old) (P.printed printer.new) }
+        ensures whose { IfErr result (IsFaultOf P.fails printer.new) }
     {
         let members = self.clocks.len();
         for place in 0..members {
@@ -139,6 +141,7 @@ impl Play {
     ) -> Result<(), RunFault>
         requires live { self.old.world.is_spent ≡ false }
         ensures { Plays self.old.world result self.new (deliveries_from (tables_of self.old) (members_of self.old) most (suc first) (stage_of self.old)) (P.printed printer.old) (P.printed printer.new) }
+        ensures whose { IfErr result (IsFaultOf P.fails printer.new) }
     {
         let mut place = first;
         for delivered in 0..most {
@@ -158,6 +161,7 @@ impl Play {
     fn stir<P: Printer>(&mut self, node: Member, printer: &mut P) -> Result<(), RunFault>
         requires live { self.old.world.is_spent ≡ false }
         ensures { Plays self.old.world result self.new (stirred (tables_of self.old) (members_of self.old) node (stage_of self.old)) (P.printed printer.old) (P.printed printer.new) }
+        ensures whose { IfErr result (IsFaultOf P.fails printer.new) }
     {
         if let Err(fault) = self.happen(Event::Hand(node, Input::Timeout), printer) {
             return Err(fault);
@@ -170,6 +174,7 @@ impl Play {
     fn turn<P: Printer>(&mut self, node: Member, printer: &mut P) -> Result<(), RunFault>
         requires live { self.old.world.is_spent ≡ false }
         ensures { Plays self.old.world result self.new (turn (tables_of self.old) (members_of self.old) node (stage_of self.old)) (P.printed printer.old) (P.printed printer.new) }
+        ensures whose { IfErr result (IsFaultOf P.fails printer.new) }
     {
         let sent = self.mail.len();
         let members = self.clocks.len();
@@ -189,6 +194,7 @@ impl Play {
     ) -> Result<(), RunFault>
         requires live { self.old.world.is_spent ≡ false }
         ensures { Plays self.old.world result self.new (turns (tables_of self.old) (members_of self.old) most node (stage_of self.old)) (P.printed printer.old) (P.printed printer.new) }
+        ensures whose { IfErr result (IsFaultOf P.fails printer.new) }
     {
         for taken in 0..most {
             let well = self.is_well(node)?;
@@ -212,6 +218,7 @@ impl Play {
     ) -> Result<(), RunFault>
         requires live { self.old.world.is_spent ≡ false }
         ensures { Plays self.old.world result self.new (spread_or_said (tables_of self.old) (members_of self.old) node longest (stage_of self.old)) (P.printed printer.old) (P.printed printer.new) }
+        ensures whose { IfErr result (IsFaultOf P.fails printer.new) }
     {
         let standing = self.standing(node)?;
         if standing.ends_own() {
@@ -230,6 +237,7 @@ impl Play {
     ) -> Result<(), RunFault>
         requires live { self.old.world.is_spent ≡ false }
         ensures { Plays self.old.world result self.new (led_on (tables_of self.old) (members_of self.old) node longest (stage_of self.old)) (P.printed printer.old) (P.printed printer.new) }
+        ensures whose { IfErr result (IsFaultOf P.fails printer.new) }
     {
         if let Err(fault) = self.take_turns(node, TURNS_TO_LEAD, printer) {
             return Err(fault);
@@ -246,6 +254,7 @@ impl Play {
     ) -> Result<(), RunFault>
         requires live { self.old.world.is_spent ≡ false }
         ensures { Plays self.old.world result self.new (led_by (tables_of self.old) (members_of self.old) node longest (stage_of self.old)) (P.printed printer.old) (P.printed printer.new) }
+        ensures whose { IfErr result (IsFaultOf P.fails printer.new) }
     {
         if let Err(fault) = self.lead_on(node, longest, printer) {
             return Err(fault);
@@ -258,6 +267,7 @@ impl Play {
     fn lead_all<P: Printer>(&mut self, printer: &mut P) -> Result<(), RunFault>
         requires live { self.old.world.is_spent ≡ false }
         ensures { Plays self.old.world result self.new (all_led_on (tables_of self.old) (members_of self.old) (stage_of self.old)) (P.printed printer.old) (P.printed printer.new) }
+        ensures whose { IfErr result (IsFaultOf P.fails printer.new) }
     {
         match self.survey() {
             Ok((node, longest)) => self.lead_by(node, longest, printer),
@@ -269,6 +279,7 @@ impl Play {
     pub(crate) fn recover<P: Printer>(&mut self, printer: &mut P) -> Result<(), RunFault>
         requires live { self.old.world.is_spent ≡ false }
         ensures { Plays self.old.world result self.new (recovery (tables_of self.old) (members_of self.old) (stage_of self.old)) (P.printed printer.old) (P.printed printer.new) }
+        ensures whose { IfErr result (IsFaultOf P.fails printer.new) }
     {
         if let Err(fault) = self.start_all(printer) {
             return Err(fault);
