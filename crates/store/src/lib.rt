@@ -2,6 +2,7 @@
 #![tactic(auto)]
 
 pub mod announcing;
+pub mod applied;
 pub mod chain;
 pub mod device;
 mod leading;
