@@ -108,7 +108,7 @@ impl Play {
         printer: &mut P,
     ) -> Result<(), RunFault>
         requires live { self.old.world.is_spent ≡ false }
-        ensures { Plays self.old.world result self.new (event_at (tables_of self.old) (members_of self.old) (stage_of self.old) (event_of event)) (P.printed printer.old) (P.printed printer.new) }
+        ensures plays { Plays self.old.world result self.new (event_at (tables_of self.old) (members_of self.old) (stage_of self.old) (event_of event)) (P.printed printer.old) (P.printed printer.new) }
         ensures whose { IfErr result (IsFaultOf P.fails printer.new) }
     {
         let outputs = self.happens(event)?;
@@ -125,7 +125,7 @@ impl Play {
         printer: &mut P,
     ) -> Result<(), RunFault>
         requires live { self.old.world.is_spent ≡ false }
-        ensures { Plays self.old.world result self.new (asked (tables_of self.old) (members_of self.old) (stage_of self.old) node (Ok (query_of question))) (P.printed printer.old) (P.printed printer.new) }
+        ensures plays { Plays self.old.world result self.new (asked (tables_of self.old) (members_of self.old) (stage_of self.old) node (Ok (query_of question))) (P.printed printer.old) (P.printed printer.new) }
         ensures whose { IfErr result (IsFaultOf P.fails printer.new) }
     {
         let outputs = self.happens(Event::Ask(node, question))?;
@@ -208,7 +208,7 @@ impl Play {
         printer: &mut P,
     ) -> Result<(), RunFault>
         requires live { self.old.world.is_spent ≡ false }
-        ensures { Plays self.old.world result self.new (played_by (tables_of self.old) (members_of self.old) (stage_of self.old) (Line.Submit node client number text.now)) (P.printed printer.old) (P.printed printer.new) }
+        ensures plays { Plays self.old.world result self.new (played_by (tables_of self.old) (members_of self.old) (stage_of self.old) (Line.Submit node client number text.now)) (P.printed printer.old) (P.printed printer.new) }
         ensures whose { IfErr result (IsFaultOf P.fails printer.new) }
     {
         let input = self.submission(node, client, number, text)?;
@@ -223,7 +223,7 @@ impl Play {
     ) -> Result<(), RunFault>
         requires live { self.old.world.is_spent ≡ false }
         requires sent { place < length self.old.mail }
-        ensures { Plays self.old.world result self.new (delivery (tables_of self.old) (members_of self.old) (stage_of self.old) (suc place) (nth self.old.mail (suc place))) (P.printed printer.old) (P.printed printer.new) }
+        ensures plays { Plays self.old.world result self.new (delivery (tables_of self.old) (members_of self.old) (stage_of self.old) (suc place) (nth self.old.mail (suc place))) (P.printed printer.old) (P.printed printer.new) }
         ensures whose { IfErr result (IsFaultOf P.fails printer.new) }
     {
         let addressee = self.mark_delivered(place);
@@ -235,7 +235,7 @@ impl Play {
     // Delivers the message of this number, if one was sent.
     fn deliver<P: Printer>(&mut self, number: u64, printer: &mut P) -> Result<(), RunFault>
         requires live { self.old.world.is_spent ≡ false }
-        ensures { Plays self.old.world result self.new (delivery (tables_of self.old) (members_of self.old) (stage_of self.old) number (nth self.old.mail number)) (P.printed printer.old) (P.printed printer.new) }
+        ensures plays { Plays self.old.world result self.new (delivery (tables_of self.old) (members_of self.old) (stage_of self.old) number (nth self.old.mail number)) (P.printed printer.old) (P.printed printer.new) }
         ensures whose { IfErr result (IsFaultOf P.fails printer.new) }
     {
         match self.mail.place_of(number) {
@@ -300,7 +300,7 @@ impl Play {
         printer: &mut P,
     ) -> Result<(), RunFault>
         requires live { self.old.world.is_spent ≡ false }
-        ensures { Plays self.old.world result self.new (played_by (tables_of self.old) (members_of self.old) (stage_of self.old) (Line.Torn node left job.now)) (P.printed printer.old) (P.printed printer.new) }
+        ensures plays { Plays self.old.world result self.new (played_by (tables_of self.old) (members_of self.old) (stage_of self.old) (Line.Torn node left job.now)) (P.printed printer.old) (P.printed printer.new) }
         ensures whose { IfErr result (IsFaultOf P.fails printer.new) }
     {
         if !self.is_up(node) {
@@ -321,7 +321,7 @@ impl Play {
         printer: &mut P,
     ) -> Result<(), RunFault>
         requires live { self.old.world.is_spent ≡ false }
-        ensures { Plays self.old.world result self.new (played_by (tables_of self.old) (members_of self.old) (stage_of self.old) (Line.Ask node text.now)) (P.printed printer.old) (P.printed printer.new) }
+        ensures plays { Plays self.old.world result self.new (played_by (tables_of self.old) (members_of self.old) (stage_of self.old) (Line.Ask node text.now)) (P.printed printer.old) (P.printed printer.new) }
         ensures whose { IfErr result (IsFaultOf P.fails printer.new) }
     {
         match read_query(self.alloc, self.world.schema(), text.as_str()) {
@@ -335,7 +335,7 @@ impl Play {
     fn settle_at<P: Printer>(&mut self, place: usize, printer: &mut P) -> Result<(), RunFault>
         requires live { self.old.world.is_spent ≡ false }
         requires sent { place < length self.old.mail }
-        ensures { Plays self.old.world result self.new (delivery_in_round (tables_of self.old) (members_of self.old) (stage_of self.old) (suc place) (nth self.old.mail (suc place))) (P.printed printer.old) (P.printed printer.new) }
+        ensures plays { Plays self.old.world result self.new (delivery_in_round (tables_of self.old) (members_of self.old) (stage_of self.old) (suc place) (nth self.old.mail (suc place))) (P.printed printer.old) (P.printed printer.new) }
         ensures whose { IfErr result (IsFaultOf P.fails printer.new) }
     {
         let addressee = self.mail.message_at(place).addressee;
@@ -349,7 +349,7 @@ impl Play {
     // Delivers each message that was sent before now, was never delivered and is not lost.
     fn play_round<P: Printer>(&mut self, printer: &mut P) -> Result<(), RunFault>
         requires live { self.old.world.is_spent ≡ false }
-        ensures { Plays self.old.world result self.new (round (tables_of self.old) (members_of self.old) (stage_of self.old)) (P.printed printer.old) (P.printed printer.new) }
+        ensures plays { Plays self.old.world result self.new (round (tables_of self.old) (members_of self.old) (stage_of self.old)) (P.printed printer.old) (P.printed printer.new) }
         ensures whose { IfErr result (IsFaultOf P.fails printer.new) }
     {
         let count = self.mail.len();
@@ -367,7 +367,7 @@ impl Play {
     // Plays so many rounds, or fewer, until no message is left.
     fn settle<P: Printer>(&mut self, most: u8, printer: &mut P) -> Result<(), RunFault>
         requires live { self.old.world.is_spent ≡ false }
-        ensures { Plays self.old.world result self.new (rounds (tables_of self.old) (members_of self.old) most (stage_of self.old)) (P.printed printer.old) (P.printed printer.new) }
+        ensures plays { Plays self.old.world result self.new (rounds (tables_of self.old) (members_of self.old) most (stage_of self.old)) (P.printed printer.old) (P.printed printer.new) }
         ensures whose { IfErr result (IsFaultOf P.fails printer.new) }
     {
         for played in 0..most {
@@ -389,7 +389,7 @@ impl Play {
         printer: &mut P,
     ) -> Result<(), RunFault>
         requires live { self.old.world.is_spent ≡ false }
-        ensures { Plays self.old.world result self.new (played_by (tables_of self.old) (members_of self.old) (stage_of self.old) line.now) (P.printed printer.old) (P.printed printer.new) }
+        ensures plays { Plays self.old.world result self.new (played_by (tables_of self.old) (members_of self.old) (stage_of self.old) line.now) (P.printed printer.old) (P.printed printer.new) }
         ensures whose { IfErr result (IsFaultOf P.fails printer.new) }
     {
         match line {
@@ -442,7 +442,7 @@ impl Play {
         printer: &mut P,
     ) -> Result<(), RunFault>
         requires live { self.old.world.is_spent ≡ false }
-        ensures { Plays self.old.world result self.new (played_all (tables_of self.old) (members_of self.old) lines.now (stage_of self.old)) (P.printed printer.old) (P.printed printer.new) }
+        ensures plays { Plays self.old.world result self.new (played_all (tables_of self.old) (members_of self.old) lines.now (stage_of self.old)) (P.printed printer.old) (P.printed printer.new) }
         ensures whose { IfErr result (IsFaultOf P.fails printer.new) }
     {
         for line in lines {

@@ -120,7 +120,7 @@ impl Play {
     // Starts all members.
     fn start_all<P: Printer>(&mut self, printer: &mut P) -> Result<(), RunFault>
         requires live { self.old.world.is_spent ≡ false }
-        ensures { Plays self.old.world result self.new (starts (tables_of self.old) (members_of self.old) (length (stage_of self.old).clocks) 1 (stage_of self.old)) (P.printed printer.old) (P.printed printer.new) }
+        ensures plays { Plays self.old.world result self.new (starts (tables_of self.old) (members_of self.old) (length (stage_of self.old).clocks) 1 (stage_of self.old)) (P.printed printer.old) (P.printed printer.new) }
         ensures whose { IfErr result (IsFaultOf P.fails printer.new) }
     {
         let members = self.clocks.len();
@@ -140,7 +140,7 @@ impl Play {
         printer: &mut P,
     ) -> Result<(), RunFault>
         requires live { self.old.world.is_spent ≡ false }
-        ensures { Plays self.old.world result self.new (deliveries_from (tables_of self.old) (members_of self.old) most (suc first) (stage_of self.old)) (P.printed printer.old) (P.printed printer.new) }
+        ensures plays { Plays self.old.world result self.new (deliveries_from (tables_of self.old) (members_of self.old) most (suc first) (stage_of self.old)) (P.printed printer.old) (P.printed printer.new) }
         ensures whose { IfErr result (IsFaultOf P.fails printer.new) }
     {
         let mut place = first;
@@ -160,7 +160,7 @@ impl Play {
     // The timer of a member goes off, and it is told to send its heartbeats.
     fn stir<P: Printer>(&mut self, node: Member, printer: &mut P) -> Result<(), RunFault>
         requires live { self.old.world.is_spent ≡ false }
-        ensures { Plays self.old.world result self.new (stirred (tables_of self.old) (members_of self.old) node (stage_of self.old)) (P.printed printer.old) (P.printed printer.new) }
+        ensures plays { Plays self.old.world result self.new (stirred (tables_of self.old) (members_of self.old) node (stage_of self.old)) (P.printed printer.old) (P.printed printer.new) }
         ensures whose { IfErr result (IsFaultOf P.fails printer.new) }
     {
         if let Err(fault) = self.happen(Event::Hand(node, Input::Timeout), printer) {
@@ -173,7 +173,7 @@ impl Play {
     // back.
     fn turn<P: Printer>(&mut self, node: Member, printer: &mut P) -> Result<(), RunFault>
         requires live { self.old.world.is_spent ≡ false }
-        ensures { Plays self.old.world result self.new (turn (tables_of self.old) (members_of self.old) node (stage_of self.old)) (P.printed printer.old) (P.printed printer.new) }
+        ensures plays { Plays self.old.world result self.new (turn (tables_of self.old) (members_of self.old) node (stage_of self.old)) (P.printed printer.old) (P.printed printer.new) }
         ensures whose { IfErr result (IsFaultOf P.fails printer.new) }
     {
         let sent = self.mail.len();
@@ -193,7 +193,7 @@ impl Play {
         printer: &mut P,
     ) -> Result<(), RunFault>
         requires live { self.old.world.is_spent ≡ false }
-        ensures { Plays self.old.world result self.new (turns (tables_of self.old) (members_of self.old) most node (stage_of self.old)) (P.printed printer.old) (P.printed printer.new) }
+        ensures plays { Plays self.old.world result self.new (turns (tables_of self.old) (members_of self.old) most node (stage_of self.old)) (P.printed printer.old) (P.printed printer.new) }
         ensures whose { IfErr result (IsFaultOf P.fails printer.new) }
     {
         for taken in 0..most {
@@ -217,7 +217,7 @@ impl Play {
         printer: &mut P,
     ) -> Result<(), RunFault>
         requires live { self.old.world.is_spent ≡ false }
-        ensures { Plays self.old.world result self.new (spread_or_said (tables_of self.old) (members_of self.old) node longest (stage_of self.old)) (P.printed printer.old) (P.printed printer.new) }
+        ensures plays { Plays self.old.world result self.new (spread_or_said (tables_of self.old) (members_of self.old) node longest (stage_of self.old)) (P.printed printer.old) (P.printed printer.new) }
         ensures whose { IfErr result (IsFaultOf P.fails printer.new) }
     {
         let standing = self.standing(node)?;
@@ -236,7 +236,7 @@ impl Play {
         printer: &mut P,
     ) -> Result<(), RunFault>
         requires live { self.old.world.is_spent ≡ false }
-        ensures { Plays self.old.world result self.new (led_on (tables_of self.old) (members_of self.old) node longest (stage_of self.old)) (P.printed printer.old) (P.printed printer.new) }
+        ensures plays { Plays self.old.world result self.new (led_on (tables_of self.old) (members_of self.old) node longest (stage_of self.old)) (P.printed printer.old) (P.printed printer.new) }
         ensures whose { IfErr result (IsFaultOf P.fails printer.new) }
     {
         if let Err(fault) = self.take_turns(node, TURNS_TO_LEAD, printer) {
@@ -253,7 +253,7 @@ impl Play {
         printer: &mut P,
     ) -> Result<(), RunFault>
         requires live { self.old.world.is_spent ≡ false }
-        ensures { Plays self.old.world result self.new (led_by (tables_of self.old) (members_of self.old) node longest (stage_of self.old)) (P.printed printer.old) (P.printed printer.new) }
+        ensures plays { Plays self.old.world result self.new (led_by (tables_of self.old) (members_of self.old) node longest (stage_of self.old)) (P.printed printer.old) (P.printed printer.new) }
         ensures whose { IfErr result (IsFaultOf P.fails printer.new) }
     {
         if let Err(fault) = self.lead_on(node, longest, printer) {
@@ -266,7 +266,7 @@ impl Play {
     // So does one whose log is most up to date.
     fn lead_all<P: Printer>(&mut self, printer: &mut P) -> Result<(), RunFault>
         requires live { self.old.world.is_spent ≡ false }
-        ensures { Plays self.old.world result self.new (all_led_on (tables_of self.old) (members_of self.old) (stage_of self.old)) (P.printed printer.old) (P.printed printer.new) }
+        ensures plays { Plays self.old.world result self.new (all_led_on (tables_of self.old) (members_of self.old) (stage_of self.old)) (P.printed printer.old) (P.printed printer.new) }
         ensures whose { IfErr result (IsFaultOf P.fails printer.new) }
     {
         match self.survey() {
@@ -278,7 +278,7 @@ impl Play {
     // Starts all members, and one whose log is most up to date leads them on.
     pub(crate) fn recover<P: Printer>(&mut self, printer: &mut P) -> Result<(), RunFault>
         requires live { self.old.world.is_spent ≡ false }
-        ensures { Plays self.old.world result self.new (recovery (tables_of self.old) (members_of self.old) (stage_of self.old)) (P.printed printer.old) (P.printed printer.new) }
+        ensures plays { Plays self.old.world result self.new (recovery (tables_of self.old) (members_of self.old) (stage_of self.old)) (P.printed printer.old) (P.printed printer.new) }
         ensures whose { IfErr result (IsFaultOf P.fails printer.new) }
     {
         if let Err(fault) = self.start_all(printer) {

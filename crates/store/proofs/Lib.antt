@@ -1,4 +1,4 @@
-pub mod Applied
 pub mod Heard
 pub mod Links
+pub mod Ranges
 pub mod Written

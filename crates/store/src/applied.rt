@@ -32,7 +32,7 @@ pub struct Since {
 }
 
 // The entry of a node that is up that has so many before it. Where its store failed the node is down.
-#[tactic(auto, using(crate::proofs::Applied::nth_next))]
+#[tactic(auto, using(crate::proofs::Ranges::nth_next))]
 fn entry_at<K: Announces>(node: &mut Node<K>, place: usize) -> Result<Entry, StoreRefusal>
 where
     K::Image: Drop,
@@ -54,7 +54,7 @@ where
 }
 
 // The entries of a node that is up after the first so many, up to its commit index. Where its store failed the node is down.
-#[tactic(auto, using(crate::proofs::Applied::range_next, crate::proofs::Applied::range_none))]
+#[tactic(auto, using(crate::proofs::Ranges::range_next, crate::proofs::Ranges::range_none))]
 fn entries_after<K: Announces>(
     alloc: Global,
     node: &mut Node<K>,
@@ -83,7 +83,7 @@ where
 }
 
 // What a node has applied after the first so many entries; none where it is down. The chain is that of its log.
-#[tactic(auto, using(crate::proofs::Applied::digest_first))]
+#[tactic(auto, using(crate::proofs::Ranges::digest_first))]
 fn since_of<K: Announces>(
     alloc: Global,
     node: &mut Node<K>,
