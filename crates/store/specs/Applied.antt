@@ -18,6 +18,6 @@ module _ {K I : Type 0} {g : _} {s : _} where
   -- ones this is the digest
   abbrev pub IsSince : (K → Type 0) → Node K I g s → ℕ → Since → Type 0
   IsSince honest n after x = (n.is_up ≡ true) × (honest n.keeper → (x.applied ≡ (member_of n).commit)
-    × (x.entries.items ≡ slice_range (member_of n).log after (member_of n).commit)
-    × (x.closed ≡ closed_time (member_of n))
-    × (x.digest ≡ digest_of (take after (member_of n).log)))
+      × (x.entries.items ≡ slice_range (member_of n).log after (member_of n).commit)
+      × (x.closed ≡ closed_time (member_of n))
+      × (x.digest ≡ digest_of (take after (member_of n).log)))
