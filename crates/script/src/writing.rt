@@ -1,5 +1,5 @@
 //! Outputs put as their lines.
-ghost use Rattle.std.specs.Prelude.{◌≡◌, Err, IfErr, IfOk, string_bytes};
+ghost use Rattle.std.specs.Prelude.{◌≡◌, Err, IfErr};
 ghost use Rattle.std.specs.List.{flat_map};
 ghost use Rattle.fault.specs.declared.refusal.Refusal.TheVariants.{NoMemory};
 ghost use Rattle.answertext.specs.Sinks.{WritesOrBegins};
@@ -9,28 +9,11 @@ ghost use Rattle.script.specs.Printing.{output_text};
 use crate::printer::Printer;
 use crate::printing::Printed;
 use crate::run_fault::RunFault;
-use answertext::Lines;
 use answertext::outlet::Outlet;
 use fault::Refusal;
 use model::member::Member;
-use std::alloc::{AllocError, Global};
+use std::alloc::Global;
 use world::output::Output;
-
-// The lines of an output.
-fn text_of(alloc: Global, output: &Output) -> Result<String, AllocError>
-    ensures { IfOk result (λ text. string_bytes text ≡ output_text output.now) }
-{
-    match output {
-        Output::Answered(node, answer) => {
-            let lines = Lines(answer);
-            format!(in alloc; "node {node} answer\n{lines}")
-        }
-        output => {
-            let line = Printed(output);
-            format!(in alloc; "{line}")
-        }
-    }
-}
 
 // Puts an output as its lines. Where the outlet fails a beginning of them was put.
 pub(crate) fn print_output<O: Outlet>(
@@ -42,7 +25,7 @@ pub(crate) fn print_output<O: Outlet>(
     ensures err { IfErr result IsPlayFault }
     ensures whose { IfErr result (IsFaultOf O.fails outlet.new) }
 {
-    let text = text_of(alloc, output)?;
+    let text = Printed(output).to_string(alloc)?;
     match outlet.put(text.as_str()) {
         Ok(()) => Ok(()),
         Err(error) => Err(RunFault::Output(error)),
