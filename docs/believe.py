@@ -10,7 +10,7 @@ KIT = "the kit"
 # No line of a definition is longer in the text than this.
 WIDE = 120
 # What a line is best broken before or behind, where as much is open: the smaller the number, the better.
-BEFORE = {"|": 0, "then": 0, "else": 0, "×": 1, "⊎": 1, "↔": 1, "&&": 1, "||": 1, "++": 2, "▸": 2, "▹": 2, "∷": 3}
+BEFORE = {"|": 0, "then": 1, "else": 0, "×": 1, "⊎": 1, "↔": 1, "&&": 1, "||": 1, "++": 2, "▸": 2, "▹": 2, "∷": 3}
 BEHIND = {"→": 0, ";": 0, "=": 1}
 
 
@@ -110,23 +110,19 @@ class Source:
     """A file: what stands at its head, and of each definition its comment, and what is remarked before it."""
 
     def __init__(self, path, definitions):
-        self.lines = raw(path)
-        self.path, self.comments, self.remarks = path, {}, {}
+        self.lines, self.comments, self.remarks = raw(path), {}, {}
         if path.endswith(".rt"):
             self.head = [line for line in self.lines if line.startswith("//!")]
-            for d in definitions:
-                self.comments[d.name] = self.above(d)
+            self.comments = {d.name: self.above(d) for d in definitions}
             return
-        behind, pending = 0, []
+        self.head, behind = [], 0
         for d in sorted(definitions, key=lambda d: d.line):
             found, is_above = blocks(self.lines[behind:d.first - 1])
-            if not behind and found and self.lines[0].startswith("--"):
-                self.head = found.pop(0).lines if len(found) > 1 or not is_above else []
-            comment = found.pop().lines if is_above and found and not found[-1].is_heading and not found[-1].opens_module else []
-            self.comments[d.name], self.remarks[d.name] = comment, found
-            behind = d.last
-
-    head = []
+            if not behind and self.lines[0].startswith("--") and (len(found) > 1 or not is_above):
+                self.head = found.pop(0).lines
+            has_comment = is_above and not found[-1].is_heading and not found[-1].opens_module
+            self.comments[d.name] = found.pop().lines if has_comment else []
+            self.remarks[d.name], behind = found, d.last
 
     def above(self, definition):
         """The comment above a type of the code."""
@@ -204,6 +200,8 @@ def fitted(lines):
             comment = []
         if mark:
             comment.append((mark[1], line))
+        elif len(line) > WIDE and line.strip().startswith("-- ---- "):
+            found += wrapped(line.strip()[3:], "--")
         else:
             found += folded(line)
     return found[:-1]
@@ -216,7 +214,7 @@ def place(part, needs):
     """Puts each definition into the first chapter of the part that has its file; gives what is wrong."""
     wrong = []
     for d in needs:
-        of = [it for it in part.chapters if module(d.file) in it.of]
+        of = [it for it in part.chapters if {module(d.file), key(d)} & set(it.of)]
         if not of:
             wrong.append(f"{d.file} is in no chapter of {part.title}: give it to one in {WORDS}, in the line `of:`")
         (of or part.chapters[-1:])[0].definitions.append(d)
@@ -226,10 +224,10 @@ def place(part, needs):
 
 
 def in_order(chapter, needs):
-    """The definitions of a chapter: file by file as it names them, but each after those that it uses."""
+    """The definitions of a chapter: file by file, or one by one, as it names them, but each after those that it uses."""
     def rank(d):
-        of = module(d.file)
-        return chapter.of.index(of) if of in chapter.of else len(chapter.of), d.file, d.line
+        of = [chapter.of.index(it) for it in (key(d), module(d.file)) if it in chapter.of]
+        return of[0] if of else len(chapter.of), d.file, d.line
 
     own, order, seen = set(chapter.definitions), [], set()
 
@@ -245,11 +243,21 @@ def in_order(chapter, needs):
     return order
 
 
+def opened(title, definitions, text):
+    """How a part or a chapter begins."""
+    size = f"{counted(len(definitions), 'definition')}, {counted(sum(d.lines() for d in definitions), 'line')}."
+    return [title, "", size, "", text.strip(), ""]
+
+
+def shown(path, lines):
+    """Lines of a file, as code."""
+    return [f"`{path}`", "", "```"] + fitted(lines) + ["```", ""]
+
+
 class Book:
     """All parts with their definitions, and the text of them.
 
-    `repository` finds files of definitions, `reach` gives what the clauses of a function need, each with what it uses, and
-    `clauses` the lines of such a function's head and clauses.
+    `repository` finds files and names, and `reach` gives what the clauses of a function need, each with what it uses.
     """
 
     def __init__(self, repository, reach):
@@ -312,7 +320,7 @@ class Book:
 
     # ---- names that could be taken for others
 
-    def notes(self, path, named):
+    def notes(self, path, named, end):
         """What stands in a file for a name of another one, where a reader could take it for something that stood before."""
         found = {}
         for name, other, old in named:
@@ -323,14 +331,13 @@ class Book:
                 found.setdefault(of, set()).add(f"{name.split('.')[0]}.X = X")
             elif name != old:
                 found.setdefault(of, set()).add(f"{name} = {old}")
-            elif self.is_taken(old, path):
+            elif self.is_taken(old, end):
                 found.setdefault(of, set()).add(name)
         return [f"{', '.join(sorted(names))} ({of})" for of, names in sorted(found.items())]
 
-    def is_taken(self, name, path):
-        """Whether more than one thing of this name stood in the text up to the end of this file."""
-        end = max([self.at[d] for d in self.at if d.file == path], default=0)
-        return len({it for it in self.exported.get(name, ()) if it == KIT or self.at[self.keys[it]] <= end}) > 1
+    def is_taken(self, name, end):
+        """Whether more than one thing of this name stands in the text up to a place."""
+        return sum(it == KIT or self.at[self.keys[it]] <= end for it in self.exported.get(name, ())) > 1
 
     # ---- the text
 
@@ -340,9 +347,13 @@ class Book:
         for block in remarks:
             lines += block.lines + [""]
         indent = re.match(r"\s*", source.lines[d.line - 1])[0]
-        lines += fitted(source.comments.get(d.name, []))
-        for words in (self.words.sentences, self.words.sources):
-            lines += wrapped(words[key(d)], indent + mark) if key(d) in words else []
+        comment = source.comments.get(d.name, [])
+        lines += fitted(comment)
+        if key(d) in self.words.sentences:
+            sentence = self.words.sentences[key(d)]
+            lines += wrapped(f"({sentence})" if comment else sentence, indent + mark)
+        if key(d) in self.words.sources:
+            lines += wrapped(self.words.sources[key(d)], indent + mark)
         return lines + source.body(d)
 
     def remarks_of(self, path, definitions):
@@ -363,14 +374,14 @@ class Book:
             self.shown_heads.add(path)
             lines += source.head + ([""] if source.head else [])
         mark = "--" if path.endswith(".antt") else "//"
-        lines += self.written_notes(mark, path, [it for d in definitions for it in self.repository.named_in(d)])
+        named = [it for d in definitions for it in self.repository.named_in(d)]
+        lines += self.written_notes(mark, path, named, self.at[definitions[-1]])
         for d in definitions:
             lines += self.written_definition(d, remarks.get(d.name, [])) + [""]
-        return [f"`{path}`", "", "```"] + fitted(lines[:-1]) + ["```", ""]
+        return shown(path, lines[:-1])
 
     def written_chapter(self, number, chapter):
-        many, long = len(chapter.definitions), sum(d.lines() for d in chapter.definitions)
-        lines = [f"## {number}. {chapter.title}", "", f"{counted(many, 'definition')}, {counted(long, 'line')}.", "", chapter.text.strip(), ""]
+        lines = opened(f"## {number}. {chapter.title}", chapter.definitions, chapter.text)
         files = {}
         for d in chapter.definitions:
             files.setdefault(d.file, []).append(d)
@@ -383,24 +394,22 @@ class Book:
             run.append(d)
         return lines
 
-    def written_notes(self, mark, path, named):
-        notes = self.notes(path, named)
+    def written_notes(self, mark, path, named, end):
+        notes = self.notes(path, named, end)
         return wrapped(f"Names here: {'; '.join(notes)}.", mark) + [""] if notes else []
 
     def written_clauses(self, part):
         path, function = part.of
-        lines = self.written_notes("//", path, self.repository.named_in_clauses(path, function))
-        lines += fitted(self.repository.clauses_of(path, function))
-        return [f"`{path}`", "", "```"] + lines + ["```", ""]
+        lines = self.written_notes("//", path, self.repository.named_in_clauses(path, function), len(self.order))
+        return shown(path, lines + self.repository.clauses_of(path, function))
 
     def written(self):
         """The whole text."""
-        self.shown_heads, texts = set(), self.words.texts
-        lines = [f"<!-- Written by `docs/trusted --text`, from the sources and {WORDS}. -->", "", texts["head"].strip(), "", texts["signs"].strip(), ""]
-        number = 0
+        self.shown_heads, texts, number = set(), self.words.texts, 0
+        lines = [f"<!-- Written by `docs/trusted --text`, from the sources and {WORDS}. -->", ""]
+        lines += [texts["head"].strip(), "", texts["signs"].strip(), ""]
         for part in self.parts:
-            own = [d for chapter in part.chapters for d in chapter.definitions]
-            lines += [f"# {part.title}", "", f"{counted(len(own), 'definition')}, {counted(sum(d.lines() for d in own), 'line')}.", "", part.text.strip(), ""]
+            lines += opened(f"# {part.title}", [d for chapter in part.chapters for d in chapter.definitions], part.text)
             lines += self.written_clauses(part)
             for chapter in part.chapters:
                 number += 1
