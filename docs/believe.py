@@ -314,6 +314,10 @@ class Book:
             if not set(word.replace("◌", " ").split()) <= told:
                 self.wrong.append(f"{word} is a word of the kit and not in the table of signs of {WORDS}")
 
+    def only_here(self):
+        """The definitions of which docs/believe.txt alone has a sentence."""
+        return [d for d in self.order if not self.sources[d.file].comments.get(d.name) and key(d) in self.words.sentences]
+
     def before_their_needs(self):
         """The definitions that stand before one which they use."""
         return [(d, other) for d in self.order for other in self.needs[d] if self.at.get(other, -1) > self.at[d]]
