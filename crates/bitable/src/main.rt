@@ -1,9 +1,10 @@
-//! The program `bitable`: commands of the crate `shell` over files and the standard streams.
+//! The program `bitable`: commands of the crates `shell` and `console` over files, folders and the standard streams.
 #![tactic(auto)]
 
 use causes::{Name, Trouble};
+use clap::Error;
 use clap::error::ErrorKind;
-use console::{Fault, Stop as Ended};
+use console::Stop as Ended;
 use diagnosis::{Subject, diagnose};
 use fault::Refusal;
 use forms::{Canvas, Drawing, Form, Look};
@@ -24,7 +25,7 @@ use std::rt::{Env, Files};
 use std::sync::Wait;
 use std::thread::Threads;
 use std::{env, fs, io};
-use storecommands::is_asked;
+use storecommands::Command as StoreCommand;
 
 const SIM: &str = "playing the script";
 
@@ -33,13 +34,34 @@ const TERMINAL: usize = 80;
 
 fn main(rt: HostRuntime) -> ExitCode {
     match words_given(&rt) {
-        Ok(Some(words)) if is_of_store(&rt, words.as_slice()) => {
-            end_store(&rt, run_store(&rt, words.as_slice()))
-        }
-        Ok(Some(words)) => end(&rt, run(&rt, &rt, words.as_slice())),
+        Ok(Some(words)) => do_asked(&rt, words.as_slice()),
         Ok(None) => end(&rt, refuse_words(&rt)),
         Err(stop) => end(&rt, Err(stop)),
     }
+}
+
+// Does what a command line asks for.
+fn do_asked(rt: &HostRuntime, words: &[String]) -> ExitCode {
+    match read_command(rt.alloc(), words) {
+        Ok(Command::Store(command)) => end_store(rt, console::run(rt, command)),
+        Ok(Command::Audit(asked)) => judge(rt, &asked),
+        Ok(Command::Beliefs(beliefs)) => draw_beliefs(rt, beliefs),
+        Ok(Command::PlayInput) => end(rt, play_input(rt)),
+        Ok(Command::Sim(sim)) => end(rt, play_sim(rt, rt, sim)),
+        Ok(Command::Live(live)) => end(rt, play_live(rt, rt, live)),
+        Ok(Command::Lanes(lanes)) => end(rt, draw_run(rt, rt, lanes)),
+        Ok(Command::Check(check)) => end(rt, check_file(rt, check)),
+        Err(error) => end(rt, tell_of_words(rt, error)),
+    }
+}
+
+// Prints the help that a command line asks for, or why it is refused.
+fn tell_of_words<'a, R: Print + Eprint>(rt: &R, error: Error) -> Result<u8, Stop<'a>> {
+    if error.kind() == ErrorKind::OutOfMemory {
+        return Err(Stop::from(Refusal::NoMemory));
+    }
+    error.print(rt)?;
+    Ok(if error.use_stderr() { 2 } else { 0 })
 }
 
 // Whether this is the name of a folder.
@@ -50,36 +72,29 @@ fn is_folder(rt: &HostRuntime, name: &str) -> bool {
     }
 }
 
-// Whether a command line is one over a store's folder: `audit` is, where it has one name and that is the name of a folder.
-fn is_of_store(rt: &HostRuntime, words: &[String]) -> bool {
-    let Some(word) = words.get(1) else {
-        return false;
-    };
-    if !is_asked(word.as_str()) {
-        return false;
-    }
-    if word.as_str() != "audit" {
-        return true;
-    }
-    match words.get(2) {
-        Some(name) if words.len() == 3 => is_folder(rt, name.as_str()),
-        _ => false,
+// Judges the store in a folder, where nothing but the name of a folder is given, else flights.
+fn judge(rt: &HostRuntime, asked: &Audit<'_>) -> ExitCode {
+    match asked.lone_name() {
+        Some(name) if is_folder(rt, name) => {
+            end_store(rt, console::run(rt, StoreCommand::Audit(name)))
+        }
+        _ => end(rt, audit(rt, asked)),
     }
 }
 
-// Does what a command line over a store's folder asks for.
-fn run_store<'a>(rt: &HostRuntime, words: &'a [String]) -> Result<u8, Ended<'a>> {
-    match storecommands::read_command(rt.alloc(), words) {
-        Ok(command) => console::run(rt, command),
-        Err(error) if error.kind() == ErrorKind::OutOfMemory => Err(Ended {
-            fault: Fault::from(Refusal::NoMemory),
-            cause: None,
-        }),
-        Err(error) => match error.print(rt) {
-            Ok(()) => Ok(if error.use_stderr() { 2 } else { 0 }),
-            Err(_) => Ok(1),
-        },
+// Draws what was ever believed, as the store in a folder answers a question, or as a script's last answer says.
+fn draw_beliefs(rt: &HostRuntime, beliefs: Beliefs<'_>) -> ExitCode {
+    match beliefs.query {
+        Some(query) => draw_of_store(rt, beliefs.script, query, beliefs.svg),
+        None => end(rt, draw(rt, beliefs)),
     }
+}
+
+// INTEGRATE: what `console` does for `bitable beliefs DIR QUERY [--svg FILE]` is called here.
+fn draw_of_store(rt: &HostRuntime, dir: &str, query: &str, svg: Option<&str>) -> ExitCode {
+    let _ = (query, svg);
+    let _ = eprintln!(rt; "{dir}: beliefs of a store are not drawn yet");
+    ExitCode::FAILURE
 }
 
 // The exit status; where the command was refused, why: the refusal, below it what is known of the file or the folder, and what to do.
@@ -110,27 +125,6 @@ fn end(rt: &impl Eprint, ended: Result<u8, Stop<'_>>) -> ExitCode {
         let _ = eprintln!(rt; "{cause}");
     }
     ExitCode::FAILURE
-}
-
-fn run<'a, R>(rt: &R, host: &HostRuntime, words: &'a [String]) -> Result<u8, Stop<'a>>
-where
-    R: AllocGlobal + Env + Files + Input + Print + Eprint,
-    R: Wait + Threads + Copy + Send + Drop + 'static,
-{
-    match read_command(rt.alloc(), words) {
-        Ok(Command::PlayInput) => { script_ended(play(rt, &mut rt.reader()), Name::Input, SIM) }
-        Ok(Command::Sim(sim)) => play_sim(rt, host, sim),
-        Ok(Command::Beliefs(beliefs)) => draw(rt, beliefs),
-        Ok(Command::Lanes(lanes)) => draw_run(rt, host, lanes),
-        Ok(Command::Live(live)) => play_live(rt, host, live),
-        Ok(Command::Audit(asked)) => audit(rt, &asked),
-        Ok(Command::Check(check)) => check_file(rt, check),
-        Err(error) if error.kind() == ErrorKind::OutOfMemory => Err(Stop::from(Refusal::NoMemory)),
-        Err(error) => {
-            error.print(rt)?;
-            Ok(if error.use_stderr() { 2 } else { 0 })
-        }
-    }
 }
 
 // The words of the command line, the program's name first, or none where one is not UTF-8.
@@ -166,6 +160,11 @@ fn script_ended<'a>(
         Ok(status) => Ok(status),
         Err(stop) => Err(stop.of_script(file, tried)),
     }
+}
+
+// Plays the script on standard input.
+fn play_input<'a, R: AllocGlobal + Input + Print>(rt: &R) -> Result<u8, Stop<'a>> {
+    script_ended(play(rt, &mut rt.reader()), Name::Input, SIM)
 }
 
 // Plays the script that the reader has, on standard output.
@@ -363,7 +362,15 @@ where
     R: AllocGlobal + Files + Print + Eprint + Wait + Threads + Copy + Send + Drop + 'static,
 {
     let file = Name::Given(live.script);
+    let name = live.format.unwrap_or("lines");
+    let Some(form) = form_of(name) else {
+        return refuse_form(rt, name);
+    };
     let mut script = open_script(rt, live.script)?;
+    if form != Form::Lines {
+        // INTEGRATE: what `live` prints in another form is called here.
+        return refuse_form(rt, name);
+    }
     let ended = match BufWriter::new(rt.alloc(), io::writer(rt)) {
         Ok(mut writer) => run_live(rt, host, live, &mut script, &mut writer),
         Err(_) => Err(Stop::from(Refusal::NoMemory)),
@@ -395,6 +402,7 @@ fn audit<'a, R: AllocGlobal + Files + Print>(rt: &R, asked: &Audit<'a>) -> Resul
     let names = asked.files.as_slice();
     let texts = read_flights(rt, names)?;
     let mut writer = io::writer(rt);
+    // INTEGRATE: what `asked.since` asks for goes into this call of `run_report`, and comes about without `--report` too.
     let ended = if asked.is_report || asked.is_json {
         run_report(alloc, names, texts.as_slice(), asked.is_json, &mut writer)
     } else {

@@ -1,7 +1,7 @@
 use Rattle.std.specs.Str.Parse.{ParsesUnsigned, ExplainsUnsignedError, HasUnsignedDigitsIfOk}
 use Rattle.clap.specs.Words.{found_of}
-use Rattle.shell.proofs.CommandLines.{line_given}
-use Rattle.shell.proofs.command_line.line_of.Goals as goal
+use Rattle.storecommands.proofs.CommandLines.{line_given}
+use Rattle.storecommands.proofs.given.line_of.Goals as goal
 
 pub returns : goal.returns
 returns c = line_given _ (λ bs r. ParsesUnsigned 64 10 bs r × ExplainsUnsignedError 10 bs r × HasUnsignedDigitsIfOk bs r) (λ t r g. g.0)

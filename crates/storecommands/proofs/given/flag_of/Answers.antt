@@ -1,7 +1,7 @@
 use Rattle.std.proofs.Common.{◌∙◌}
 use Rattle.clap.specs.Words.{found_of}
 use Rattle.clap.proofs.WalkLemmas.{one_text-rows}
-use Rattle.storecommands.proofs.command_line.flag_of.Goals as goal
+use Rattle.storecommands.proofs.given.flag_of.Goals as goal
 
 pub returns : goal.returns
 returns c = record {
