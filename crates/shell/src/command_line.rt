@@ -406,6 +406,7 @@ fn live_of<'a>(matches: &ArgMatches<'a>) -> Option<Live<'a>>
         seed,
         loss,
         dir,
+        format: None,
         script,
     })
 }

@@ -10,6 +10,8 @@ pub mod live_run;
 pub mod outlet;
 pub mod pilot;
 pub mod report_run;
+mod showing;
 pub mod shown_run;
 pub mod sim;
 pub mod stop;
+mod verdict;

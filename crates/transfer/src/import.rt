@@ -5,6 +5,7 @@ use crate::stop::Fault;
 use crate::told::{count_text, fault_text, outcome_text};
 use csvrows::{Request, Stop, read_requests};
 use fault::Refusal;
+use progressline::Progress;
 use schema::Schema;
 use sqlchecks::column::find_table;
 use std::alloc::Global;
@@ -57,23 +58,23 @@ fn rows_of(requests: &[Request]) -> usize {
     rows
 }
 
-// How far an import came.
-#[derive(Drop)]
-struct Came {
+// How far an import came, and who is told.
+struct Came<'a, Q: Progress> {
     rows: usize,
     requests: usize,
     is_whole: bool,
+    progress: &'a Q,
 }
 
 // Hands in requests, each when the one before it is accepted, and tells what comes of each.
-fn store_all<K: Announces>(
+fn store_all<K: Announces, Q: Progress>(
     rt: &HostRuntime,
     alloc: Global,
     import: Import<'_>,
     requests: &[Request],
     reading: i64,
     store: &mut Store<K>,
-    came: &mut Came,
+    came: &mut Came<'_, Q>,
 ) -> Result<(), Fault>
 where
     K::Image: Drop,
@@ -81,12 +82,14 @@ where
     for request in requests {
         let (_, outcome) = store.execute(reading, request.text.as_str())?;
         let text = outcome_text(alloc, import, request, &outcome)?;
+        came.progress.hide();
         if !matches!(outcome, Outcome::Accepted(_)) {
             return print(rt, text.as_str());
         }
         came.rows = came.rows.saturating_add(request.rows);
         came.requests = came.requests.saturating_add(1);
         print(rt, text.as_str())?;
+        came.progress.tell(came.rows);
     }
     came.is_whole = true;
     Ok(())
@@ -94,26 +97,36 @@ where
 
 /// Stores the rows of a file, request by request up to one that is not accepted, and tells how many were stored. The exit status is 1
 /// where not all were.
-pub(crate) fn import_rows<K: Announces>(
+pub(crate) fn import_rows<K: Announces, Q: Progress>(
     rt: &HostRuntime,
     alloc: Global,
     import: Import<'_>,
     requests: &[Request],
     reading: i64,
     store: &mut Store<K>,
+    progress: &Q,
 ) -> Result<u8, Fault>
 where
     K::Image: Drop,
 {
+    let all = rows_of(requests);
+    progress.begin("rows", all);
     let mut came = Came {
         rows: 0,
         requests: 0,
         is_whole: false,
+        progress,
     };
-    let stored = store_all(rt, alloc, import, requests, reading, store, &mut came);
-    let rows = rows_of(requests);
-    let text = count_text(alloc, import.file, came.rows, rows, came.requests)?;
+    let ended = store_all(rt, alloc, import, requests, reading, store, &mut came);
+    progress.hide();
+    let Came {
+        rows,
+        requests,
+        is_whole,
+        progress: _,
+    } = came;
+    let text = count_text(alloc, import.file, rows, all, requests)?;
     print(rt, text.as_str())?;
-    stored?;
-    Ok(if came.is_whole { 0 } else { 1 })
+    ended?;
+    Ok(if is_whole { 0 } else { 1 })
 }
