@@ -58,38 +58,39 @@ fn rows_of(requests: &[Request]) -> usize {
     rows
 }
 
-// How far an import came, and who is told.
-struct Came<'a, Q: Progress> {
+// How far an import came.
+#[derive(Drop)]
+struct Came {
     rows: usize,
     requests: usize,
     is_whole: bool,
-    progress: &'a Q,
 }
 
 // Hands in requests, each when the one before it is accepted, and tells what comes of each.
 fn store_all<K: Announces, Q: Progress>(
     rt: &HostRuntime,
-    alloc: Global,
     import: Import<'_>,
     requests: &[Request],
     reading: i64,
     store: &mut Store<K>,
-    came: &mut Came<'_, Q>,
+    came: &mut Came,
+    progress: &Q,
 ) -> Result<(), Fault>
 where
     K::Image: Drop,
 {
+    let alloc: Global = rt.alloc();
     for request in requests {
         let (_, outcome) = store.execute(reading, request.text.as_str())?;
         let text = outcome_text(alloc, import, request, &outcome)?;
-        came.progress.hide();
+        progress.hide();
         if !matches!(outcome, Outcome::Accepted(_)) {
             return print(rt, text.as_str());
         }
         came.rows = came.rows.saturating_add(request.rows);
         came.requests = came.requests.saturating_add(1);
         print(rt, text.as_str())?;
-        came.progress.tell(came.rows);
+        progress.tell(came.rows);
     }
     came.is_whole = true;
     Ok(())
@@ -109,24 +110,17 @@ pub(crate) fn import_rows<K: Announces, Q: Progress>(
 where
     K::Image: Drop,
 {
-    let all = rows_of(requests);
-    progress.begin("rows", all);
     let mut came = Came {
         rows: 0,
         requests: 0,
         is_whole: false,
-        progress,
     };
-    let ended = store_all(rt, alloc, import, requests, reading, store, &mut came);
+    let rows = rows_of(requests);
+    progress.begin("rows", rows);
+    let stored = store_all(rt, import, requests, reading, store, &mut came, progress);
     progress.hide();
-    let Came {
-        rows,
-        requests,
-        is_whole,
-        progress: _,
-    } = came;
-    let text = count_text(alloc, import.file, rows, all, requests)?;
+    let text = count_text(alloc, import.file, came.rows, rows, came.requests)?;
     print(rt, text.as_str())?;
-    ended?;
-    Ok(if is_whole { 0 } else { 1 })
+    stored?;
+    Ok(if came.is_whole { 0 } else { 1 })
 }
