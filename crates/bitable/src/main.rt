@@ -8,6 +8,7 @@ use console::Stop as Ended;
 use diagnosis::{Subject, diagnose};
 use fault::Refusal;
 use forms::{Canvas, Drawing, Form, Look};
+use progressline::{Progress, ProgressLine, Uncovered};
 use scriptlanes::{Drawing as RunDrawing, Sheet, Span};
 use shell::audit::run_audit;
 use shell::command::{Audit, Beliefs, Check, Command, Lanes, Live, Sim};
@@ -78,7 +79,7 @@ fn judge(rt: &HostRuntime, asked: &Audit<'_>) -> ExitCode {
         Some(name) if is_folder(rt, name) => {
             end_store(rt, console::run(rt, StoreCommand::Audit(name)))
         }
-        _ => end(rt, audit(rt, asked)),
+        _ => end(rt, audit(rt, rt, asked)),
     }
 }
 
@@ -202,6 +203,20 @@ fn columns<R: AllocGlobal + Env>(rt: &R) -> usize {
     }
 }
 
+// How outputs are shown in this form: tables at a terminal in its columns.
+fn look_of<R: AllocGlobal + Env>(rt: &R, host: &HostRuntime, form: Form, is_quiet: bool) -> Look {
+    let width = if host.stdout().is_terminal() {
+        Some(columns(rt))
+    } else {
+        None
+    };
+    Look {
+        form,
+        is_quiet,
+        width,
+    }
+}
+
 // Plays a script as it is asked for.
 fn play_sim<'a, R>(rt: &R, host: &HostRuntime, sim: Sim<'a>) -> Result<u8, Stop<'a>>
 where
@@ -215,15 +230,7 @@ where
     let ended = if form == Form::Lines && !sim.is_quiet && !sim.is_strict {
         play(rt, &mut script)
     } else {
-        let look = Look {
-            form,
-            is_quiet: sim.is_quiet,
-            width: if host.stdout().is_terminal() {
-                Some(columns(rt))
-            } else {
-                None
-            },
-        };
+        let look = look_of(rt, host, form, sim.is_quiet);
         show(rt, host, look, sim.is_strict, &mut script)
     };
     script_ended(ended, Name::Given(sim.script), SIM)
@@ -356,37 +363,55 @@ where
     }
 }
 
+// What shows on standard error, where that is a terminal, how far a long work is.
+fn progress_on(host: &HostRuntime) -> ProgressLine<'_, HostRuntime> {
+    ProgressLine::new(host, host.stderr().is_terminal())
+}
+
 // Plays a script on nodes that run on threads of their own.
 fn play_live<'a, R>(rt: &R, host: &HostRuntime, live: Live<'a>) -> Result<u8, Stop<'a>>
 where
-    R: AllocGlobal + Files + Print + Eprint + Wait + Threads + Copy + Send + Drop + 'static,
+    R: AllocGlobal + Env + Files + Print + Eprint,
+    R: Wait + Threads + Copy + Send + Drop + 'static,
 {
-    let file = Name::Given(live.script);
     let name = live.format.unwrap_or("lines");
     let Some(form) = form_of(name) else {
         return refuse_form(rt, name);
     };
+    let file = Name::Given(live.script);
     let mut script = open_script(rt, live.script)?;
-    if form != Form::Lines {
-        // INTEGRATE: what `live` prints in another form is called here.
-        return refuse_form(rt, name);
-    }
+    let look = look_of(rt, host, form, false);
     let ended = match BufWriter::new(rt.alloc(), io::writer(rt)) {
-        Ok(mut writer) => run_live(rt, host, live, &mut script, &mut writer),
+        Ok(mut writer) => {
+            run_live(
+                rt,
+                host,
+                live,
+                look,
+                &mut script,
+                &mut writer,
+                &progress_on(host),
+            )
+        }
         Err(_) => Err(Stop::from(Refusal::NoMemory)),
     };
     script_ended(ended, file, "playing the script with live")
 }
 
-// The texts of the files of these names.
-fn read_flights<'a, R: AllocGlobal + Files>(
+// The texts of the files of these names. How many are read is told to who asks for it.
+fn read_flights<'a, R: AllocGlobal + Files, Q: Progress>(
     rt: &R,
     names: &[&'a str],
+    progress: &Q,
 ) -> Result<Vec<String>, Stop<'a>> {
     let mut texts = Vec::new(rt.alloc());
+    progress.begin("files", names.len());
     for name in names {
         match fs::read_to_string(rt, *name) {
-            Ok(text) => texts.push(text)?,
+            Ok(text) => {
+                texts.push(text)?;
+                progress.tell(texts.len());
+            }
             Err(error) => {
                 let (file, tried) = (Name::Given(*name), "reading the flight");
                 return Err(Stop::from(Trouble::of_system(file, tried, Refusal::BadFlight, error)));
@@ -396,18 +421,37 @@ fn read_flights<'a, R: AllocGlobal + Files>(
     Ok(texts)
 }
 
+// How many steps flights have, each in a line of its own.
+fn steps_in(texts: &[String]) -> usize {
+    let mut steps: usize = 0;
+    for text in texts {
+        let lines = text.as_str().split('\n');
+        steps = steps.saturating_add(lines.filter(|line| line.starts_with("step ")).count());
+    }
+    steps
+}
+
 // Judges flights in files, as it is asked for.
-fn audit<'a, R: AllocGlobal + Files + Print>(rt: &R, asked: &Audit<'a>) -> Result<u8, Stop<'a>> {
+fn audit<'a, R>(rt: &R, host: &HostRuntime, asked: &Audit<'a>) -> Result<u8, Stop<'a>>
+where
+    R: AllocGlobal + Files + Print,
+{
     let alloc: Global = rt.alloc();
     let names = asked.files.as_slice();
-    let texts = read_flights(rt, names)?;
-    let mut writer = io::writer(rt);
-    // INTEGRATE: what `asked.since` asks for goes into this call of `run_report`, and comes about without `--report` too.
+    let progress = progress_on(host);
+    let read = read_flights(rt, names, &progress);
+    progress.hide();
+    let texts = read?;
+    if progress.is_on() {
+        progress.judge(steps_in(texts.as_slice()));
+    }
+    let mut writer = Uncovered::new(io::writer(rt), &progress);
     let ended = if asked.is_report || asked.is_json {
         run_report(alloc, names, texts.as_slice(), asked.is_json, &mut writer)
     } else {
         run_audit(alloc, texts.as_slice(), &mut writer)
     };
+    progress.hide();
     ended.map_err(|fault| Stop::of_flights(alloc, fault, names, texts.as_slice()))
 }
 

@@ -5,7 +5,7 @@ ghost use Rattle.fault.specs.Refusal.{shown, text_of};
 ghost use Rattle.hex.specs.Hex.{encode_lower};
 ghost use Rattle.json.specs.Token.{key, string};
 ghost use Rattle.looks.specs.Objects.{Adds, line_of};
-ghost use Rattle.looks.specs.Outcomes.{counts, says, refusal_tokens};
+ghost use Rattle.looks.specs.Outcomes.{counts, object, says, refusal_tokens};
 ghost use Rattle.report.specs.Machine.{answers_tokens, array_at, difference_tokens, digested_tokens, earlier_tokens, extent_tokens, file_tokens, first_tokens, judged_tokens, last_tokens, made_tokens, mark_tokens, member_tokens, members_tokens, name_at, optional_number, optional_text, report_tokens, requests_tokens, settled_tokens, stamp_tokens, told_tokens, verdict_tokens, what_tokens, word_of};
 
 use crate::counts::Counts;
@@ -30,6 +30,29 @@ pub fn report_as_json(alloc: Global, report: &Report) -> Result<Vec<u8>, AllocEr
     let mut text = writer.into_inner();
     text.push(b'\n')?;
     Ok(text)
+}
+
+/// A verdict alone as one JSON object on a line, in the words of a report. The error is want of memory.
+pub fn verdict_as_json(alloc: Global, fault: Option<AuditFault>) -> Result<Vec<u8>, AllocError>
+    ensures { IfOk result (λ text. text.items ≡ line_of (object (verdict_tokens fault))) }
+{
+    let mut writer = Writer::new(Vec::new(alloc));
+    put_verdict_alone(alloc, fault, &mut writer)?;
+    let mut text = writer.into_inner();
+    text.push(b'\n')?;
+    Ok(text)
+}
+
+fn put_verdict_alone(
+    alloc: Global,
+    fault: Option<AuditFault>,
+    writer: &mut Writer,
+) -> Result<(), AllocError>
+    ensures { Adds result writer.old writer.new (object (verdict_tokens fault)) }
+{
+    writer.begin_object()?;
+    put_verdict(alloc, fault, writer)?;
+    writer.end_object()
 }
 
 #[tactic(auto, unfolding(crate::specs::Machine::report_tokens))]

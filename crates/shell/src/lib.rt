@@ -9,6 +9,8 @@ mod group;
 pub mod live_run;
 pub mod pilot;
 pub mod report_run;
+mod showing;
 pub mod shown_run;
 pub mod sim;
 pub mod stop;
+mod verdict;
