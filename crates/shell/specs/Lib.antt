@@ -5,4 +5,5 @@ pub mod Live
 pub mod Outlets
 pub mod Reading
 pub mod Reported
+pub mod Since
 pub mod Sim

@@ -12,4 +12,5 @@ pub mod pilot;
 pub mod report_run;
 pub mod shown_run;
 pub mod sim;
+pub mod since_run;
 pub mod stop;
