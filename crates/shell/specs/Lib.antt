@@ -5,4 +5,5 @@ pub mod Live
 pub mod Reading
 pub mod Reported
 pub mod Showing
+pub mod Since
 pub mod Sim

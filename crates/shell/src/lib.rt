@@ -12,5 +12,6 @@ pub mod report_run;
 mod showing;
 pub mod shown_run;
 pub mod sim;
+pub mod since_run;
 pub mod stop;
 mod verdict;
