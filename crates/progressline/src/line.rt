@@ -103,7 +103,10 @@ impl<'a, R: Clock + Eprint> Progress for ProgressLine<'a, R> {
             return;
         };
         let Work {
-            what, all, began, ..
+            what,
+            all,
+            began,
+            ..
         } = work;
         let rate = rate_of(done, millis);
         let row = Row {

@@ -213,21 +213,25 @@ not_again schema c e again before asks le = not_counted schema c e again before 
 
 alike : (schema : Schema) (e : Entry) (again : Request) (before : List Entry) → e.request ≡ Some again → again.number ≤ executed again.client before → AreAlike schema (e ∷ before) before
 alike schema e again before asks le =
-    let state : state_after schema (e ∷ before) ≡ state_after schema before = state_other schema e again asks before (ne_eqb again.number (executed again.client before + 1) (λ q. omega arith)) in
-    (state, λ t r.
-    (let same = not_again schema r.client e again before asks le in
-    outcome_is schema t r (e ∷ before)
-    ∙ ap (λ n. outcome_by schema t r n (first_outcomes schema r.client (e ∷ before)) (state_after schema (e ∷ before))) same.count
-    ∙ ap (λ os. outcome_by schema t r (executed r.client before) os (state_after schema (e ∷ before))) same.outcomes
-    ∙ ap (λ s. outcome_by schema t r (executed r.client before) (first_outcomes schema r.client before) s) state
-    ∙ sym (outcome_is schema t r before)))
+    let state : state_after schema (e ∷ before) ≡ state_after schema before = state_other schema e again asks before (ne_eqb again.number (executed again.client before + 1) (λ q. omega arith)) in (
+      state,
+      λ t r.
+          (let same = not_again schema r.client e again before asks le in
+          outcome_is schema t r (e ∷ before)
+          ∙ ap (λ n. outcome_by schema t r n (first_outcomes schema r.client (e ∷ before)) (state_after schema (e ∷ before))) same.count
+          ∙ ap (λ os. outcome_by schema t r (executed r.client before) os (state_after schema (e ∷ before))) same.outcomes
+          ∙ ap (λ s. outcome_by schema t r (executed r.client before) (first_outcomes schema r.client before) s) state
+          ∙ sym (outcome_is schema t r before)),
+    )
 
 pub repeat_is_harmless : RepeatIsHarmless
 repeat_is_harmless schema older between d e r again asks first asks_again client number =
     let before = between ++ d ∷ older in
     let o = first_outcome schema d.stamp r older in
     let s = stands_after schema r.client r.number o between (d ∷ older) (first_stands schema d r older asks first) in
-    let s' : Stands schema again.client again.number o before = subst (λ k. Stands schema again.client k o before) (sym number) (subst (λ k. Stands schema k r.number o before) (sym client) s) in
-    (alike schema e again before asks_again s'.within, λ l.
-    (told_again schema e.stamp again o before s' (let few : executed again.client before < r.number + 8 = subst (λ k. executed k before < r.number + 8) (sym client) l in omega arith)
-    ∙ sym (outcome_first schema d.stamp r older first)))
+    let s' : Stands schema again.client again.number o before = subst (λ k. Stands schema again.client k o before) (sym number) (subst (λ k. Stands schema k r.number o before) (sym client) s) in (
+      alike schema e again before asks_again s'.within,
+      λ l.
+          (told_again schema e.stamp again o before s' (let few : executed again.client before < r.number + 8 = subst (λ k. executed k before < r.number + 8) (sym client) l in omega arith)
+          ∙ sym (outcome_first schema d.stamp r older first)),
+    )

@@ -24,9 +24,10 @@ given schema m q o x out e up g = subst (λ (b : Bool). IsGivenBy schema m q x b
 
 pub refused_unless_closed : RefusedUnlessClosed
 refused_unless_closed schema n m w q out x e up g =
-    let given_in = given schema m q (nth w.nodes m) x out e up g in
-    ((λ t c l. subst (λ (o : Option Query). IsGivenIn schema m x o out) (closed_at q (closed_time x) t c l) given_in),
-    (λ no. subst (λ (o : Option Query). IsGivenIn schema m x o out) (open_at q (closed_time x) no) given_in))
+    let given_in = given schema m q (nth w.nodes m) x out e up g in (
+      (λ t c l. subst (λ (o : Option Query). IsGivenIn schema m x o out) (closed_at q (closed_time x) t c l) given_in),
+      (λ no. subst (λ (o : Option Query). IsGivenIn schema m x o out) (open_at q (closed_time x) no) given_in),
+    )
 
 pub one_list_explains : ((schema : Schema) (n : ℕ) → onelist.OneListExplains schema n (new_world n)) → OneListExplains
 one_list_explains law schema n events outs gives =

@@ -62,9 +62,10 @@ inserted_is_there law listed key values p t before after row some short a e =
     let fresh : Row = record { key = key; period = p; values = values; system_start = t } in
     let new = changed_lists law (Insert key values p) t old.0 before after (some, short) old.1 e in
     let same : old.0 ++ fresh ∷ [] ≡ new.rows_new = ok_same (list_any (clashes key p) old.0) KeyOverlap (old.0 ++ fresh ∷ []) new.rows_new new.are in
-    let l : Lists (old.0 ++ fresh ∷ []) after = subst (λ rows. Lists rows after) (sym same) new.listed in
-    ((λ h. elim (has_cases old.0 (fresh ∷ []) row (listed _ after row l h)) [ inl o ↦ inl (old.1.each row o) | inr n ↦ elim n [ inl q ↦ inr q | inr z ↦ absurd z ] ]),
-    (λ h. elim h [ inl o ↦ l.each row (has_left old.0 (fresh ∷ []) row (listed old.0 before row old.1 o)) | inr q ↦ l.each row (has_right old.0 (fresh ∷ []) row (inl q)) ]))
+    let l : Lists (old.0 ++ fresh ∷ []) after = subst (λ rows. Lists rows after) (sym same) new.listed in (
+      (λ h. elim (has_cases old.0 (fresh ∷ []) row (listed _ after row l h)) [ inl o ↦ inl (old.1.each row o) | inr n ↦ elim n [ inl q ↦ inr q | inr z ↦ absurd z ] ]),
+      (λ h. elim h [ inl o ↦ l.each row (has_left old.0 (fresh ∷ []) row (listed old.0 before row old.1 o)) | inr q ↦ l.each row (has_right old.0 (fresh ∷ []) row (inl q)) ]),
+    )
 
 -- ---- rows of a table that arises
 
@@ -247,10 +248,11 @@ pub insert_is_refused : ChangeOnRows → EachListed → OverlapsOnRows → Inser
 unfolding changed
 insert_is_refused law listed over key values p t before some short a =
     let l = arises_lists law before a in
-    let test = over l.0 before key p l.1 some in
-    ((λ e.
-    (let h = any_has (clashes key p) l.0 (sym test ∙ err_test (insert_overlaps key p before) KeyOverlap (inserted key values p t before) e) in
-    let row = l.1.each h.0 h.1 in
-    let s = shared key p h.0 row.some some h.2 in
-    (h.0, s.1.0, row, s.0, s.1.1))),
-    (λ h. cond-true _ _ _ (test ∙ has_any (clashes key p) l.0 h.0 (listed l.0 before h.0 l.1 h.2) (clash key p h.0 h.1 h.3 h.4))))
+    let test = over l.0 before key p l.1 some in (
+      (λ e.
+          (let h = any_has (clashes key p) l.0 (sym test ∙ err_test (insert_overlaps key p before) KeyOverlap (inserted key values p t before) e) in
+          let row = l.1.each h.0 h.1 in
+          let s = shared key p h.0 row.some some h.2 in
+          (h.0, s.1.0, row, s.0, s.1.1))),
+      (λ h. cond-true _ _ _ (test ∙ has_any (clashes key p) l.0 h.0 (listed l.0 before h.0 l.1 h.2) (clash key p h.0 h.1 h.3 h.4))),
+    )

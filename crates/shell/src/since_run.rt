@@ -34,11 +34,7 @@ fn joined(alloc: Global, line: &str, words: &str) -> Result<String, AllocError>
 }
 
 // The exit status of an audit of the flights in these texts beside what was kept of them, and what is printed of it.
-fn judge(
-    alloc: Global,
-    seen: &[Beginning],
-    texts: &[String],
-) -> Result<(u8, String), Refusal>
+fn judge(alloc: Global, seen: &[Beginning], texts: &[String]) -> Result<(u8, String), Refusal>
     ensures ok { IfOk result (λ said. IsSince (map string_bytes texts.now) seen.now said.0 (string_bytes said.1)) }
     ensures err { IfErr result (λ refusal. (refusal ≡ NoMemory) ⊎ ((refusal ≡ BadFlight) × IsNoGroup (map string_bytes texts.now))) }
 {
