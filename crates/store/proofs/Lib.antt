@@ -1,4 +1,3 @@
 pub mod Heard
 pub mod Links
-pub mod Ranges
 pub mod Written

@@ -1,5 +1,4 @@
 pub mod Announcing
-pub mod Applied
 pub mod Asking
 pub mod Chains
 pub mod Journals

@@ -1,5 +1,5 @@
 //! The digests of a log's beginnings.
-ghost use Rattle.std.specs.Prelude.{◌≡◌, ◌↔◌, [], take, length, fold, IsTrue, IfOk, OnOk, OnErr};
+ghost use Rattle.std.specs.Prelude.{◌≡◌, ◌≢◌, ◌↔◌, [], take, length, fold, None, Some, IsTrue, IfOk, OnOk, OnErr};
 ghost use Rattle.keep.specs.Durable.{Durable, after};
 ghost use Rattle.journal.specs.Digests.{summary_of};
 ghost use Rattle.store.specs.Chains.{own_after, first_link, next_link, last_link, link_entry, links_of};
@@ -16,13 +16,13 @@ use std::alloc::{AllocError, Global};
 pub const OWN_CLIENT: u16 = 65535;
 
 // What is known of a log up to an entry: its digest, how many requests of the store's own client are executed in it, how many requests
-// it has, and the stamp of the last of them.
+// it has, and the stamp of the last of them, or 0.
 #[derive(Clone, Copy)]
 struct Link {
     digest: [u8; 32],
     own: u64,
     requests: usize,
-    last: Option<Stamp>,
+    last: Stamp,
 }
 
 /// The digests of the beginnings of a log, from the first entry on.
@@ -58,7 +58,7 @@ impl Link {
             digest: BLANK_DIGEST,
             own: 0,
             requests: 0,
-            last: None,
+            last: Stamp::new(0),
         }
     }
 
@@ -67,7 +67,7 @@ impl Link {
         ensures { IfOk result (λ link. link ≡ next_link self.now entry.now) }
     {
         let (requests, last) = match &entry.request {
-            Some(_) => (self.requests.saturating_add(1), Some(entry.stamp)),
+            Some(_) => (self.requests.saturating_add(1), entry.stamp),
             None => (self.requests, self.last),
         };
         Ok(Link {
@@ -151,9 +151,15 @@ impl Chain {
 
     /// The stamp of the last request that the first so many entries bear, or all where there are fewer; none where they bear none.
     pub fn last_at(&self, length: usize) -> Option<Stamp>
-        ensures { result ≡ (last_link (take length self.now.links.items)).last }
+        ensures none { (last_link (take length self.now.links.items)).requests ≡ 0 → result ≡ None }
+        ensures some { (last_link (take length self.now.links.items)).requests ≢ 0 → result ≡ Some ((last_link (take length self.now.links.items)).last) }
     {
-        self.link_at(length).last
+        let link = self.link_at(length);
+        if link.requests == 0 {
+            None
+        } else {
+            Some(link.last)
+        }
     }
 
     /// The digest of the whole log.

@@ -2,7 +2,6 @@
 #![tactic(auto)]
 
 pub mod announcing;
-pub mod applied;
 pub mod chain;
 pub mod device;
 mod leading;

@@ -5,6 +5,7 @@ use crate::stop::Fault;
 use crate::told::{count_text, fault_text, outcome_text};
 use csvrows::{Request, Stop, read_requests};
 use fault::Refusal;
+use progressline::Progress;
 use schema::Schema;
 use sqlchecks::column::find_table;
 use std::alloc::Global;
@@ -66,27 +67,30 @@ struct Came {
 }
 
 // Hands in requests, each when the one before it is accepted, and tells what comes of each.
-fn store_all<K: Announces>(
+fn store_all<K: Announces, Q: Progress>(
     rt: &HostRuntime,
-    alloc: Global,
     import: Import<'_>,
     requests: &[Request],
     reading: i64,
     store: &mut Store<K>,
     came: &mut Came,
+    progress: &Q,
 ) -> Result<(), Fault>
 where
     K::Image: Drop,
 {
+    let alloc: Global = rt.alloc();
     for request in requests {
         let (_, outcome) = store.execute(reading, request.text.as_str())?;
         let text = outcome_text(alloc, import, request, &outcome)?;
+        progress.hide();
         if !matches!(outcome, Outcome::Accepted(_)) {
             return print(rt, text.as_str());
         }
         came.rows = came.rows.saturating_add(request.rows);
         came.requests = came.requests.saturating_add(1);
         print(rt, text.as_str())?;
+        progress.tell(came.rows);
     }
     came.is_whole = true;
     Ok(())
@@ -94,13 +98,14 @@ where
 
 /// Stores the rows of a file, request by request up to one that is not accepted, and tells how many were stored. The exit status is 1
 /// where not all were.
-pub(crate) fn import_rows<K: Announces>(
+pub(crate) fn import_rows<K: Announces, Q: Progress>(
     rt: &HostRuntime,
     alloc: Global,
     import: Import<'_>,
     requests: &[Request],
     reading: i64,
     store: &mut Store<K>,
+    progress: &Q,
 ) -> Result<u8, Fault>
 where
     K::Image: Drop,
@@ -110,8 +115,10 @@ where
         requests: 0,
         is_whole: false,
     };
-    let stored = store_all(rt, alloc, import, requests, reading, store, &mut came);
     let rows = rows_of(requests);
+    progress.begin("rows", rows);
+    let stored = store_all(rt, import, requests, reading, store, &mut came, progress);
+    progress.hide();
     let text = count_text(alloc, import.file, came.rows, rows, came.requests)?;
     print(rt, text.as_str())?;
     stored?;
