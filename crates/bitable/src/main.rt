@@ -1,12 +1,14 @@
-//! The program `bitable`: commands of the crate `shell` over files and the standard streams.
+//! The program `bitable`: commands of the crates `shell` and `console` over files, folders and the standard streams.
 #![tactic(auto)]
 
 use causes::{Name, Trouble};
+use clap::Error;
 use clap::error::ErrorKind;
-use console::{Fault, Stop as Ended};
+use console::Stop as Ended;
 use diagnosis::{Subject, diagnose};
 use fault::Refusal;
 use forms::{Canvas, Drawing, Form, Look};
+use progressline::{Progress, ProgressLine, Uncovered};
 use scriptlanes::{Drawing as RunDrawing, Sheet, Span};
 use shell::audit::run_audit;
 use shell::command::{Audit, Beliefs, Check, Command, Lanes, Live, Sim};
@@ -24,7 +26,7 @@ use std::rt::{Env, Files};
 use std::sync::Wait;
 use std::thread::Threads;
 use std::{env, fs, io};
-use storecommands::is_asked;
+use storecommands::Command as StoreCommand;
 
 const SIM: &str = "playing the script";
 
@@ -33,13 +35,34 @@ const TERMINAL: usize = 80;
 
 fn main(rt: HostRuntime) -> ExitCode {
     match words_given(&rt) {
-        Ok(Some(words)) if is_of_store(&rt, words.as_slice()) => {
-            end_store(&rt, run_store(&rt, words.as_slice()))
-        }
-        Ok(Some(words)) => end(&rt, run(&rt, &rt, words.as_slice())),
+        Ok(Some(words)) => do_asked(&rt, words.as_slice()),
         Ok(None) => end(&rt, refuse_words(&rt)),
         Err(stop) => end(&rt, Err(stop)),
     }
+}
+
+// Does what a command line asks for.
+fn do_asked(rt: &HostRuntime, words: &[String]) -> ExitCode {
+    match read_command(rt.alloc(), words) {
+        Ok(Command::Store(command)) => end_store(rt, console::run(rt, command)),
+        Ok(Command::Audit(asked)) => judge(rt, &asked),
+        Ok(Command::Beliefs(beliefs)) => draw_beliefs(rt, beliefs),
+        Ok(Command::PlayInput) => end(rt, play_input(rt)),
+        Ok(Command::Sim(sim)) => end(rt, play_sim(rt, rt, sim)),
+        Ok(Command::Live(live)) => end(rt, play_live(rt, rt, live)),
+        Ok(Command::Lanes(lanes)) => end(rt, draw_run(rt, rt, lanes)),
+        Ok(Command::Check(check)) => end(rt, check_file(rt, check)),
+        Err(error) => end(rt, tell_of_words(rt, error)),
+    }
+}
+
+// Prints the help that a command line asks for, or why it is refused.
+fn tell_of_words<'a, R: Print + Eprint>(rt: &R, error: Error) -> Result<u8, Stop<'a>> {
+    if error.kind() == ErrorKind::OutOfMemory {
+        return Err(Stop::from(Refusal::NoMemory));
+    }
+    error.print(rt)?;
+    Ok(if error.use_stderr() { 2 } else { 0 })
 }
 
 // Whether this is the name of a folder.
@@ -50,36 +73,29 @@ fn is_folder(rt: &HostRuntime, name: &str) -> bool {
     }
 }
 
-// Whether a command line is one over a store's folder: `audit` is, where it has one name and that is the name of a folder.
-fn is_of_store(rt: &HostRuntime, words: &[String]) -> bool {
-    let Some(word) = words.get(1) else {
-        return false;
-    };
-    if !is_asked(word.as_str()) {
-        return false;
-    }
-    if word.as_str() != "audit" {
-        return true;
-    }
-    match words.get(2) {
-        Some(name) if words.len() == 3 => is_folder(rt, name.as_str()),
-        _ => false,
+// Judges the store in a folder, where nothing but the name of a folder is given, else flights.
+fn judge(rt: &HostRuntime, asked: &Audit<'_>) -> ExitCode {
+    match asked.lone_name() {
+        Some(name) if is_folder(rt, name) => {
+            end_store(rt, console::run(rt, StoreCommand::Audit(name)))
+        }
+        _ => end(rt, audit(rt, rt, asked)),
     }
 }
 
-// Does what a command line over a store's folder asks for.
-fn run_store<'a>(rt: &HostRuntime, words: &'a [String]) -> Result<u8, Ended<'a>> {
-    match storecommands::read_command(rt.alloc(), words) {
-        Ok(command) => console::run(rt, command),
-        Err(error) if error.kind() == ErrorKind::OutOfMemory => Err(Ended {
-            fault: Fault::from(Refusal::NoMemory),
-            cause: None,
-        }),
-        Err(error) => match error.print(rt) {
-            Ok(()) => Ok(if error.use_stderr() { 2 } else { 0 }),
-            Err(_) => Ok(1),
-        },
+// Draws what was ever believed, as the store in a folder answers a question, or as a script's last answer says.
+fn draw_beliefs(rt: &HostRuntime, beliefs: Beliefs<'_>) -> ExitCode {
+    match beliefs.query {
+        Some(query) => draw_of_store(rt, beliefs.script, query, beliefs.svg),
+        None => end(rt, draw(rt, beliefs)),
     }
+}
+
+// INTEGRATE: what `console` does for `bitable beliefs DIR QUERY [--svg FILE]` is called here.
+fn draw_of_store(rt: &HostRuntime, dir: &str, query: &str, svg: Option<&str>) -> ExitCode {
+    let _ = (query, svg);
+    let _ = eprintln!(rt; "{dir}: beliefs of a store are not drawn yet");
+    ExitCode::FAILURE
 }
 
 // The exit status; where the command was refused, why: the refusal, below it what is known of the file or the folder, and what to do.
@@ -110,27 +126,6 @@ fn end(rt: &impl Eprint, ended: Result<u8, Stop<'_>>) -> ExitCode {
         let _ = eprintln!(rt; "{cause}");
     }
     ExitCode::FAILURE
-}
-
-fn run<'a, R>(rt: &R, host: &HostRuntime, words: &'a [String]) -> Result<u8, Stop<'a>>
-where
-    R: AllocGlobal + Env + Files + Input + Print + Eprint,
-    R: Wait + Threads + Copy + Send + Drop + 'static,
-{
-    match read_command(rt.alloc(), words) {
-        Ok(Command::PlayInput) => { script_ended(play(rt, &mut rt.reader()), Name::Input, SIM) }
-        Ok(Command::Sim(sim)) => play_sim(rt, host, sim),
-        Ok(Command::Beliefs(beliefs)) => draw(rt, beliefs),
-        Ok(Command::Lanes(lanes)) => draw_run(rt, host, lanes),
-        Ok(Command::Live(live)) => play_live(rt, host, live),
-        Ok(Command::Audit(asked)) => audit(rt, &asked),
-        Ok(Command::Check(check)) => check_file(rt, check),
-        Err(error) if error.kind() == ErrorKind::OutOfMemory => Err(Stop::from(Refusal::NoMemory)),
-        Err(error) => {
-            error.print(rt)?;
-            Ok(if error.use_stderr() { 2 } else { 0 })
-        }
-    }
 }
 
 // The words of the command line, the program's name first, or none where one is not UTF-8.
@@ -168,6 +163,11 @@ fn script_ended<'a>(
     }
 }
 
+// Plays the script on standard input.
+fn play_input<'a, R: AllocGlobal + Input + Print>(rt: &R) -> Result<u8, Stop<'a>> {
+    script_ended(play(rt, &mut rt.reader()), Name::Input, SIM)
+}
+
 // Plays the script that the reader has, on standard output.
 fn play<'a, R: AllocGlobal + Print, I: Read>(rt: &R, reader: &mut I) -> Result<u8, Stop<'a>> {
     let alloc: Global = rt.alloc();
@@ -203,6 +203,20 @@ fn columns<R: AllocGlobal + Env>(rt: &R) -> usize {
     }
 }
 
+// How outputs are shown in this form: tables at a terminal in its columns.
+fn look_of<R: AllocGlobal + Env>(rt: &R, host: &HostRuntime, form: Form, is_quiet: bool) -> Look {
+    let width = if host.stdout().is_terminal() {
+        Some(columns(rt))
+    } else {
+        None
+    };
+    Look {
+        form,
+        is_quiet,
+        width,
+    }
+}
+
 // Plays a script as it is asked for.
 fn play_sim<'a, R>(rt: &R, host: &HostRuntime, sim: Sim<'a>) -> Result<u8, Stop<'a>>
 where
@@ -216,15 +230,7 @@ where
     let ended = if form == Form::Lines && !sim.is_quiet && !sim.is_strict {
         play(rt, &mut script)
     } else {
-        let look = Look {
-            form,
-            is_quiet: sim.is_quiet,
-            width: if host.stdout().is_terminal() {
-                Some(columns(rt))
-            } else {
-                None
-            },
-        };
+        let look = look_of(rt, host, form, sim.is_quiet);
         show(rt, host, look, sim.is_strict, &mut script)
     };
     script_ended(ended, Name::Given(sim.script), SIM)
@@ -357,29 +363,55 @@ where
     }
 }
 
+// What shows on standard error, where that is a terminal, how far a long work is.
+fn progress_on(host: &HostRuntime) -> ProgressLine<'_, HostRuntime> {
+    ProgressLine::new(host, host.stderr().is_terminal())
+}
+
 // Plays a script on nodes that run on threads of their own.
 fn play_live<'a, R>(rt: &R, host: &HostRuntime, live: Live<'a>) -> Result<u8, Stop<'a>>
 where
-    R: AllocGlobal + Files + Print + Eprint + Wait + Threads + Copy + Send + Drop + 'static,
+    R: AllocGlobal + Env + Files + Print + Eprint,
+    R: Wait + Threads + Copy + Send + Drop + 'static,
 {
+    let name = live.format.unwrap_or("lines");
+    let Some(form) = form_of(name) else {
+        return refuse_form(rt, name);
+    };
     let file = Name::Given(live.script);
     let mut script = open_script(rt, live.script)?;
+    let look = look_of(rt, host, form, false);
     let ended = match BufWriter::new(rt.alloc(), io::writer(rt)) {
-        Ok(mut writer) => run_live(rt, host, live, &mut script, &mut writer),
+        Ok(mut writer) => {
+            run_live(
+                rt,
+                host,
+                live,
+                look,
+                &mut script,
+                &mut writer,
+                &progress_on(host),
+            )
+        }
         Err(_) => Err(Stop::from(Refusal::NoMemory)),
     };
     script_ended(ended, file, "playing the script with live")
 }
 
-// The texts of the files of these names.
-fn read_flights<'a, R: AllocGlobal + Files>(
+// The texts of the files of these names. How many are read is told to who asks for it.
+fn read_flights<'a, R: AllocGlobal + Files, Q: Progress>(
     rt: &R,
     names: &[&'a str],
+    progress: &Q,
 ) -> Result<Vec<String>, Stop<'a>> {
     let mut texts = Vec::new(rt.alloc());
+    progress.begin("files", names.len());
     for name in names {
         match fs::read_to_string(rt, *name) {
-            Ok(text) => texts.push(text)?,
+            Ok(text) => {
+                texts.push(text)?;
+                progress.tell(texts.len());
+            }
             Err(error) => {
                 let (file, tried) = (Name::Given(*name), "reading the flight");
                 return Err(Stop::from(Trouble::of_system(file, tried, Refusal::BadFlight, error)));
@@ -389,17 +421,37 @@ fn read_flights<'a, R: AllocGlobal + Files>(
     Ok(texts)
 }
 
+// How many steps flights have, each in a line of its own.
+fn steps_in(texts: &[String]) -> usize {
+    let mut steps: usize = 0;
+    for text in texts {
+        let lines = text.as_str().split('\n');
+        steps = steps.saturating_add(lines.filter(|line| line.starts_with("step ")).count());
+    }
+    steps
+}
+
 // Judges flights in files, as it is asked for.
-fn audit<'a, R: AllocGlobal + Files + Print>(rt: &R, asked: &Audit<'a>) -> Result<u8, Stop<'a>> {
+fn audit<'a, R>(rt: &R, host: &HostRuntime, asked: &Audit<'a>) -> Result<u8, Stop<'a>>
+where
+    R: AllocGlobal + Files + Print,
+{
     let alloc: Global = rt.alloc();
     let names = asked.files.as_slice();
-    let texts = read_flights(rt, names)?;
-    let mut writer = io::writer(rt);
+    let progress = progress_on(host);
+    let read = read_flights(rt, names, &progress);
+    progress.hide();
+    let texts = read?;
+    if progress.is_on() {
+        progress.judge(steps_in(texts.as_slice()));
+    }
+    let mut writer = Uncovered::new(io::writer(rt), &progress);
     let ended = if asked.is_report || asked.is_json {
         run_report(alloc, names, texts.as_slice(), asked.is_json, &mut writer)
     } else {
         run_audit(alloc, texts.as_slice(), &mut writer)
     };
+    progress.hide();
     ended.map_err(|fault| Stop::of_flights(alloc, fault, names, texts.as_slice()))
 }
 

@@ -3,7 +3,7 @@ use crate::input::Input;
 use crate::printing::{counted, name_of, print};
 use crate::session::{Place, Session};
 use crate::stop::{Fault, Stop};
-use crate::transfers::carry_out;
+use crate::transfers::{carry_out, progress_on};
 use causes::{Name, Trouble};
 use fault::Refusal;
 use model::member::Member;
@@ -260,7 +260,7 @@ fn put_missing(missing: &[Member], text: &mut String) -> Result<(), AllocError> 
 
 // Judges the store in a folder. The exit status is 0 where the audit says yes, else 1.
 fn run_audit(rt: &HostRuntime, alloc: Global, dir: &str) -> Result<u8, Fault> {
-    match storefolder::audit(rt, alloc, dir)? {
+    match storefolder::audit(rt, alloc, dir, &progress_on(rt))? {
         Verdict::Yes(audited) => {
             let lines = yes_lines(alloc, &audited)?;
             print(rt, lines.as_str())?;
@@ -305,7 +305,7 @@ fn decided_line(alloc: Global, decided: &Decided) -> Result<String, AllocError> 
 
 // Lists the decided requests of the store in a folder.
 fn run_log(rt: &HostRuntime, alloc: Global, dir: &str) -> Result<u8, Fault> {
-    let play = storefolder::replay(rt, alloc, dir)?;
+    let play = storefolder::replay(rt, alloc, dir, &progress_on(rt))?;
     for decided in play.decided() {
         let line = decided_line(alloc, decided)?;
         print(rt, line.as_str())?;
@@ -321,7 +321,7 @@ fn run_flights<'a>(
     out: &'a str,
 ) -> Result<u8, Stop<'a>> {
     let tried = "writing the flights";
-    match storefolder::flights(rt, alloc, dir, out) {
+    match storefolder::flights(rt, alloc, dir, out, &progress_on(rt)) {
         Ok(()) => Ok(0),
         Err(StoreRefusal::NotEmpty) => {
             Err(Stop::of(

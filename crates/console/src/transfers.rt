@@ -1,9 +1,16 @@
 //! Imports and exports over a store's folder.
+use progressline::{Progress, ProgressLine};
 use sqlite::Alter;
 use std::alloc::Global;
+use std::io::IsTerminal;
 use store::Device;
 use storefolder::{Kept, Opened, reading_of};
 use transfer::{Fault, Order, Work, look_at, work_on};
+
+/// What shows on standard error, where that is a terminal, how far a long work is.
+pub(crate) fn progress_on(rt: &HostRuntime) -> ProgressLine<'_, HostRuntime> {
+    ProgressLine::new(rt, rt.stderr().is_terminal())
+}
 
 // Looks at an order before the store is opened: none where its file has a fault, which was told.
 fn work_of<'a>(
@@ -16,27 +23,30 @@ fn work_of<'a>(
 }
 
 // Does it with a store that is open: what came of it, and the store.
-fn work_at<S: Alter + Drop, J: Device>(
+fn work_at<S: Alter + Drop, J: Device, Q: Progress>(
     rt: &HostRuntime,
     alloc: Global,
     work: &Work<'_>,
     reading: i64,
     opened: Opened<Kept<S, J>>,
+    progress: &Q,
 ) -> (Result<u8, Fault>, Opened<Kept<S, J>>) {
     let mut opened = opened;
-    let done = work_on(rt, alloc, work, reading, &mut opened.store);
+    let done = work_on(rt, alloc, work, reading, &mut opened.store, progress);
     (done, opened)
 }
 
 /// Imports or exports over the store in a folder, on standard output, and gives the exit status: 0, or 1 where not all rows of a file
-/// are stored. The whole file is read before the store is opened: where it has a fault, that is told, and the store is not opened.
+/// are stored. The whole file is read before the store is opened: where it has a fault, that is told, and the store is not opened. At a
+/// terminal standard error has how many rows are stored, as long as that takes.
 pub(crate) fn carry_out(rt: &HostRuntime, alloc: Global, order: Order<'_>) -> Result<u8, Fault> {
     let Some(work) = work_of(rt, alloc, order)? else {
         return Ok(1);
     };
     let reading = reading_of(rt, None)?;
     let opened = storefolder::open(rt, alloc, order.dir(), true, reading)?;
-    let (done, opened) = work_at(rt, alloc, &work, reading, opened);
+    let progress = progress_on(rt);
+    let (done, opened) = work_at(rt, alloc, &work, reading, opened, &progress);
     let closed = storefolder::close(opened);
     let status = done?;
     closed?;

@@ -7,9 +7,11 @@ mod form;
 mod play;
 mod shown;
 mod tally;
+mod texts;
 
 pub use drawn::{Canvas, Drawing, draw_answer, draw_script};
 pub use form::{Form, Look};
-pub use play::{asked_by, play_shown};
+pub use play::{asked_by, asked_in, play_shown};
 pub use shown::Shown;
 pub use tally::Tally;
+pub use texts::{outcome_in, output_in};

@@ -64,7 +64,8 @@ pub(crate) fn time_of(alloc: Global, schema: &Schema, text: &str) -> Option<Syst
     }
 }
 
-fn asked_in(alloc: Global, schema: &Schema, line: &Line) -> Asked {
+/// What a line's question asks about: one instant, or those up to one; of another line it is one.
+pub fn asked_in(alloc: Global, schema: &Schema, line: &Line) -> Asked {
     match line {
         Line::Ask { text, .. } => asked_by(alloc, schema, text.as_str()),
         _ => Asked::AsOf,

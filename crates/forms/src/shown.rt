@@ -1,18 +1,13 @@
 //! A printer that shows outputs in a form, and counts what is refused.
-ghost use Rattle.std.specs.Prelude.{None, IfErr};
+ghost use Rattle.std.specs.Prelude.{None, ⊤, IfErr};
 ghost use Rattle.script.specs.Faults.{IsPlayFault};
 
 use crate::form::{Form, Look};
 use crate::tally::Tally;
-use answer::Answer;
+use crate::texts::output_in;
 use lines::line::Line;
-use looks::{
-    Asked, answer_as_csv, answer_as_json, answer_as_table, refused_as_json, sent_as_json,
-    told_as_json,
-};
-use model::member::Member;
+use looks::Asked;
 use script::printer::Printer;
-use script::printing::Printed;
 use script::run_fault::RunFault;
 use std::alloc::Global;
 use std::io;
@@ -114,54 +109,15 @@ impl<W: io::Write + Drop, E: io::Write + Drop> Shown<W, E> {
     fn show(&mut self, output: &Output) -> Result<(), RunFault>
         ensures { IfErr result IsPlayFault }
     {
-        match self.look.form {
-            Form::Json => self.show_object(output),
-            form => match output {
-                Output::Answered(node, answer) => self.show_answer(form, *node, answer),
-                output => self.show_line(form, output),
-            },
+        let (look, asked, is_next) = (self.look, self.asked(), self.has_answered);
+        let text = output_in(self.alloc, look, asked, is_next, output)?;
+        let is_answer = matches!(output, Output::Answered(_, _));
+        if look.form == Form::Csv && !is_answer {
+            self.beside.write_all(text.as_slice())?;
+        } else {
+            self.writer.write_all(text.as_slice())?;
         }
-    }
-
-    fn show_object(&mut self, output: &Output) -> Result<(), RunFault>
-        ensures { IfErr result IsPlayFault }
-    {
-        let alloc = self.alloc;
-        let text = match output {
-            Output::Sent(place, message) => sent_as_json(alloc, *place, message)?,
-            Output::Applied(node, told) => told_as_json(alloc, *node, told)?,
-            Output::Refused(node, refusal) => refused_as_json(alloc, *node, refusal)?,
-            Output::Answered(node, answer) => answer_as_json(alloc, *node, answer)?,
-        };
-        self.writer.write_all(text.as_slice())?;
-        Ok(())
-    }
-
-    fn show_answer(&mut self, form: Form, node: Member, answer: &Answer) -> Result<(), RunFault>
-        ensures { IfErr result IsPlayFault }
-    {
-        let alloc = self.alloc;
-        let is_next = self.has_answered;
-        self.has_answered = true;
-        match form {
-            Form::Csv => {
-                if is_next {
-                    self.writer.write_all(b"\r\n")?;
-                }
-                self.writer
-                    .write_all(answer_as_csv(alloc, answer)?.as_slice())?;
-            }
-            Form::Table => {
-                let asked = self.asked();
-                let text = answer_as_table(alloc, node, answer, asked, self.look.width)?;
-                self.writer.write_all(text.as_slice())?;
-            }
-            _ => {
-                let line = format!(in alloc; "node {node} answer\n")?;
-                self.writer.write_all(line.as_bytes())?;
-                answertext::write_answer(answer, &mut self.writer)?;
-            }
-        }
+        self.has_answered = is_next || is_answer;
         Ok(())
     }
 
@@ -171,24 +127,14 @@ impl<W: io::Write + Drop, E: io::Write + Drop> Shown<W, E> {
             _ => Asked::AsOf,
         }
     }
-
-    // Of an output that is no answer.
-    fn show_line(&mut self, form: Form, output: &Output) -> Result<(), RunFault>
-        ensures { IfErr result IsPlayFault }
-    {
-        let line = Printed(output).to_string(self.alloc)?;
-        match form {
-            Form::Csv => self.beside.write_all(line.as_bytes())?,
-            _ => self.writer.write_all(line.as_bytes())?,
-        }
-        Ok(())
-    }
 }
 
 impl<W: io::Write + Drop, E: io::Write + Drop> Printer for Shown<W, E> {
     ghost printed = { λ shown. None };
 
-    fn print(&mut self, output: &Output) -> Result<(), RunFault> {
+    ghost fails = { λ before error after. ⊤ };
+
+    fn print(&mut self, _alloc: Global, output: &Output) -> Result<(), RunFault> {
         self.count(output)?;
         match output {
             Output::Sent(_, _) if self.look.is_quiet => Ok(()),

@@ -5,3 +5,4 @@ pub mod Places
 pub mod Settled
 pub mod Whole
 pub mod Machine
+pub mod Pages

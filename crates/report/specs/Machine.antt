@@ -3,6 +3,7 @@ use Rattle.std.specs.Prelude.{ℕ, ◌+◌, List, [], ◌∷◌, ◌++◌, map, 
 use Rattle.std.specs.List.{flat_map}
 use Rattle.std.specs.declared.string.String.{String}
 use Rattle.std.specs.declared.alloc.Global.{Global}
+use Rattle.beginnings.specs.Lines.{line_text}
 use Rattle.hex.specs.Hex.{encode_lower}
 use Rattle.json.specs.Token.{Token, begin_array, end_array, key, string, number, null}
 use Rattle.period.specs.Instant.{instant_text}
@@ -127,8 +128,12 @@ settled_tokens s = object_at (codes "decided") (counts (codes "entries") s.entri
 unfoldable pub answers_tokens : ℕ → List ℕ → List Token
 answers_tokens count digest = object_at (codes "answers") (counts (codes "count") count ++ says (codes "sha256") (encode_lower digest))
 
+-- the line that is kept for a later audit, and the seal
+unfoldable pub kept_tokens : Report → List Token
+kept_tokens r = says (codes "since") (line_text r.contents.beginnings.items) ++ says (codes "seal") (encode_lower r.seal)
+
 unfoldable pub last_tokens : Report → List Token
-last_tokens r = settled_tokens r.settled ++ (answers_tokens r.contents.given r.contents.answers ++ says (codes "seal") (encode_lower r.seal))
+last_tokens r = settled_tokens r.settled ++ (answers_tokens r.contents.given r.contents.answers ++ kept_tokens r)
 
 -- the whole
 unfoldable pub report_tokens : Report → List Token

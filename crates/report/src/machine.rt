@@ -1,12 +1,13 @@
 //! A report as JSON.
 ghost use Rattle.std.specs.Prelude.{◌≡◌, ◌++◌, ◌+◌, ◌∷◌, [], Some, codes, map, option_map, string_bytes, IfOk, OnOk};
 ghost use Rattle.std.specs.List.{flat_map};
+ghost use Rattle.beginnings.specs.Lines.{line_text};
 ghost use Rattle.fault.specs.Refusal.{shown, text_of};
 ghost use Rattle.hex.specs.Hex.{encode_lower};
 ghost use Rattle.json.specs.Token.{key, string};
-ghost use Rattle.looks.specs.Objects.{Adds, line_of};
-ghost use Rattle.looks.specs.Outcomes.{counts, says, refusal_tokens};
-ghost use Rattle.report.specs.Machine.{answers_tokens, array_at, difference_tokens, digested_tokens, earlier_tokens, extent_tokens, file_tokens, first_tokens, judged_tokens, last_tokens, made_tokens, mark_tokens, member_tokens, members_tokens, name_at, optional_number, optional_text, report_tokens, requests_tokens, settled_tokens, stamp_tokens, told_tokens, verdict_tokens, what_tokens, word_of};
+ghost use Rattle.looks.specs.Objects.{Adds, line_of as object_line};
+ghost use Rattle.looks.specs.Outcomes.{counts, object, says, refusal_tokens};
+ghost use Rattle.report.specs.Machine.{answers_tokens, array_at, difference_tokens, digested_tokens, earlier_tokens, extent_tokens, file_tokens, first_tokens, judged_tokens, kept_tokens, last_tokens, made_tokens, mark_tokens, member_tokens, members_tokens, name_at, optional_number, optional_text, report_tokens, requests_tokens, settled_tokens, stamp_tokens, told_tokens, verdict_tokens, what_tokens, word_of};
 
 use crate::counts::Counts;
 use crate::difference::{Difference, Differs};
@@ -14,7 +15,8 @@ use crate::digests::Digested;
 use crate::earlier::Earlier;
 use crate::files::Place;
 use crate::settled::Settled;
-use crate::whole::{Held, Report};
+use crate::whole::{Contents, Held, Report};
+use beginnings::line::line_of;
 use fault::Refusal;
 use json::Writer;
 use model::stamp::Stamp;
@@ -23,13 +25,36 @@ use std::alloc::{AllocError, Global};
 
 /// A report as one JSON object on a line; its members are those of docs/FORMATS.md, "Report". The error is want of memory.
 pub fn report_as_json(alloc: Global, report: &Report) -> Result<Vec<u8>, AllocError>
-    ensures { IfOk result (λ text. text.items ≡ line_of (report_tokens report.now)) }
+    ensures { IfOk result (λ text. text.items ≡ object_line (report_tokens report.now)) }
 {
     let mut writer = Writer::new(Vec::new(alloc));
     put_report(alloc, report, &mut writer)?;
     let mut text = writer.into_inner();
     text.push(b'\n')?;
     Ok(text)
+}
+
+/// A verdict alone as one JSON object on a line, in the words of a report. The error is want of memory.
+pub fn verdict_as_json(alloc: Global, fault: Option<AuditFault>) -> Result<Vec<u8>, AllocError>
+    ensures { IfOk result (λ text. text.items ≡ object_line (object (verdict_tokens fault))) }
+{
+    let mut writer = Writer::new(Vec::new(alloc));
+    put_verdict_alone(alloc, fault, &mut writer)?;
+    let mut text = writer.into_inner();
+    text.push(b'\n')?;
+    Ok(text)
+}
+
+fn put_verdict_alone(
+    alloc: Global,
+    fault: Option<AuditFault>,
+    writer: &mut Writer,
+) -> Result<(), AllocError>
+    ensures { Adds result writer.old writer.new (object (verdict_tokens fault)) }
+{
+    writer.begin_object()?;
+    put_verdict(alloc, fault, writer)?;
+    writer.end_object()
 }
 
 #[tactic(auto, unfolding(crate::specs::Machine::report_tokens))]
@@ -389,14 +414,30 @@ fn put_tables(names: &[String], writer: &mut Writer) -> Result<(), AllocError>
     writer.end_array()
 }
 
-// What was decided and answered, and the seal.
+// What was decided and answered, and what is kept.
 #[tactic(auto, unfolding(crate::specs::Machine::last_tokens))]
 fn put_last(alloc: Global, report: &Report, writer: &mut Writer) -> Result<(), AllocError>
     ensures { Adds result writer.old writer.new (last_tokens report.now) }
 {
     put_settled(alloc, &report.settled, writer)?;
     put_answers(alloc, report, writer)?;
+    put_kept(alloc, report, writer)
+}
+
+// The line that is kept for a later audit, and the seal.
+#[tactic(auto, unfolding(crate::specs::Machine::kept_tokens))]
+fn put_kept(alloc: Global, report: &Report, writer: &mut Writer) -> Result<(), AllocError>
+    ensures { Adds result writer.old writer.new (kept_tokens report.now) }
+{
+    put_since(alloc, &report.contents, writer)?;
     put_digest(alloc, "seal", &report.seal, writer)
+}
+
+fn put_since(alloc: Global, contents: &Contents, writer: &mut Writer) -> Result<(), AllocError>
+    ensures { Adds result writer.old writer.new (says (codes "since") (line_text contents.now.beginnings.items)) }
+{
+    let line = line_of(alloc, contents.beginnings.as_slice())?;
+    put_text("since", line.as_str(), writer)
 }
 
 #[tactic(auto, unfolding(crate::specs::Machine::answers_tokens))]

@@ -1,9 +1,14 @@
 //! A report as a text for people.
+ghost use Rattle.std.specs.Prelude.{◌≡◌, ◌++◌, ℕ, List, IfOk, OnOk, string_bytes};
+ghost use Rattle.report.specs.Pages.{kept_lines, verdict_word};
+
 use crate::difference::{Difference, Differs};
 use crate::earlier::Earlier;
 use crate::whole::{Held, Report};
+use beginnings::line::line_of;
 use flight::flight::Version;
 use model::stamp::Stamp;
+use moments::AuditFault;
 use std::alloc::{AllocError, Global};
 
 const YES: &str = "What a yes means, of these files
@@ -16,8 +21,9 @@ const YES: &str = "What a yes means, of these files
 What it does not mean
   Not that the files are the first ones: whoever makes all of them anew, each
   fitting the others, makes another run. Compare the last line with one that you
-  kept. Not that clocks were right, or that what people typed was true. Not that
-  nothing was asked or told beside what is recorded.
+  kept of the same files, and give the line before it to --since once there is
+  more in them. Not that clocks were right, or that what people typed was true.
+  Not that nothing was asked or told beside what is recorded.
 ";
 
 const NO: &str = "How to read it
@@ -28,7 +34,16 @@ const NO: &str = "How to read it
 
 /// A report as a text: what stands behind the line of the verdict. Its layout is that of docs/FORMATS.md, "Report". The error is
 /// want of memory.
-pub fn page_of(alloc: Global, report: &Report) -> Result<String, AllocError> {
+pub fn page_of(alloc: Global, report: &Report) -> Result<String, AllocError>
+    ensures { IfOk result (λ text. (front : List ℕ) × (string_bytes text ≡ front ++ kept_lines report.now)) }
+{
+    let mut text = front_of(alloc, report)?;
+    put_kept(alloc, report, &mut text)?;
+    Ok(text)
+}
+
+// All but the last lines.
+fn front_of(alloc: Global, report: &Report) -> Result<String, AllocError> {
     let mut text = String::new(alloc);
     text.push_str("\n")?;
     if let Some(difference) = &report.difference {
@@ -43,7 +58,6 @@ pub fn page_of(alloc: Global, report: &Report) -> Result<String, AllocError> {
     if report.fault.is_none() {
         text.push_str(YES)?;
     }
-    put_seal(alloc, report, &mut text)?;
     Ok(text)
 }
 
@@ -224,12 +238,25 @@ fn put_settled(alloc: Global, report: &Report, text: &mut String) -> Result<(), 
     write!(text, "  log      {log}\n  answers  {answers}\n")
 }
 
-fn put_seal(alloc: Global, report: &Report, text: &mut String) -> Result<(), AllocError> {
-    let verdict = if report.fault.is_none() { "yes" } else { "no" };
+fn verdict_word(fault: Option<AuditFault>) -> &'static str
+    ensures { result.now ≡ verdict_word fault }
+{
+    match fault {
+        None => "yes",
+        Some(_) => "no",
+    }
+}
+
+// The last lines.
+fn put_kept(alloc: Global, report: &Report, text: &mut String) -> Result<(), AllocError>
+    ensures { OnOk result (string_bytes text.new ≡ string_bytes text.old ++ kept_lines report.now) }
+{
+    let since = line_of(alloc, report.contents.beginnings.as_slice())?;
+    let verdict = verdict_word(report.fault);
     let seal = hex::encode(alloc, report.seal.as_slice())?;
     write!(
         text,
-        "To keep, and to compare with another audit\n  1 {verdict} {seal}\n"
+        "To keep, and to compare with another audit\n  since {since}\n  1 {verdict} {seal}\n"
     )
 }
 

@@ -1,5 +1,6 @@
 //! A report.
 ghost use Rattle.std.specs.Prelude.{◌≡◌, ◌++◌, ◌<◌, IfOk, OnOk, length, map, string_bytes, sum_by};
+ghost use Rattle.beginnings.specs.Beginnings.{beginning_of};
 ghost use Rattle.flight.specs.Contents.{in_flight};
 ghost use Rattle.report.specs.Whole.{held_of, schema_in, seal_of, sealed_files, verdict_text};
 ghost use Rattle.report.specs.Digests.{all_said, digested};
@@ -11,6 +12,8 @@ use crate::difference::Difference;
 use crate::digests::{Digested, answers_digest};
 use crate::files::File;
 use crate::settled::Settled;
+use beginnings::Beginning;
+use beginnings::group::beginnings_of;
 use fault::Refusal;
 use flight::flight::{Flight, Version};
 use moments::AuditFault;
@@ -38,6 +41,8 @@ pub struct Contents {
     pub given: usize,
     /// The digest of all questions and answers.
     pub answers: [u8; 32],
+    /// What is kept of each flight for a later audit.
+    pub beginnings: Vec<Beginning>,
 }
 
 fn held_of(alloc: Global, flight: &Flight) -> Result<Held, AllocError>
@@ -78,6 +83,7 @@ impl Contents {
         ensures schema { IfOk result (λ c. c.schema ≡ digested (schema_in flights.now)) }
         ensures given { IfOk result (λ c. c.given ≡ sum_by (λ f. length f.answers.items) flights.now) }
         ensures answers { IfOk result (λ c. c.answers ≡ sha256 (all_said (map in_flight flights.now))) }
+        ensures beginnings { IfOk result (λ c. c.beginnings.items ≡ map (λ f. beginning_of (in_flight f)) flights.now) }
     {
         let first = &flights[0];
         Ok(Contents {
@@ -86,6 +92,7 @@ impl Contents {
             nodes: all_held(alloc, flights)?,
             given: given_in(flights)?,
             answers: answers_digest(flights),
+            beginnings: beginnings_of(alloc, flights)?,
         })
     }
 }

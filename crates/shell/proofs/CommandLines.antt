@@ -1,25 +1,14 @@
 -- Lemmas on the program's command line as clap reads it.
-use Rattle.std.proofs.Common.{◌≡◌, ◌∙◌, ◌<◌, ◌^◌, ◌||◌, ◌⊎◌, ℕ, List, [], true, false, Option, Some, None, Result, Ok, Err, option_map, ap, ap₂, sym, subst, refl, inl, inr}
-use Rattle.std.specs.Str.Parse.{ParsesUnsigned, digits_value, without_leading_plus}
-use Rattle.clap.specs.Built.{AddsArg, AddsSubcommand}
-use Rattle.std.specs.Prelude.{Box, IfErr, IfNone, IfSome, IsErrAnd}
-use Rattle.std.specs.Box.{box_value}
+use Rattle.std.proofs.Common.{◌≡◌, ◌∙◌, ◌⊎◌, List, [], true, Option, Some, None, Result, Ok, Err, ap, sym, subst, refl, inl, inr}
+use Rattle.std.specs.Prelude.{IfErr, IfNone, IfSome, IsErrAnd}
 use Rattle.clap.specs.Faults.{fault_of, is_simple_and_free}
 use Rattle.clap.specs.Kinds.{HasKind}
-use Rattle.clap.specs.Matches.{ReadsOne, one_text}
 use Rattle.clap.proofs.OnLiterals.{clap_on_literals}
 use Rattle.clap.specs.declared.error.Error.{Error}
-use Rattle.clap.specs.Simple.{App, HasMatchesOf, app_of, is_simple, subcommand_of, subcommand_rows, subcommand_rows_of, with_rule, with_subcommand}
-use Rattle.clap.specs.Walk.{Row, Rule, Text, one_of, rule_of, rows_of}
-use Rattle.clap.proofs.WalkLemmas.{one_text-rows}
-use Rattle.clap.specs.declared.builder.arg.Arg.{Arg}
-use Rattle.clap.specs.declared.builder.command.Command.{Command}
-use Rattle.clap.specs.declared.builder.command.Command.TheViews.{out-Command}
-use Rattle.clap.specs.declared.parser.matches.SubCommand.{SubCommand}
+use Rattle.clap.specs.Simple.{App, HasMatchesOf, is_simple, subcommand_of, subcommand_rows_of}
+use Rattle.clap.specs.Walk.{Text}
 use Rattle.clap.specs.declared.parser.matches.ArgMatches.{ArgMatches}
-use Rattle.clap.specs.declared.parser.matches.ArgMatches.TheViews.{out-SubCommand}
-use Rattle.clap.specs.declared.parser.matches.Found.{Found}
-use Rattle.shell.specs.CommandLine.{AsksFor, GivesLine, GivesNumber, bitable_app}
+use Rattle.shell.specs.CommandLine.{AsksFor, bitable_app}
 use Rattle.shell.specs.declared.command.Command.{Command as Asked}
 
 is_free : is_simple_and_free bitable_app ≡ true
@@ -29,57 +18,6 @@ is_free = refl
 is_plain : is_simple bitable_app ≡ true
 unfolding clap_on_literals
 is_plain = refl
-
--- a command with one more argument, which is not global
-pub with_arg : (old : Command) (a : Arg) (new : Command) (app : App) (r : Rule) → AddsArg old a new
-    → (app_of old ≡ app) × ((out-Command old).has_globals ≡ false) → (rule_of a ≡ r) × (a.global ≡ false)
-    → (app_of new ≡ with_rule app r) × ((out-Command new).has_globals ≡ false)
-with_arg old a new app r added before rule = (
-  added.shape rule.1 ∙ ap₂ with_rule before.0 rule.0,
-  added.globals ∙ (ap (λ b. b || a.global) before.1 ∙ ap (λ b. false || b) rule.1),
-)
-
--- a command with one more subcommand, which has no global argument
-pub with_sub : (old sub new : Command) (app below : App) → AddsSubcommand old sub new → app_of old ≡ app
-    → (app_of sub ≡ below) × ((out-Command sub).has_globals ≡ false) → app_of new ≡ with_subcommand app below.top
-with_sub old sub new app below added before is = added.shape is.1 ∙ ap₂ with_subcommand before (ap (λ (a : App). a.top) is.0)
-
-module _ (E : Type 0) (G : List ℕ → Result ℕ E → Type 0) (k : ℕ) (only : (t : List ℕ) (r : Result ℕ E) → G t r → ParsesUnsigned k 10 t r) (f : Found) (id : Text) (n : ℕ) where
-  -- an option that is read as no number was given none
-  pub no_number : ((t : Text) → one_text f id ≡ Some t → ReadsOne G t None) → n < 2 ^ k → GivesNumber id (rows_of f) n → ⊥
-  no_number read fits given =
-      let failed = read given.text (one_text-rows f id ∙ given.given) in
-      only given.text (Err failed.0) failed.1 (given.numeral, subst (λ v. v < 2 ^ k) (sym given.value) fits)
-
-  -- an option that is read as a number was given it
-  pub number_given : (one_text f id ≡ None → Some n ≡ None) → ((t : Text) → one_text f id ≡ Some t → ReadsOne G t (Some n)) → GivesNumber id (rows_of f) n
-  number_given none read = go (one_of id (rows_of f)) refl
-    where
-      go : (o : Option Text) → one_of id (rows_of f) ≡ o → GivesNumber id (rows_of f) n
-      go None e = let bad : Some n ≡ None = none (one_text-rows f id ∙ e) in cc
-      go (Some t) e =
-          let parsed = only t (Ok n) (read t (one_text-rows f id ∙ e)) in
-          record { text = t; given = e; numeral = parsed.0.0; value = sym parsed.1 }
-
--- an option that is read as a line was given that number, and one that is not was given none
-pub line_given : (E : Type 0) (G : List ℕ → Result ℕ E → Type 0) (only : (t : List ℕ) (r : Result ℕ E) → G t r → ParsesUnsigned 64 10 t r) (f : Found) (id : Text)
-    (line : Option ℕ) → (one_text f id ≡ None → line ≡ None) → ((t : Text) → one_text f id ≡ Some t → ReadsOne G t line) → GivesLine id (rows_of f) line
-line_given E G only f id None none read = λ n fits given. no_number E G 64 only f id n read fits given
-line_given E G only f id (Some n) none read = number_given E G 64 only f id n none read
-
--- an option was given one number
-pub one_number : (id : Text) (rows : List Row) (n m : ℕ) → GivesNumber id rows n → GivesNumber id rows m → n ≡ m
-one_number id rows n m a b =
-    let same : Some a.text ≡ Some b.text = sym a.given ∙ b.given in
-    let text : a.text ≡ b.text = cc in
-    sym a.value ∙ (ap (λ t. digits_value 10 (without_leading_plus t)) text ∙ b.value)
-
-module _ {Z : Type 0} where
-  -- the subcommand that was met, with its rows
-  pub met_is : (sub : Option (Box SubCommand Z)) (name : Text) (rows : List Row) → Some name ≡ option_map (λ b. (out-SubCommand (box_value b)).name.now) sub
-      → Some rows ≡ option_map (λ p. p.1) (subcommand_rows sub) → subcommand_rows sub ≡ Some (name, rows)
-  met_is None name rows n r = cc
-  met_is (Some b) name rows n r = cc
 
 module _ (app : App) (words : List Text) (is : app ≡ bitable_app) where
   -- words that a parser of the program takes

@@ -26,6 +26,18 @@ two_files : option_map (λ found. all_of (codes "FILE") found.1) (subcommand_of 
 unfolding clap_on_literals
 two_files = refl
 
+since_line : option_map (λ found. one_of (codes "since") found.1) (subcommand_of bitable_app (codes "bitable" ∷ codes "audit" ∷ codes "--since" ∷ codes "x" ∷ codes "a" ∷ [])) ≡ Some (Some (codes "x"))
+unfolding clap_on_literals
+since_line = refl
+
+store_of_query : option_map (λ found. one_of (codes "QUERY") found.1) (subcommand_of bitable_app (codes "bitable" ∷ codes "beliefs" ∷ codes "a" ∷ codes "b" ∷ [])) ≡ Some (Some (codes "b"))
+unfolding clap_on_literals
+store_of_query = refl
+
+no_sync : option_map (λ found. one_of (codes "sync") found.1) (subcommand_of bitable_app (codes "bitable" ∷ codes "open" ∷ codes "a" ∷ codes "--sync" ∷ codes "no" ∷ [])) ≡ Some (Some (codes "no"))
+unfolding clap_on_literals
+no_sync = refl
+
 unknown_word : fault_of bitable_app (codes "bitable" ∷ codes "frob" ∷ []) ≡ kind.UnknownArgument ∷ kind.InvalidSubcommand ∷ []
 unfolding clap_on_literals
 unknown_word = refl

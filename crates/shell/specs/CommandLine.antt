@@ -1,14 +1,15 @@
 -- The command lines of the program, in the words of `clap`'s own definitions: what its arguments and subcommands are, and what a
 -- command line asks for.
-use Rattle.std.specs.Prelude.{◌≡◌, ◌<◌, ◌^◌, ⊤, ℕ, Bool, List, Option, Some, None, pos, codes, map, option_map, true, false}
-use Rattle.std.specs.Str.Parse.{IsNumeral, digits_value, without_leading_plus}
+use Rattle.std.specs.Prelude.{◌≡◌, ◌<◌, ◌^◌, ◌∷◌, ⊤, ℕ, List, [], Option, Some, None, pos, codes, map, option_map, true, false}
 use Rattle.clap.specs.Lexer.{usize_max}
-use Rattle.clap.specs.Walk.{Row, Rule, Text, all_of, first_of, one_of}
+use Rattle.clap.specs.Walk.{Row, Rule, Text, all_of, first_of}
 use Rattle.clap.specs.Simple.{App, new_app, new_rule, on_top, with_rule, with_subcommand}
 use Rattle.clap.specs.declared.builder.action.ArgAction.TheVariants.{Set, SetTrue, Append}
 use Rattle.clap.specs.declared.builder.value_parser.ValueParser.TheVariants as parser
+use Rattle.storecommands.specs.CommandLine.{AsksFor as AsksForStore, with_store_commands}
+use Rattle.storecommands.specs.Given.{GivesFlag, GivesLine, GivesNumber}
 use Rattle.shell.specs.declared.command.Command.{Command}
-use Rattle.shell.specs.declared.command.Command.TheVariants.{PlayInput, Sim, Beliefs, Lanes, Live, Audit, Check}
+use Rattle.shell.specs.declared.command.Command.TheVariants.{PlayInput, Sim, Beliefs, Lanes, Live, Audit, Check, Store}
 use Rattle.shell.specs.declared.command.Audit.{Audit as AuditValues}
 use Rattle.shell.specs.declared.command.Sim.{Sim as SimValues}
 use Rattle.shell.specs.declared.command.Beliefs.{Beliefs as BeliefsValues}
@@ -81,6 +82,15 @@ json_rule = record (new_rule (codes "json")) {
   action = Some SetTrue;
 }
 
+-- [--since LINE], not empty
+abbrev pub since_rule : Rule
+since_rule = record (new_rule (codes "since")) {
+  long = Some (codes "since");
+  value_names = 1;
+  action = Some Set;
+  parser = Some parser.NonEmptyString;
+}
+
 -- FILE.., one or more
 abbrev pub files_rule : Rule
 files_rule = record (new_rule (codes "FILE")) {
@@ -109,6 +119,13 @@ abbrev pub strict_rule : Rule
 strict_rule = record (new_rule (codes "strict")) {
   long = Some (codes "strict");
   action = Some SetTrue;
+}
+
+-- [QUERY], not empty
+abbrev pub query_rule : Rule
+query_rule = record (new_rule (codes "QUERY")) {
+  action = Some Set;
+  parser = Some parser.NonEmptyString;
 }
 
 -- [--svg FILE], not empty
@@ -140,21 +157,21 @@ to_rule = record (new_rule (codes "to")) {
 abbrev pub sim_app : App
 sim_app = with_rule (with_rule (with_rule (with_rule (new_app (codes "sim")) format_rule) quiet_rule) strict_rule) script_rule
 
--- beliefs [--svg FILE] SCRIPT
+-- beliefs [--svg FILE] SCRIPT [QUERY]
 abbrev pub beliefs_app : App
-beliefs_app = with_rule (with_rule (new_app (codes "beliefs")) svg_rule) script_rule
+beliefs_app = with_rule (with_rule (with_rule (new_app (codes "beliefs")) svg_rule) script_rule) query_rule
 
 -- lanes [--svg FILE] [--from LINE] [--to LINE] SCRIPT
 abbrev pub lanes_app : App
 lanes_app = with_rule (with_rule (with_rule (with_rule (new_app (codes "lanes")) svg_rule) from_rule) to_rule) script_rule
 
--- live --nodes N --seed S --loss P [--dir DIR] SCRIPT
+-- live --nodes N --seed S --loss P [--dir DIR] [--format FORM] SCRIPT
 abbrev pub live_app : App
-live_app = with_rule (with_rule (with_rule (with_rule (with_rule (new_app (codes "live")) nodes_rule) seed_rule) loss_rule) dir_rule) script_rule
+live_app = with_rule (with_rule (with_rule (with_rule (with_rule (with_rule (new_app (codes "live")) nodes_rule) seed_rule) loss_rule) dir_rule) format_rule) script_rule
 
--- audit [--report] [--json] FILE..
+-- audit [--report] [--json] [--since LINE] FILE..
 abbrev pub audit_app : App
-audit_app = with_rule (with_rule (with_rule (new_app (codes "audit")) report_rule) json_rule) files_rule
+audit_app = with_rule (with_rule (with_rule (with_rule (new_app (codes "audit")) report_rule) json_rule) since_rule) files_rule
 
 -- check [--schema] FILE
 abbrev pub check_app : App
@@ -164,16 +181,9 @@ check_app = with_rule (with_rule (new_app (codes "check")) schema_rule) file_rul
 abbrev pub versioned : App → App
 versioned app = on_top (λ top. record top { has_version = true }) app
 
--- the whole command line
+-- the whole command line: first what is done with a store
 abbrev pub bitable_app : App
-bitable_app = with_subcommand (with_subcommand (with_subcommand (with_subcommand (with_subcommand (with_subcommand (versioned (new_app (codes "bitable"))) sim_app.top) live_app.top) audit_app.top) beliefs_app.top) lanes_app.top) check_app.top
-
--- the matches give the option a decimal numeral of this number
-pub record GivesNumber (id : Text) (rows : List Row) (n : ℕ) : Type 0 where
-  pub text : Text
-  pub given : one_of id rows ≡ Some text
-  pub numeral : IsNumeral 10 (without_leading_plus text)
-  pub value : digits_value 10 (without_leading_plus text) ≡ n
+bitable_app = with_subcommand (with_subcommand (with_subcommand (with_subcommand (with_subcommand (with_subcommand (with_store_commands (versioned (new_app (codes "bitable")))) audit_app.top) sim_app.top) live_app.top) beliefs_app.top) lanes_app.top) check_app.top
 
 -- the matches of `live` give these values
 pub record AsksLive (rows : List Row) (live : LiveValues) : Type 0 where
@@ -182,13 +192,8 @@ pub record AsksLive (rows : List Row) (live : LiveValues) : Type 0 where
   pub seed_fits : live.seed < 2 ^ 64
   pub loss : GivesNumber (codes "loss") rows live.loss
   pub dir : option_map (λ text. text.now) live.dir ≡ first_of (codes "dir") rows
+  pub format : option_map (λ text. text.now) live.format ≡ first_of (codes "format") rows
   pub script : Some live.script.now ≡ first_of (codes "SCRIPT") rows
-
--- the matches give the flag this value: it is on where it is used
-pub record GivesFlag (id : Text) (rows : List Row) (is_on : Bool) : Type 0 where
-  pub unused : one_of id rows ≡ None → is_on ≡ false
-  pub off : one_of id rows ≡ Some (codes "false") → is_on ≡ false
-  pub on : one_of id rows ≡ Some (codes "true") → is_on ≡ true
 
 -- the matches of `sim` give these values
 pub record AsksSim (rows : List Row) (sim : SimValues) : Type 0 where
@@ -201,11 +206,7 @@ pub record AsksSim (rows : List Row) (sim : SimValues) : Type 0 where
 pub record AsksBeliefs (rows : List Row) (beliefs : BeliefsValues) : Type 0 where
   pub svg : option_map (λ text. text.now) beliefs.svg ≡ first_of (codes "svg") rows
   pub script : Some beliefs.script.now ≡ first_of (codes "SCRIPT") rows
-
--- the matches give the option this number; or none, where they give it no number of 64 bits
-abbrev pub GivesLine : Text → List Row → Option ℕ → Type 0
-GivesLine id rows None = (n : ℕ) → n < 2 ^ 64 → ¬ GivesNumber id rows n
-GivesLine id rows (Some n) = GivesNumber id rows n
+  pub query : option_map (λ text. text.now) beliefs.query ≡ first_of (codes "QUERY") rows
 
 -- the matches of `lanes` give these values
 pub record AsksLanes (rows : List Row) (lanes : LanesValues) : Type 0 where
@@ -223,7 +224,12 @@ pub record AsksCheck (rows : List Row) (check : CheckValues) : Type 0 where
 pub record AsksAudit (rows : List Row) (audit : AuditValues) : Type 0 where
   pub report : GivesFlag (codes "report") rows audit.is_report
   pub json : GivesFlag (codes "json") rows audit.is_json
+  pub since : option_map (λ text. text.now) audit.since ≡ first_of (codes "since") rows
   pub files : Some (map (λ text. text.now) audit.files.items) ≡ all_of (codes "FILE") rows
+
+-- nothing but this name is given
+abbrev pub IsLoneName : AuditValues → Text → Type 0
+IsLoneName audit name = (audit.is_report ≡ false) × (audit.is_json ≡ false) × (audit.since ≡ None) × (map (λ text. text.now) audit.files.items ≡ name ∷ [])
 
 -- What the subcommand that was found, with its matches, asks for: without one, to play the input.
 abbrev pub AsksFor : Option (Text × List Row) → Command → Type 0
@@ -234,6 +240,7 @@ AsksFor None (Lanes lanes) = ⊥
 AsksFor None (Live live) = ⊥
 AsksFor None (Audit audit) = ⊥
 AsksFor None (Check check) = ⊥
+AsksFor None (Store command) = ⊥
 AsksFor (Some (name, rows)) PlayInput = ⊥
 AsksFor (Some (name, rows)) (Sim sim) = (name ≡ codes "sim") × AsksSim rows sim
 AsksFor (Some (name, rows)) (Beliefs beliefs) = (name ≡ codes "beliefs") × AsksBeliefs rows beliefs
@@ -241,3 +248,15 @@ AsksFor (Some (name, rows)) (Lanes lanes) = (name ≡ codes "lanes") × AsksLane
 AsksFor (Some (name, rows)) (Live live) = (name ≡ codes "live") × AsksLive rows live
 AsksFor (Some (name, rows)) (Audit audit) = (name ≡ codes "audit") × AsksAudit rows audit
 AsksFor (Some (name, rows)) (Check check) = (name ≡ codes "check") × AsksCheck rows check
+AsksFor (Some (name, rows)) (Store command) = AsksForStore name rows command
+
+-- the command is over a store's folder
+abbrev pub IsOfStore : Command → Type 0
+IsOfStore PlayInput = ⊥
+IsOfStore (Sim sim) = ⊥
+IsOfStore (Beliefs beliefs) = ⊥
+IsOfStore (Lanes lanes) = ⊥
+IsOfStore (Live live) = ⊥
+IsOfStore (Audit audit) = ⊥
+IsOfStore (Check check) = ⊥
+IsOfStore (Store command) = ⊤

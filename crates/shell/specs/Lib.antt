@@ -2,7 +2,8 @@ pub mod Audit
 pub mod CommandLine
 pub mod Group
 pub mod Live
-pub mod Outlets
 pub mod Reading
 pub mod Reported
+pub mod Showing
+pub mod Since
 pub mod Sim

@@ -3,6 +3,7 @@ use Rattle.std.specs.Prelude.{◌≡◌, ℕ, Bool, true, false, List, ◌++◌,
 use Rattle.std.specs.declared.vec.Vec.{Vec}
 use Rattle.std.specs.declared.alloc.Global.{Global}
 use Rattle.answertext.specs.Sinks.{AppendsBeginning}
+use Rattle.beginnings.specs.Beginnings.{beginning_of}
 use Rattle.flight.specs.Contents.{FlightContents}
 use Rattle.flight.specs.declared.flight.Recorded.{Recorded}
 use Rattle.flight.specs.declared.flight.Version.{Version}
@@ -12,6 +13,7 @@ use Rattle.moments.specs.Behind.{Records}
 use Rattle.moments.specs.declared.recorded.AuditFault.{AuditFault}
 use Rattle.report.specs.Digests.{all_said}
 use Rattle.report.specs.Machine.{report_tokens}
+use Rattle.report.specs.Pages.{kept_lines}
 use Rattle.report.specs.Whole.{held_of, seal_of, verdict_text}
 use Rattle.report.specs.declared.whole.Report.{Report}
 use Rattle.sha2.specs.Sha256.{sha256}
@@ -45,12 +47,13 @@ pub record IsReportOn (texts : List (List ℕ)) (r : Report) : Type 0 where
   pub verdict : IsVerdict (records_of version tables lives answers) r.fault
   pub nodes : r.contents.nodes.items ≡ map held_of flights
   pub said : r.contents.answers ≡ sha256 (all_said flights)
+  pub kept : r.contents.beginnings.items ≡ map beginning_of flights
   pub seal : r.seal ≡ seal_of r.contents r.settled r.fault
 
--- a report as JSON, or as a text that begins with the line of the verdict
+-- a report as JSON, or as a text that begins with the line of the verdict and ends with the lines to keep
 abbrev pub IsPrinted : Bool → Report → List ℕ → Type 0
 IsPrinted true r text = text ≡ line_of (report_tokens r)
-IsPrinted false r text = (more : List ℕ) × (text ≡ verdict_line r.fault ++ more)
+IsPrinted false r text = (more : List ℕ) × (text ≡ verdict_line r.fault ++ (more ++ kept_lines r))
 
 -- with this exit status the text is what is printed of a report on the flights in texts
 abbrev pub IsReported : List (List ℕ) → Bool → ℕ → List ℕ → Type 0

@@ -7,10 +7,10 @@ ghost use Rattle.fault.specs.declared.refusal.Refusal.TheVariants.{NoMemory, Bad
 ghost use Rattle.fault.specs.declared.refusal.Refusal.{Refusal as AnyRefusal};
 ghost use Rattle.shell.specs.Audit.{BeginsJudged, IsExplained, IsFaultOf, IsJudged, IsSaid, judged_of, judged_from, line_of, records_of};
 ghost use Rattle.shell.specs.Group.{IsNoGroup};
-ghost use Rattle.shell.specs.Outlets.{IsLastError};
+ghost use Rattle.answertext.specs.Outlets.{IsLastError};
 
 use crate::group::read_run;
-use crate::outlet::{Outlet, tell};
+use answertext::outlet::{Outlet, tell};
 use auditor::{AuditFault, Recorded as Judged, audit};
 use fault::Refusal;
 use flight::flight::{Recorded, Version};
@@ -61,7 +61,7 @@ fn fault_line(alloc: Global, fault: AuditFault) -> Result<String, AllocError>
 }
 
 // Whether the events of one run explain all lives and answers of a group of 3 to 7 nodes.
-fn explain(
+pub(crate) fn explain(
     alloc: Global,
     version: Version,
     schema: &Schema,

@@ -1,8 +1,8 @@
 //! The command line.
-ghost use Rattle.std.specs.Prelude.{◌≡◌, ◌≢◌, ◌≤◌, ◌⊎◌, ℕ, List, [], Some, map, option_map, string_bytes, codes, false, IfSome, IfNone, IfOk, IfErr, OnOk};
+ghost use Rattle.std.specs.Prelude.{◌≡◌, ◌⊎◌, ℕ, List, [], Some, map, option_map, string_bytes, codes, false, IfSome, IfNone, IfOk, IfErr, OnOk};
 ghost use Rattle.clap.specs.declared.builder.command.Command.TheViews.{out-Command};
 ghost use Rattle.clap.specs.Words.{app_of, fault_of, found_of, new_app, rows_of, rule_of, subcommand_of, subcommand_rows_of, HasKind};
-ghost use Rattle.clap.specs.Words.{all_of, first_of};
+ghost use Rattle.clap.specs.Words.{all_of};
 ghost use Rattle.shell.specs.declared.command.Command.{Command as Asked};
 ghost use Rattle.shell.specs.declared.command.Live.{Live as Run};
 ghost use Rattle.shell.specs.declared.command.Sim.{Sim as Shown};
@@ -10,33 +10,28 @@ ghost use Rattle.shell.specs.declared.command.Audit.{Audit as Judging};
 ghost use Rattle.shell.specs.declared.command.Beliefs.{Beliefs as Picture};
 ghost use Rattle.shell.specs.declared.command.Lanes.{Lanes as Drawn};
 ghost use Rattle.shell.specs.declared.command.Check.{Check as Looked};
-ghost use Rattle.shell.specs.CommandLine.{AsksAudit, AsksBeliefs, AsksCheck, AsksFor, AsksLanes, AsksLive, AsksSim, GivesFlag, GivesLine, script_rule, format_rule, quiet_rule, strict_rule, svg_rule, from_rule, to_rule, nodes_rule, seed_rule, loss_rule, dir_rule, schema_rule, file_rule, report_rule, json_rule, files_rule, sim_app, beliefs_app, lanes_app, live_app, audit_app, check_app, bitable_app, versioned};
+ghost use Rattle.shell.specs.CommandLine.{AsksAudit, AsksBeliefs, AsksCheck, AsksFor, AsksLanes, AsksLive, AsksSim, IsOfStore, script_rule, query_rule, format_rule, quiet_rule, strict_rule, svg_rule, from_rule, to_rule, nodes_rule, seed_rule, loss_rule, dir_rule, schema_rule, file_rule, report_rule, json_rule, since_rule, files_rule, sim_app, beliefs_app, lanes_app, live_app, audit_app, check_app, bitable_app, versioned};
 
 use crate::command::{Audit, Beliefs, Check, Command, Lanes, Live, Sim};
 use clap::builder::ValueParser;
 use clap::error::ErrorKind;
 use clap::{Arg, ArgAction, ArgMatches, Command as Parser, Error, value_parser};
 use std::alloc::{AllocError, Global};
+use storecommands::given::{flag_of, line_of, text_of};
+use storecommands::{ASKS_NOTHING, with_commands};
 
 /// The program's version, and the kit that proves it.
 pub const VERSION: &str = "0.2.0 (rattle-kit-13f)";
 
 const EXAMPLES: &str = "Examples:
-  bitable sim --quiet --format table examples/payroll.script
-  bitable live --nodes 3 --seed 1 --loss 20 --dir run examples/insurance.script
-  bitable audit --report run/node1.flight run/node2.flight run/node3.flight
-  bitable beliefs examples/payroll.script
-  bitable lanes examples/failover.script
-  bitable check examples/payroll.script
-A store that is kept in a folder (each of these commands has a --help of its own):
   bitable new pay --nodes 3 --schema examples/store.sql
   bitable import pay Emp examples/import.staff.csv
-  bitable open pay
-  bitable export pay Pay --all
-  bitable log pay
-  bitable flights pay out
+  bitable export pay Emp
   bitable audit pay
-Without a command it plays the script on standard input, as sim does.";
+  bitable sim --quiet --format table examples/payroll.script
+
+Each command has a --help of its own. Without a command it plays the script on
+standard input, as sim does.";
 
 const SIM_END: &str = "Example:
   bitable sim --quiet --format json examples/payroll.script
@@ -68,17 +63,22 @@ const AUDIT_END: &str = "Example:
 
 With --report what was judged, what is in it and what was decided follow, in counts and in
 SHA-256, and what the verdict means; of a no where it differs, and what came before.
-With the name of a folder it judges the store that is kept there: bitable audit pay
+A lone name of a folder is that of a store: bitable audit pay
+
+  sessions 3, requests 5, members 3: each database is what the journals give
+  audit: yes
 
 Exit status:
-  0  yes: the events of one run explain what the flights have
-  1  no; or the files are not the flights of a group, on standard error
+  0  yes: the events of one run explain what the flights have; of a store, the events that its
+     journals spell give each outcome and answer, and what each database holds
+  1  no; or the files are not the flights of a group, or the store is refused, on standard error
   2  the command line is not one of these";
 
 const BELIEFS_END: &str =
     "A level of the picture is what was believed at that time, of each day; a column is
 what was ever believed of a day, the newest on top.
 With --svg it goes into a file, as a page for a browser, and nothing is printed.
+With QUERY it is what the store in a folder answers: bitable beliefs pay 'SELECT * FROM Pay'
 
 Example:
   bitable beliefs examples/payroll.script
@@ -95,8 +95,8 @@ Example:
 
 Exit status:
   0  the picture is drawn, or there is no row to draw
-  1  the script is refused, or nothing in it is answered; or there is too much to draw, or
-     the file can't be written: on standard error
+  1  the script, the store or the question is refused, or nothing is answered; or there is too
+     much to draw, or the file can't be written: on standard error
   2  the command line is not one of these";
 
 const LANES_END: &str =
@@ -202,14 +202,33 @@ fn svg_word<'a>(alloc: Global) -> Arg<'a>
         .help("Draws a page for a browser into this file")
 }
 
+fn source_word<'a>(alloc: Global) -> Arg<'a>
+    ensures { (rule_of result ≡ script_rule) × (result.global ≡ false) }
+{
+    Arg::new(alloc, "SCRIPT")
+        .required(true)
+        .action(ArgAction::Set)
+        .help("The file of the script; with QUERY, the folder of a store")
+}
+
+fn query_word<'a>(alloc: Global) -> Arg<'a>
+    ensures { (rule_of result ≡ query_rule) × (result.global ≡ false) }
+{
+    Arg::new(alloc, "QUERY")
+        .action(ArgAction::Set)
+        .value_parser(ValueParser::NonEmptyString)
+        .help("The question that is asked of the store")
+}
+
 fn beliefs_words<'a>(alloc: Global) -> Result<Parser<'a>, AllocError>
     ensures { IfOk result (λ c. (app_of c ≡ beliefs_app) × ((out-Command c).has_globals ≡ false)) }
 {
     Parser::new(alloc, "beliefs")
-        .about("Draws what a script's last answer says was ever believed, of each key")
+        .about("Draws what a script's last answer, or a store, says was ever believed")
         .after_help(BELIEFS_END)
         .arg(svg_word(alloc))?
-        .arg(script_word(alloc))
+        .arg(source_word(alloc))?
+        .arg(query_word(alloc))
 }
 
 fn from_word<'a>(alloc: Global) -> Arg<'a>
@@ -298,6 +317,7 @@ fn live_words<'a>(alloc: Global) -> Result<Parser<'a>, AllocError>
         .arg(seed_word(alloc))?
         .arg(loss_word(alloc))?
         .arg(dir_word(alloc))?
+        .arg(format_word(alloc))?
         .arg(script_word(alloc))
 }
 
@@ -329,14 +349,26 @@ fn json_word<'a>(alloc: Global) -> Arg<'a>
         .help("Prints the verdict and the report as JSON, one object on a line")
 }
 
+fn since_word<'a>(alloc: Global) -> Arg<'a>
+    ensures { (rule_of result ≡ since_rule) × (result.global ≡ false) }
+{
+    Arg::new(alloc, "since")
+        .long("since")
+        .value_name("LINE")
+        .action(ArgAction::Set)
+        .value_parser(ValueParser::NonEmptyString)
+        .help("A line that an earlier report printed, which these flights are held against")
+}
+
 fn audit_words<'a>(alloc: Global) -> Result<Parser<'a>, AllocError>
     ensures { IfOk result (λ c. (app_of c ≡ audit_app) × ((out-Command c).has_globals ≡ false)) }
 {
     Parser::new(alloc, "audit")
-        .about("Says whether flights are of one run, and whether their answers are its answers")
+        .about("Says whether flights, or the store in a folder, are what one run gives")
         .after_help(AUDIT_END)
         .arg(report_word(alloc))?
         .arg(json_word(alloc))?
+        .arg(since_word(alloc))?
         .arg(files_word(alloc))
 }
 
@@ -372,7 +404,7 @@ fn program_words<'a>(alloc: Global) -> Parser<'a>
     ensures { app_of result ≡ versioned (new_app (codes "bitable")) }
 {
     Parser::new(alloc, "bitable")
-        .about("Tables that answer what was believed when, kept by several nodes")
+        .about("Tables that answer what was believed when, kept by several members")
         .version(VERSION)
         .after_help(EXAMPLES)
 }
@@ -380,10 +412,10 @@ fn program_words<'a>(alloc: Global) -> Parser<'a>
 fn all_words<'a>(alloc: Global) -> Result<Parser<'a>, AllocError>
     ensures { IfOk result (λ c. app_of c ≡ bitable_app) }
 {
-    program_words(alloc)
+    with_commands(alloc, program_words(alloc))?
+        .subcommand(audit_words(alloc)?)?
         .subcommand(sim_words(alloc)?)?
         .subcommand(live_words(alloc)?)?
-        .subcommand(audit_words(alloc)?)?
         .subcommand(beliefs_words(alloc)?)?
         .subcommand(lanes_words(alloc)?)?
         .subcommand(check_words(alloc)?)
@@ -396,8 +428,9 @@ fn live_of<'a>(matches: &ArgMatches<'a>) -> Option<Live<'a>>
     let nodes: u8 = matches.get_one("nodes")?;
     let seed: u64 = matches.get_one("seed")?;
     let loss: u8 = matches.get_one("loss")?;
-    let script = script_of(matches)?;
-    let dir = matches.get_str("dir");
+    let script = text_of(matches, "SCRIPT")?;
+    let dir = text_of(matches, "dir");
+    let format = text_of(matches, "format");
     if nodes < 3 || nodes > 7 || loss > 100 {
         return None;
     }
@@ -406,33 +439,16 @@ fn live_of<'a>(matches: &ArgMatches<'a>) -> Option<Live<'a>>
         seed,
         loss,
         dir,
+        format,
         script,
     })
-}
-
-fn flag_of(matches: &ArgMatches, id: &str) -> bool
-    ensures { GivesFlag id.now (rows_of (found_of matches.now)) result }
-{
-    matches.get_flag(id)
-}
-
-fn line_of(matches: &ArgMatches, id: &str) -> Option<u64>
-    ensures { GivesLine id.now (rows_of (found_of matches.now)) result }
-{
-    matches.get_one(id)
-}
-
-fn text_of<'a>(matches: &ArgMatches<'a>, id: &str) -> Option<&'a str>
-    ensures { option_map (λ text. text.now) result ≡ first_of id.now (rows_of (found_of matches.now)) }
-{
-    matches.get_str(id)
 }
 
 fn sim_of<'a>(matches: &ArgMatches<'a>) -> Option<Sim<'a>>
     ensures some { IfSome result (AsksSim (rows_of (found_of matches.now))) }
     ensures none { IfNone result ((sim : Shown) → ¬ AsksSim (rows_of (found_of matches.now)) sim) }
 {
-    let script = script_of(matches)?;
+    let script = text_of(matches, "SCRIPT")?;
     Some(Sim {
         format: text_of(matches, "format"),
         is_quiet: flag_of(matches, "quiet"),
@@ -445,10 +461,11 @@ fn beliefs_of<'a>(matches: &ArgMatches<'a>) -> Option<Beliefs<'a>>
     ensures some { IfSome result (AsksBeliefs (rows_of (found_of matches.now))) }
     ensures none { IfNone result ((picture : Picture) → ¬ AsksBeliefs (rows_of (found_of matches.now)) picture) }
 {
-    let script = script_of(matches)?;
+    let script = text_of(matches, "SCRIPT")?;
     Some(Beliefs {
         svg: text_of(matches, "svg"),
         script,
+        query: text_of(matches, "QUERY"),
     })
 }
 
@@ -456,7 +473,7 @@ fn lanes_of<'a>(matches: &ArgMatches<'a>) -> Option<Lanes<'a>>
     ensures some { IfSome result (AsksLanes (rows_of (found_of matches.now))) }
     ensures none { IfNone result ((picture : Drawn) → ¬ AsksLanes (rows_of (found_of matches.now)) picture) }
 {
-    let script = script_of(matches)?;
+    let script = text_of(matches, "SCRIPT")?;
     Some(Lanes {
         svg: text_of(matches, "svg"),
         first: line_of(matches, "from"),
@@ -474,12 +491,6 @@ fn check_of<'a>(matches: &ArgMatches<'a>) -> Option<Check<'a>>
         is_schema: flag_of(matches, "schema"),
         file,
     })
-}
-
-fn script_of<'a>(matches: &ArgMatches<'a>) -> Option<&'a str>
-    ensures { option_map (λ text. text.now) result ≡ first_of (codes "SCRIPT") (rows_of (found_of matches.now)) }
-{
-    matches.get_str("SCRIPT")
 }
 
 fn files_of<'a>(alloc: Global, matches: &ArgMatches<'a>) -> Result<Option<Vec<&'a str>>, AllocError>
@@ -502,21 +513,20 @@ fn audit_of<'a>(alloc: Global, matches: &ArgMatches<'a>) -> Result<Option<Audit<
     Ok(Some(Audit {
         is_report: flag_of(matches, "report"),
         is_json: flag_of(matches, "json"),
+        since: text_of(matches, "since"),
         files,
     }))
 }
 
-// What parsed words ask for; none where they ask for nothing that there is.
-fn command_of<'a>(
+// What the subcommand of this name, with what was found in its words, asks for; none where only a store's commands may have the name.
+fn other_command_of<'a>(
     alloc: Global,
-    matches: &ArgMatches<'a>,
+    name: &str,
+    given: &ArgMatches<'a>,
 ) -> Result<Option<Command<'a>>, AllocError>
-    ensures some { IfOk result (λ found. IfSome found (AsksFor (subcommand_rows_of matches.now))) }
-    ensures none { IfOk result (λ found. IfNone found ((command : Asked) → ¬ AsksFor (subcommand_rows_of matches.now) command)) }
+    ensures some { IfOk result (λ found. IfSome found (AsksFor (Some (name.now, rows_of (found_of given.now))))) }
+    ensures none { IfOk result (λ found. IfNone found ((command : Asked) → AsksFor (Some (name.now, rows_of (found_of given.now))) command → IsOfStore command)) }
 {
-    let Some((name, given)) = matches.subcommand() else {
-        return Ok(Some(Command::PlayInput));
-    };
     if name == "sim" {
         return Ok(sim_of(given).map(Command::Sim));
     }
@@ -538,6 +548,23 @@ fn command_of<'a>(
     Ok(None)
 }
 
+// What parsed words ask for; none where they ask for nothing that there is.
+fn command_of<'a>(
+    alloc: Global,
+    matches: &ArgMatches<'a>,
+) -> Result<Option<Command<'a>>, AllocError>
+    ensures some { IfOk result (λ found. IfSome found (AsksFor (subcommand_rows_of matches.now))) }
+    ensures none { IfOk result (λ found. IfNone found ((command : Asked) → ¬ AsksFor (subcommand_rows_of matches.now) command)) }
+{
+    let Some((name, given)) = matches.subcommand() else {
+        return Ok(Some(Command::PlayInput));
+    };
+    match storecommands::command_of(name, given) {
+        Some(command) => Ok(Some(Command::Store(command))),
+        None => other_command_of(alloc, name, given),
+    }
+}
+
 /// What a command line asks for, the program's name first. The error is clap's: help that was asked for, words that it
 /// refuses, or want of memory.
 pub fn read_command<'a>(alloc: Global, words: &'a [String]) -> Result<Command<'a>, Error>
@@ -550,6 +577,6 @@ pub fn read_command<'a>(alloc: Global, words: &'a [String]) -> Result<Command<'a
     let matches = parser.try_get_matches_from_mut(words)?;
     match command_of(alloc, &matches)? {
         Some(command) => Ok(command),
-        None => Err(parser.error(ErrorKind::MissingSubcommand, "no such command")?),
+        None => Err(parser.error(ErrorKind::InvalidValue, ASKS_NOTHING)?),
     }
 }

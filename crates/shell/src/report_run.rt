@@ -7,15 +7,16 @@ ghost use Rattle.fault.specs.declared.refusal.Refusal.{Refusal as AnyRefusal};
 ghost use Rattle.looks.specs.Objects.{line_of};
 ghost use Rattle.moments.specs.declared.recorded.AuditFault.TheVariants.{NoMemory as NoMemoryLeft};
 ghost use Rattle.report.specs.Machine.{report_tokens};
+ghost use Rattle.report.specs.Pages.{kept_lines};
 ghost use Rattle.report.specs.Whole.{seal_of};
 ghost use Rattle.shell.specs.Audit.{records_of};
 ghost use Rattle.shell.specs.Group.{IsNoGroup};
-ghost use Rattle.shell.specs.Outlets.{IsLastError};
+ghost use Rattle.answertext.specs.Outlets.{IsLastError};
 ghost use Rattle.shell.specs.Reported.{BeginsReported, IsPrinted, IsReported, IsReportOn, IsVerdict, status_of, verdict_line};
 
 use crate::audit::all_answers;
 use crate::group::{read_group, run_of};
-use crate::outlet::{Outlet, tell};
+use answertext::outlet::{Outlet, tell};
 use auditor::{AuditFault, audit};
 use fault::Refusal;
 use flight::flight::Version;
@@ -89,7 +90,7 @@ fn verdict_on(
 }
 
 // The status with which an audit ends.
-fn status_of(fault: Option<AuditFault>) -> u8
+pub(crate) fn status_of(fault: Option<AuditFault>) -> u8
     ensures { result ≡ status_of fault }
 {
     if fault.is_none() { 0 } else { 1 }
@@ -168,9 +169,9 @@ fn as_json(alloc: Global, report: &Report) -> Result<String, AllocError>
     }
 }
 
-// The line of the verdict, and what a report has behind it.
+// The line of the verdict, and what a report has behind it, the lines to keep last.
 fn as_text(alloc: Global, report: &Report) -> Result<String, AllocError>
-    ensures { IfOk result (λ text. (more : List ℕ) × (string_bytes text ≡ verdict_line report.now.fault ++ more)) }
+    ensures { IfOk result (λ text. (more : List ℕ) × (string_bytes text ≡ verdict_line report.now.fault ++ (more ++ kept_lines report.now))) }
 {
     let verdict = verdict_of(alloc, report.fault)?;
     let page = page_of(alloc, report)?;

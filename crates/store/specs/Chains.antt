@@ -18,12 +18,17 @@ abbrev pub requests_after : ℕ → Option Request → ℕ
 requests_after n None = n
 requests_after n (Some r) = one_more n
 
+-- the stamp of the last request, with an entry of this request and this stamp more
+abbrev pub last_after : ℕ → Option Request → ℕ → ℕ
+last_after last None stamp = last
+last_after last (Some r) stamp = stamp
+
 -- what is known of a log without entries, and of one with an entry more
 abbrev pub first_link : Link
-first_link = record { digest = replicate 32 0; own = 0; requests = 0 }
+first_link = record { digest = replicate 32 0; own = 0; requests = 0; last = 0 }
 
 abbrev pub next_link : Link → Entry → Link
-next_link l e = record { digest = next_digest l.digest e; own = own_after l.own e.request; requests = requests_after l.requests e.request }
+next_link l e = record { digest = next_digest l.digest e; own = own_after l.own e.request; requests = requests_after l.requests e.request; last = last_after l.last e.request e.stamp }
 
 -- what is known of the last of these beginnings
 abbrev pub last_link : List Link → Link

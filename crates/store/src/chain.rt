@@ -1,5 +1,5 @@
 //! The digests of a log's beginnings.
-ghost use Rattle.std.specs.Prelude.{◌≡◌, ◌↔◌, [], take, length, fold, IsTrue, IfOk, OnOk, OnErr};
+ghost use Rattle.std.specs.Prelude.{◌≡◌, ◌≢◌, ◌↔◌, [], take, length, fold, None, Some, IsTrue, IfOk, OnOk, OnErr};
 ghost use Rattle.keep.specs.Durable.{Durable, after};
 ghost use Rattle.journal.specs.Digests.{summary_of};
 ghost use Rattle.store.specs.Chains.{own_after, first_link, next_link, last_link, link_entry, links_of};
@@ -9,18 +9,20 @@ use journal::digest::{BLANK_DIGEST, next_digest};
 use keep::change::Change;
 use keep::hard_state::HardState;
 use model::entry::{Entry, Request};
+use model::stamp::Stamp;
 use std::alloc::{AllocError, Global};
 
 /// The client of requests that are made in the store's own name.
 pub const OWN_CLIENT: u16 = 65535;
 
-// What is known of a log up to an entry: its digest, how many requests of the store's own client are executed in it, and how many
-// requests it has.
+// What is known of a log up to an entry: its digest, how many requests of the store's own client are executed in it, how many requests
+// it has, and the stamp of the last of them, or 0.
 #[derive(Clone, Copy)]
 struct Link {
     digest: [u8; 32],
     own: u64,
     requests: usize,
+    last: Stamp,
 }
 
 /// The digests of the beginnings of a log, from the first entry on.
@@ -56,6 +58,7 @@ impl Link {
             digest: BLANK_DIGEST,
             own: 0,
             requests: 0,
+            last: Stamp::new(0),
         }
     }
 
@@ -63,14 +66,15 @@ impl Link {
     fn next(&self, alloc: Global, entry: &Entry) -> Result<Link, AllocError>
         ensures { IfOk result (λ link. link ≡ next_link self.now entry.now) }
     {
-        let requests = match &entry.request {
-            Some(_) => self.requests.saturating_add(1),
-            None => self.requests,
+        let (requests, last) = match &entry.request {
+            Some(_) => (self.requests.saturating_add(1), entry.stamp),
+            None => (self.requests, self.last),
         };
         Ok(Link {
             digest: next_digest(alloc, &self.digest, entry)?,
             own: own_after(self.own, &entry.request),
             requests,
+            last,
         })
     }
 }
@@ -143,6 +147,19 @@ impl Chain {
         ensures { result ≡ (last_link (take length self.now.links.items)).requests }
     {
         self.link_at(length).requests
+    }
+
+    /// The stamp of the last request that the first so many entries bear, or all where there are fewer; none where they bear none.
+    pub fn last_at(&self, length: usize) -> Option<Stamp>
+        ensures none { (last_link (take length self.now.links.items)).requests ≡ 0 → result ≡ None }
+        ensures some { (last_link (take length self.now.links.items)).requests ≢ 0 → result ≡ Some ((last_link (take length self.now.links.items)).last) }
+    {
+        let link = self.link_at(length);
+        if link.requests == 0 {
+            None
+        } else {
+            Some(link.last)
+        }
     }
 
     /// The digest of the whole log.

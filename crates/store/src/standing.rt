@@ -7,10 +7,12 @@ use crate::refusal::StoreRefusal;
 use crate::seat::Seat;
 use crate::status::{Standing, Status};
 use crate::store::Store;
+use closedtime::greater;
 use fault::Refusal;
 use journal::{Line, Taken};
 use model::member::Member;
 use model::message::Input;
+use model::stamp::Stamp;
 
 impl<K: Announces> Store<K>
 where
@@ -116,6 +118,18 @@ where
             }
         }
         decided
+    }
+
+    /// When the last request was stamped that is decided, as far as a member that is up has applied them; none where none is.
+    pub fn last_decided(&self) -> Option<Stamp> {
+        let mut last = None;
+        for seat in &self.seats {
+            if let Some(node) = &seat.node {
+                let applied = node.commit().unwrap_or(0);
+                last = greater(last, seat.chain.last_at(applied));
+            }
+        }
+        last
     }
 
     /// How each member stands, in their order. The error is want of memory.

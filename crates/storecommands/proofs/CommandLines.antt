@@ -1,38 +1,23 @@
--- Lemmas on the program's command line as clap reads it.
-use Rattle.std.proofs.Common.{get_or, arith, ◌≡◌, ◌∙◌, ◌<◌, ◌^◌, ◌||◌, ◌⊎◌, ℕ, List, [], true, false, Option, Some, None, Result, Ok, Err, option_map, ap, ap₂, sym, subst, refl, inl, inr}
+-- Lemmas on command lines as clap reads them.
+use Rattle.std.proofs.Common.{get_or, arith, ◌≡◌, ◌∙◌, ◌<◌, ◌^◌, ◌||◌, ℕ, List, false, Option, Some, None, Result, Ok, Err, ap, ap₂, sym, subst, refl}
 use Rattle.std.specs.Str.Parse.{ParsesUnsigned, digits_value, without_leading_plus}
+use Rattle.std.specs.Prelude.{codes}
 use Rattle.clap.specs.Built.{AddsArg, AddsSubcommand}
-use Rattle.std.specs.Prelude.{Box, IfErr, IfNone, IfSome, IsErrAnd, codes}
-use Rattle.std.specs.Box.{box_value}
-use Rattle.clap.specs.Faults.{fault_of, is_simple_and_free}
-use Rattle.clap.specs.Kinds.{HasKind}
 use Rattle.clap.specs.Matches.{ReadsOne, one_text}
-use Rattle.clap.proofs.OnLiterals.{clap_on_literals}
-use Rattle.clap.specs.declared.error.Error.{Error}
-use Rattle.clap.specs.Simple.{App, HasMatchesOf, app_of, is_simple, subcommand_of, subcommand_rows, subcommand_rows_of, with_rule, with_subcommand}
+use Rattle.clap.specs.Simple.{App, app_of, with_rule, with_subcommand}
 use Rattle.clap.specs.Walk.{Row, Rule, Text, one_of, rule_of, rows_of}
 use Rattle.clap.proofs.WalkLemmas.{one_text-rows}
 use Rattle.clap.specs.declared.builder.arg.Arg.{Arg}
 use Rattle.clap.specs.declared.builder.command.Command.{Command}
 use Rattle.clap.specs.declared.builder.command.Command.TheViews.{out-Command}
-use Rattle.clap.specs.declared.parser.matches.SubCommand.{SubCommand}
-use Rattle.clap.specs.declared.parser.matches.ArgMatches.{ArgMatches}
-use Rattle.clap.specs.declared.parser.matches.ArgMatches.TheViews.{out-SubCommand}
 use Rattle.clap.specs.declared.parser.matches.Found.{Found}
-use Rattle.storecommands.specs.CommandLine.{AsksExport, AsksFor, AsksImport, AsksNew, GivesClock, GivesLine, GivesNumber, store_app}
+use Rattle.storecommands.specs.CommandLine.{AsksExport, AsksFor, AsksImport, AsksNew, GivesClock}
+use Rattle.storecommands.specs.Given.{GivesLine, GivesNumber}
 use Rattle.storecommands.specs.declared.command.Command.{Command as Asked}
 use Rattle.storecommands.specs.declared.command.Command.TheVariants.{New, Open, Log, Flights, Audit, Import, Export}
 use Rattle.storecommands.specs.declared.command.ExportRows.{ExportRows}
 use Rattle.storecommands.specs.declared.command.ImportRows.{ImportRows}
 use Rattle.storecommands.specs.declared.command.NewStore.{NewStore}
-
-is_free : is_simple_and_free store_app ≡ true
-unfolding clap_on_literals
-is_free = refl
-
-is_plain : is_simple store_app ≡ true
-unfolding clap_on_literals
-is_plain = refl
 
 -- a command with one more argument, which is not global
 pub with_arg : (old : Command) (a : Arg) (new : Command) (app : App) (r : Rule) → AddsArg old a new
@@ -94,72 +79,32 @@ module _ (E : Type 0) (G : List ℕ → Result ℕ E → Type 0) (only : (t : Li
         each = λ n fits given. ap Some (one_number (codes "clock") (rows_of f) m n is given);
       }
 
-module _ {Z : Type 0} where
-  -- the subcommand that was met, with its rows
-  pub met_is : (sub : Option (Box SubCommand Z)) (name : Text) (rows : List Row) → Some name ≡ option_map (λ b. (out-SubCommand (box_value b)).name.now) sub
-      → Some rows ≡ option_map (λ p. p.1) (subcommand_rows sub) → subcommand_rows sub ≡ Some (name, rows)
-  met_is None name rows n r = cc
-  met_is (Some b) name rows n r = cc
-
-module _ (app : App) (words : List Text) (is : app ≡ store_app) where
-  -- words that a parser of the program takes
-  pub none_refused : (is_simple_and_free app ≡ true → fault_of app words ≡ []) → fault_of store_app words ≡ []
-  none_refused h = subst (λ a. fault_of a words ≡ []) is (h (ap is_simple_and_free is ∙ is_free))
-
-  -- the subcommand that was met, as the program's words have it
-  pub rows_same : (m : ArgMatches) → HasMatchesOf app words m → subcommand_rows_of m ≡ subcommand_of store_app words
-  rows_same m h = subst (λ a. subcommand_rows_of m ≡ subcommand_of a words) is (h (ap is_simple is ∙ is_plain)).1
-
-  -- what it asks for
-  pub asked : (m : ArgMatches) (found : Option Asked) (command : Asked) → HasMatchesOf app words m → IfSome found (AsksFor (subcommand_rows_of m)) → found ≡ Some command
-      → AsksFor (subcommand_of store_app words) command
-  asked m found command h some e =
-      let now : AsksFor (subcommand_rows_of m) command = subst (λ f. IfSome f (AsksFor (subcommand_rows_of m))) e some in
-      subst (λ rows. AsksFor rows command) (rows_same m h) now
-
-  -- words that ask for nothing
-  pub none_asked : (m : ArgMatches) (found : Option Asked) (P : Type 0) → HasMatchesOf app words m → IfNone found ((command : Asked) → ¬ AsksFor (subcommand_rows_of m) command)
-      → found ≡ None → P ⊎ ((command : Asked) → ¬ AsksFor (subcommand_of store_app words) command)
-  none_asked m found P h none e =
-      let now : (command : Asked) → ¬ AsksFor (subcommand_rows_of m) command = subst (λ f. IfNone f ((command : Asked) → ¬ AsksFor (subcommand_rows_of m) command)) e none in
-      inr (subst (λ rows. (command : Asked) → ¬ AsksFor rows command) (rows_same m h) now)
-
-  -- how it refuses words
-  pub refused_by : (e : Error) → (is_simple_and_free app ≡ true → HasKind (fault_of app words) e)
-      → HasKind (fault_of store_app words) e ⊎ ((command : Asked) → ¬ AsksFor (subcommand_of store_app words) command)
-  refused_by e h = inl (subst (λ a. HasKind (fault_of a words) e) is (h (ap is_simple_and_free is ∙ is_free)))
-
--- what holds of an error holds of the error that is handed on
-pub err_same : {T E : Type 0} (r : Result T E) (given : E) (P : E → Type 0) → IsErrAnd r (λ e. e ≡ given) → P given → IfErr r P
-err_same (Ok x) given P same h = tt
-err_same (Err e) given P same h = subst P (sym same) h
-
 -- where `new` is asked for nothing, nothing is
-pub no_new : (rows : List Row) → ((made : NewStore) → ¬ AsksNew rows made) → (command : Asked) → AsksFor (Some (codes "new", rows)) command → ⊥
+pub no_new : (rows : List Row) → ((made : NewStore) → ¬ AsksNew rows made) → (command : Asked) → AsksFor (codes "new") rows command → ⊥
 no_new rows none (New made) h = none made h.1
 no_new rows none (Open opened) h = let bad : 110 ≡ 111 = ap (λ t. get_or t 0 0) h.0 in absurd (omega (arith, bad))
-no_new rows none (Log dir) h = let bad : 110 ≡ 108 = ap (λ t. get_or t 0 0) h.0 in absurd (omega (arith, bad))
-no_new rows none (Flights dir out) h = let bad : 110 ≡ 102 = ap (λ t. get_or t 0 0) h.0 in absurd (omega (arith, bad))
-no_new rows none (Audit dir) h = let bad : 110 ≡ 97 = ap (λ t. get_or t 0 0) h.0 in absurd (omega (arith, bad))
 no_new rows none (Import import) h = let bad : 110 ≡ 105 = ap (λ t. get_or t 0 0) h.0 in absurd (omega (arith, bad))
 no_new rows none (Export export) h = let bad : 110 ≡ 101 = ap (λ t. get_or t 0 0) h.0 in absurd (omega (arith, bad))
+no_new rows none (Log dir) h = let bad : 110 ≡ 108 = ap (λ t. get_or t 0 0) h.0 in absurd (omega (arith, bad))
+no_new rows none (Flights dir out) h = let bad : 110 ≡ 102 = ap (λ t. get_or t 0 0) h.0 in absurd (omega (arith, bad))
+no_new rows none (Audit dir) h = h
 
 -- where `import` is asked for nothing, nothing is
-pub no_import : (rows : List Row) → ((import : ImportRows) → ¬ AsksImport rows import) → (command : Asked) → AsksFor (Some (codes "import", rows)) command → ⊥
+pub no_import : (rows : List Row) → ((import : ImportRows) → ¬ AsksImport rows import) → (command : Asked) → AsksFor (codes "import") rows command → ⊥
 no_import rows none (New made) h = let bad : 105 ≡ 110 = ap (λ t. get_or t 0 0) h.0 in absurd (omega (arith, bad))
 no_import rows none (Open opened) h = let bad : 105 ≡ 111 = ap (λ t. get_or t 0 0) h.0 in absurd (omega (arith, bad))
-no_import rows none (Log dir) h = let bad : 105 ≡ 108 = ap (λ t. get_or t 0 0) h.0 in absurd (omega (arith, bad))
-no_import rows none (Flights dir out) h = let bad : 105 ≡ 102 = ap (λ t. get_or t 0 0) h.0 in absurd (omega (arith, bad))
-no_import rows none (Audit dir) h = let bad : 105 ≡ 97 = ap (λ t. get_or t 0 0) h.0 in absurd (omega (arith, bad))
 no_import rows none (Import import) h = none import h.1
 no_import rows none (Export export) h = let bad : 105 ≡ 101 = ap (λ t. get_or t 0 0) h.0 in absurd (omega (arith, bad))
+no_import rows none (Log dir) h = let bad : 105 ≡ 108 = ap (λ t. get_or t 0 0) h.0 in absurd (omega (arith, bad))
+no_import rows none (Flights dir out) h = let bad : 105 ≡ 102 = ap (λ t. get_or t 0 0) h.0 in absurd (omega (arith, bad))
+no_import rows none (Audit dir) h = h
 
 -- where `export` is asked for nothing, nothing is
-pub no_export : (rows : List Row) → ((export : ExportRows) → ¬ AsksExport rows export) → (command : Asked) → AsksFor (Some (codes "export", rows)) command → ⊥
+pub no_export : (rows : List Row) → ((export : ExportRows) → ¬ AsksExport rows export) → (command : Asked) → AsksFor (codes "export") rows command → ⊥
 no_export rows none (New made) h = let bad : 101 ≡ 110 = ap (λ t. get_or t 0 0) h.0 in absurd (omega (arith, bad))
 no_export rows none (Open opened) h = let bad : 101 ≡ 111 = ap (λ t. get_or t 0 0) h.0 in absurd (omega (arith, bad))
-no_export rows none (Log dir) h = let bad : 101 ≡ 108 = ap (λ t. get_or t 0 0) h.0 in absurd (omega (arith, bad))
-no_export rows none (Flights dir out) h = let bad : 101 ≡ 102 = ap (λ t. get_or t 0 0) h.0 in absurd (omega (arith, bad))
-no_export rows none (Audit dir) h = let bad : 101 ≡ 97 = ap (λ t. get_or t 0 0) h.0 in absurd (omega (arith, bad))
 no_export rows none (Import import) h = let bad : 101 ≡ 105 = ap (λ t. get_or t 0 0) h.0 in absurd (omega (arith, bad))
 no_export rows none (Export export) h = none export h.1
+no_export rows none (Log dir) h = let bad : 101 ≡ 108 = ap (λ t. get_or t 0 0) h.0 in absurd (omega (arith, bad))
+no_export rows none (Flights dir out) h = let bad : 101 ≡ 102 = ap (λ t. get_or t 0 0) h.0 in absurd (omega (arith, bad))
+no_export rows none (Audit dir) h = h

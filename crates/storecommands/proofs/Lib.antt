@@ -1,3 +1,3 @@
-mod CommandLines
+pub mod CommandLines
 mod Dots
 mod Texts

@@ -1,11 +1,10 @@
--- The command lines over a store's folder, in the words of `clap`'s own definitions: what their arguments are, and what a command line
--- asks for.
+-- The commands over a store's folder, in the words of `clap`'s own definitions: what their arguments are, and what they ask for.
 use Rattle.std.specs.Prelude.{◌≡◌, ◌⊎◌, ◌<◌, ◌^◌, ℕ, Bool, List, Option, Some, None, IfSome, pos, codes, option_map, true, false}
-use Rattle.std.specs.Str.Parse.{IsNumeral, digits_value, without_leading_plus}
 use Rattle.clap.specs.Walk.{Row, Rule, Text, first_of, one_of}
 use Rattle.clap.specs.Simple.{App, new_app, new_rule, with_rule, with_subcommand}
 use Rattle.clap.specs.declared.builder.action.ArgAction.TheVariants.{Set, SetTrue}
 use Rattle.clap.specs.declared.builder.value_parser.ValueParser.TheVariants as parser
+use Rattle.storecommands.specs.Given.{GivesFlag, GivesLine, GivesNumber}
 use Rattle.storecommands.specs.declared.command.Command.{Command}
 use Rattle.storecommands.specs.declared.command.Command.TheVariants.{New, Open, Log, Flights, Audit, Import, Export}
 use Rattle.storecommands.specs.declared.command.ExportRows.{ExportRows}
@@ -106,10 +105,6 @@ log_app = with_rule (new_app (codes "log")) dir_rule
 abbrev pub flights_app : App
 flights_app = with_rule (with_rule (new_app (codes "flights")) dir_rule) out_rule
 
--- audit DIR
-abbrev pub audit_app : App
-audit_app = with_rule (new_app (codes "audit")) dir_rule
-
 -- import [--from-line N] DIR TABLE FILE
 abbrev pub import_app : App
 import_app = with_rule (with_rule (with_rule (with_rule (new_app (codes "import")) from_line_rule) dir_rule) table_rule) csv_rule
@@ -118,20 +113,9 @@ import_app = with_rule (with_rule (with_rule (with_rule (new_app (codes "import"
 abbrev pub export_app : App
 export_app = with_rule (with_rule (with_rule (with_rule (new_app (codes "export")) as_of_rule) all_rule) dir_rule) table_rule
 
--- the commands over a store's folder
-abbrev pub store_app : App
-store_app = with_subcommand (with_subcommand (with_subcommand (with_subcommand (with_subcommand (with_subcommand (with_subcommand (new_app (codes "bitable")) new_app_words.top) open_app.top) log_app.top) flights_app.top) audit_app.top) import_app.top) export_app.top
-
--- the name of one of them
-abbrev pub IsCommandName : Text → Type 0
-IsCommandName word = (word ≡ codes "new") ⊎ (word ≡ codes "open") ⊎ (word ≡ codes "log") ⊎ (word ≡ codes "flights") ⊎ (word ≡ codes "audit") ⊎ (word ≡ codes "import") ⊎ (word ≡ codes "export")
-
--- the matches give the option a decimal numeral of this number
-pub record GivesNumber (id : Text) (rows : List Row) (n : ℕ) : Type 0 where
-  pub text : Text
-  pub given : one_of id rows ≡ Some text
-  pub numeral : IsNumeral 10 (without_leading_plus text)
-  pub value : digits_value 10 (without_leading_plus text) ≡ n
+-- a program with the commands over a store's folder, as its last
+abbrev pub with_store_commands : App → App
+with_store_commands app = with_subcommand (with_subcommand (with_subcommand (with_subcommand (with_subcommand (with_subcommand app new_app_words.top) open_app.top) import_app.top) export_app.top) log_app.top) flights_app.top
 
 -- the matches give `--clock` this value: none where it is not used, else the number that it was given
 pub record GivesClock (rows : List Row) (clock : Option ℕ) : Type 0 where
@@ -157,17 +141,6 @@ pub record AsksOpen (rows : List Row) (opened : OpenStore) : Type 0 where
   pub sync : GivesSync (first_of (codes "sync") rows) opened.syncs
   pub clock : GivesClock rows opened.clock
 
--- the matches give the option this number; or none, where they give it no number of 64 bits
-abbrev pub GivesLine : Text → List Row → Option ℕ → Type 0
-GivesLine id rows None = (n : ℕ) → n < 2 ^ 64 → ¬ GivesNumber id rows n
-GivesLine id rows (Some n) = GivesNumber id rows n
-
--- the matches give the flag this value: it is on where it is used
-pub record GivesFlag (id : Text) (rows : List Row) (is_on : Bool) : Type 0 where
-  pub unused : one_of id rows ≡ None → is_on ≡ false
-  pub off : one_of id rows ≡ Some (codes "false") → is_on ≡ false
-  pub on : one_of id rows ≡ Some (codes "true") → is_on ≡ true
-
 -- the matches of `import` give these values
 pub record AsksImport (rows : List Row) (import : ImportRows) : Type 0 where
   pub dir : Some import.dir.now ≡ first_of (codes "DIR") rows
@@ -182,13 +155,12 @@ pub record AsksExport (rows : List Row) (export : ExportRows) : Type 0 where
   pub as_of : option_map (λ text. text.now) export.as_of ≡ first_of (codes "as-of") rows
   pub all : GivesFlag (codes "all") rows export.is_all
 
--- What the subcommand that was found, with its matches, asks for.
-abbrev pub AsksFor : Option (Text × List Row) → Command → Type 0
-AsksFor None command = ⊥
-AsksFor (Some (name, rows)) (New made) = (name ≡ codes "new") × AsksNew rows made
-AsksFor (Some (name, rows)) (Open opened) = (name ≡ codes "open") × AsksOpen rows opened
-AsksFor (Some (name, rows)) (Log dir) = (name ≡ codes "log") × (Some dir.now ≡ first_of (codes "DIR") rows)
-AsksFor (Some (name, rows)) (Flights dir out) = (name ≡ codes "flights") × (Some dir.now ≡ first_of (codes "DIR") rows) × (Some out.now ≡ first_of (codes "OUT") rows)
-AsksFor (Some (name, rows)) (Audit dir) = (name ≡ codes "audit") × (Some dir.now ≡ first_of (codes "DIR") rows)
-AsksFor (Some (name, rows)) (Import import) = (name ≡ codes "import") × AsksImport rows import
-AsksFor (Some (name, rows)) (Export export) = (name ≡ codes "export") × AsksExport rows export
+-- What the command of this name, with its matches, asks for. Words alone ask for no audit: `audit` has one name of files and folders.
+abbrev pub AsksFor : Text → List Row → Command → Type 0
+AsksFor name rows (New made) = (name ≡ codes "new") × AsksNew rows made
+AsksFor name rows (Open opened) = (name ≡ codes "open") × AsksOpen rows opened
+AsksFor name rows (Import import) = (name ≡ codes "import") × AsksImport rows import
+AsksFor name rows (Export export) = (name ≡ codes "export") × AsksExport rows export
+AsksFor name rows (Log dir) = (name ≡ codes "log") × (Some dir.now ≡ first_of (codes "DIR") rows)
+AsksFor name rows (Flights dir out) = (name ≡ codes "flights") × (Some dir.now ≡ first_of (codes "DIR") rows) × (Some out.now ≡ first_of (codes "OUT") rows)
+AsksFor name rows (Audit dir) = ⊥

@@ -1,3 +1,4 @@
 pub mod CommandLine
 pub mod Dot
+pub mod Given
 pub mod Text

@@ -1,19 +1,21 @@
-//! The command line.
-ghost use Rattle.std.specs.Prelude.{◌≡◌, ◌⊎◌, ◌∷◌, List, [], ℕ, IsTrue, ◌↔◌, map, option_map, string_bytes, codes, false, IfSome, IfNone, IfOk, IfErr, OnOk};
+//! The commands over a store's folder on a command line: their words, and what these ask for.
+ghost use Rattle.std.specs.Prelude.{◌≡◌, option_map, codes, false, IfSome, IfNone, IfOk};
 ghost use Rattle.clap.specs.declared.builder.command.Command.TheViews.{out-Command};
-ghost use Rattle.clap.specs.Words.{app_of, new_app, fault_of, found_of, rows_of, rule_of, subcommand_of, subcommand_rows_of, HasKind};
-ghost use Rattle.clap.specs.Words.{first_of};
+ghost use Rattle.clap.specs.Words.{app_of, found_of, rows_of, rule_of};
 ghost use Rattle.storecommands.specs.declared.command.Command.{Command as Asked};
 ghost use Rattle.storecommands.specs.declared.command.NewStore.{NewStore as Made};
 ghost use Rattle.storecommands.specs.declared.command.OpenStore.{OpenStore as Opened};
 ghost use Rattle.storecommands.specs.declared.command.ExportRows.{ExportRows as Exported};
 ghost use Rattle.storecommands.specs.declared.command.ImportRows.{ImportRows as Imported};
-ghost use Rattle.storecommands.specs.CommandLine.{AsksExport, AsksFor, AsksImport, AsksNew, AsksOpen, GivesClock, GivesFlag, GivesLine, GivesSync, all_rule, as_of_rule, csv_rule, from_line_rule, table_rule, import_app, export_app, clock_rule, dir_rule, file_rule, nodes_rule, out_rule, schema_rule, sync_rule, new_app_words, open_app, log_app, flights_app, audit_app, store_app, IsCommandName};
+ghost use Rattle.storecommands.specs.CommandLine.{AsksExport, AsksFor, AsksImport, AsksNew, AsksOpen, GivesClock, GivesSync, all_rule, as_of_rule, csv_rule, from_line_rule, table_rule, import_app, export_app, clock_rule, dir_rule, file_rule, nodes_rule, out_rule, schema_rule, sync_rule, new_app_words, open_app, log_app, flights_app, with_store_commands};
 
 use crate::command::{Command, ExportRows, ImportRows, NewStore, OpenStore};
-use clap::error::ErrorKind;
-use clap::{Arg, ArgAction, ArgMatches, Command as Parser, Error, value_parser};
+use crate::given::{flag_of, line_of, text_of};
+use clap::{Arg, ArgAction, ArgMatches, Command as Parser, value_parser};
 use std::alloc::{AllocError, Global};
+
+/// What is wrong with a command line that `clap` takes and for which `command_of` finds nothing.
+pub const ASKS_NOTHING: &str = "--sync takes yes or no";
 
 const NEW_END: &str = "Example:
   bitable new pay --nodes 3 --schema pay.sql
@@ -53,17 +55,6 @@ const FLIGHTS_END: &str = "Example:
 Exit status:
   0  the flights are written
   1  the store is refused, or a flight can't be written, on standard error
-  2  the command line is not one of these";
-
-const AUDIT_END: &str = "Example:
-  bitable audit pay
-
-  sessions 3, requests 5, members 3: each database is what the journals give
-  audit: yes
-
-Exit status:
-  0  yes: the events that the journals spell give each outcome and answer, and what each database holds
-  1  no; or the store is refused, on standard error
   2  the command line is not one of these";
 
 const IMPORT_END: &str =
@@ -254,15 +245,6 @@ fn flights_words<'a>(alloc: Global) -> Result<Parser<'a>, AllocError>
         .arg(out_word(alloc))
 }
 
-fn audit_words<'a>(alloc: Global) -> Result<Parser<'a>, AllocError>
-    ensures { IfOk result (λ c. (app_of c ≡ audit_app) × ((out-Command c).has_globals ≡ false)) }
-{
-    Parser::new(alloc, "audit")
-        .about("Says whether the store in a folder is what its journals give")
-        .after_help(AUDIT_END)
-        .arg(dir_word(alloc))
-}
-
 fn import_words<'a>(alloc: Global) -> Result<Parser<'a>, AllocError>
     ensures { IfOk result (λ c. (app_of c ≡ import_app) × ((out-Command c).has_globals ≡ false)) }
 {
@@ -289,31 +271,17 @@ fn export_words<'a>(alloc: Global) -> Result<Parser<'a>, AllocError>
         .arg(table_word(alloc))
 }
 
-fn bare_words<'a>(alloc: Global) -> Parser<'a>
-    ensures { app_of result ≡ new_app (codes "bitable") }
+/// The program with the commands over a store's folder as its last subcommands.
+pub fn with_commands<'a>(alloc: Global, program: Parser<'a>) -> Result<Parser<'a>, AllocError>
+    ensures { IfOk result (λ c. app_of c ≡ with_store_commands (app_of program.entry)) }
 {
-    Parser::new(alloc, "bitable").about(
-        "Tables that answer what was believed when, kept in a folder",
-    )
-}
-
-fn all_words<'a>(alloc: Global) -> Result<Parser<'a>, AllocError>
-    ensures { IfOk result (λ c. app_of c ≡ store_app) }
-{
-    bare_words(alloc)
+    program
         .subcommand(new_words(alloc)?)?
         .subcommand(open_words(alloc)?)?
-        .subcommand(log_words(alloc)?)?
-        .subcommand(flights_words(alloc)?)?
-        .subcommand(audit_words(alloc)?)?
         .subcommand(import_words(alloc)?)?
-        .subcommand(export_words(alloc)?)
-}
-
-fn text_of<'a>(matches: &ArgMatches<'a>, id: &str) -> Option<&'a str>
-    ensures { option_map (λ text. text.now) result ≡ first_of id.now (rows_of (found_of matches.now)) }
-{
-    matches.get_str(id)
+        .subcommand(export_words(alloc)?)?
+        .subcommand(log_words(alloc)?)?
+        .subcommand(flights_words(alloc)?)
 }
 
 fn new_of<'a>(matches: &ArgMatches<'a>) -> Option<NewStore<'a>>
@@ -366,69 +334,6 @@ fn open_of<'a>(matches: &ArgMatches<'a>) -> Option<OpenStore<'a>>
     })
 }
 
-fn new_command<'a>(matches: &ArgMatches<'a>) -> Option<Command<'a>>
-    ensures some { IfSome result (AsksFor (Some (codes "new", rows_of (found_of matches.now)))) }
-    ensures none { IfNone result ((command : Asked) → ¬ AsksFor (Some (codes "new", rows_of (found_of matches.now))) command) }
-{
-    match new_of(matches) {
-        Some(new) => Some(Command::New(new)),
-        None => None,
-    }
-}
-
-fn open_command<'a>(matches: &ArgMatches<'a>) -> Option<Command<'a>>
-    ensures some { IfSome result (AsksFor (Some (codes "open", rows_of (found_of matches.now)))) }
-    ensures none { IfNone result ((command : Asked) → ¬ AsksFor (Some (codes "open", rows_of (found_of matches.now))) command) }
-{
-    match open_of(matches) {
-        Some(open) => Some(Command::Open(open)),
-        None => None,
-    }
-}
-
-// What parsed words ask for; none where they ask for nothing that there is.
-fn command_of<'a>(matches: &ArgMatches<'a>) -> Option<Command<'a>>
-    ensures some { IfSome result (AsksFor (subcommand_rows_of matches.now)) }
-    ensures none { IfNone result ((command : Asked) → ¬ AsksFor (subcommand_rows_of matches.now) command) }
-{
-    let (name, given) = matches.subcommand()?;
-    if name == "new" {
-        return new_command(given);
-    }
-    if name == "open" {
-        return open_command(given);
-    }
-    if name == "log" {
-        return text_of(given, "DIR").map(Command::Log);
-    }
-    if name == "flights" {
-        return flights_of(given);
-    }
-    if name == "audit" {
-        return text_of(given, "DIR").map(Command::Audit);
-    }
-    if name == "import" {
-        return import_command(given);
-    }
-    if name == "export" {
-        return export_command(given);
-    }
-    None
-}
-
-// The line that an option names.
-fn line_of(matches: &ArgMatches, id: &str) -> Option<u64>
-    ensures { GivesLine id.now (rows_of (found_of matches.now)) result }
-{
-    matches.get_one(id)
-}
-
-fn flag_of(matches: &ArgMatches, id: &str) -> bool
-    ensures { GivesFlag id.now (rows_of (found_of matches.now)) result }
-{
-    matches.get_flag(id)
-}
-
 fn import_of<'a>(matches: &ArgMatches<'a>) -> Option<ImportRows<'a>>
     ensures some { IfSome result (AsksImport (rows_of (found_of matches.now))) }
     ensures none { IfNone result ((rows : Imported) → ¬ AsksImport (rows_of (found_of matches.now)) rows) }
@@ -458,9 +363,29 @@ fn export_of<'a>(matches: &ArgMatches<'a>) -> Option<ExportRows<'a>>
     })
 }
 
+fn new_command<'a>(matches: &ArgMatches<'a>) -> Option<Command<'a>>
+    ensures some { IfSome result (AsksFor (codes "new") (rows_of (found_of matches.now))) }
+    ensures none { IfNone result ((command : Asked) → ¬ AsksFor (codes "new") (rows_of (found_of matches.now)) command) }
+{
+    match new_of(matches) {
+        Some(new) => Some(Command::New(new)),
+        None => None,
+    }
+}
+
+fn open_command<'a>(matches: &ArgMatches<'a>) -> Option<Command<'a>>
+    ensures some { IfSome result (AsksFor (codes "open") (rows_of (found_of matches.now))) }
+    ensures none { IfNone result ((command : Asked) → ¬ AsksFor (codes "open") (rows_of (found_of matches.now)) command) }
+{
+    match open_of(matches) {
+        Some(open) => Some(Command::Open(open)),
+        None => None,
+    }
+}
+
 fn import_command<'a>(matches: &ArgMatches<'a>) -> Option<Command<'a>>
-    ensures some { IfSome result (AsksFor (Some (codes "import", rows_of (found_of matches.now)))) }
-    ensures none { IfNone result ((command : Asked) → ¬ AsksFor (Some (codes "import", rows_of (found_of matches.now))) command) }
+    ensures some { IfSome result (AsksFor (codes "import") (rows_of (found_of matches.now))) }
+    ensures none { IfNone result ((command : Asked) → ¬ AsksFor (codes "import") (rows_of (found_of matches.now)) command) }
 {
     match import_of(matches) {
         Some(import) => Some(Command::Import(import)),
@@ -469,8 +394,8 @@ fn import_command<'a>(matches: &ArgMatches<'a>) -> Option<Command<'a>>
 }
 
 fn export_command<'a>(matches: &ArgMatches<'a>) -> Option<Command<'a>>
-    ensures some { IfSome result (AsksFor (Some (codes "export", rows_of (found_of matches.now)))) }
-    ensures none { IfNone result ((command : Asked) → ¬ AsksFor (Some (codes "export", rows_of (found_of matches.now))) command) }
+    ensures some { IfSome result (AsksFor (codes "export") (rows_of (found_of matches.now))) }
+    ensures none { IfNone result ((command : Asked) → ¬ AsksFor (codes "export") (rows_of (found_of matches.now)) command) }
 {
     match export_of(matches) {
         Some(export) => Some(Command::Export(export)),
@@ -479,39 +404,37 @@ fn export_command<'a>(matches: &ArgMatches<'a>) -> Option<Command<'a>>
 }
 
 fn flights_of<'a>(matches: &ArgMatches<'a>) -> Option<Command<'a>>
-    ensures some { IfSome result (AsksFor (Some (codes "flights", rows_of (found_of matches.now)))) }
-    ensures none { IfNone result ((command : Asked) → ¬ AsksFor (Some (codes "flights", rows_of (found_of matches.now))) command) }
+    ensures some { IfSome result (AsksFor (codes "flights") (rows_of (found_of matches.now))) }
+    ensures none { IfNone result ((command : Asked) → ¬ AsksFor (codes "flights") (rows_of (found_of matches.now)) command) }
 {
     let dir = text_of(matches, "DIR")?;
     let out = text_of(matches, "OUT")?;
     Some(Command::Flights { dir, out })
 }
 
-/// Whether a word is the name of a command over a store's folder.
-pub fn is_asked(word: &str) -> bool
-    ensures { IsTrue result ↔ IsCommandName word.now }
+/// What the subcommand of this name, with what `clap` found in its words, asks for: none where it is no command over a store's
+/// folder, or one that asks for nothing, as `open` where `--sync` is neither yes nor no.
+pub fn command_of<'a>(name: &str, matches: &ArgMatches<'a>) -> Option<Command<'a>>
+    ensures some { IfSome result (AsksFor name.now (rows_of (found_of matches.now))) }
+    ensures none { IfNone result ((command : Asked) → ¬ AsksFor name.now (rows_of (found_of matches.now)) command) }
 {
-    word == "new"
-        || word == "open"
-        || word == "log"
-        || word == "flights"
-        || word == "audit"
-        || word == "import"
-        || word == "export"
-}
-
-/// What a command line asks for, the program's name first. The error is clap's: help that was asked for, words that it
-/// refuses, or want of memory.
-pub fn read_command<'a>(alloc: Global, words: &'a [String]) -> Result<Command<'a>, Error>
-    ensures asked { IfOk result (AsksFor (subcommand_of store_app (map string_bytes words.now))) }
-    ensures taken { OnOk result (fault_of store_app (map string_bytes words.now) ≡ []) }
-    ensures refused { IfErr result (λ e. HasKind (fault_of store_app (map string_bytes words.now)) e
-        ⊎ ((command : Asked) → ¬ AsksFor (subcommand_of store_app (map string_bytes words.now)) command)) }
-{
-    let mut parser = all_words(alloc)?;
-    let matches = parser.try_get_matches_from_mut(words)?;
-    match command_of(&matches) {
-        Some(command) => Ok(command),
-        None => Err(parser.error(ErrorKind::InvalidValue, "--sync takes yes or no")?),
+    if name == "new" {
+        return new_command(matches);
     }
+    if name == "open" {
+        return open_command(matches);
+    }
+    if name == "import" {
+        return import_command(matches);
+    }
+    if name == "export" {
+        return export_command(matches);
+    }
+    if name == "log" {
+        return text_of(matches, "DIR").map(Command::Log);
+    }
+    if name == "flights" {
+        return flights_of(matches);
+    }
+    None
 }

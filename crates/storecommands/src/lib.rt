@@ -4,10 +4,11 @@
 pub mod command;
 pub mod command_line;
 pub mod dot;
+pub mod given;
 pub mod text;
 mod words;
 
 pub use command::{Command, ExportRows, ImportRows, NewStore, OpenStore};
-pub use command_line::{is_asked, read_command};
+pub use command_line::{ASKS_NOTHING, command_of, with_commands};
 pub use dot::{DotCommand, read_dot_command};
 pub use text::{Kind, read_kind};

@@ -21,7 +21,7 @@ module _ (text : List ℕ) where
   pub not_numbered : (rest : List ℕ) → IsAfter (codes "bitable store ") text rest → ((w : ℕ) (other : List ℕ) → IsNumber w → rest ≢ ended w other) → IsNoForm text
   not_numbered rest after none = record {
     form = λ members schema tables is. none 1 (parts_text members schema) (lit< tt) (sym (after.1 _ is.spelled));
-    version = λ version small other of. none version of.0 small (sym (after.1 _ of.1))
+    version = λ version small other of. none version of.0 small (sym (after.1 _ of.1));
   }
 
   module _ (rest : List ℕ) (only : (version : ℕ) (other : List ℕ) → version < 2 ^ 64 → text ≡ version_text version other → (version ≡ 1) × (other ≡ rest)) where
@@ -36,7 +36,7 @@ module _ (text : List ℕ) where
     pub no_parts : ((members : ℕ) (schema : List ℕ) → IsMany members → rest ≢ parts_text members schema) → IsNoForm text
     no_parts none = record {
       form = λ members schema tables is. none members schema is.many (behind_version members schema is.spelled);
-      version = λ version small another of. first_alone version small another of.0 of.1
+      version = λ version small another of. first_alone version small another of.0 of.1;
     }
 
     -- its tables are none
@@ -45,7 +45,7 @@ module _ (text : List ℕ) where
       form = λ m s tables is.
           let same = alone m s is.many (behind_version m s is.spelled) in
           none tables (subst (λ (t : List ℕ). SchemaSays t (Ok tables)) same.1 is.says);
-      version = λ version small another of. first_alone version small another of.0 of.1
+      version = λ version small another of. first_alone version small another of.0 of.1;
     }
 
 -- a part is refused for want of memory, or since the text is no form

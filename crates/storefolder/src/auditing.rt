@@ -9,11 +9,13 @@ use crate::place::enter;
 use auditor::AuditFault;
 use durable::SqlKeeper;
 use fault::Refusal;
+use flight::life::Life;
 use journal::Summary;
 use model::entry::Entry;
 use model::member::Member;
 use node::Node;
 use playback::{Flown, Play, judge};
+use progressline::Progress;
 use schema::Schema;
 use sqlite::{Alter, Connection};
 use std::alloc::Global;
@@ -129,29 +131,31 @@ fn compare_stored<S: Alter + Drop>(
 }
 
 // Opens the databases of which the journals tell, and compares them.
-fn check_databases(
+fn check_databases<Q: Progress>(
     rt: &HostRuntime,
     alloc: Global,
     dir: &str,
     form: &Form,
     play: &mut Play,
+    progress: &Q,
 ) -> Result<Vec<Member>, StoreRefusal> {
     let mut past = Past::new(alloc, form.members)?;
-    tell_all(rt, alloc, dir, form, &mut past)?;
+    tell_all(rt, alloc, dir, form, &mut past, progress)?;
     let databases = open_databases(rt, alloc, dir, &past)?;
     compare_stored(alloc, databases, form, play)
 }
 
 // Plays all journals, compares the databases, and names those that are missing.
-fn check_all(
+fn check_all<Q: Progress>(
     rt: &HostRuntime,
     alloc: Global,
     dir: &str,
     form: &Form,
     play: &mut Play,
+    progress: &Q,
 ) -> Result<Vec<Member>, StoreRefusal> {
-    tell_all(rt, alloc, dir, form, play)?;
-    check_databases(rt, alloc, dir, form, play)
+    tell_all(rt, alloc, dir, form, play, progress)?;
+    check_databases(rt, alloc, dir, form, play, progress)
 }
 
 // Whether a refusal is what an audit says no by.
@@ -194,24 +198,44 @@ fn judge_flown(
     }
 }
 
+// How many steps lives have.
+fn steps_in(lives: &[Vec<Life>]) -> usize {
+    let mut steps: usize = 0;
+    for own in lives {
+        for life in own {
+            steps = steps.saturating_add(life.steps.len());
+        }
+    }
+    steps
+}
+
 /// Audits the store in a folder: whether the events that its journals spell give each outcome and each answer that these tell of, each
 /// database holds what they come to, and an audit of the lives and answers that they spell says yes. A yes comes with these.
 ///
 /// A fault is 49 of a database that holds something else, 55 of a journal that spells nothing, 51 of a member that began with what it did
 /// not have, 52 of a message that was not sent, 53 of marks that do not rise, 54 of an outcome or an answer that the events don't give.
-/// Refused is 46 to 48, and 40 and 43.
-pub fn audit(rt: &HostRuntime, alloc: Global, dir: &str) -> Result<Verdict, StoreRefusal>
+/// Refused is 46 to 48, and 40 and 43. How many journals are read and how many steps are judged is told to who asks for it.
+pub fn audit<Q: Progress>(
+    rt: &HostRuntime,
+    alloc: Global,
+    dir: &str,
+    progress: &Q,
+) -> Result<Verdict, StoreRefusal>
     ensures { IfOk result IsUpheld }
 {
     let folder = enter(rt, alloc, dir)?;
     let form = &folder.form;
     let mut play = Play::new(alloc, form.members, form.schema.clone()?, true)?;
-    let missing = match check_all(rt, alloc, dir, form, &mut play) {
+    let missing = match check_all(rt, alloc, dir, form, &mut play, progress) {
         Ok(missing) => missing,
         Err(refusal) if is_verdict(&refusal) => return Ok(Verdict::No(refusal)),
         Err(refusal) => return Err(refusal),
     };
     let counts = play.counts();
     let flown = play.into_flown()?;
-    judge_flown(alloc, form.schema.clone()?, flown, counts, missing)
+    let schema = form.schema.clone()?;
+    progress.judge(steps_in(flown.lives.as_slice()));
+    let verdict = judge_flown(alloc, schema, flown, counts, missing);
+    progress.hide();
+    verdict
 }

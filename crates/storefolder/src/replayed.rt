@@ -2,23 +2,30 @@
 use crate::faults::file_refusal;
 use crate::journals::tell_all;
 use crate::place::enter;
+use answertext::outlet::WriteFault;
 use fault::{Refusal, Text};
 use flight::flight::{Flight, Version};
-use flight::{WriteFault, write_flight};
+use flight::write_flight;
 use model::member::Member;
 use playback::{Flown, Play};
+use progressline::Progress;
 use std::alloc::Global;
 use std::fs;
 use std::fs::File;
 use store::StoreRefusal;
 
 /// The journals of the store in a folder, played: its requests that are decided, in the order of the log. What `audit` refuses, and
-/// each of its faults but 49 and 53.
-pub fn replay(rt: &HostRuntime, alloc: Global, dir: &str) -> Result<Play, StoreRefusal> {
+/// each of its faults but 49 and 53. How many journals are played is told to who asks for it.
+pub fn replay<Q: Progress>(
+    rt: &HostRuntime,
+    alloc: Global,
+    dir: &str,
+    progress: &Q,
+) -> Result<Play, StoreRefusal> {
     let folder = enter(rt, alloc, dir)?;
     let form = &folder.form;
     let mut play = Play::new(alloc, form.members, form.schema.clone()?, false)?;
-    tell_all(rt, alloc, dir, form, &mut play)?;
+    tell_all(rt, alloc, dir, form, &mut play, progress)?;
     Ok(play)
 }
 
@@ -83,12 +90,19 @@ fn make_folder(rt: &HostRuntime, out: &str) -> Result<(), StoreRefusal> {
 }
 
 /// Writes the flights of the store in a folder into new files of another folder, which is made if it is not there: `node1.flight` and so
-/// on, as `live` writes them. What `replay` refuses; 56 where one of these files is there already; 40 where one can't be written.
-pub fn flights(rt: &HostRuntime, alloc: Global, dir: &str, out: &str) -> Result<(), StoreRefusal> {
+/// on, as `live` writes them. What `replay` refuses; 56 where one of these files is there already; 40 where one can't be written. How
+/// many journals are played is told to who asks for it.
+pub fn flights<Q: Progress>(
+    rt: &HostRuntime,
+    alloc: Global,
+    dir: &str,
+    out: &str,
+    progress: &Q,
+) -> Result<(), StoreRefusal> {
     let folder = enter(rt, alloc, dir)?;
     let form = &folder.form;
     let mut play = Play::new(alloc, form.members, form.schema.clone()?, true)?;
-    tell_all(rt, alloc, dir, form, &mut play)?;
+    tell_all(rt, alloc, dir, form, &mut play, progress)?;
     let flown = play.into_flown()?;
     make_folder(rt, out)?;
     write_all(rt, alloc, out, &form.schema_text, flown)

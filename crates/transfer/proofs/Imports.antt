@@ -32,7 +32,7 @@ module _ {T : Type 0} (takes : T → List ℕ → Outcome → T → Type 0) wher
       record {
         accepted = subst (λ (rs : List Request). AreAccepted takes old rs new) (sym whole) (accepted_on old mid new stamp (take came.requests requests) request far.accepted now);
         rows = rows ∙ ap (λ (n : ℕ). min (n + request.rows) 18446744073709551615) far.rows ∙ sym (rows_on requests came.requests request less is) ∙ ap (λ (n : ℕ). rows_in (take n requests)) (sym counted);
-        within = omega (arith, counted, less)
+        within = omega (arith, counted, less);
       }
 
   -- it comes to nothing at first
@@ -42,5 +42,5 @@ module _ {T : Type 0} (takes : T → List ℕ → Outcome → T → Type 0) wher
       record {
         accepted = subst (λ (rs : List Request). AreAccepted takes old rs old) (sym empty) refl;
         rows = rows ∙ ap rows_in (sym empty);
-        within = omega (arith, none)
+        within = omega (arith, none);
       }

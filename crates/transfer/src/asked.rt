@@ -4,6 +4,7 @@ use crate::import::{import_rows, read_rows};
 use crate::stop::Fault;
 use csvrows::Request;
 use period::Instant;
+use progressline::Progress;
 use schema::Schema;
 use sqlchecks::column::find_table;
 use std::alloc::Global;
@@ -90,20 +91,21 @@ pub fn look_at<'a>(
 }
 
 /// Does it with the store, on standard output, and gives the exit status: 0, or 1 where not all rows of a file are stored. What clocks
-/// show is given.
-pub fn work_on<K: Announces>(
+/// show is given. How many rows of a file are stored is told to who asks for it.
+pub fn work_on<K: Announces, Q: Progress>(
     rt: &HostRuntime,
     alloc: Global,
     work: &Work<'_>,
     reading: i64,
     store: &mut Store<K>,
+    progress: &Q,
 ) -> Result<u8, Fault>
 where
     K::Image: Drop,
 {
     match work {
         Work::Import(import, requests) => {
-            import_rows(rt, alloc, *import, requests, reading, store)
+            import_rows(rt, alloc, *import, requests, reading, store, progress)
         }
         Work::Export(export, instant) => {
             export_rows(rt, alloc, *export, *instant, reading, store)

@@ -9,6 +9,7 @@ use crate::taking::Takes;
 use crate::told::{count_text, fault_text, outcome_text};
 use csvrows::{Request, Stop, read_requests};
 use fault::Refusal;
+use progressline::Progress;
 use schema::Schema;
 use sqlchecks::column::find_table;
 use std::alloc::Global;
@@ -71,28 +72,31 @@ struct Came {
 }
 
 // Hands in requests, each when the one before it is accepted, and tells what comes of each.
-fn store_all<T: Takes>(
+fn store_all<T: Takes, Q: Progress>(
     rt: &HostRuntime,
-    alloc: Global,
     import: Import<'_>,
     requests: &[Request],
     reading: i64,
     store: &mut T,
     came: &mut Came,
+    progress: &Q,
 ) -> Result<(), Fault>
     requires { (came.old.rows ≡ 0) × (came.old.requests ≡ 0) × (came.old.is_whole ≡ false) }
     ensures far { (mid : T) × IsFar T.takes store.old requests.now came.new mid }
     ensures done { OnOk result (IsDone T.takes store.old requests.now came.new store.new) }
 {
+    let alloc: Global = rt.alloc();
     for request in requests {
         let outcome = store.take(reading, request.text.as_str())?;
         let text = outcome_text(alloc, import, request, &outcome)?;
+        progress.hide();
         if !matches!(outcome, Outcome::Accepted(_)) {
             return print(rt, text.as_str());
         }
         came.rows = came.rows.saturating_add(request.rows);
         came.requests = came.requests.saturating_add(1);
         print(rt, text.as_str())?;
+        progress.tell(came.rows);
     }
     came.is_whole = true;
     Ok(())
@@ -100,13 +104,14 @@ fn store_all<T: Takes>(
 
 /// Stores the rows of a file, request by request up to one that is not accepted, and tells how many were stored. The exit status is 1
 /// where not all were.
-pub(crate) fn import_rows<T: Takes>(
+pub(crate) fn import_rows<T: Takes, Q: Progress>(
     rt: &HostRuntime,
     alloc: Global,
     import: Import<'_>,
     requests: &[Request],
     reading: i64,
     store: &mut T,
+    progress: &Q,
 ) -> Result<u8, Fault>
     ensures { IfOk result (λ status. IsImported T.takes store.old requests.now status store.new) }
 {
@@ -115,8 +120,10 @@ pub(crate) fn import_rows<T: Takes>(
         requests: 0,
         is_whole: false,
     };
-    let stored = store_all(rt, alloc, import, requests, reading, store, &mut came);
     let rows = rows_of(requests);
+    progress.begin("rows", rows);
+    let stored = store_all(rt, import, requests, reading, store, &mut came, progress);
+    progress.hide();
     let text = count_text(alloc, import.file, came.rows, rows, came.requests)?;
     print(rt, text.as_str())?;
     stored?;

@@ -2,7 +2,7 @@ use Rattle.std.proofs.Common.{rules, ◌≡◌, false, codes}
 use Rattle.std.proofs.lemmas.Result.{IfOk-weaker}
 use Rattle.clap.specs.Words.{app_of, new_app}
 use Rattle.clap.specs.declared.builder.command.Command.TheViews.{out-Command}
-use Rattle.shell.proofs.CommandLines.{with_arg}
+use Rattle.storecommands.proofs.CommandLines.{with_arg}
 use Rattle.shell.proofs.command_line.audit_words.Goals as goal
 
 pub returns : goal.returns
@@ -11,4 +11,5 @@ returns c =
     let local : (out-Command c.after_help.result).has_globals ≡ false = search rules in
     let report = with_arg _ _ _ _ _ c.in_ok-arg.ensures (start, local) c.report_word.ensures in
     let json = with_arg _ _ _ _ _ c.in_ok-arg-2.ensures report c.json_word.ensures in
-    IfOk-weaker c.arg-3.result _ _ (λ r added. with_arg _ _ _ _ _ added json c.files_word.ensures) c.arg-3.ensures
+    let since = with_arg _ _ _ _ _ c.in_ok-arg-3.ensures json c.since_word.ensures in
+    IfOk-weaker c.arg-4.result _ _ (λ r added. with_arg _ _ _ _ _ added since c.files_word.ensures) c.arg-4.ensures

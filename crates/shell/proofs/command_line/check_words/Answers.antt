@@ -2,7 +2,7 @@ use Rattle.std.proofs.Common.{rules, ◌≡◌, false, codes}
 use Rattle.std.proofs.lemmas.Result.{IfOk-weaker}
 use Rattle.clap.specs.Words.{app_of, new_app}
 use Rattle.clap.specs.declared.builder.command.Command.TheViews.{out-Command}
-use Rattle.shell.proofs.CommandLines.{with_arg}
+use Rattle.storecommands.proofs.CommandLines.{with_arg}
 use Rattle.shell.proofs.command_line.check_words.Goals as goal
 
 pub returns : goal.returns

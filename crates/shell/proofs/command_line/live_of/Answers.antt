@@ -1,8 +1,7 @@
-use Rattle.std.proofs.Common.{rules, codes, arith, ◌∙◌}
+use Rattle.std.proofs.Common.{rules, codes, arith}
 use Rattle.std.specs.Str.Parse.{ParsesUnsigned, ExplainsUnsignedError, HasUnsignedDigitsIfOk}
 use Rattle.clap.specs.Words.{found_of}
-use Rattle.clap.proofs.WalkLemmas.{first_value-rows}
-use Rattle.shell.proofs.CommandLines.{no_number, number_given, one_number}
+use Rattle.storecommands.proofs.CommandLines.{no_number, number_given, one_number}
 use Rattle.shell.proofs.command_line.live_of.Goals as goal
 
 pub returns-in_err-nodes-clause-none : goal.returns-in_err-nodes-clause-none
@@ -40,6 +39,7 @@ returns-clause-some c = record {
   seed_fits = search rules;
   loss = number_given _ (λ bs r. ParsesUnsigned 8 10 bs r × ExplainsUnsignedError 10 bs r × HasUnsignedDigitsIfOk bs r) 8 (λ t r g. g.0) (found_of c.args.matches.now) (codes "loss") c.in_ok-loss.loss
       c.in_ok-loss.ensures.none c.in_ok-loss.ensures.value;
-  dir = c.get_str-dir.ensures ∙ first_value-rows (found_of c.args.matches.now) (codes "dir");
+  dir = c.text_of-dir.ensures;
+  format = c.text_of-format.ensures;
   script = c.in_ok-script.ensures;
 }

@@ -1,4 +1,5 @@
 use Rattle.std.proofs.Common.{◌≡◌, map, string_bytes}
+use Rattle.beginnings.specs.Beginnings.{beginning_of}
 use Rattle.flight.specs.Contents.{in_flight}
 use Rattle.flight.specs.declared.flight.Flight.{Flight}
 use Rattle.report.specs.Digests.{all_said}
@@ -17,8 +18,9 @@ returns-clause-ok c =
     let are : AreHeld (map in_flight fs) flown.lives.items flown.answers.items = held fs flown.lives.items flown.answers.items c.in_ok-flown.ensures.lives c.in_ok-flown.ensures.answers in
     let nodes : c.in_ok-contents.contents.nodes.items ≡ map (λ (f : Flight). held_of (in_flight f)) fs = rw c.as_slice.ensures.value at c.in_ok-contents.ensures.nodes in
     let said : c.in_ok-contents.contents.answers ≡ sha256 (all_said (map in_flight fs)) = rw c.as_slice.ensures.value at c.in_ok-contents.ensures.answers in
+    let kept : c.in_ok-contents.contents.beginnings.items ≡ map (λ (f : Flight). beginning_of (in_flight f)) fs = rw c.as_slice.ensures.value at c.in_ok-contents.ensures.beginnings in
     reported_on c.report_of.result (map string_bytes c.args.texts.now) c.in_ok-version.version c.in_ok-version.schema fs flown.lives.items flown.answers.items c.in_ok-contents.contents
-    c.in_ok-version.ensures.ok are nodes said c.report_of.ensures.verdict c.report_of.ensures.contents c.report_of.ensures.seal
+    c.in_ok-version.ensures.ok are nodes said kept c.report_of.ensures.verdict c.report_of.ensures.contents c.report_of.ensures.seal
 
 pub returns-clause-err : goal.returns-clause-err
 returns-clause-err c =

@@ -1,0 +1,5 @@
+mod Tables
+mod Whole
+mod Logs
+mod Runs
+mod Texts

@@ -1,0 +1,36 @@
+-- What a member gives for a question, and the one list of a run.
+use Rattle.std.proofs.Common.{◌≡◌, ℕ, ◌≤◌, ◌<◌, inl, inr, Bool, true, false, cond, List, [], ◌∷◌, Option, Some, None, refl, sym, ap, ◌∙◌, subst, arith}
+use Rattle.std.specs.Prelude.{option_map, nat_le}
+use Rattle.std.proofs.lemmas.Bool.{cases_lt, le-leb, lt-leb, cond-true, cond-false}
+use Rattle.fault.specs.declared.refusal.Refusal.TheVariants.{NotClosed}
+use Rattle.model.specs.Lists.{nth}
+use Rattle.model.specs.Texts.{instant_text}
+use Rattle.model.specs.Transactions.{Schema}
+use Rattle.model.specs.Answers.{Query, Select, Answer, read_at, IsAnswer, IsClosed, closed_query}
+use Rattle.model.specs.Members.{Node, applied, closed_time}
+use Rattle.model.specs.Worlds.{World, Ask, Output, Refused, Answered, new_world, Gives, IsGivenIn, IsGivenBy, IsGivenAt}
+use Rattle.onelist.specs.Explained as onelist
+use Rattle.readerlaws.specs.Laws.{RefusedUnlessClosed, OneListExplains}
+
+closed_at : (q : Select) (o : Option ℕ) (t : ℕ) → o ≡ Some t → (read_at t q).time.last ≤ t → closed_query q o ≡ Some (read_at t q)
+closed_at q o t e l = ap (closed_query q) e ∙ cond-true _ _ _ (le-leb _ t l)
+
+open_at : (q : Select) (o : Option ℕ) → (IsClosed q o → ⊥) → closed_query q o ≡ None
+open_at q None n = refl
+open_at q (Some t) n = elim (cases_lt t (read_at t q).time.last) [ inl l ↦ cond-false _ _ _ (lt-leb _ t l) | inr g ↦ absurd (n (t, refl, g)) ]
+
+given : (schema : Schema) (m : ℕ) (q : Select) (o : Option Node) (x : Node) (out : List Output) → o ≡ Some x → x.up ≡ true → IsGivenAt schema m q o out → IsGivenIn schema m x (closed_query q (closed_time x)) out
+given schema m q o x out e up g = subst (λ (b : Bool). IsGivenBy schema m q x b out) up (subst (λ (o : Option Node). IsGivenAt schema m q o out) e g)
+
+pub refused_unless_closed : RefusedUnlessClosed
+refused_unless_closed schema n m w q out x e up g =
+    let given_in = given schema m q (nth w.nodes m) x out e up g in (
+      (λ t c l. subst (λ (o : Option Query). IsGivenIn schema m x o out) (closed_at q (closed_time x) t c l) given_in),
+      (λ no. subst (λ (o : Option Query). IsGivenIn schema m x o out) (open_at q (closed_time x) no) given_in),
+    )
+
+pub one_list_explains : ((schema : Schema) (n : ℕ) → onelist.OneListExplains schema n (new_world n)) → OneListExplains
+one_list_explains law schema n events outs gives =
+    let one = law schema n in
+    let explains = (one.explains events outs gives).0 in
+    (one.list events, explains.stamped, explains.told, explains.answered)

@@ -1,0 +1,8 @@
+use Rattle.readerlaws.proofs.Tables.{unmet_stays, met_is_changed}
+use Rattle.readerlaws.proofs.unmet_stays.Goals as goal
+
+pub returns-clause-unmet : goal.returns-clause-unmet
+returns-clause-unmet c = unmet_stays c.change_on_rows.ensures c.each_listed.ensures
+
+pub returns-clause-met : goal.returns-clause-met
+returns-clause-met c = met_is_changed c.change_on_rows.ensures c.each_listed.ensures c.overflows_on_rows.ensures

@@ -1,0 +1,106 @@
+//! Fourteen laws that anybody believes of a database, of the definitions that all contracts rest on.
+//! No function here does anything, save to call upon other laws: what it is for is its contract. The
+//! laws are in `specs/Laws.antt`, in this order, each below its sentence.
+#![tactic(auto)]
+
+ghost use Rattle.readerlaws.specs.Laws.{InsertedIsThere, InsertIsRefused, DeletedIsGone, UnmetStays, MetIsChanged, RowsShareNoDay, RowsAreRuns, NoLongerRun, NoOrphans, TablesArise, PastStays, OneClient, RepeatIsHarmless, RefusedUnlessClosed, OneListExplains, OneReading, OneMeaning, DaysAreNamed};
+
+/// 1. An INSERT that is accepted leaves its row, and each row that was there; and no other. It is
+/// refused exactly where a row has its key and a day of its period.
+pub fn inserted_is_there()
+    ensures accepted { InsertedIsThere }
+    ensures refused { InsertIsRefused }
+{
+    rowlaws::change_on_rows();
+    rowlaws::each_listed();
+    rowlaws::overlaps_on_rows();
+}
+
+/// 2. What is deleted is gone.
+pub fn deleted_is_gone()
+    ensures { DeletedIsGone }
+{
+    rowlaws::change_on_rows();
+    rowlaws::each_listed();
+}
+
+/// 3. What is not met stays as it is, its birth too; and what is met becomes what the statement says.
+pub fn unmet_stays()
+    ensures unmet { UnmetStays }
+    ensures met { MetIsChanged }
+{
+    rowlaws::change_on_rows();
+    rowlaws::each_listed();
+    rowlaws::overflows_on_rows();
+}
+
+/// 4. Rows of one key share no day.
+pub fn rows_share_no_day()
+    ensures { RowsShareNoDay }
+{}
+
+/// 5. Rows are longest runs: each filled day lies in one, and no longer run has its days.
+pub fn rows_are_runs()
+    ensures runs { RowsAreRuns }
+    ensures longest { NoLongerRun }
+{
+    rowlaws::change_on_rows();
+    rowlaws::each_listed();
+}
+
+/// 6. Nobody lacks a parent after a transaction. `tables` says that the tables of which this is
+/// said arise as those of the laws above.
+pub fn no_orphans()
+    ensures parents { NoOrphans }
+    ensures tables { TablesArise }
+{
+    apply::laws::texts_fine();
+    rowlaws::fine_logs();
+    rowlaws::logs_on_rows();
+    rowlaws::no_orphan_after();
+    rowlaws::references();
+}
+
+/// 7. The past stays.
+pub fn past_stays()
+    ensures { PastStays }
+{}
+
+/// 8. One client's tables are those of its texts run one after another.
+pub fn one_client()
+    ensures { OneClient }
+{}
+
+/// 9. A repeat is harmless.
+pub fn repeat_is_harmless()
+    ensures { RepeatIsHarmless }
+{}
+
+/// 10. A question is refused exactly where it is not closed.
+pub fn refused_unless_closed()
+    ensures { RefusedUnlessClosed }
+{}
+
+/// 11. One list explains all that a run tells and answers.
+pub fn one_list_explains()
+    ensures { OneListExplains }
+{
+    onelist::one_list_explains();
+}
+
+/// 12. A text has one reading, and one meaning.
+pub fn one_reading()
+    ensures reading { OneReading }
+    ensures meaning { OneMeaning }
+{
+    sqlsyntax::laws::forms_told();
+    sqlsyntax::laws::transactions_spelled();
+    sqlread::laws::schema_is_spelled();
+}
+
+/// 13. Days are named by their dates.
+pub fn days_are_named()
+    ensures { DaysAreNamed }
+{
+    period::laws::day_texts();
+}

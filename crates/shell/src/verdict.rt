@@ -1,0 +1,90 @@
+//! The verdict on a run, in the form that is asked for.
+ghost use Rattle.std.specs.Prelude.{◌≡◌, IfOk, string_bytes};
+ghost use Rattle.flight.specs.declared.flight.Version.TheVariants.{Three};
+ghost use Rattle.looks.specs.Objects.{line_of};
+ghost use Rattle.looks.specs.Outcomes.{object};
+ghost use Rattle.report.specs.Machine.{verdict_tokens};
+ghost use Rattle.shell.specs.Audit.{IsSaid, records_of};
+ghost use Rattle.shell.specs.Reported.{IsVerdict};
+ghost use Rattle.shell.specs.Showing.{IsVerdictIn};
+
+use crate::audit::{all_answers, audit_line, explain};
+use crate::report_run::status_of;
+use crate::showing::{Printed, text_of};
+use auditor::AuditFault;
+use fault::Refusal;
+use flight::flight::Version;
+use folder::Flown;
+use forms::Form;
+use report::machine::verdict_as_json;
+use schema::Schema;
+use std::alloc::{AllocError, Global};
+
+// The fault that an audit finds in a run, if it finds one. 50 of another group than one of 3 to 7 nodes, else 43 for want of memory.
+fn fault_of(alloc: Global, schema: &Schema, flown: &Flown) -> Result<Option<AuditFault>, Refusal>
+    ensures { IfOk result (λ fault. IsVerdict (records_of Three schema.now flown.now.lives.items flown.now.answers.items) fault) }
+{
+    let lives = flown.lives.as_slice();
+    if lives.len() < 3 || lives.len() > 7 {
+        return Err(Refusal::BadFlight);
+    }
+    let judged = all_answers(alloc, flown.answers.as_slice())?;
+    match explain(alloc, Version::Three, schema, lives, judged.as_slice()) {
+        Ok(()) => Ok(None),
+        Err(AuditFault::NoMemory) => Err(Refusal::NoMemory),
+        Err(fault) => Ok(Some(fault)),
+    }
+}
+
+// A verdict as JSON.
+fn as_json(alloc: Global, fault: Option<AuditFault>) -> Result<String, AllocError>
+    ensures { IfOk result (λ text. string_bytes text ≡ line_of (object (verdict_tokens fault))) }
+{
+    text_of(verdict_as_json(alloc, fault)?)
+}
+
+// The exit status and the verdict of a run, as JSON.
+fn object_of(alloc: Global, schema: &Schema, flown: &Flown) -> Result<(u8, Printed), Refusal>
+    ensures { IfOk result (λ said. IsVerdictIn Form.Json (records_of Three schema.now flown.now.lives.items flown.now.answers.items) said.0 (string_bytes said.1.text)) }
+{
+    let fault = fault_of(alloc, schema, flown)?;
+    let text = as_json(alloc, fault)?;
+    let beside = String::new(alloc);
+    Ok((status_of(fault), Printed { text, beside }))
+}
+
+// The exit status and the verdict of a run, as the line that an audit says.
+fn line_of_run(alloc: Global, schema: &Schema, flown: &Flown) -> Result<(u8, Printed), Refusal>
+    ensures { IfOk result (λ said. IsSaid (records_of Three schema.now flown.now.lives.items flown.now.answers.items) said.0 (string_bytes said.1.text)) }
+{
+    let (status, text) = audit_line(alloc, Version::Three, schema, flown)?;
+    let beside = String::new(alloc);
+    Ok((status, Printed { text, beside }))
+}
+
+// The same, told beside what is printed.
+fn line_beside(alloc: Global, schema: &Schema, flown: &Flown) -> Result<(u8, Printed), Refusal>
+    ensures { IfOk result (λ said. IsVerdictIn Form.Csv (records_of Three schema.now flown.now.lives.items flown.now.answers.items) said.0 (string_bytes said.1.text)) }
+{
+    let (status, beside) = audit_line(alloc, Version::Three, schema, flown)?;
+    let text = String::new(alloc);
+    Ok((status, Printed { text, beside }))
+}
+
+/// The exit status of a run, and what is printed of the verdict on it in a form. 50 of another group than one of 3 to 7 nodes, else 43
+/// for want of memory.
+pub(crate) fn verdict_in(
+    alloc: Global,
+    form: Form,
+    schema: &Schema,
+    flown: &Flown,
+) -> Result<(u8, Printed), Refusal>
+    ensures { IfOk result (λ said. IsVerdictIn form (records_of Three schema.now flown.now.lives.items flown.now.answers.items) said.0 (string_bytes said.1.text)) }
+{
+    match form {
+        Form::Lines => line_of_run(alloc, schema, flown),
+        Form::Table => line_of_run(alloc, schema, flown),
+        Form::Csv => line_beside(alloc, schema, flown),
+        Form::Json => object_of(alloc, schema, flown),
+    }
+}
