@@ -17,6 +17,9 @@ use schemaread::schemas::read_schema;
 use std::alloc::{AllocError, Global};
 use store::StoreRefusal;
 
+// The version of forms that are written and read.
+const VERSION: u64 = 1;
+
 /// What the form of a store says.
 #[derive(Drop)]
 pub struct Form {
@@ -83,6 +86,7 @@ fn refusal_of(refusal: Refusal) -> StoreRefusal
 }
 
 // What follows the first line. 46 where that is none, 47 where it names another version.
+#[tactic(auto, using(crate::proofs::Forms::not_begun, crate::proofs::Forms::not_numbered))]
 fn past_version(text: &str) -> Result<&str, StoreRefusal>
     ensures ok { IfOk result (λ rest. text.now ≡ version_text 1 rest.now) }
     ensures only { IfOk result (λ rest. (version : ℕ) (other : List ℕ) → version < 2 ^ 64 → text.now ≡ version_text version other → (version ≡ 1) × (other ≡ rest.now)) }
@@ -94,7 +98,7 @@ fn past_version(text: &str) -> Result<&str, StoreRefusal>
     let Ok((version, rest)) = read_number(rest, '\n') else {
         return Err(no_store());
     };
-    if version != 1 {
+    if version != VERSION {
         return Err(StoreRefusal::Version(version));
     }
     Ok(rest)
@@ -132,7 +136,9 @@ pub(crate) fn text_of_form(
     ensures { IfOk result (λ text. string_bytes text ≡ form_text members schema.now) }
 {
     let length = schema.len();
-    format!(in alloc; "bitable store 1\nmembers {members}\nschema {length}\n{schema}\nend\n")
+    format!(in alloc;
+        "bitable store {VERSION}\nmembers {members}\nschema {length}\n{schema}\nend\n"
+    )
 }
 
 impl Form {
