@@ -1,5 +1,5 @@
 //! Rows of a CSV file into a store.
-ghost use Rattle.std.specs.Prelude.{◌≡◌, false, IfOk, OnOk};
+ghost use Rattle.std.specs.Prelude.{◌≡◌, ◌≢◌, ℕ, false, IsTrue, IsFalse, IfOk, OnOk};
 ghost use Rattle.transfer.specs.Imports.{IsDone, IsFar, IsImported, rows_in};
 
 use crate::asked::Import;
@@ -71,6 +71,13 @@ struct Came {
     is_whole: bool,
 }
 
+fn is_accepted(outcome: &Outcome) -> bool
+    ensures yes { IsTrue result → (stamp : ℕ) × (outcome.now ≡ Outcome.Accepted stamp) }
+    ensures no { IsFalse result → (stamp : ℕ) → outcome.now ≢ Outcome.Accepted stamp }
+{
+    matches!(outcome, Outcome::Accepted(_))
+}
+
 // Hands in requests, each when the one before it is accepted, and tells what comes of each.
 fn store_all<T: Takes, Q: Progress>(
     rt: &HostRuntime,
@@ -90,7 +97,7 @@ fn store_all<T: Takes, Q: Progress>(
         let outcome = store.take(reading, request.text.as_str())?;
         let text = outcome_text(alloc, import, request, &outcome)?;
         progress.hide();
-        if !matches!(outcome, Outcome::Accepted(_)) {
+        if !is_accepted(&outcome) {
             return print(rt, text.as_str());
         }
         came.rows = came.rows.saturating_add(request.rows);
