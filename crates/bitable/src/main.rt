@@ -91,11 +91,9 @@ fn draw_beliefs(rt: &HostRuntime, beliefs: Beliefs<'_>) -> ExitCode {
     }
 }
 
-// INTEGRATE: what `console` does for `bitable beliefs DIR QUERY [--svg FILE]` is called here.
+// Draws the answer of the store in a folder to a question.
 fn draw_of_store(rt: &HostRuntime, dir: &str, query: &str, svg: Option<&str>) -> ExitCode {
-    let _ = (query, svg);
-    let _ = eprintln!(rt; "{dir}: beliefs of a store are not drawn yet");
-    ExitCode::FAILURE
+    end_store(rt, console::draw_beliefs(rt, dir, query, svg, columns(rt)))
 }
 
 // The exit status; where the command was refused, why: the refusal, below it what is known of the file or the folder, and what to do.

@@ -1,7 +1,11 @@
 //! Rows of a CSV file into a store.
+ghost use Rattle.std.specs.Prelude.{◌≡◌, false, IfOk, OnOk};
+ghost use Rattle.transfer.specs.Imports.{IsDone, IsFar, IsImported, rows_in};
+
 use crate::asked::Import;
 use crate::printing::print;
 use crate::stop::Fault;
+use crate::taking::Takes;
 use crate::told::{count_text, fault_text, outcome_text};
 use csvrows::{Request, Stop, read_requests};
 use fault::Refusal;
@@ -10,8 +14,7 @@ use schema::Schema;
 use sqlchecks::column::find_table;
 use std::alloc::Global;
 use std::fs;
-use store::announcing::Announces;
-use store::{Outcome, Store};
+use store::Outcome;
 
 // The line of this number, where the first is 1.
 fn line_at(bytes: &[u8], number: usize) -> &[u8] {
@@ -50,7 +53,9 @@ pub(crate) fn read_rows(
 }
 
 // How many rows requests have.
-fn rows_of(requests: &[Request]) -> usize {
+fn rows_of(requests: &[Request]) -> usize
+    ensures { result ≡ rows_in requests.now }
+{
     let mut rows: usize = 0;
     for request in requests {
         rows = rows.saturating_add(request.rows);
@@ -67,21 +72,22 @@ struct Came {
 }
 
 // Hands in requests, each when the one before it is accepted, and tells what comes of each.
-fn store_all<K: Announces, Q: Progress>(
+fn store_all<T: Takes, Q: Progress>(
     rt: &HostRuntime,
     import: Import<'_>,
     requests: &[Request],
     reading: i64,
-    store: &mut Store<K>,
+    store: &mut T,
     came: &mut Came,
     progress: &Q,
 ) -> Result<(), Fault>
-where
-    K::Image: Drop,
+    requires { (came.old.rows ≡ 0) × (came.old.requests ≡ 0) × (came.old.is_whole ≡ false) }
+    ensures far { (mid : T) × IsFar T.takes store.old requests.now came.new mid }
+    ensures done { OnOk result (IsDone T.takes store.old requests.now came.new store.new) }
 {
     let alloc: Global = rt.alloc();
     for request in requests {
-        let (_, outcome) = store.execute(reading, request.text.as_str())?;
+        let outcome = store.take(reading, request.text.as_str())?;
         let text = outcome_text(alloc, import, request, &outcome)?;
         progress.hide();
         if !matches!(outcome, Outcome::Accepted(_)) {
@@ -98,17 +104,16 @@ where
 
 /// Stores the rows of a file, request by request up to one that is not accepted, and tells how many were stored. The exit status is 1
 /// where not all were.
-pub(crate) fn import_rows<K: Announces, Q: Progress>(
+pub(crate) fn import_rows<T: Takes, Q: Progress>(
     rt: &HostRuntime,
     alloc: Global,
     import: Import<'_>,
     requests: &[Request],
     reading: i64,
-    store: &mut Store<K>,
+    store: &mut T,
     progress: &Q,
 ) -> Result<u8, Fault>
-where
-    K::Image: Drop,
+    ensures { IfOk result (λ status. IsImported T.takes store.old requests.now status store.new) }
 {
     let mut came = Came {
         rows: 0,
