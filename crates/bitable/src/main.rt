@@ -432,6 +432,14 @@ fn steps_in(texts: &[String]) -> usize {
     steps
 }
 
+// That a report and a line that was kept do not go together, in the words that the command line has for such.
+fn refuse_both(rt: &impl Eprint) -> Result<u8, Stop<'static>> {
+    let _ = eprintln!(rt;
+        "error: the argument '--since <LINE>' cannot be used with '--report' or '--json'\n\nFor more information, try '--help'."
+    );
+    Ok(2)
+}
+
 // That no report ends with this line, in the words that the command line has for a value that it does not take.
 fn refuse_since(rt: &impl Eprint, line: &str) -> Result<u8, Stop<'static>> {
     let _ = eprintln!(rt;
@@ -448,6 +456,7 @@ where
     let alloc: Global = rt.alloc();
     let names = asked.files.as_slice();
     let seen = match asked.since {
+        Some(_) if asked.is_report || asked.is_json => return refuse_both(rt),
         Some(line) => match read_line(alloc, line)? {
             Some(seen) => Some(seen),
             None => return refuse_since(rt, line),
