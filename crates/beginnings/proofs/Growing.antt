@@ -1,12 +1,11 @@
 -- Flights that go on.
-use Rattle.std.proofs.Common.{◌≡◌, ◌≢◌, ◌∙◌, ℕ, ◌+◌, ◌-◌, ◌≤◌, List, [], ◌∷◌, ◌++◌, length, take, drop, refl, sym, ap, arith, inl, inr, append_assoc, length-append, true, false}
-use Rattle.std.specs.Prelude.{◌⊎◌, codes}
+use Rattle.std.proofs.Common.{◌≡◌, ◌≢◌, ◌∙◌, ℕ, ◌+◌, ◌-◌, List, [], ◌∷◌, ◌++◌, length, take, drop, refl, sym, ap, arith, inl, inr, append_assoc, length-append}
+use Rattle.std.specs.Prelude.{◌⊎◌}
 use Rattle.std.specs.Str.{bytes_eq}
 use Rattle.std.proofs.lemmas.Bool.{cases_Bool, false≢true}
 use Rattle.std.proofs.lemmas.List.{take_at, drop_at, length-take-le}
 use Rattle.std.proofs.lemmas.Slice.Eq.{bytes_eq-Decides}
 use Rattle.sha2.specs.Sha256.{sha256}
-use Rattle.model.specs.Lists.{IsBeginning}
 use Rattle.flight.specs.Contents.{FlightContents}
 use Rattle.flight.specs.Spelling.{closing_text, flight_text}
 use Rattle.beginnings.specs.Beginnings.{HasBeginning, beginning_of}
@@ -67,8 +66,8 @@ equal_or : (xs ys : List ℕ) → (xs ≡ ys) ⊎ (xs ≢ ys)
 equal_or xs ys =
     let decides = bytes_eq-Decides xs ys in
     elim (cases_Bool (bytes_eq xs ys)) [
-      | inl yes ↦ inl (decides.0 yes)
-      | inr no ↦ inr (λ e. false≢true (sym no ∙ decides.1 e))
+      | inl same ↦ inl (decides.0 same)
+      | inr other ↦ inr (λ e. false≢true (sym other ∙ decides.1 e))
     ]
 
 pub no_others : (f g : FlightContents) → HasBeginning g (beginning_of f) → IsSeenAgain f g ⊎ Collide

@@ -1,6 +1,6 @@
 -- What stays of lives.
-use Rattle.std.proofs.Common.{◌≡◌, ◌∙◌, ℕ, suc, ◌-◌, List, [], ◌∷◌, ◌++◌, length, map, refl, sym, ap, arith, append_assoc, append-nil, inl, inr, Option, None, Some}
-use Rattle.std.specs.Prelude.{◌⊎◌, codes, if◌then◌else◌, option_map, slice_get}
+use Rattle.std.proofs.Common.{◌≡◌, ◌∙◌, ℕ, suc, ◌-◌, List, [], ◌∷◌, ◌++◌, length, map, refl, sym, ap, arith, append_assoc, append-nil, inl, inr, Option}
+use Rattle.std.specs.Prelude.{codes, if◌then◌else◌, option_map, slice_get}
 use Rattle.std.proofs.lemmas.List.{length-map}
 use Rattle.std.proofs.lemmas.Option.{slice_get-map}
 use Rattle.model.specs.Lists.{IsBeginning}
@@ -10,7 +10,6 @@ use Rattle.flight.specs.Spelling.{each_text, ending_text, life_text, opening_tex
 use Rattle.flight.specs.declared.life.Ending.{Ending}
 use Rattle.flight.specs.declared.life.Ending.TheVariants.{Up, Stopped, Torn}
 use Rattle.flight.specs.declared.life.Life.{Life}
-use Rattle.flight.specs.declared.life.Step.{Step}
 use Rattle.flight.specs.declared.flight.Version.{Version}
 use Rattle.beginnings.specs.Growing.{IsLonger}
 use Rattle.beginnings.specs.Stems.{ends_up, is_up_life, up_line}

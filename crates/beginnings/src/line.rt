@@ -14,11 +14,7 @@ use flight::parts::{past, read_number};
 use hex::FromHex;
 use std::alloc::{AllocError, Global};
 
-fn put_part(
-    alloc: Global,
-    beginning: &Beginning,
-    text: &mut String,
-) -> Result<(), AllocError>
+fn put_part(alloc: Global, beginning: &Beginning, text: &mut String) -> Result<(), AllocError>
     ensures { OnOk result (Adds (string_bytes text.old) (string_bytes text.new) (part_text beginning.now)) }
 {
     let bytes = beginning.bytes;

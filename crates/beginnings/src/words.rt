@@ -48,11 +48,7 @@ fn all_begin(found: &[Found]) -> bool
 }
 
 // What is said where there are as many flights as beginnings.
-fn told_of_nodes(
-    alloc: Global,
-    flights: &[Flight],
-    seen: &[Beginning],
-) -> Result<Told, AllocError>
+fn told_of_nodes(alloc: Global, flights: &[Flight], seen: &[Beginning]) -> Result<Told, AllocError>
     requires { length flights.now ≡ length seen.now }
     ensures { IfOk result (λ told. IsTold (map in_flight flights.now) seen.now told.is_beginning (string_bytes told.words)) }
 {
