@@ -4,6 +4,7 @@
 #![tactic(auto)]
 
 ghost use Rattle.readerlaws.specs.Laws.{InsertedIsThere, InsertIsRefused, DeletedIsGone, UnmetStays, MetIsChanged, RowsShareNoDay, RowsAreRuns, NoLongerRun, NoOrphans, TablesArise, PastStays, OneClient, RepeatIsHarmless, RefusedUnlessClosed, OneListExplains, OneReading, OneMeaning, DaysAreNamed};
+ghost use Rattle.readerlaws.specs.Example.{ByExample};
 
 /// 1. An INSERT that is accepted leaves its row, and each row that was there; and no other. It is
 /// refused exactly where a row has its key and a day of its period.
@@ -103,4 +104,17 @@ pub fn days_are_named()
     ensures { DaysAreNamed }
 {
     period::laws::day_texts();
+}
+
+/// 14. By example: two transactions leave the rows that they should, and a third is refused.
+pub fn by_example()
+    ensures { ByExample }
+{
+    period::laws::day_texts();
+    rowtext::laws::lines_read_again();
+    apply::laws::texts_fine();
+    rowlaws::fine_logs();
+    rowlaws::logs_on_rows();
+    rowlaws::outcomes_on_rows();
+    rowlaws::each_listed();
 }
