@@ -1,5 +1,5 @@
 -- The days of the worked example in the calendar.
-use Rattle.std.proofs.Common.{◌≡◌, ℕ, ◌≤◌, refl, arith, Ok}
+use Rattle.std.proofs.Common.{◌≡◌, refl, arith, Ok}
 use Rattle.std.specs.Prelude.{codes}
 use Rattle.jiff_core.specs.Calendar.{days_from_civil, day_count, days_of_years, days_of_months}
 use Rattle.period.specs.Day.{IsDayText}

@@ -1,5 +1,5 @@
 -- The worked example: what its texts say, and what they leave.
-use Rattle.std.proofs.Common.{◌≡◌, ℕ, pos, inl, inr, Bool, true, false, List, [], ◌∷◌, ◌++◌, map, length, reverse, Option, Some, None, Result, Ok, Err, refl, sym, ap, ◌∙◌, subst}
+use Rattle.std.proofs.Common.{◌≡◌, ℕ, pos, inl, inr, false, List, [], ◌∷◌, map, length, Some, None, Result, Ok, Err, refl, sym, ap, ◌∙◌, subst}
 use Rattle.std.specs.Prelude.{codes, nat_lt}
 use Rattle.std.specs.List.{AllByRecursion}
 use Rattle.std.specs.Result.{result_unwrap_or}
@@ -10,9 +10,9 @@ use Rattle.model.specs.declared.value.Value.TheVariants.{Number}
 use Rattle.model.specs.declared.entry.Entry.{Entry}
 use Rattle.model.specs.declared.entry.Request.{Request}
 use Rattle.model.specs.Values.{same_key, key_cmp}
-use Rattle.model.specs.Tables.{Table, Row, IsRow}
-use Rattle.model.specs.Transactions.{Schema, Statement, Place, and_then}
-use Rattle.model.specs.Logs.{executed, first_outcome, outcome, state_after, state_at}
+use Rattle.model.specs.Tables.{Table, Row}
+use Rattle.model.specs.Transactions.{Statement, and_then}
+use Rattle.model.specs.Logs.{executed, outcome, state_after, state_at}
 use Rattle.rowlaws.specs.Rows.{Lists, EachListed}
 use Rattle.rowlaws.specs.Cutting.{cut_rows}
 use Rattle.rowlaws.specs.Changes.{rows_changed}
@@ -27,8 +27,8 @@ use Rattle.sqltokens.specs.Lexing.{token_of, keyword_of, one_sign, two_sign, clo
 use Rattle.namesyntax.specs.Names.{names, another_name, name_list}
 use Rattle.namesyntax.specs.Parsing.{parsed}
 use Rattle.sqlsyntax.specs.declared.forms.Operator.TheVariants.{Equal}
-use Rattle.sqlsyntax.specs.Shared.{operators, date, literal, comparison, another_comparison, comparisons, condition}
-use Rattle.sqlsyntax.specs.Transactions.{StatementForm, another_literal, literals, portion, new_value, assignment, another_assignment, assignments, insert, update, delete, statement, statements}
+use Rattle.sqlsyntax.specs.Shared.{operators, date, literal, comparison, comparisons, condition}
+use Rattle.sqlsyntax.specs.Transactions.{StatementForm, another_literal, literals, portion, new_value, assignment, assignments, insert, update, statement, statements}
 use Rattle.sqlchecks.specs.declared.field.Field.TheVariants.{Key}
 use Rattle.sqlchecks.specs.Answering.{◌>>=◌}
 use Rattle.sqlchecks.specs.Literals.{signed, day_named, period_named, literal_in}
@@ -44,7 +44,7 @@ use Rattle.rowtext.specs.Again.{IsWritten, lines, ReadsWhatIsWritten}
 use Rattle.apply.specs.Laws.{TextsFine}
 use Rattle.period.specs.Laws.{DayTexts, OneDay}
 use Rattle.readerlaws.proofs.Dates.{first_day, second_day, third_day, last_day}
-use Rattle.readerlaws.specs.Example.{emp, hires, lends, worked, his, HasRows, ByExample}
+use Rattle.readerlaws.specs.Example.{emp, hires, lends, his, HasRows, ByExample}
 
 -- ---- what the texts spell
 

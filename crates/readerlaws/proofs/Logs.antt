@@ -1,18 +1,17 @@
 -- Lists of entries: the past stays, one client's requests run in turn, and a repeat changes nothing.
-use Rattle.std.proofs.Common.{◌≡◌, ℕ, zero, suc, ◌+◌, ◌-◌, ◌<◌, ◌≤◌, ◌⊎◌, inl, inr, Bool, true, false, cond, ◌==◌, List, [], ◌∷◌, ◌++◌, length, reverse, slice_get, filter, Option, Some, None, Result, Ok, Err, refl, sym, ap, ◌∙◌, subst, arith, append-nil, append_assoc}
+use Rattle.std.proofs.Common.{◌≡◌, ℕ, zero, suc, ◌+◌, ◌-◌, ◌<◌, ◌≤◌, ◌⊎◌, inl, inr, true, false, cond, ◌==◌, List, [], ◌∷◌, ◌++◌, length, reverse, slice_get, filter, Option, Some, None, Err, refl, sym, ap, ◌∙◌, subst, arith, append-nil, append_assoc}
 use Rattle.std.specs.Prelude.{nat_le, nat_lt, ◌&&◌, All, take, unwrap_or}
 use Rattle.std.specs.Option.{option_map_or}
 use Rattle.std.specs.Result.{result_unwrap_or}
-use Rattle.std.proofs.lemmas.Bool.{cases_Bool, and_parts, and_from, and_left, and_right, lt-leb, le-ltb, lt-ltb, eq-eqb, ne_eqb, eqb-true, cond-true, cond-false}
+use Rattle.std.proofs.lemmas.Bool.{cases_Bool, and_from, and_left, and_right, lt-leb, le-ltb, lt-ltb, eq-eqb, ne_eqb, eqb-true, cond-true, cond-false}
 use Rattle.std.proofs.lemmas.List.{reverse-append}
 use Rattle.std.proofs.lemmas.List.Elements.{filter-append}
-use Rattle.fault.specs.declared.refusal.Refusal.{Refusal}
 use Rattle.fault.specs.declared.refusal.Refusal.TheVariants.{Old, Gap}
 use Rattle.model.specs.declared.entry.Entry.{Entry}
 use Rattle.model.specs.declared.entry.Request.{Request}
 use Rattle.model.specs.Tables.{IsRow, empty_table}
 use Rattle.model.specs.Transactions.{State, Schema, executed_text}
-use Rattle.model.specs.Logs.{Outcome, executed, is_first, outcome_at, state_after, first_outcome, first_outcomes, kept, outcome, state_at}
+use Rattle.model.specs.Logs.{Outcome, executed, is_first, outcome_at, state_after, first_outcome, first_outcomes, outcome, state_at}
 use Rattle.safety.proofs.Accepted.{Later}
 use Rattle.safety.proofs.Late.{late_answer}
 use Rattle.readerlaws.specs.Laws.{PastStays, requests_from, run_in_turn, OneClient, AreAlike, RepeatIsHarmless, OnlyTheNextCounts, AnswersStay, AnswerHasTheRows}
@@ -214,14 +213,16 @@ not_next schema c e r before asks other = not_counted schema c e r before asks (
 
 alike : (schema : Schema) (e : Entry) (r : Request) (before : List Entry) → e.request ≡ Some r → is_first r before ≡ false → AreAlike schema (e ∷ before) before
 alike schema e r before asks other =
-    let state : state_after schema (e ∷ before) ≡ state_after schema before = state_other schema e r asks before other in
-    (state, λ t s.
-    (let same = not_next schema s.client e r before asks other in
-    outcome_is schema t s (e ∷ before)
-    ∙ ap (λ n. outcome_by schema t s n (first_outcomes schema s.client (e ∷ before)) (state_after schema (e ∷ before))) same.count
-    ∙ ap (λ os. outcome_by schema t s (executed s.client before) os (state_after schema (e ∷ before))) same.outcomes
-    ∙ ap (λ x. outcome_by schema t s (executed s.client before) (first_outcomes schema s.client before) x) state
-    ∙ sym (outcome_is schema t s before)))
+    let state : state_after schema (e ∷ before) ≡ state_after schema before = state_other schema e r asks before other in (
+      state,
+      λ t s.
+          (let same = not_next schema s.client e r before asks other in
+          outcome_is schema t s (e ∷ before)
+          ∙ ap (λ n. outcome_by schema t s n (first_outcomes schema s.client (e ∷ before)) (state_after schema (e ∷ before))) same.count
+          ∙ ap (λ os. outcome_by schema t s (executed s.client before) os (state_after schema (e ∷ before))) same.outcomes
+          ∙ ap (λ x. outcome_by schema t s (executed s.client before) (first_outcomes schema s.client before) x) state
+          ∙ sym (outcome_is schema t s before)),
+    )
 
 pub repeat_is_harmless : RepeatIsHarmless
 repeat_is_harmless schema older between d e r again asks first asks_again client number =
@@ -229,10 +230,12 @@ repeat_is_harmless schema older between d e r again asks first asks_again client
     let o = first_outcome schema d.stamp r older in
     let s = stands_after schema r.client r.number o between (d ∷ older) (first_stands schema d r older asks first) in
     let s' : Stands schema again.client again.number o before = subst (λ k. Stands schema again.client k o before) (sym number) (subst (λ k. Stands schema k r.number o before) (sym client) s) in
-    let w = s'.within in
-    (alike schema e again before asks_again (ne_eqb again.number (executed again.client before + 1) (λ q. omega arith)), λ l.
-    (told_again schema e.stamp again o before s' (let few : executed again.client before < r.number + 8 = subst (λ k. executed k before < r.number + 8) (sym client) l in omega arith)
-    ∙ sym (outcome_first schema d.stamp r older first)))
+    let w = s'.within in (
+      alike schema e again before asks_again (ne_eqb again.number (executed again.client before + 1) (λ q. omega arith)),
+      λ l.
+          (told_again schema e.stamp again o before s' (let few : executed again.client before < r.number + 8 = subst (λ k. executed k before < r.number + 8) (sym client) l in omega arith)
+          ∙ sym (outcome_first schema d.stamp r older first)),
+    )
 
 -- ---- other numbers
 

@@ -1,14 +1,11 @@
 -- What a member gives for a question, and the one list of a run.
-use Rattle.std.proofs.Common.{◌≡◌, ℕ, ◌≤◌, ◌<◌, inl, inr, Bool, true, false, cond, List, [], ◌∷◌, ◌++◌, Option, Some, None, refl, sym, ap, ◌∙◌, subst, arith}
-use Rattle.std.specs.Prelude.{option_map, nat_le}
+use Rattle.std.proofs.Common.{◌≡◌, ℕ, ◌≤◌, inl, inr, Bool, true, List, ◌++◌, Option, Some, None, refl, ap, ◌∙◌, subst}
 use Rattle.std.proofs.lemmas.Bool.{cases_lt, le-leb, lt-leb, cond-true, cond-false}
-use Rattle.fault.specs.declared.refusal.Refusal.TheVariants.{NotClosed}
 use Rattle.model.specs.Lists.{nth}
-use Rattle.model.specs.Texts.{instant_text}
 use Rattle.model.specs.Transactions.{Schema}
-use Rattle.model.specs.Answers.{Query, Select, Answer, read_at, IsAnswer, IsClosed, closed_query}
-use Rattle.model.specs.Members.{Node, applied, closed_time}
-use Rattle.model.specs.Worlds.{World, Event, Ask, Output, Refused, Answered, new_world, Gives, IsGivenIn, IsGivenBy, IsGivenAt}
+use Rattle.model.specs.Answers.{Query, Select, read_at, IsClosed, closed_query}
+use Rattle.model.specs.Members.{Node, closed_time}
+use Rattle.model.specs.Worlds.{Event, Output, new_world, IsGivenIn, IsGivenBy, IsGivenAt}
 use Rattle.model.specs.Agreement.{Agree}
 use Rattle.onelist.specs.Explained as onelist
 use Rattle.readerlaws.specs.Laws.{RefusedUnlessClosed, NothingComesBelow, OneListExplains}
@@ -25,9 +22,10 @@ given schema m q o x out e up g = subst (λ (b : Bool). IsGivenBy schema m q x b
 
 pub refused_unless_closed : RefusedUnlessClosed
 refused_unless_closed schema n m w q out x e up g =
-    let given_in = given schema m q (nth w.nodes m) x out e up g in
-    ((λ t c l. subst (λ (o : Option Query). IsGivenIn schema m x o out) (closed_at q (closed_time x) t c l) given_in),
-    (λ no. subst (λ (o : Option Query). IsGivenIn schema m x o out) (open_at q (closed_time x) no) given_in))
+    let given_in = given schema m q (nth w.nodes m) x out e up g in (
+      (λ t c l. subst (λ (o : Option Query). IsGivenIn schema m x o out) (closed_at q (closed_time x) t c l) given_in),
+      (λ no. subst (λ (o : Option Query). IsGivenIn schema m x o out) (open_at q (closed_time x) no) given_in),
+    )
 
 pub one_list_explains : ((schema : Schema) (n : ℕ) → onelist.OneListExplains schema n (new_world n)) → OneListExplains
 one_list_explains law schema n events outs gives =

@@ -1,18 +1,18 @@
 -- Tables that arise, and what a change does to their rows.
-use Rattle.std.proofs.Common.{◌≡◌, ℕ, ◌+◌, ◌<◌, ◌≤◌, ◌⊎◌, inl, inr, Bool, true, false, cond, List, [], ◌∷◌, ◌++◌, Option, Some, None, option_map, is_some, is_none, unwrap_or, Result, Ok, Err, refl, sym, ap, ◌∙◌, subst, arith}
-use Rattle.std.specs.Prelude.{◌&&◌, ◌↔◌, nat_lt, flat_map, Contains}
+use Rattle.std.proofs.Common.{◌≡◌, ℕ, ◌<◌, ◌≤◌, inl, inr, Bool, true, false, cond, List, [], ◌∷◌, ◌++◌, Option, Some, None, option_map, is_none, unwrap_or, Result, Ok, Err, refl, sym, ap, ◌∙◌, subst, arith}
+use Rattle.std.specs.Prelude.{◌&&◌, ◌↔◌, flat_map, Contains}
 use Rattle.std.specs.List.{list_any}
 use Rattle.std.specs.List.Sorted.{IsStrictlySortedBy}
 use Rattle.std.specs.Option.{option_map_or}
-use Rattle.std.proofs.lemmas.Bool.{cases_Bool, cases_lt, and_parts, and_from, leb-true, ltb-true, le-leb, lt-ltb, cond-true, cond-false}
+use Rattle.std.proofs.lemmas.Bool.{cases_lt, and_parts, and_from, leb-true, ltb-true, le-leb, lt-ltb, cond-true, cond-false}
 use Rattle.fault.specs.declared.refusal.Refusal.{Refusal}
 use Rattle.fault.specs.declared.refusal.Refusal.TheVariants.{KeyOverlap, NumberRange}
 use Rattle.model.specs.declared.value.Value.{Value}
-use Rattle.model.specs.Tables.{days, Period, Cell, Table, Row, IsRow, inside, joined, row_at, empty_table}
+use Rattle.model.specs.Tables.{days, Period, Cell, Table, Row, IsRow, inside, row_at, empty_table}
 use Rattle.model.specs.Values.{same_key}
 use Rattle.model.specs.Statements.{meets, is_met, insert_overlaps, inserted, set_overflows, updated, deleted}
 use Rattle.model.specs.Transactions.{Change, Insert, Update, Delete, changed}
-use Rattle.rowlaws.specs.Rows.{Has, Lists, EachListed, OneRow}
+use Rattle.rowlaws.specs.Rows.{Has, Lists, EachListed}
 use Rattle.rowlaws.specs.Cutting.{cut, cut_rows, removed, removed_rows}
 use Rattle.rowlaws.specs.Changes.{IsFine, clashes, overflows, rows_changed, SameResult, ChangeOnRows, OverlapsOnRows, OverflowsOnRows}
 use Rattle.rowlaws.proofs.Keys.{same_key-true, same_key-itself}
@@ -20,7 +20,7 @@ use Rattle.rowlaws.proofs.Anys.{any_has, has_any}
 use Rattle.rowlaws.proofs.Contents.{has_contains, contains_has}
 use Rattle.rowlaws.proofs.Members.{has_left, has_right, has_cases, has_flat, flat_has}
 use Rattle.rowlaws.proofs.RowFacts.{InRow, both, one_row, row_at_is}
-use Rattle.readerlaws.specs.Laws.{Arises, Empty, Changed, InsertedIsThere, InsertIsRefused, DeletedIsGone, is_met_by, UnmetStays, left_by, MetIsChanged, parts_by, PartsAreThere, RowsShareNoDay, RowsAreRuns, NoLongerRun}
+use Rattle.readerlaws.specs.Laws.{Arises, Empty, Changed, InsertedIsThere, InsertIsRefused, DeletedIsGone, UnmetStays, left_by, MetIsChanged, PartsAreThere, RowsShareNoDay, RowsAreRuns, NoLongerRun}
 
 -- ---- a table that arises has a list of its rows
 
@@ -63,9 +63,10 @@ inserted_is_there law listed key values p t before after row some short a e =
     let fresh : Row = record { key = key; period = p; values = values; system_start = t } in
     let new = changed_lists law (Insert key values p) t old.0 before after (some, short) old.1 e in
     let same : old.0 ++ fresh ∷ [] ≡ new.rows_new = ok_same (list_any (clashes key p) old.0) KeyOverlap (old.0 ++ fresh ∷ []) new.rows_new new.are in
-    let l : Lists (old.0 ++ fresh ∷ []) after = subst (λ rows. Lists rows after) (sym same) new.listed in
-    ((λ h. elim (has_cases old.0 (fresh ∷ []) row (listed _ after row l h)) [ inl o ↦ inl (old.1.each row o) | inr n ↦ elim n [ inl q ↦ inr q | inr z ↦ absurd z ] ]),
-    (λ h. elim h [ inl o ↦ l.each row (has_left old.0 (fresh ∷ []) row (listed old.0 before row old.1 o)) | inr q ↦ l.each row (has_right old.0 (fresh ∷ []) row (inl q)) ]))
+    let l : Lists (old.0 ++ fresh ∷ []) after = subst (λ rows. Lists rows after) (sym same) new.listed in (
+      (λ h. elim (has_cases old.0 (fresh ∷ []) row (listed _ after row l h)) [ inl o ↦ inl (old.1.each row o) | inr n ↦ elim n [ inl q ↦ inr q | inr z ↦ absurd z ] ]),
+      (λ h. elim h [ inl o ↦ l.each row (has_left old.0 (fresh ∷ []) row (listed old.0 before row old.1 o)) | inr q ↦ l.each row (has_right old.0 (fresh ∷ []) row (inl q)) ]),
+    )
 
 -- ---- rows of a table that arises
 
@@ -248,13 +249,14 @@ pub insert_is_refused : ChangeOnRows → EachListed → OverlapsOnRows → Inser
 unfolding changed
 insert_is_refused law listed over key values p t before some short a =
     let l = arises_lists law before a in
-    let test = over l.0 before key p l.1 some in
-    ((λ e.
-    (let h = any_has (clashes key p) l.0 (sym test ∙ err_test (insert_overlaps key p before) KeyOverlap (inserted key values p t before) e) in
-    let row = l.1.each h.0 h.1 in
-    let s = shared key p h.0 row.some some h.2 in
-    (h.0, s.1.0, row, s.0, s.1.1))),
-    (λ h. cond-true _ _ _ (test ∙ has_any (clashes key p) l.0 h.0 (listed l.0 before h.0 l.1 h.2) (clash key p h.0 h.1 h.3 h.4))))
+    let test = over l.0 before key p l.1 some in (
+      (λ e.
+          (let h = any_has (clashes key p) l.0 (sym test ∙ err_test (insert_overlaps key p before) KeyOverlap (inserted key values p t before) e) in
+          let row = l.1.each h.0 h.1 in
+          let s = shared key p h.0 row.some some h.2 in
+          (h.0, s.1.0, row, s.0, s.1.1))),
+      (λ h. cond-true _ _ _ (test ∙ has_any (clashes key p) l.0 h.0 (listed l.0 before h.0 l.1 h.2) (clash key p h.0 h.1 h.3 h.4))),
+    )
 
 -- ---- the parts
 

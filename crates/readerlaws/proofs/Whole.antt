@@ -1,5 +1,5 @@
 -- The tables of a list of entries arise, and no filled day lacks a parent.
-use Rattle.std.proofs.Common.{◌≡◌, ℕ, ◌<◌, Bool, true, false, cond, ◌==◌, List, [], ◌∷◌, reverse, filter, Option, Some, None, Result, Ok, Err, refl, sym, ap, ◌∙◌, subst}
+use Rattle.std.proofs.Common.{◌≡◌, ℕ, Bool, true, false, cond, ◌==◌, List, [], ◌∷◌, reverse, filter, Option, Some, None, Result, Ok, Err, refl, sym, ap, ◌∙◌, subst}
 use Rattle.std.specs.Prelude.{nat_le, nat_lt}
 use Rattle.std.specs.Option.{option_map_or}
 use Rattle.std.specs.Result.{result_unwrap_or}
@@ -12,12 +12,11 @@ use Rattle.model.specs.Statements.{row_count}
 use Rattle.model.specs.Transactions.{State, Statement, Schema, Place, changed, and_then, within_limit, with_table, run_statement, run_statements, first_orphan, unless_orphan, transacted, executed_text}
 use Rattle.model.specs.Logs.{is_first, state_after, state_at}
 use Rattle.rowlaws.specs.Statements.{AreFine}
-use Rattle.rowlaws.specs.Covering.{References, ReferencesHold}
-use Rattle.rowlaws.specs.Logs.{AllFine, ReadsFine, FineLogs, LogsOnRows, rows_after}
+use Rattle.rowlaws.specs.Covering.{References}
+use Rattle.rowlaws.specs.Logs.{ReadsFine, FineLogs, LogsOnRows, rows_after}
 use Rattle.rowlaws.specs.Whole.{NoneAccepted, NoOrphanAfter}
 use Rattle.rowlaws.specs.Changes.{ChangeOnRows}
 use Rattle.rowlaws.specs.Rows.{Lists}
-use Rattle.sqlchecks.specs.Columns.{Tables}
 use Rattle.sqlread.specs.Meaning.{schema_of}
 use Rattle.apply.specs.Laws.{TextsFine}
 use Rattle.readerlaws.specs.Laws.{Arises, Empty, Changed, NoOrphans, OrphansAreRefused, TablesArise}

@@ -12,17 +12,20 @@ use Rattle.readerlaws.specs.Laws.{requests_from}
 
 -- Emp: an employee, and from which day up to which other without it he is of which department; key ENo with EPeriod
 unfoldable pub emp : Tables
-emp = (codes "Emp", record {
-  columns = (codes "ENo", Integer) ∷ (codes "EStart", Date) ∷ (codes "EEnd", Date) ∷ (codes "EDept", Integer) ∷ (codes "Since", SystemStart) ∷ (codes "Until", SystemEnd) ∷ [];
-  period = codes "EPeriod";
-  start = 1;
-  end = 2;
-  system_start = 4;
-  system_end = 5;
-  key = 0 ∷ [];
-  values = 3 ∷ [];
-  references = [];
-}) ∷ []
+emp = (
+  codes "Emp",
+  record {
+    columns = (codes "ENo", Integer) ∷ (codes "EStart", Date) ∷ (codes "EEnd", Date) ∷ (codes "EDept", Integer) ∷ (codes "Since", SystemStart) ∷ (codes "Until", SystemEnd) ∷ [];
+    period = codes "EPeriod";
+    start = 1;
+    end = 2;
+    system_start = 4;
+    system_end = 5;
+    key = 0 ∷ [];
+    values = 3 ∷ [];
+    references = [];
+  },
+) ∷ []
 
 -- 22217 is of department 3
 abbrev pub hires : List ℕ

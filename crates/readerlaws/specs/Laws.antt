@@ -26,8 +26,7 @@ use Rattle.rowlaws.specs.Statements.{AreFine}
 use Rattle.rowlaws.specs.Covering.{ReferencesHold}
 use Rattle.onelist.specs.Explained.{Gave, IsAnswered, WereSubmitted, IsInOrder}
 use Rattle.sqltokens.specs.Syntax as grammar
-use Rattle.sqlsyntax.specs.Transactions.{StatementForm}
-use Rattle.sqlsyntax.specs.Queries.{QueryForm, query}
+use Rattle.sqlsyntax.specs.Queries.{query}
 use Rattle.sqlsyntax.specs.Spelling.{Spells, IsWrongAt}
 use Rattle.sqlchecks.specs.Literals.{day_named, instant_named}
 use Rattle.sqlchecks.specs.Columns.{Tables}
