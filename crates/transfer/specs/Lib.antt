@@ -1,3 +1,2 @@
-pub mod Imports
 pub mod Questions
 pub mod Told

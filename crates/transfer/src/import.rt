@@ -1,11 +1,7 @@
 //! Rows of a CSV file into a store.
-ghost use Rattle.std.specs.Prelude.{◌≡◌, false, IfOk, OnOk};
-ghost use Rattle.transfer.specs.Imports.{IsDone, IsFar, IsImported, rows_in};
-
 use crate::asked::Import;
 use crate::printing::print;
 use crate::stop::Fault;
-use crate::taking::Takes;
 use crate::told::{count_text, fault_text, outcome_text};
 use csvrows::{Request, Stop, read_requests};
 use fault::Refusal;
@@ -14,7 +10,8 @@ use schema::Schema;
 use sqlchecks::column::find_table;
 use std::alloc::Global;
 use std::fs;
-use store::Outcome;
+use store::announcing::Announces;
+use store::{Outcome, Store};
 
 // The line of this number, where the first is 1.
 fn line_at(bytes: &[u8], number: usize) -> &[u8] {
@@ -53,9 +50,7 @@ pub(crate) fn read_rows(
 }
 
 // How many rows requests have.
-fn rows_of(requests: &[Request]) -> usize
-    ensures { result ≡ rows_in requests.now }
-{
+fn rows_of(requests: &[Request]) -> usize {
     let mut rows: usize = 0;
     for request in requests {
         rows = rows.saturating_add(request.rows);
@@ -72,22 +67,21 @@ struct Came {
 }
 
 // Hands in requests, each when the one before it is accepted, and tells what comes of each.
-fn store_all<T: Takes, Q: Progress>(
+fn store_all<K: Announces, Q: Progress>(
     rt: &HostRuntime,
     import: Import<'_>,
     requests: &[Request],
     reading: i64,
-    store: &mut T,
+    store: &mut Store<K>,
     came: &mut Came,
     progress: &Q,
 ) -> Result<(), Fault>
-    requires { (came.old.rows ≡ 0) × (came.old.requests ≡ 0) × (came.old.is_whole ≡ false) }
-    ensures far { (mid : T) × IsFar T.takes store.old requests.now came.new mid }
-    ensures done { OnOk result (IsDone T.takes store.old requests.now came.new store.new) }
+where
+    K::Image: Drop,
 {
     let alloc: Global = rt.alloc();
     for request in requests {
-        let outcome = store.take(reading, request.text.as_str())?;
+        let (_, outcome) = store.execute(reading, request.text.as_str())?;
         let text = outcome_text(alloc, import, request, &outcome)?;
         progress.hide();
         if !matches!(outcome, Outcome::Accepted(_)) {
@@ -104,16 +98,17 @@ fn store_all<T: Takes, Q: Progress>(
 
 /// Stores the rows of a file, request by request up to one that is not accepted, and tells how many were stored. The exit status is 1
 /// where not all were.
-pub(crate) fn import_rows<T: Takes, Q: Progress>(
+pub(crate) fn import_rows<K: Announces, Q: Progress>(
     rt: &HostRuntime,
     alloc: Global,
     import: Import<'_>,
     requests: &[Request],
     reading: i64,
-    store: &mut T,
+    store: &mut Store<K>,
     progress: &Q,
 ) -> Result<u8, Fault>
-    ensures { IfOk result (λ status. IsImported T.takes store.old requests.now status store.new) }
+where
+    K::Image: Drop,
 {
     let mut came = Came {
         rows: 0,
