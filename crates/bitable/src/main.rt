@@ -372,28 +372,12 @@ fn progress_on(host: &HostRuntime) -> ProgressLine<'_, HostRuntime> {
 // Plays a script on nodes that run on threads of their own.
 fn play_live<'a, R>(rt: &R, host: &HostRuntime, live: Live<'a>) -> Result<u8, Stop<'a>>
 where
-    R: AllocGlobal + Env + Files + Print + Eprint,
-    R: Wait + Threads + Copy + Send + Drop + 'static,
+    R: AllocGlobal + Files + Print + Eprint + Wait + Threads + Copy + Send + Drop + 'static,
 {
-    let name = live.format.unwrap_or("lines");
-    let Some(form) = form_of(name) else {
-        return refuse_form(rt, name);
-    };
     let file = Name::Given(live.script);
     let mut script = open_script(rt, live.script)?;
-    let look = look_of(rt, host, form, false);
     let ended = match BufWriter::new(rt.alloc(), io::writer(rt)) {
-        Ok(mut writer) => {
-            run_live(
-                rt,
-                host,
-                live,
-                look,
-                &mut script,
-                &mut writer,
-                &progress_on(host),
-            )
-        }
+        Ok(mut writer) => run_live(rt, host, live, &mut script, &mut writer),
         Err(_) => Err(Stop::from(Refusal::NoMemory)),
     };
     script_ended(ended, file, "playing the script with live")
