@@ -1,5 +1,4 @@
 pub mod CommandLines
-pub mod Comparing
 pub mod CommandRows
 pub mod Groups
 pub mod Judging
