@@ -37,24 +37,28 @@ const TERMINAL: usize = 80;
 
 fn main(rt: HostRuntime) -> ExitCode {
     match words_given(&rt) {
-        Ok(Some(words)) => do_asked(&rt, words.as_slice()),
+        Ok(Some(words)) => do_asked(&rt, &rt, words.as_slice()),
         Ok(None) => end(&rt, refuse_words(&rt)),
         Err(stop) => end(&rt, Err(stop)),
     }
 }
 
 // Does what a command line asks for.
-fn do_asked(rt: &HostRuntime, words: &[String]) -> ExitCode {
-    match read_command(rt.alloc(), words) {
-        Ok(Command::Store(command)) => end_store(rt, console::run(rt, command)),
-        Ok(Command::Audit(asked)) => judge(rt, &asked),
-        Ok(Command::Beliefs(beliefs)) => draw_beliefs(rt, beliefs),
-        Ok(Command::PlayInput) => end(rt, play_input(rt)),
-        Ok(Command::Sim(sim)) => end(rt, play_sim(rt, rt, sim)),
-        Ok(Command::Live(live)) => end(rt, play_live(rt, rt, live)),
-        Ok(Command::Lanes(lanes)) => end(rt, draw_run(rt, rt, lanes)),
-        Ok(Command::Check(check)) => end(rt, check_file(rt, check)),
-        Err(error) => end(rt, tell_of_words(rt, error)),
+fn do_asked<R>(rt: &R, host: &HostRuntime, words: &[String]) -> ExitCode
+where
+    R: AllocGlobal + Files + Print + Eprint,
+    R: Wait + Threads + Copy + Send + Drop + 'static,
+{
+    match read_command(host.alloc(), words) {
+        Ok(Command::Store(command)) => end_store(host, console::run(host, command)),
+        Ok(Command::Audit(asked)) => judge(host, &asked),
+        Ok(Command::Beliefs(beliefs)) => draw_beliefs(host, beliefs),
+        Ok(Command::PlayInput) => end(host, play_input(host)),
+        Ok(Command::Sim(sim)) => end(host, play_sim(host, host, sim)),
+        Ok(Command::Live(live)) => end(host, play_live(rt, host, live)),
+        Ok(Command::Lanes(lanes)) => end(host, draw_run(host, host, lanes)),
+        Ok(Command::Check(check)) => end(host, check_file(host, check)),
+        Err(error) => end(host, tell_of_words(host, error)),
     }
 }
 
