@@ -1,6 +1,7 @@
 //! The program `bitable`: commands of the crates `shell` and `console` over files, folders and the standard streams.
 #![tactic(auto)]
 
+use beginnings::line::read_line;
 use causes::{Name, Trouble};
 use clap::Error;
 use clap::error::ErrorKind;
@@ -17,6 +18,7 @@ use shell::live_run::run_live;
 use shell::report_run::run_report;
 use shell::shown_run::{run_beliefs, run_lanes, run_shown};
 use shell::sim::run_sim;
+use shell::since_run::run_since;
 use shell::stop::Stop;
 use std::alloc::Global;
 use std::fs::File;
@@ -35,24 +37,28 @@ const TERMINAL: usize = 80;
 
 fn main(rt: HostRuntime) -> ExitCode {
     match words_given(&rt) {
-        Ok(Some(words)) => do_asked(&rt, words.as_slice()),
+        Ok(Some(words)) => do_asked(&rt, &rt, words.as_slice()),
         Ok(None) => end(&rt, refuse_words(&rt)),
         Err(stop) => end(&rt, Err(stop)),
     }
 }
 
 // Does what a command line asks for.
-fn do_asked(rt: &HostRuntime, words: &[String]) -> ExitCode {
-    match read_command(rt.alloc(), words) {
-        Ok(Command::Store(command)) => end_store(rt, console::run(rt, command)),
-        Ok(Command::Audit(asked)) => judge(rt, &asked),
-        Ok(Command::Beliefs(beliefs)) => draw_beliefs(rt, beliefs),
-        Ok(Command::PlayInput) => end(rt, play_input(rt)),
-        Ok(Command::Sim(sim)) => end(rt, play_sim(rt, rt, sim)),
-        Ok(Command::Live(live)) => end(rt, play_live(rt, rt, live)),
-        Ok(Command::Lanes(lanes)) => end(rt, draw_run(rt, rt, lanes)),
-        Ok(Command::Check(check)) => end(rt, check_file(rt, check)),
-        Err(error) => end(rt, tell_of_words(rt, error)),
+fn do_asked<R>(rt: &R, host: &HostRuntime, words: &[String]) -> ExitCode
+where
+    R: AllocGlobal + Files + Print + Eprint,
+    R: Wait + Threads + Copy + Send + Drop + 'static,
+{
+    match read_command(host.alloc(), words) {
+        Ok(Command::Store(command)) => end_store(host, console::run(host, command)),
+        Ok(Command::Audit(asked)) => judge(host, &asked),
+        Ok(Command::Beliefs(beliefs)) => draw_beliefs(host, beliefs),
+        Ok(Command::PlayInput) => end(host, play_input(host)),
+        Ok(Command::Sim(sim)) => end(host, play_sim(host, host, sim)),
+        Ok(Command::Live(live)) => end(host, play_live(rt, host, live)),
+        Ok(Command::Lanes(lanes)) => end(host, draw_run(host, host, lanes)),
+        Ok(Command::Check(check)) => end(host, check_file(host, check)),
+        Err(error) => end(host, tell_of_words(host, error)),
     }
 }
 
@@ -86,14 +92,15 @@ fn judge(rt: &HostRuntime, asked: &Audit<'_>) -> ExitCode {
 // Draws what was ever believed, as the store in a folder answers a question, or as a script's last answer says.
 fn draw_beliefs(rt: &HostRuntime, beliefs: Beliefs<'_>) -> ExitCode {
     match beliefs.query {
-        Some(query) => draw_of_store(rt, beliefs.script, query, beliefs.svg),
+        Some(query) => {
+            let (dir, width) = (beliefs.script, columns(rt));
+            end_store(
+                rt,
+                console::draw_beliefs(rt, dir, query, beliefs.svg, width),
+            )
+        }
         None => end(rt, draw(rt, beliefs)),
     }
-}
-
-// Draws the answer of the store in a folder to a question.
-fn draw_of_store(rt: &HostRuntime, dir: &str, query: &str, svg: Option<&str>) -> ExitCode {
-    end_store(rt, console::draw_beliefs(rt, dir, query, svg, columns(rt)))
 }
 
 // The exit status; where the command was refused, why: the refusal, below it what is known of the file or the folder, and what to do.
@@ -369,28 +376,12 @@ fn progress_on(host: &HostRuntime) -> ProgressLine<'_, HostRuntime> {
 // Plays a script on nodes that run on threads of their own.
 fn play_live<'a, R>(rt: &R, host: &HostRuntime, live: Live<'a>) -> Result<u8, Stop<'a>>
 where
-    R: AllocGlobal + Env + Files + Print + Eprint,
-    R: Wait + Threads + Copy + Send + Drop + 'static,
+    R: AllocGlobal + Files + Print + Eprint + Wait + Threads + Copy + Send + Drop + 'static,
 {
-    let name = live.format.unwrap_or("lines");
-    let Some(form) = form_of(name) else {
-        return refuse_form(rt, name);
-    };
     let file = Name::Given(live.script);
     let mut script = open_script(rt, live.script)?;
-    let look = look_of(rt, host, form, false);
     let ended = match BufWriter::new(rt.alloc(), io::writer(rt)) {
-        Ok(mut writer) => {
-            run_live(
-                rt,
-                host,
-                live,
-                look,
-                &mut script,
-                &mut writer,
-                &progress_on(host),
-            )
-        }
+        Ok(mut writer) => run_live(rt, host, live, &mut script, &mut writer),
         Err(_) => Err(Stop::from(Refusal::NoMemory)),
     };
     script_ended(ended, file, "playing the script with live")
@@ -429,13 +420,37 @@ fn steps_in(texts: &[String]) -> usize {
     steps
 }
 
+// That a report and a line that was kept do not go together, in the words that the command line has for such.
+fn refuse_both(rt: &impl Eprint) -> Result<u8, Stop<'static>> {
+    let _ = eprintln!(rt;
+        "error: the argument '--since <LINE>' cannot be used with '--report' or '--json'\n\nFor more information, try '--help'."
+    );
+    Ok(2)
+}
+
+// That no report ends with this line, in the words that the command line has for a value that it does not take.
+fn refuse_since(rt: &impl Eprint, line: &str) -> Result<u8, Stop<'static>> {
+    let _ = eprintln!(rt;
+        "error: invalid value '{line}' for '--since <LINE>': it is no line that 'audit --report' gives\n\nFor more information, try '--help'."
+    );
+    Ok(2)
+}
+
 // Judges flights in files, as it is asked for.
 fn audit<'a, R>(rt: &R, host: &HostRuntime, asked: &Audit<'a>) -> Result<u8, Stop<'a>>
 where
-    R: AllocGlobal + Files + Print,
+    R: AllocGlobal + Files + Print + Eprint,
 {
     let alloc: Global = rt.alloc();
     let names = asked.files.as_slice();
+    let seen = match asked.since {
+        Some(_) if asked.is_report || asked.is_json => return refuse_both(rt),
+        Some(line) => match read_line(alloc, line)? {
+            Some(seen) => Some(seen),
+            None => return refuse_since(rt, line),
+        },
+        None => None,
+    };
     let progress = progress_on(host);
     let read = read_flights(rt, names, &progress);
     progress.hide();
@@ -444,7 +459,9 @@ where
         progress.judge(steps_in(texts.as_slice()));
     }
     let mut writer = Uncovered::new(io::writer(rt), &progress);
-    let ended = if asked.is_report || asked.is_json {
+    let ended = if let Some(seen) = seen {
+        run_since(alloc, seen.as_slice(), texts.as_slice(), &mut writer)
+    } else if asked.is_report || asked.is_json {
         run_report(alloc, names, texts.as_slice(), asked.is_json, &mut writer)
     } else {
         run_audit(alloc, texts.as_slice(), &mut writer)

@@ -1,10 +1,5 @@
 //! Questions to views.
-ghost use Rattle.std.specs.Prelude.{IfOk};
-ghost use Rattle.live.specs.Saying.{IsReply};
-
 use crate::driver::Driver;
-use crate::said::{Said, refused};
-use answer::Answer;
 use fault::{Refusal, Text};
 use model::member::Member;
 use sqlread::query::read_query;
@@ -25,7 +20,8 @@ impl Driver {
         Ok(())
     }
 
-    fn answer<R: Wait>(&mut self, rt: &R, node: Member, text: &Text) -> Result<Answer, Refusal> {
+    // The lines of the answer.
+    fn answer<R: Wait>(&mut self, rt: &R, node: Member, text: &Text) -> Result<String, Refusal> {
         let _query = read_query(self.alloc, &self.schema, text.as_str())?;
         self.look(rt, node)?;
         match self.stations.get_mut(node.saturating_sub(1)) {
@@ -34,18 +30,24 @@ impl Driver {
         }
     }
 
-    /// Asks a view of a node. 43 for want of memory, and nothing is recorded then.
+    /// Asks a view of a node, and gives the lines to print. 43 for want of memory, and nothing is recorded then.
     pub(crate) fn ask<R: Wait>(
         &mut self,
         rt: &R,
         node: Member,
         text: &Text,
-    ) -> Result<Said, Refusal>
-        ensures { IfOk result (IsReply node) }
-    {
+    ) -> Result<String, Refusal> {
         match self.answer(rt, node, text) {
-            Ok(answer) => Ok(Said::Answered(node, answer)),
-            Err(refusal) => refused(node, refusal),
+            Ok(lines) => Ok(format!(in self.alloc; "node {node} answer\n{lines}")?),
+            Err(refusal) => self.refusal_line(node, refusal),
+        }
+    }
+
+    /// The line of a node's refusal; want of memory is none, and ends the play.
+    pub(crate) fn refusal_line(&self, node: Member, refusal: Refusal) -> Result<String, Refusal> {
+        match refusal {
+            Refusal::NoMemory => Err(Refusal::NoMemory),
+            refusal => Ok(format!(in self.alloc; "node {node} refused {refusal}\n")?),
         }
     }
 }

@@ -4,6 +4,5 @@ pub mod Group
 pub mod Live
 pub mod Reading
 pub mod Reported
-pub mod Showing
 pub mod Since
 pub mod Sim

@@ -1,5 +1,5 @@
 //! The command line.
-ghost use Rattle.std.specs.Prelude.{◌≡◌, ◌⊎◌, ℕ, List, [], Some, map, option_map, string_bytes, codes, false, IfSome, IfNone, IfOk, IfErr, OnOk};
+ghost use Rattle.std.specs.Prelude.{◌≡◌, ◌⊎◌, [], Some, map, option_map, string_bytes, codes, false, IfSome, IfNone, IfOk, IfErr, OnOk};
 ghost use Rattle.clap.specs.declared.builder.command.Command.TheViews.{out-Command};
 ghost use Rattle.clap.specs.Words.{app_of, fault_of, found_of, new_app, rows_of, rule_of, subcommand_of, subcommand_rows_of, HasKind};
 ghost use Rattle.clap.specs.Words.{all_of};
@@ -317,7 +317,6 @@ fn live_words<'a>(alloc: Global) -> Result<Parser<'a>, AllocError>
         .arg(seed_word(alloc))?
         .arg(loss_word(alloc))?
         .arg(dir_word(alloc))?
-        .arg(format_word(alloc))?
         .arg(script_word(alloc))
 }
 
@@ -430,7 +429,6 @@ fn live_of<'a>(matches: &ArgMatches<'a>) -> Option<Live<'a>>
     let loss: u8 = matches.get_one("loss")?;
     let script = text_of(matches, "SCRIPT")?;
     let dir = text_of(matches, "dir");
-    let format = text_of(matches, "format");
     if nodes < 3 || nodes > 7 || loss > 100 {
         return None;
     }
@@ -439,7 +437,6 @@ fn live_of<'a>(matches: &ArgMatches<'a>) -> Option<Live<'a>>
         seed,
         loss,
         dir,
-        format,
         script,
     })
 }

