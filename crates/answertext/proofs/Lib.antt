@@ -1,3 +1,2 @@
-pub mod Inline
 pub mod Joining
 pub mod Putting

@@ -1,3 +1,4 @@
 pub mod Answers
 pub mod Appending
+pub mod Outlets
 pub mod Sinks

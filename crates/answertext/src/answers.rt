@@ -1,14 +1,17 @@
 //! The texts of answers.
-ghost use Rattle.std.specs.Prelude.{Some, length, flat_map, map};
+ghost use Rattle.std.specs.Prelude.{Some, IfErr, length, flat_map, map};
+ghost use Rattle.answertext.specs.Outlets.{IsWriteFault};
 ghost use Rattle.answertext.specs.Sinks.{Puts, WritesOrBegins};
 ghost use Rattle.answertext.specs.Answers.{answer_text, heading_text, row_text, cell_text, count_text, joined};
 
 use crate::cell::Cell;
-use crate::sink::{Pen, Sink};
+use crate::outlet::{Outlet, WriteFault};
+use crate::sink::Sink;
 use answer::{Answer, Column, Shown};
 use itoa::Buffer;
 use model::stamp::Stamp;
-use std::{fmt, io};
+use std::alloc::Global;
+use std::fmt;
 
 /// An answer as its lines, each of which ends with LF: the last instant that was asked about, the
 /// names of the columns, each row, and how many rows there are.
@@ -27,18 +30,20 @@ impl fmt::Display for Lines<'_> {
     }
 }
 
-/// Writes an answer's text, as `Lines` prints it. Where the writer fails, its error is returned, and
-/// a beginning of the text was written. A name or a value that takes more than 2,047 bytes, which
-/// none of a table does, is an error too.
-pub fn write_answer<W: io::Write>(answer: &Answer, writer: &mut W) -> io::Result<()>
-    ensures { WritesOrBegins (W.contents writer.old) (W.contents writer.new) result (answer_text answer.now) }
+/// Writes an answer's text, as `Lines` prints it. An error is the outlet's, of which a beginning of the text was put; for want of
+/// memory nothing is.
+pub fn write_answer<O: Outlet>(
+    alloc: Global,
+    answer: &Answer,
+    outlet: &mut O,
+) -> Result<(), WriteFault>
+    ensures written { WritesOrBegins (O.holds outlet.old) (O.holds outlet.new) result (answer_text answer.now) }
+    ensures failed { IfErr result (λ fault. IsWriteFault O.fails outlet.old fault outlet.new) }
 {
-    let mut pen = Pen { writer };
-    let written = put_answer(answer, &mut pen);
-    let Pen { writer } = pen;
-    // Does nothing: the proof takes from this what the writer holds.
-    let _ = &*writer;
-    written
+    let lines = Lines(answer);
+    let text = format!(in alloc; "{lines}")?;
+    outlet.put(text.as_str())?;
+    Ok(())
 }
 
 #[tactic(auto, unfolding(crate::specs::Answers::answer_text))]

@@ -1,8 +1,9 @@
-//! The text of an answer, and where texts go piece by piece.
+//! The text of an answer, and where texts go.
 #![tactic(auto)]
 
 mod answers;
 mod cell;
+pub mod outlet;
 pub mod sink;
 
 pub use answers::{Lines, write_answer};

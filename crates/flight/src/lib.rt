@@ -14,6 +14,6 @@ pub mod parts;
 pub mod steps;
 mod writing;
 
-pub use file::{WriteFault, write_flight};
+pub use file::write_flight;
 pub use flight::{Flight, Recorded, Version};
 pub use writing::text_of_flight;

@@ -1,10 +1,11 @@
 //! The flight files of one run.
 use crate::files::{Folder, no_memory, path_of};
+use answertext::outlet::WriteFault;
 use causes::{Name, Trouble};
 use fault::{Refusal, Text};
 use flight::flight::{Flight, Recorded, Version};
 use flight::life::Life;
-use flight::{WriteFault, write_flight};
+use flight::write_flight;
 use std::alloc::Global;
 use std::fs;
 use std::fs::File;

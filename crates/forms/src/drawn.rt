@@ -1,5 +1,5 @@
 //! The picture of a script's last answer.
-ghost use Rattle.std.specs.Prelude.{ℕ, List, None, OnOk};
+ghost use Rattle.std.specs.Prelude.{ℕ, List, None, ⊤, OnOk};
 ghost use Rattle.lines.specs.declared.line.Line.{Line as AnyLine};
 ghost use Rattle.lines.specs.Script.{HasLines};
 ghost use Rattle.sqlchecks.specs.Columns.{Tables};
@@ -122,7 +122,9 @@ fn drawing_of(
 impl Printer for Sketch {
     ghost printed = { λ sketch. None };
 
-    fn print(&mut self, output: &Output) -> Result<(), RunFault> {
+    ghost fails = { λ before error after. ⊤ };
+
+    fn print(&mut self, _alloc: Global, output: &Output) -> Result<(), RunFault> {
         if let Output::Answered(node, answer) = output {
             self.draw(*node, answer)?;
         }

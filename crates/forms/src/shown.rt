@@ -1,10 +1,11 @@
 //! A printer that shows outputs in a form, and counts what is refused.
-ghost use Rattle.std.specs.Prelude.{None, IfErr};
+ghost use Rattle.std.specs.Prelude.{None, ⊤, IfErr};
 ghost use Rattle.script.specs.Faults.{IsPlayFault};
 
 use crate::form::{Form, Look};
 use crate::tally::Tally;
 use answer::Answer;
+use answertext::write_answer;
 use lines::line::Line;
 use looks::{
     Asked, answer_as_csv, answer_as_json, answer_as_table, refused_as_json, sent_as_json,
@@ -159,7 +160,7 @@ impl<W: io::Write + Drop, E: io::Write + Drop> Shown<W, E> {
             _ => {
                 let line = format!(in alloc; "node {node} answer\n")?;
                 self.writer.write_all(line.as_bytes())?;
-                answertext::write_answer(answer, &mut self.writer)?;
+                write_answer(alloc, answer, &mut self.writer)?;
             }
         }
         Ok(())
@@ -188,7 +189,9 @@ impl<W: io::Write + Drop, E: io::Write + Drop> Shown<W, E> {
 impl<W: io::Write + Drop, E: io::Write + Drop> Printer for Shown<W, E> {
     ghost printed = { λ shown. None };
 
-    fn print(&mut self, output: &Output) -> Result<(), RunFault> {
+    ghost fails = { λ before error after. ⊤ };
+
+    fn print(&mut self, _alloc: Global, output: &Output) -> Result<(), RunFault> {
         self.count(output)?;
         match output {
             Output::Sent(_, _) if self.look.is_quiet => Ok(()),

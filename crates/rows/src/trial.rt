@@ -129,7 +129,7 @@ fn tell_transaction(alloc: Global, schema: &str, text: &str) -> Result<String> {
             };
             let shown = format!(in alloc; "{shown}")?;
             let mut written = Vec::new(alloc);
-            write_transaction(&schema, &transaction, &mut written)?;
+            write_transaction(alloc, &schema, &transaction, &mut written)?;
             if written.as_slice() != shown.as_bytes() {
                 bail!("it is written otherwise than it prints");
             }

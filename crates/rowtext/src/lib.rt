@@ -8,4 +8,4 @@ pub mod transactions;
 
 pub use answertext::{Lines, write_answer};
 pub use named::has_named;
-pub use transactions::{SqlLiteral, Written, write_transaction};
+pub use transactions::{SqlLiteral, TransactionFault, Written, write_transaction};

@@ -1,5 +1,5 @@
 //! Transactions written as SQL.
-ghost use Rattle.std.specs.Prelude.{◌≡◌, ◌<◌, ◌++◌, ◌∷◌, [], Some, IfSome, OnOk, MatchResult, true, false, is_some, length, map, flat_map, option_map, option_and_then, codes};
+ghost use Rattle.std.specs.Prelude.{◌≡◌, ◌<◌, ◌++◌, ◌∷◌, [], Some, Err, IfSome, IfErr, MatchResult, true, false, is_some, length, map, flat_map, option_map, option_and_then, codes};
 ghost use Rattle.std.specs.Option.{option_copied};
 ghost use Rattle.sqlchecks.specs.Columns.{field_at, kept_at};
 ghost use Rattle.sqltokens.specs.declared.token.Sign.TheVariants as sign;
@@ -13,13 +13,17 @@ ghost use Rattle.model.specs.Periods.{period_of};
 ghost use Rattle.sqlread.specs.Shapes.{statement_of, insert_of, update_of, delete_of};
 ghost use Rattle.std.specs.List.{list_all};
 ghost use Rattle.rowtext.specs.Named.{has_field, has_named as names};
+ghost use Rattle.answertext.specs.Outlets.{IsWriteFault};
 ghost use Rattle.answertext.specs.Sinks.{Puts, WritesOrBegins};
+ghost use Rattle.answertext.specs.declared.outlet.WriteFault.{WriteFault as AnyFault};
+ghost use Rattle.rowtext.specs.declared.transactions.TransactionFault.TheVariants.{NotNamed, Write};
 ghost use Rattle.rowtext.specs.Spacing.{Start, Sign, Word, token_text, line};
 ghost use Rattle.rowtext.specs.Transactions.{literal_of, cell_of, column_name, field_name, portion_of, value_of, assignment_of, comparison_of, conditions_of, insert_form, update_form, delete_form, given_columns, statement_text, transaction_text};
 
 use crate::named::has_named;
 use crate::parts::{Part, put_more};
-use answertext::sink::{Pen, Sink};
+use answertext::outlet::{Outlet, WriteFault};
+use answertext::sink::Sink;
 use literals::Literal;
 use model::value::Value;
 use period::Period;
@@ -29,7 +33,9 @@ use sqlchecks::comparison::Comparison;
 use sqlchecks::field::Field;
 use sqlread::statement::{Assignment, Delete, Insert, NewValue, Statement, Transaction, Update};
 use sqlsyntax::Operator;
-use std::{fmt, io};
+use std::alloc::Global;
+use std::fmt;
+use thiserror::Error;
 
 /// A value as a literal of SQL: a number in decimal, a text in quotes with each quote doubled, a day as
 /// DATE 'YYYY-MM-DD'. A number past the last day is that of no day, and stands between the quotes in decimal.
@@ -68,28 +74,61 @@ impl fmt::Display for Written<'_> {
     }
 }
 
+/// Why a transaction was not written.
+#[derive(Debug, Drop, Error)]
+pub enum TransactionFault {
+    /// The schema lacks what a statement names, and nothing was written.
+    #[error("the schema lacks what the transaction names")]
+    NotNamed,
+    /// Its text was not written.
+    #[error("{0}")]
+    Write(WriteFault),
+}
+
+impl From<WriteFault> for TransactionFault {
+    ghost from_gives = { λ fault found. found ≡ Write fault };
+
+    fn from(fault: WriteFault) -> TransactionFault {
+        TransactionFault::Write(fault)
+    }
+}
+
 /// Writes a transaction over the tables of the schema, as `Written` prints it. Where the schema lacks what a statement
-/// names, which `has_named` tells, it fails and writes nothing. Where the writer fails, its error is returned, and a
-/// beginning of the text was written. A value whose literal takes more than 900 bytes, which none of a transaction that
-/// was read does, may be an error too.
-pub fn write_transaction<W: io::Write>(
+/// names, which `has_named` tells, it fails and writes nothing. Any other error is the outlet's, of which a beginning of the
+/// text was put; for want of memory nothing is.
+pub fn write_transaction<O: Outlet>(
+    alloc: Global,
     schema: &Schema,
     transaction: &Transaction,
-    writer: &mut W,
-) -> io::Result<()>
-    ensures text { WritesOrBegins (W.contents writer.old) (W.contents writer.new) result (transaction_text schema.now (map statement_of transaction.now.statements.items)) }
-    ensures named { OnOk result (list_all (λ s. names schema.now (statement_of s)) transaction.now.statements.items ≡ true) }
-    ensures nothing { list_all (λ s. names schema.now (statement_of s)) transaction.now.statements.items ≡ false → writer.new ≡ writer.old }
+    outlet: &mut O,
+) -> Result<(), TransactionFault>
+    ensures text { WritesOrBegins (O.holds outlet.old) (O.holds outlet.new) result (transaction_text schema.now (map statement_of transaction.now.statements.items)) }
+    ensures named { list_all (λ s. names schema.now (statement_of s)) transaction.now.statements.items ≡ false → (result ≡ Err NotNamed) × (outlet.new ≡ outlet.old) }
+    ensures failed { list_all (λ s. names schema.now (statement_of s)) transaction.now.statements.items ≡ true → IfErr result (λ found. (fault : AnyFault) × (found ≡ Write fault) × IsWriteFault O.fails outlet.old fault outlet.new) }
 {
     if !has_named(schema, transaction) {
-        return Err(io::Error::from(fmt::Error));
+        return Err(TransactionFault::NotNamed);
     }
-    let mut pen = Pen { writer };
-    let written = put_statements(schema, &transaction.statements, &mut pen);
-    let Pen { writer } = pen;
-    // Does nothing: the proof takes from this what the writer holds.
-    let _ = &*writer;
-    written
+    let written = Written {
+        schema,
+        transaction,
+    };
+    write_text(alloc, written, outlet)?;
+    Ok(())
+}
+
+// Writes the text of a transaction.
+fn write_text<O: Outlet>(
+    alloc: Global,
+    written: Written<'_>,
+    outlet: &mut O,
+) -> Result<(), WriteFault>
+    ensures text { WritesOrBegins (O.holds outlet.old) (O.holds outlet.new) result (transaction_text written.entry.schema.now (map statement_of written.entry.transaction.now.statements.items)) }
+    ensures failed { IfErr result (λ fault. IsWriteFault O.fails outlet.old fault outlet.new) }
+{
+    let text = format!(in alloc; "{written}")?;
+    outlet.put(text.as_str())?;
+    Ok(())
 }
 
 fn put_statements<S: Sink>(

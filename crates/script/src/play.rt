@@ -1,5 +1,5 @@
 //! What the lines of scripts do to a group.
-ghost use Rattle.std.specs.Prelude.{◌≡◌, ◌+◌, ◌^◌, ◌++◌, ◌∷◌, [], suc, false, length, ◌<◌, ◌≤◌, IfOk, OnOk, Some, slice_get};
+ghost use Rattle.std.specs.Prelude.{◌≡◌, ◌+◌, ◌^◌, ◌++◌, ◌∷◌, [], suc, false, length, ◌<◌, ◌≤◌, IfOk, IfErr, OnOk, Some, slice_get};
 ghost use Rattle.model.specs.Worlds.{Gives, happens as happens_in};
 ghost use Rattle.sqlread.specs.Meaning.{schema_of};
 ghost use Rattle.sqlread.specs.Shapes.{query_of};
@@ -7,6 +7,7 @@ ghost use Rattle.model.specs.Lists.{nth};
 ghost use Rattle.world.specs.Run.{events_of};
 ghost use Rattle.world.specs.View.{event_of, outputs_of, ShowsColumns};
 ghost use Rattle.script.specs.declared.sent.Sent.{Sent as AnySent};
+ghost use Rattle.script.specs.Faults.{IsFaultOf};
 ghost use Rattle.script.specs.Stage.{left_in};
 
 use crate::mail::Mail;
@@ -107,11 +108,12 @@ impl Play {
         printer: &mut P,
     ) -> Result<(), RunFault>
         requires live { self.old.world.is_spent ≡ false }
-        ensures { Plays self.old.world result self.new (event_at (tables_of self.old) (members_of self.old) (stage_of self.old) (event_of event)) (P.printed printer.old) (P.printed printer.new) }
+        ensures plays { Plays self.old.world result self.new (event_at (tables_of self.old) (members_of self.old) (stage_of self.old) (event_of event)) (P.printed printer.old) (P.printed printer.new) }
+        ensures whose { IfErr result (IsFaultOf P.fails printer.new) }
     {
         let outputs = self.happens(event)?;
         self.mail.note_all(&outputs)?;
-        print_outputs(&outputs, printer)
+        print_outputs(self.alloc, &outputs, printer)
     }
 
     // Asks a question, and prints what it gives.
@@ -123,10 +125,11 @@ impl Play {
         printer: &mut P,
     ) -> Result<(), RunFault>
         requires live { self.old.world.is_spent ≡ false }
-        ensures { Plays self.old.world result self.new (asked (tables_of self.old) (members_of self.old) (stage_of self.old) node (Ok (query_of question))) (P.printed printer.old) (P.printed printer.new) }
+        ensures plays { Plays self.old.world result self.new (asked (tables_of self.old) (members_of self.old) (stage_of self.old) node (Ok (query_of question))) (P.printed printer.old) (P.printed printer.new) }
+        ensures whose { IfErr result (IsFaultOf P.fails printer.new) }
     {
         let outputs = self.happens(Event::Ask(node, question))?;
-        print_outputs(&outputs, printer)
+        print_outputs(self.alloc, &outputs, printer)
     }
 
     fn set_clock(&mut self, node: Member, reading: i64)
@@ -205,7 +208,8 @@ impl Play {
         printer: &mut P,
     ) -> Result<(), RunFault>
         requires live { self.old.world.is_spent ≡ false }
-        ensures { Plays self.old.world result self.new (played_by (tables_of self.old) (members_of self.old) (stage_of self.old) (Line.Submit node client number text.now)) (P.printed printer.old) (P.printed printer.new) }
+        ensures plays { Plays self.old.world result self.new (played_by (tables_of self.old) (members_of self.old) (stage_of self.old) (Line.Submit node client number text.now)) (P.printed printer.old) (P.printed printer.new) }
+        ensures whose { IfErr result (IsFaultOf P.fails printer.new) }
     {
         let input = self.submission(node, client, number, text)?;
         self.happen(Event::Hand(node, input), printer)
@@ -219,7 +223,8 @@ impl Play {
     ) -> Result<(), RunFault>
         requires live { self.old.world.is_spent ≡ false }
         requires sent { place < length self.old.mail }
-        ensures { Plays self.old.world result self.new (delivery (tables_of self.old) (members_of self.old) (stage_of self.old) (suc place) (nth self.old.mail (suc place))) (P.printed printer.old) (P.printed printer.new) }
+        ensures plays { Plays self.old.world result self.new (delivery (tables_of self.old) (members_of self.old) (stage_of self.old) (suc place) (nth self.old.mail (suc place))) (P.printed printer.old) (P.printed printer.new) }
+        ensures whose { IfErr result (IsFaultOf P.fails printer.new) }
     {
         let addressee = self.mark_delivered(place);
         let reading = self.reading_of(addressee);
@@ -230,7 +235,8 @@ impl Play {
     // Delivers the message of this number, if one was sent.
     fn deliver<P: Printer>(&mut self, number: u64, printer: &mut P) -> Result<(), RunFault>
         requires live { self.old.world.is_spent ≡ false }
-        ensures { Plays self.old.world result self.new (delivery (tables_of self.old) (members_of self.old) (stage_of self.old) number (nth self.old.mail number)) (P.printed printer.old) (P.printed printer.new) }
+        ensures plays { Plays self.old.world result self.new (delivery (tables_of self.old) (members_of self.old) (stage_of self.old) number (nth self.old.mail number)) (P.printed printer.old) (P.printed printer.new) }
+        ensures whose { IfErr result (IsFaultOf P.fails printer.new) }
     {
         match self.mail.place_of(number) {
             Some(place) => self.deliver_at(place, printer),
@@ -294,7 +300,8 @@ impl Play {
         printer: &mut P,
     ) -> Result<(), RunFault>
         requires live { self.old.world.is_spent ≡ false }
-        ensures { Plays self.old.world result self.new (played_by (tables_of self.old) (members_of self.old) (stage_of self.old) (Line.Torn node left job.now)) (P.printed printer.old) (P.printed printer.new) }
+        ensures plays { Plays self.old.world result self.new (played_by (tables_of self.old) (members_of self.old) (stage_of self.old) (Line.Torn node left job.now)) (P.printed printer.old) (P.printed printer.new) }
+        ensures whose { IfErr result (IsFaultOf P.fails printer.new) }
     {
         if !self.is_up(node) {
             return Ok(());
@@ -314,11 +321,12 @@ impl Play {
         printer: &mut P,
     ) -> Result<(), RunFault>
         requires live { self.old.world.is_spent ≡ false }
-        ensures { Plays self.old.world result self.new (played_by (tables_of self.old) (members_of self.old) (stage_of self.old) (Line.Ask node text.now)) (P.printed printer.old) (P.printed printer.new) }
+        ensures plays { Plays self.old.world result self.new (played_by (tables_of self.old) (members_of self.old) (stage_of self.old) (Line.Ask node text.now)) (P.printed printer.old) (P.printed printer.new) }
+        ensures whose { IfErr result (IsFaultOf P.fails printer.new) }
     {
         match read_query(self.alloc, self.world.schema(), text.as_str()) {
             Ok(question) => self.put(node, question, printer),
-            Err(refusal) => print_refusal(node, refusal, printer),
+            Err(refusal) => print_refusal(self.alloc, node, refusal, printer),
         }
     }
 
@@ -327,7 +335,8 @@ impl Play {
     fn settle_at<P: Printer>(&mut self, place: usize, printer: &mut P) -> Result<(), RunFault>
         requires live { self.old.world.is_spent ≡ false }
         requires sent { place < length self.old.mail }
-        ensures { Plays self.old.world result self.new (delivery_in_round (tables_of self.old) (members_of self.old) (stage_of self.old) (suc place) (nth self.old.mail (suc place))) (P.printed printer.old) (P.printed printer.new) }
+        ensures plays { Plays self.old.world result self.new (delivery_in_round (tables_of self.old) (members_of self.old) (stage_of self.old) (suc place) (nth self.old.mail (suc place))) (P.printed printer.old) (P.printed printer.new) }
+        ensures whose { IfErr result (IsFaultOf P.fails printer.new) }
     {
         let addressee = self.mail.message_at(place).addressee;
         if self.is_up(addressee) {
@@ -340,7 +349,8 @@ impl Play {
     // Delivers each message that was sent before now, was never delivered and is not lost.
     fn play_round<P: Printer>(&mut self, printer: &mut P) -> Result<(), RunFault>
         requires live { self.old.world.is_spent ≡ false }
-        ensures { Plays self.old.world result self.new (round (tables_of self.old) (members_of self.old) (stage_of self.old)) (P.printed printer.old) (P.printed printer.new) }
+        ensures plays { Plays self.old.world result self.new (round (tables_of self.old) (members_of self.old) (stage_of self.old)) (P.printed printer.old) (P.printed printer.new) }
+        ensures whose { IfErr result (IsFaultOf P.fails printer.new) }
     {
         let count = self.mail.len();
         for place in self.mail.first_left()..count {
@@ -357,7 +367,8 @@ impl Play {
     // Plays so many rounds, or fewer, until no message is left.
     fn settle<P: Printer>(&mut self, most: u8, printer: &mut P) -> Result<(), RunFault>
         requires live { self.old.world.is_spent ≡ false }
-        ensures { Plays self.old.world result self.new (rounds (tables_of self.old) (members_of self.old) most (stage_of self.old)) (P.printed printer.old) (P.printed printer.new) }
+        ensures plays { Plays self.old.world result self.new (rounds (tables_of self.old) (members_of self.old) most (stage_of self.old)) (P.printed printer.old) (P.printed printer.new) }
+        ensures whose { IfErr result (IsFaultOf P.fails printer.new) }
     {
         for played in 0..most {
             if self.mail.first_left() == self.mail.len() {
@@ -378,7 +389,8 @@ impl Play {
         printer: &mut P,
     ) -> Result<(), RunFault>
         requires live { self.old.world.is_spent ≡ false }
-        ensures { Plays self.old.world result self.new (played_by (tables_of self.old) (members_of self.old) (stage_of self.old) line.now) (P.printed printer.old) (P.printed printer.new) }
+        ensures plays { Plays self.old.world result self.new (played_by (tables_of self.old) (members_of self.old) (stage_of self.old) line.now) (P.printed printer.old) (P.printed printer.new) }
+        ensures whose { IfErr result (IsFaultOf P.fails printer.new) }
     {
         match line {
             Line::Clock { node, reading } => {
@@ -430,7 +442,8 @@ impl Play {
         printer: &mut P,
     ) -> Result<(), RunFault>
         requires live { self.old.world.is_spent ≡ false }
-        ensures { Plays self.old.world result self.new (played_all (tables_of self.old) (members_of self.old) lines.now (stage_of self.old)) (P.printed printer.old) (P.printed printer.new) }
+        ensures plays { Plays self.old.world result self.new (played_all (tables_of self.old) (members_of self.old) lines.now (stage_of self.old)) (P.printed printer.old) (P.printed printer.new) }
+        ensures whose { IfErr result (IsFaultOf P.fails printer.new) }
     {
         for line in lines {
             if let Err(fault) = self.play_line(line, printer) {

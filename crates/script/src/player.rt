@@ -2,7 +2,7 @@
 ghost use Rattle.std.specs.Prelude.{◌≡◌, ◌≤◌, pos, [], replicate, false, IsTrue, IsErr, OnOk, OnErr, IfOk, IfErr};
 ghost use Rattle.fault.specs.declared.refusal.Refusal.TheVariants.{NoMemory};
 ghost use Rattle.model.specs.Worlds.{new_world};
-ghost use Rattle.script.specs.Faults.{IsPlayFault};
+ghost use Rattle.script.specs.Faults.{IsFaultOf, IsPlayFault};
 ghost use Rattle.script.specs.Stage.{opening_stage, played, played_all};
 ghost use Rattle.world.specs.Run.{events_of, members_in, now_of, tables_in};
 ghost use Rattle.world.specs.View.{entry_in};
@@ -16,7 +16,6 @@ use model::entry::Entry;
 use model::member::Member;
 use schema::Schema;
 use std::alloc::{AllocError, Global};
-use std::io;
 
 /// A group, what the clock of each member shows, and which messages were delivered or lost.
 #[derive(Drop)]
@@ -58,6 +57,7 @@ impl Player {
         ensures fails { OnErr result (IsTrue (has_failed self.new)) }
         ensures goes_on { OnOk result (has_failed self.new ≡ false) }
         ensures stays { IsTrue (has_failed self.old) → (result ≡ Err (RunFault.Refused NoMemory)) × (printer.new ≡ printer.old) }
+        ensures whose { IfErr result (IsFaultOf P.fails printer.new) }
     {
         if self.has_failed {
             return Err(RunFault::Refused(Refusal::NoMemory));
@@ -74,18 +74,19 @@ impl Player {
 
     /// Plays lines, each after the one before, as `play` does. Where it fails, what it printed is a beginning of what
     /// all of them print.
-    pub fn play_all<W: io::Write>(&mut self, lines: &[Line], writer: &mut W) -> Result<(), RunFault>
-        ensures plays { has_failed self.old ≡ false → Plays self.old result self.new (played_all (tables_in (group_of self.old)) (members_in (group_of self.old)) lines.now (standing_of self.old)) (W.contents writer.old) (W.contents writer.new) }
+    pub fn play_all<P: Printer>(&mut self, lines: &[Line], printer: &mut P) -> Result<(), RunFault>
+        ensures plays { has_failed self.old ≡ false → Plays self.old result self.new (played_all (tables_in (group_of self.old)) (members_in (group_of self.old)) lines.now (standing_of self.old)) (P.printed printer.old) (P.printed printer.new) }
         ensures err { IfErr result IsPlayFault }
         ensures fails { OnErr result (IsTrue (has_failed self.new)) }
         ensures goes_on { OnOk result (has_failed self.new ≡ false) }
-        ensures stays { IsTrue (has_failed self.old) → (result ≡ Err (RunFault.Refused NoMemory)) × (writer.new ≡ writer.old) }
+        ensures stays { IsTrue (has_failed self.old) → (result ≡ Err (RunFault.Refused NoMemory)) × (printer.new ≡ printer.old) }
+        ensures whose { IfErr result (IsFaultOf P.fails printer.new) }
     {
         if self.has_failed {
             return Err(RunFault::Refused(Refusal::NoMemory));
         }
         self.has_failed = true;
-        match self.play.play_lines(lines, writer) {
+        match self.play.play_lines(lines, printer) {
             Ok(()) => {
                 self.has_failed = false;
                 Ok(())

@@ -1,8 +1,9 @@
 //! Bringing a group to where one member leads and all have applied its log.
-ghost use Rattle.std.specs.Prelude.{◌≡◌, false, suc, length, IfOk, OnOk};
+ghost use Rattle.std.specs.Prelude.{◌≡◌, false, suc, length, IfOk, IfErr, OnOk};
 ghost use Rattle.model.specs.Lists.{nth};
 ghost use Rattle.model.specs.Members.{term_of};
 ghost use Rattle.world.specs.View.{entry_in};
+ghost use Rattle.script.specs.Faults.{IsFaultOf};
 ghost use Rattle.script.specs.Standing.{foremost, is_well, longest, standing_at};
 ghost use Rattle.script.specs.Stage.{all_led_on, deliveries_from, led_by, led_on, recovery, spread_or_said, starts, stirred, turn, turns};
 
@@ -119,7 +120,8 @@ impl Play {
     // Starts all members.
     fn start_all<P: Printer>(&mut self, printer: &mut P) -> Result<(), RunFault>
         requires live { self.old.world.is_spent ≡ false }
-        ensures { Plays self.old.world result self.new (starts (tables_of self.old) (members_of self.old) (length (stage_of self.old).clocks) 1 (stage_of self.old)) (P.printed printer.old) (P.printed printer.new) }
+        ensures plays { Plays self.old.world result self.new (starts (tables_of self.old) (members_of self.old) (length (stage_of self.old).clocks) 1 (stage_of self.old)) (P.printed printer.old) (P.printed printer.new) }
+        ensures whose { IfErr result (IsFaultOf P.fails printer.new) }
     {
         let members = self.clocks.len();
         for place in 0..members {
@@ -138,7 +140,8 @@ impl Play {
         printer: &mut P,
     ) -> Result<(), RunFault>
         requires live { self.old.world.is_spent ≡ false }
-        ensures { Plays self.old.world result self.new (deliveries_from (tables_of self.old) (members_of self.old) most (suc first) (stage_of self.old)) (P.printed printer.old) (P.printed printer.new) }
+        ensures plays { Plays self.old.world result self.new (deliveries_from (tables_of self.old) (members_of self.old) most (suc first) (stage_of self.old)) (P.printed printer.old) (P.printed printer.new) }
+        ensures whose { IfErr result (IsFaultOf P.fails printer.new) }
     {
         let mut place = first;
         for delivered in 0..most {
@@ -157,7 +160,8 @@ impl Play {
     // The timer of a member goes off, and it is told to send its heartbeats.
     fn stir<P: Printer>(&mut self, node: Member, printer: &mut P) -> Result<(), RunFault>
         requires live { self.old.world.is_spent ≡ false }
-        ensures { Plays self.old.world result self.new (stirred (tables_of self.old) (members_of self.old) node (stage_of self.old)) (P.printed printer.old) (P.printed printer.new) }
+        ensures plays { Plays self.old.world result self.new (stirred (tables_of self.old) (members_of self.old) node (stage_of self.old)) (P.printed printer.old) (P.printed printer.new) }
+        ensures whose { IfErr result (IsFaultOf P.fails printer.new) }
     {
         if let Err(fault) = self.happen(Event::Hand(node, Input::Timeout), printer) {
             return Err(fault);
@@ -169,7 +173,8 @@ impl Play {
     // back.
     fn turn<P: Printer>(&mut self, node: Member, printer: &mut P) -> Result<(), RunFault>
         requires live { self.old.world.is_spent ≡ false }
-        ensures { Plays self.old.world result self.new (turn (tables_of self.old) (members_of self.old) node (stage_of self.old)) (P.printed printer.old) (P.printed printer.new) }
+        ensures plays { Plays self.old.world result self.new (turn (tables_of self.old) (members_of self.old) node (stage_of self.old)) (P.printed printer.old) (P.printed printer.new) }
+        ensures whose { IfErr result (IsFaultOf P.fails printer.new) }
     {
         let sent = self.mail.len();
         let members = self.clocks.len();
@@ -188,7 +193,8 @@ impl Play {
         printer: &mut P,
     ) -> Result<(), RunFault>
         requires live { self.old.world.is_spent ≡ false }
-        ensures { Plays self.old.world result self.new (turns (tables_of self.old) (members_of self.old) most node (stage_of self.old)) (P.printed printer.old) (P.printed printer.new) }
+        ensures plays { Plays self.old.world result self.new (turns (tables_of self.old) (members_of self.old) most node (stage_of self.old)) (P.printed printer.old) (P.printed printer.new) }
+        ensures whose { IfErr result (IsFaultOf P.fails printer.new) }
     {
         for taken in 0..most {
             let well = self.is_well(node)?;
@@ -211,7 +217,8 @@ impl Play {
         printer: &mut P,
     ) -> Result<(), RunFault>
         requires live { self.old.world.is_spent ≡ false }
-        ensures { Plays self.old.world result self.new (spread_or_said (tables_of self.old) (members_of self.old) node longest (stage_of self.old)) (P.printed printer.old) (P.printed printer.new) }
+        ensures plays { Plays self.old.world result self.new (spread_or_said (tables_of self.old) (members_of self.old) node longest (stage_of self.old)) (P.printed printer.old) (P.printed printer.new) }
+        ensures whose { IfErr result (IsFaultOf P.fails printer.new) }
     {
         let standing = self.standing(node)?;
         if standing.ends_own() {
@@ -229,7 +236,8 @@ impl Play {
         printer: &mut P,
     ) -> Result<(), RunFault>
         requires live { self.old.world.is_spent ≡ false }
-        ensures { Plays self.old.world result self.new (led_on (tables_of self.old) (members_of self.old) node longest (stage_of self.old)) (P.printed printer.old) (P.printed printer.new) }
+        ensures plays { Plays self.old.world result self.new (led_on (tables_of self.old) (members_of self.old) node longest (stage_of self.old)) (P.printed printer.old) (P.printed printer.new) }
+        ensures whose { IfErr result (IsFaultOf P.fails printer.new) }
     {
         if let Err(fault) = self.take_turns(node, TURNS_TO_LEAD, printer) {
             return Err(fault);
@@ -245,7 +253,8 @@ impl Play {
         printer: &mut P,
     ) -> Result<(), RunFault>
         requires live { self.old.world.is_spent ≡ false }
-        ensures { Plays self.old.world result self.new (led_by (tables_of self.old) (members_of self.old) node longest (stage_of self.old)) (P.printed printer.old) (P.printed printer.new) }
+        ensures plays { Plays self.old.world result self.new (led_by (tables_of self.old) (members_of self.old) node longest (stage_of self.old)) (P.printed printer.old) (P.printed printer.new) }
+        ensures whose { IfErr result (IsFaultOf P.fails printer.new) }
     {
         if let Err(fault) = self.lead_on(node, longest, printer) {
             return Err(fault);
@@ -257,7 +266,8 @@ impl Play {
     // So does one whose log is most up to date.
     fn lead_all<P: Printer>(&mut self, printer: &mut P) -> Result<(), RunFault>
         requires live { self.old.world.is_spent ≡ false }
-        ensures { Plays self.old.world result self.new (all_led_on (tables_of self.old) (members_of self.old) (stage_of self.old)) (P.printed printer.old) (P.printed printer.new) }
+        ensures plays { Plays self.old.world result self.new (all_led_on (tables_of self.old) (members_of self.old) (stage_of self.old)) (P.printed printer.old) (P.printed printer.new) }
+        ensures whose { IfErr result (IsFaultOf P.fails printer.new) }
     {
         match self.survey() {
             Ok((node, longest)) => self.lead_by(node, longest, printer),
@@ -268,7 +278,8 @@ impl Play {
     // Starts all members, and one whose log is most up to date leads them on.
     pub(crate) fn recover<P: Printer>(&mut self, printer: &mut P) -> Result<(), RunFault>
         requires live { self.old.world.is_spent ≡ false }
-        ensures { Plays self.old.world result self.new (recovery (tables_of self.old) (members_of self.old) (stage_of self.old)) (P.printed printer.old) (P.printed printer.new) }
+        ensures plays { Plays self.old.world result self.new (recovery (tables_of self.old) (members_of self.old) (stage_of self.old)) (P.printed printer.old) (P.printed printer.new) }
+        ensures whose { IfErr result (IsFaultOf P.fails printer.new) }
     {
         if let Err(fault) = self.start_all(printer) {
             return Err(fault);

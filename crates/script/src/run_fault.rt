@@ -1,8 +1,10 @@
 //! What ends a command before its end.
 ghost use Rattle.std.specs.Prelude.{◌≡◌};
 ghost use Rattle.fault.specs.declared.refusal.Refusal.TheVariants.{NoMemory};
+ghost use Rattle.script.specs.Faults.{run_fault_of};
 ghost use Rattle.script.specs.declared.run_fault.RunFault.TheVariants.{Refused, Output};
 
+use answertext::outlet::WriteFault;
 use fault::Refusal;
 use std::alloc::{AllocError, AllocFailed};
 use std::io;
@@ -40,6 +42,17 @@ impl From<AllocError> for RunFault {
 
     fn from(_error: AllocError) -> RunFault {
         RunFault::Refused(Refusal::NoMemory)
+    }
+}
+
+impl From<WriteFault> for RunFault {
+    ghost from_gives = { λ fault found. found ≡ run_fault_of fault };
+
+    fn from(fault: WriteFault) -> RunFault {
+        match fault {
+            WriteFault::NoMemory => RunFault::Refused(Refusal::NoMemory),
+            WriteFault::Writer(error) => RunFault::Output(error),
+        }
     }
 }
 

@@ -1,5 +1,5 @@
 //! A printer that notes outputs for a picture.
-ghost use Rattle.std.specs.Prelude.{None};
+ghost use Rattle.std.specs.Prelude.{None, ⊤};
 
 use lanes::recorder::Recorder;
 use model::message::Message;
@@ -39,7 +39,9 @@ fn after_words(line: &str, count: usize) -> &str {
 impl Printer for Pencil {
     ghost printed = { λ pencil. None };
 
-    fn print(&mut self, output: &Output) -> Result<(), RunFault> {
+    ghost fails = { λ before error after. ⊤ };
+
+    fn print(&mut self, _alloc: Global, output: &Output) -> Result<(), RunFault> {
         match output {
             Output::Sent(_, message) => self.send(output, message)?,
             Output::Applied(node, told) => self.recorder.tell(*node, told)?,

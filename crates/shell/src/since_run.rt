@@ -12,7 +12,7 @@ use crate::audit::audit_line;
 use crate::group::{read_group, run_of};
 use crate::outlet::{Outlet, tell};
 use beginnings::Beginning;
-use beginnings::words::{Told, told_of};
+use beginnings::words::told_of;
 use fault::Refusal;
 use script::run_fault::RunFault;
 use std::alloc::{AllocError, Global};
@@ -43,14 +43,11 @@ fn judge(
     ensures err { IfErr result (λ refusal. (refusal ≡ NoMemory) ⊎ ((refusal ≡ BadFlight) × IsNoGroup (map string_bytes texts.now))) }
 {
     let (version, schema, flights) = read_group(alloc, texts)?;
-    let Told {
-        is_beginning,
-        words,
-    } = told_of(alloc, flights.as_slice(), seen)?;
+    let told = told_of(alloc, flights.as_slice(), seen)?;
     let flown = run_of(alloc, flights)?;
     let (verdict, line) = audit_line(alloc, version, &schema, &flown)?;
-    let text = joined(alloc, line.as_str(), words.as_str())?;
-    Ok((status_with(verdict, is_beginning), text))
+    let text = joined(alloc, line.as_str(), told.words.as_str())?;
+    Ok((status_with(verdict, told.is_beginning), text))
 }
 
 /// Judges the flights in these texts as `run_audit` does, and prints, behind the line of the verdict, whether they begin as was kept of

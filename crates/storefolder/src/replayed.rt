@@ -2,9 +2,10 @@
 use crate::faults::file_refusal;
 use crate::journals::tell_all;
 use crate::place::enter;
+use answertext::outlet::WriteFault;
 use fault::{Refusal, Text};
 use flight::flight::{Flight, Version};
-use flight::{WriteFault, write_flight};
+use flight::write_flight;
 use model::member::Member;
 use playback::{Flown, Play};
 use std::alloc::Global;

@@ -4,8 +4,8 @@ use Rattle.script.specs.Mail.{newly_sent, messages_in}
 use Rattle.script.proofs.Playing.{event_plays}
 use Rattle.script.proofs.play.Play.happen.Goals as goal
 
-pub returns : goal.returns
-returns g c =
+pub returns-clause-plays : goal.returns-clause-plays
+returns-clause-plays g c =
     let outs = c.in_ok-outputs.outputs.items in
     let sent : c.note_all.new.self ≡ c.args.self.now.mail ++ map newly_sent (messages_in outs) =
     c.in_ok-note_all.ensures ∙ ap (λ ms. c.happens.new.self.mail ++ map newly_sent (messages_in ms)) c.deref.ensures.value ∙ ap (λ ms. ms ++ map newly_sent (messages_in outs)) c.happens.ensures.same.1 in

@@ -10,12 +10,12 @@ use Rattle.script.proofs.play.Play.play_round.Goals as goal
 pub loop-place-init : goal.loop-place-init
 loop-place-init g c = round_begins c.args.self.now c.len-count.result c.first_left-place.result _ c.requires.live c.len-count.ensures c.first_left-place.ensures
 
-pub returns-in-Err : goal.returns-in-Err
-returns-in-Err g c =
+pub returns-in-Err-clause-plays : goal.returns-in-Err-clause-plays
+returns-in-Err-clause-plays g c =
     let first = c.args.self.now in
     let left : is_left c.is_left.ensures.0 ≡ true = sym c.is_left.ensures.2 ∙ c.if-is_left.true in
     round_fails first.world c.loop-place.self (round (tables_of first) (members_of first) (stage_of first)) c.len-count.result c.loop-place.place c.is_left.ensures.0 _ _
-    c.loop-place.invariant c.loop-place-test.true c.is_left.ensures.1 left c.in-Err.fault c.settle_at.new.self c.settle_at.new.self _ c.in-Err.ensures
+    c.loop-place.invariant c.loop-place-test.true c.is_left.ensures.1 left c.in-Err.fault c.settle_at.new.self c.settle_at.new.self _ c.in-Err.ensures.plays
 
 pub loop-place-preserved : goal.loop-place-preserved
 loop-place-preserved g c =
@@ -28,7 +28,7 @@ loop-place-preserved g c =
           subst (λ x. InRound first.world x p c.len-count.result (c.loop-place.place + 1) before (g.P.Printer.printed c.if-is_left.printer)) (sym w.self-is)
           (subst (λ x. InRound first.world w.settle_at.new.self p c.len-count.result (c.loop-place.place + 1) before (g.P.Printer.printed x)) (sym w.printer-is)
           (round_delivers first.world c.loop-place.self p c.len-count.result c.loop-place.place c.is_left.ensures.0 _ _
-          c.loop-place.invariant c.loop-place-test.true c.is_left.ensures.1 left w.settle_at.new.self _ w.in_default.ensures))
+          c.loop-place.invariant c.loop-place-test.true c.is_left.ensures.1 left w.settle_at.new.self _ w.in_default.ensures.plays))
       | else-is_left w ↦
           let left : is_left c.is_left.ensures.0 ≡ false = sym c.is_left.ensures.2 ∙ w.if-is_left.false in
           subst (λ x. InRound first.world x p c.len-count.result (c.loop-place.place + 1) before (g.P.Printer.printed c.if-is_left.printer)) (sym w.self-is)

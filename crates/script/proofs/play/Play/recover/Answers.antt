@@ -4,14 +4,14 @@ use Rattle.script.specs.Stage.{starts, all_led_on}
 use Rattle.script.proofs.Recovering.{both, first_fails}
 use Rattle.script.proofs.play.Play.recover.Goals as goal
 
-pub returns-in-Err : goal.returns-in-Err
-returns-in-Err g c =
+pub returns-in-Err-clause-plays : goal.returns-in-Err-clause-plays
+returns-in-Err-clause-plays g c =
     let first = c.args.self.now in
     first_fails first c.start_all.new.self c.requires.live (starts (tables_of first) (members_of first) (length first.clocks.items) 1 (stage_of first)) _ _
-    (all_led_on (tables_of first) (members_of first)) c.in-Err.fault c.start_all.new.self c.in-Err.ensures
+    (all_led_on (tables_of first) (members_of first)) c.in-Err.fault c.start_all.new.self c.in-Err.ensures.plays
 
-pub returns : goal.returns
-returns g c =
+pub returns-clause-plays : goal.returns-clause-plays
+returns-clause-plays g c =
     let first = c.args.self.now in
     both first c.start_all.new.self c.requires.live (starts (tables_of first) (members_of first) (length first.clocks.items) 1 (stage_of first)) _ _
-    (λ t n s. all_led_on t n s) c.lead_all.result c.lead_all.new.self _ c.in_default.ensures c.lead_all.ensures
+    (λ t n s. all_led_on t n s) c.lead_all.result c.lead_all.new.self _ c.in_default.ensures.plays c.lead_all.ensures.plays
