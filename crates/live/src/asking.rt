@@ -3,7 +3,7 @@ ghost use Rattle.std.specs.Prelude.{IfOk};
 ghost use Rattle.live.specs.Saying.{IsReply};
 
 use crate::driver::Driver;
-use crate::said::{Said, refused};
+use crate::said::Said;
 use answer::Answer;
 use fault::{Refusal, Text};
 use model::member::Member;
@@ -45,7 +45,8 @@ impl Driver {
     {
         match self.answer(rt, node, text) {
             Ok(answer) => Ok(Said::Answered(node, answer)),
-            Err(refusal) => refused(node, refusal),
+            Err(Refusal::NoMemory) => Err(Refusal::NoMemory),
+            Err(refusal) => Ok(Said::Refused(node, refusal)),
         }
     }
 }

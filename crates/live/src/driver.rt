@@ -4,7 +4,7 @@ ghost use Rattle.live.specs.Saying.{IsOutcomeOf, IsSaidOf, IsStarted};
 
 use crate::errand::Errand;
 use crate::mail::Mail;
-use crate::said::{Said, refused};
+use crate::said::Said;
 use crate::station::Station;
 use fault::{Refusal, Text};
 use flight::flight::Recorded;
@@ -170,7 +170,8 @@ impl Driver {
                 station.started();
                 Ok(Said::Nothing)
             }
-            Err(refusal) => refused(node, refusal),
+            Err(Refusal::NoMemory) => Err(Refusal::NoMemory),
+            Err(refusal) => Ok(Said::Refused(node, refusal)),
         }
     }
 

@@ -1,6 +1,6 @@
 //! What comes of a line.
-ghost use Rattle.std.specs.Prelude.{◌≡◌, IfOk};
-ghost use Rattle.live.specs.Saying.{IsReply, is_answer};
+ghost use Rattle.std.specs.Prelude.{◌≡◌};
+ghost use Rattle.live.specs.Saying.{is_answer};
 
 use answer::Answer;
 use fault::Refusal;
@@ -27,15 +27,5 @@ impl Said {
         ensures { result ≡ is_answer self.now }
     {
         matches!(self, Said::Answered(_, _))
-    }
-}
-
-/// What is said where a node refuses; want of memory is nothing that is said, and ends the play.
-pub(crate) fn refused(node: Member, refusal: Refusal) -> Result<Said, Refusal>
-    ensures { IfOk result (IsReply node) }
-{
-    match refusal {
-        Refusal::NoMemory => Err(Refusal::NoMemory),
-        refusal => Ok(Said::Refused(node, refusal)),
     }
 }
