@@ -1,7 +1,10 @@
 -- Digests as text.
-use Rattle.std.proofs.Common.{◌≡◌, ◌∙◌, ℕ, ◌<◌, ◌≤◌, List, ◌++◌, length, get_or, take, drop, sym, ap, arith, length-append, Ok}
+use Rattle.std.proofs.Common.{◌≡◌, ◌∙◌, ℕ, ◌<◌, ◌≤◌, nat_lt, Bool, true, ◌&&◌, refl, List, [], ◌∷◌, ◌++◌, length, get_or, take, drop, sym, ap, arith, length-append, Ok}
 use Rattle.std.specs.Str.{IsAscii, IsCharBoundary, IsUtf8}
+use borrow.Author.Tests.{ltb-true}
+use Rattle.std.proofs.lemmas.Bool.{and_parts}
 use Rattle.std.proofs.lemmas.Str.{IsCharBoundary-after_ascii}
+use Rattle.std.proofs.lemmas.Str.Ascii.{IsAscii-cons, IsAscii-nil}
 use Rattle.std.proofs.lemmas.List.{take-append-drop, take_at, drop_at, get_or_append_left}
 use Rattle.hex.specs.Hex.{encode_lower, lower_digits, decode_sized}
 use Rattle.hex.proofs.HexLemmas.{IsAscii-encode_with, length-encode_with, decode_sized-encode_lower}
@@ -10,8 +13,17 @@ use Rattle.beginnings.specs.Lines.{digest_text, IsDigest}
 width : (w : List ℕ) → IsDigest w → length (encode_lower w) ≡ 64
 width w is = let n = length-encode_with lower_digits w in let m = is.0 in omega (arith, n, m)
 
+-- each byte is below 128, as a test that computes
+abbrev are_low : List ℕ → Bool
+are_low [] = true
+are_low (b ∷ bs) = nat_lt b 128 && are_low bs
+
+ascii_low : (bs : List ℕ) → are_low bs ≡ true → IsAscii bs
+ascii_low [] is = IsAscii-nil
+ascii_low (b ∷ bs) is = let parts = and_parts (nat_lt b 128) (are_low bs) is in IsAscii-cons b bs (ltb-true b 128 parts.0) (ascii_low bs parts.1)
+
 ascii_digits : IsAscii lower_digits
-ascii_digits = search rules
+ascii_digits = ascii_low lower_digits refl
 
 -- a text that spells a digest
 module _ (text w other : List ℕ) (is : IsDigest w) (e : text ≡ digest_text w other) where

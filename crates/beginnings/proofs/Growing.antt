@@ -67,8 +67,8 @@ equal_or : (xs ys : List ℕ) → (xs ≡ ys) ⊎ (xs ≢ ys)
 equal_or xs ys =
     let decides = bytes_eq-Decides xs ys in
     elim (cases_Bool (bytes_eq xs ys)) [
-      | inl yes ↦ inl (decides.0 yes)
-      | inr no ↦ inr (λ e. false≢true (sym no ∙ decides.1 e))
+      | inl same ↦ inl (decides.0 same)
+      | inr other ↦ inr (λ e. false≢true (sym other ∙ decides.1 e))
     ]
 
 pub no_others : (f g : FlightContents) → HasBeginning g (beginning_of f) → IsSeenAgain f g ⊎ Collide

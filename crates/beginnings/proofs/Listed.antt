@@ -1,11 +1,13 @@
 -- What is kept of nodes, one after the other.
-use Rattle.std.proofs.Common.{◌≡◌, ◌≢◌, ◌∙◌, ℕ, ◌<◌, ◌≤◌, List, [], ◌∷◌, ◌++◌, length, refl, sym, ap, arith, subst, inl, inr, length-append, append-nil}
+use Rattle.std.proofs.Common.{◌≡◌, ◌≢◌, ◌∙◌, ℕ, ◌+◌, ◌<◌, ◌≤◌, List, [], ◌∷◌, ◌++◌, length, take, get_or, refl, sym, ap, arith, subst, inl, inr, length-append}
 use Rattle.std.specs.Prelude.{All, codes, decimal}
+use Rattle.std.proofs.lemmas.List.{take_more}
 use Rattle.fault.specs.declared.refusal.Refusal.{Refusal}
+use Rattle.hex.specs.Hex.{encode_lower}
 use Rattle.flight.specs.Additions.{Adds}
 use Rattle.flight.specs.Spelling.{each_text, number_text}
 use Rattle.flight.specs.Reading.{Spells, SpellsOnly, IsUnread, SpellsOnlyTo, IsUnreadTo}
-use Rattle.flight.proofs.Lists.{Taken, taken_none, taken_more, taken_all, all_later}
+use Rattle.flight.proofs.Lists.{Taken, taken_none, taken_more, taken_all, all_later, each_push}
 use Rattle.flight.proofs.Lengths.{after_number}
 use Rattle.beginnings.specs.Lines.{digest_text, part_text, IsKept, IsOver}
 use Rattle.beginnings.specs.declared.beginning.Beginning.{Beginning}
@@ -17,7 +19,7 @@ word_on word rest = omega (arith, length-append word rest)
 pub part_on : (b : Beginning) (rest : List ℕ) → length rest < length (part_text b rest)
 part_on b rest =
     let digest = digest_text b.digest rest in
-    omega (arith, length-append _ rest, after_number 45 b.answers digest, after_number 43 b.bytes (number_text 45 b.answers digest), word_on (codes ":") (number_text 43 b.bytes (number_text 45 b.answers digest)))
+    omega (arith, length-append (encode_lower b.digest) rest, after_number 45 b.answers digest, after_number 43 b.bytes (number_text 45 b.answers digest), word_on (codes ":") (number_text 43 b.bytes (number_text 45 b.answers digest)))
 
 abbrev pub PartsTaken : List ℕ → List Beginning → List ℕ → Type 0
 PartsTaken text taken left = Taken Beginning IsKept part_text (λ xs other. IsOver other) text taken left
@@ -65,6 +67,11 @@ module _ (text : List ℕ) (taken : List Beginning) (left : List ℕ) (over : le
       let a = taken_all IsKept part_text (λ ys o. IsOver o) text taken left t xs other is end (λ y ys ok p g. none_more y ys other g) e in
       (a.0, end)
 
--- what is added to a text, with nothing behind it
-pub added : (old new : List ℕ) (spell : List ℕ → List ℕ) → Adds old new spell → new ≡ old ++ spell []
-added old new spell adds = sym (append-nil new) ∙ adds []
+-- ---- parts that are written
+
+-- one part more
+pub parts_added : (all : List Beginning) (i : ℕ) (d : Beginning) (a b c : List ℕ) → i < length all → Adds a b (each_text part_text (take i all)) → Adds b c (part_text (get_or all i d))
+    → Adds a c (each_text part_text (take (i + 1) all))
+parts_added all i d a b c less p q = λ rest.
+    let x = get_or all i d in
+    q rest ∙ (p (part_text x rest) ∙ ap (λ l. a ++ l) (sym (ap (λ l. each_text part_text l rest) (take_more all i d less) ∙ each_push part_text (take i all) x rest)))

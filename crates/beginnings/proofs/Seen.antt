@@ -22,12 +22,13 @@ found_push (g ∷ fs) (c ∷ bs) [] f b x are is = absurd are
 found_push (g ∷ fs) (c ∷ bs) (y ∷ xs) f b x are is = (are.0, found_push fs bs xs f b x are.1 is)
 
 -- one node more
-pub found_more : (flights : List Flight) (seen : List Beginning) (i : ℕ) (f : Flight) (b : Beginning) (found : List Found) (x : Found) → i < length flights → i < length seen
-    → f ≡ get_or flights i f → b ≡ get_or seen i b → AreFound (map in_flight (take i flights)) (take i seen) found → IsFound (in_flight f) b x
+pub found_more : (flights : List Flight) (seen : List Beginning) (i : ℕ) (f : Flight) (d : Beginning) (found : List Found) (x : Found) → i < length flights → i < length seen
+    → f ≡ get_or flights i f → AreFound (map in_flight (take i flights)) (take i seen) found → IsFound (in_flight f) (get_or seen i d) x
     → AreFound (map in_flight (take (i + 1) flights)) (take (i + 1) seen) (found ++ x ∷ [])
-found_more flights seen i f b found x less short at own are is =
+found_more flights seen i f d found x less short at are is =
+    let b = get_or seen i d in
     let fs : take (i + 1) flights ≡ take i flights ++ f ∷ [] = take_more flights i f less ∙ ap (λ y. take i flights ++ y ∷ []) (sym at) in
-    let bs : take (i + 1) seen ≡ take i seen ++ b ∷ [] = take_more seen i b short ∙ ap (λ y. take i seen ++ y ∷ []) (sym own) in
+    let bs : take (i + 1) seen ≡ take i seen ++ b ∷ [] = take_more seen i d short in
     let mapped : map in_flight (take (i + 1) flights) ≡ map in_flight (take i flights) ++ in_flight f ∷ [] = ap (map in_flight) fs ∙ map-append in_flight (take i flights) (f ∷ []) in
     subst (λ l. AreFound l (take (i + 1) seen) (found ++ x ∷ [])) (sym mapped)
     (subst (λ l. AreFound (map in_flight (take i flights) ++ in_flight f ∷ []) l (found ++ x ∷ [])) (sym bs)

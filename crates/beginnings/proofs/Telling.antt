@@ -14,8 +14,8 @@ lines_push node (y ∷ xs) x =
     ∙ (sym (append_assoc (node_line node y) (node_lines (node + 1) xs) (node_line (length xs + (node + 1)) x)) ∙ ap (λ n. (node_line node y ++ node_lines (node + 1) xs) ++ node_line n x) at)
 
 -- one node more
-pub lines_more : (xs : List Found) (i : ℕ) (x : Found) → i < length xs → x ≡ get_or xs i x → node_lines 1 (take (i + 1) xs) ≡ node_lines 1 (take i xs) ++ node_line (i + 1) x
-lines_more xs i x less is =
+pub lines_more : (xs : List Found) (i : ℕ) (d : Found) → i < length xs → node_lines 1 (take (i + 1) xs) ≡ node_lines 1 (take i xs) ++ node_line (i + 1) (get_or xs i d)
+lines_more xs i d less =
     let few : i ≤ length xs = omega (arith, less) in
-    let grown : take (i + 1) xs ≡ take i xs ++ x ∷ [] = take_more xs i x less ∙ ap (λ y. take i xs ++ y ∷ []) (sym is) in
-    ap (node_lines 1) grown ∙ (lines_push 1 (take i xs) x ∙ ap (λ n. node_lines 1 (take i xs) ++ node_line (n + 1) x) (length-take-le i xs few))
+    let x = get_or xs i d in
+    ap (node_lines 1) (take_more xs i d less) ∙ (lines_push 1 (take i xs) x ∙ ap (λ n. node_lines 1 (take i xs) ++ node_line (n + 1) x) (length-take-le i xs few))

@@ -1,6 +1,7 @@
 //! The program `bitable`: commands of the crates `shell` and `console` over files, folders and the standard streams.
 #![tactic(auto)]
 
+use beginnings::line::read_line;
 use causes::{Name, Trouble};
 use clap::Error;
 use clap::error::ErrorKind;
@@ -17,6 +18,7 @@ use shell::live_run::run_live;
 use shell::report_run::run_report;
 use shell::shown_run::{run_beliefs, run_lanes, run_shown};
 use shell::sim::run_sim;
+use shell::since_run::run_since;
 use shell::stop::Stop;
 use std::alloc::Global;
 use std::fs::File;
@@ -86,16 +88,15 @@ fn judge(rt: &HostRuntime, asked: &Audit<'_>) -> ExitCode {
 // Draws what was ever believed, as the store in a folder answers a question, or as a script's last answer says.
 fn draw_beliefs(rt: &HostRuntime, beliefs: Beliefs<'_>) -> ExitCode {
     match beliefs.query {
-        Some(query) => draw_of_store(rt, beliefs.script, query, beliefs.svg),
+        Some(query) => {
+            let (dir, width) = (beliefs.script, columns(rt));
+            end_store(
+                rt,
+                console::draw_beliefs(rt, dir, query, beliefs.svg, width),
+            )
+        }
         None => end(rt, draw(rt, beliefs)),
     }
-}
-
-// INTEGRATE: what `console` does for `bitable beliefs DIR QUERY [--svg FILE]` is called here.
-fn draw_of_store(rt: &HostRuntime, dir: &str, query: &str, svg: Option<&str>) -> ExitCode {
-    let _ = (query, svg);
-    let _ = eprintln!(rt; "{dir}: beliefs of a store are not drawn yet");
-    ExitCode::FAILURE
 }
 
 // The exit status; where the command was refused, why: the refusal, below it what is known of the file or the folder, and what to do.
@@ -431,13 +432,37 @@ fn steps_in(texts: &[String]) -> usize {
     steps
 }
 
+// That a report and a line that was kept do not go together, in the words that the command line has for such.
+fn refuse_both(rt: &impl Eprint) -> Result<u8, Stop<'static>> {
+    let _ = eprintln!(rt;
+        "error: the argument '--since <LINE>' cannot be used with '--report' or '--json'\n\nFor more information, try '--help'."
+    );
+    Ok(2)
+}
+
+// That no report ends with this line, in the words that the command line has for a value that it does not take.
+fn refuse_since(rt: &impl Eprint, line: &str) -> Result<u8, Stop<'static>> {
+    let _ = eprintln!(rt;
+        "error: invalid value '{line}' for '--since <LINE>': it is no line that 'audit --report' gives\n\nFor more information, try '--help'."
+    );
+    Ok(2)
+}
+
 // Judges flights in files, as it is asked for.
 fn audit<'a, R>(rt: &R, host: &HostRuntime, asked: &Audit<'a>) -> Result<u8, Stop<'a>>
 where
-    R: AllocGlobal + Files + Print,
+    R: AllocGlobal + Files + Print + Eprint,
 {
     let alloc: Global = rt.alloc();
     let names = asked.files.as_slice();
+    let seen = match asked.since {
+        Some(_) if asked.is_report || asked.is_json => return refuse_both(rt),
+        Some(line) => match read_line(alloc, line)? {
+            Some(seen) => Some(seen),
+            None => return refuse_since(rt, line),
+        },
+        None => None,
+    };
     let progress = progress_on(host);
     let read = read_flights(rt, names, &progress);
     progress.hide();
@@ -446,7 +471,9 @@ where
         progress.judge(steps_in(texts.as_slice()));
     }
     let mut writer = Uncovered::new(io::writer(rt), &progress);
-    let ended = if asked.is_report || asked.is_json {
+    let ended = if let Some(seen) = seen {
+        run_since(alloc, seen.as_slice(), texts.as_slice(), &mut writer)
+    } else if asked.is_report || asked.is_json {
         run_report(alloc, names, texts.as_slice(), asked.is_json, &mut writer)
     } else {
         run_audit(alloc, texts.as_slice(), &mut writer)

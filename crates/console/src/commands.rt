@@ -1,13 +1,15 @@
 //! The commands.
 use crate::input::Input;
 use crate::printing::{counted, name_of, print};
-use crate::session::{Place, Session, reading_of};
+use crate::session::{Place, Session};
 use crate::stop::{Fault, Stop};
 use crate::transfers::{carry_out, progress_on};
 use causes::{Name, Trouble};
 use fault::Refusal;
 use model::member::Member;
 use playback::Decided;
+use schema::Schema;
+use schemaread::schemas::read_schema;
 use sqlite::Alter;
 use std::alloc::{AllocError, Global};
 use std::fs::File;
@@ -16,19 +18,37 @@ use std::{env, fs};
 use store::announcing::Announces;
 use store::{Device, StoreRefusal};
 use storecommands::{Command, ExportRows, ImportRows, NewStore, OpenStore};
-use storefolder::{Audited, Kept, Opened, Verdict};
+use storefolder::{Audited, Kept, Opened, Verdict, reading_of};
 use transfer::{Export, Import, Order, Versions};
 
 // How many columns a terminal has, where nothing tells.
 const TERMINAL: usize = 80;
 
-// Makes a store with the tables of a text, and says so.
+// The names of the tables.
+fn put_tables(schema: &Schema, line: &mut String) -> Result<(), AllocError> {
+    let count = schema.len();
+    line.push_str(if count == 1 { ", table " } else { ", tables " })?;
+    for place in 0..count {
+        if place > 0 {
+            let is_last = place.saturating_add(1) == count;
+            line.push_str(if is_last { " and " } else { ", " })?;
+        }
+        line.push_str(schema.table(place).0.as_str())?;
+    }
+    Ok(())
+}
+
+// Makes a store with the tables of a text, and says so; at a terminal with the names of the tables.
 fn make(rt: &HostRuntime, alloc: Global, new: NewStore<'_>, schema: &str) -> Result<u8, Fault> {
     let members = usize::from(new.members);
     storefolder::make(rt, alloc, new.dir, members, schema)?;
     let name = name_of(new.dir);
     let members = counted(alloc, members, "member")?;
-    let line = format!(in alloc; "made {name}: {members}\n")?;
+    let mut line = format!(in alloc; "made {name}: {members}")?;
+    if rt.stdout().is_terminal() {
+        put_tables(&read_schema(alloc, schema)?, &mut line)?;
+    }
+    line.push('\n')?;
     print(rt, line.as_str())?;
     Ok(0)
 }
@@ -323,6 +343,36 @@ fn fault_of(fault: transfer::Fault) -> Fault {
     }
 }
 
+// Whether it is the refusal of this number.
+fn has_number(fault: &Fault, number: u8) -> bool {
+    match fault {
+        Fault::Refused(StoreRefusal::Refused(refusal)) => refusal.number() == number,
+        _ => false,
+    }
+}
+
+// Why an import or an export ended before its end: a table that is not there is named, else the folder.
+fn rows_stopped<'a>(fault: Fault, dir: &'a str, table: &'a str, tried: &'static str) -> Stop<'a> {
+    if has_number(&fault, 11) {
+        let found = "the store has none of this name";
+        return Stop::found(fault, Name::Given(table), "looking for the table", found);
+    }
+    Stop::of(fault, Name::Given(dir), tried)
+}
+
+// Why an export ended before its end: an instant that is none is of its option.
+fn export_stopped<'a>(fault: Fault, dir: &'a str, table: &'a str) -> Stop<'a> {
+    let (option, tried) = (Name::Given("--as-of"), "reading the instant");
+    if has_number(&fault, 10) {
+        let found = "it is written as '2026-01-31 00:00:00.000000'";
+        return Stop::found(fault, option, tried, found);
+    }
+    if has_number(&fault, 16) {
+        return Stop::found(fault, option, tried, "there is no such instant");
+    }
+    rows_stopped(fault, dir, table, "exporting rows")
+}
+
 // Stores the rows of a CSV file. The exit status is 1 where not all are stored.
 fn run_import<'a>(rt: &HostRuntime, alloc: Global, import: ImportRows<'a>) -> Result<u8, Stop<'a>> {
     let ImportRows {
@@ -347,7 +397,7 @@ fn run_import<'a>(rt: &HostRuntime, alloc: Global, import: ImportRows<'a>) -> Re
             let (file, refusal) = (Name::Given(file), Refusal::BadScript(0));
             Err(Stop::from(Trouble::of_system(file, "reading the rows", refusal, error)))
         }
-        Err(fault) => Err(Stop::of(fault_of(fault), Name::Given(dir), "importing rows")),
+        Err(fault) => Err(rows_stopped(fault_of(fault), dir, table, "importing rows")),
     }
 }
 
@@ -365,7 +415,8 @@ fn versions_of<'a>(export: ExportRows<'a>) -> Option<Versions<'a>> {
 fn run_export<'a>(rt: &HostRuntime, alloc: Global, export: ExportRows<'a>) -> Result<u8, Stop<'a>> {
     let Some(versions) = versions_of(export) else {
         let fault = Fault::from(Refusal::OutOfRange);
-        return Err(Stop::of(fault, Name::Given("--as-of"), "reading the command line"));
+        let (option, tried) = (Name::Given("--as-of"), "reading the command line");
+        return Err(Stop::found(fault, option, tried, "--all is of every instant"));
     };
     let ExportRows { dir, table, .. } = export;
     let order = Order::Export(Export {
@@ -375,7 +426,7 @@ fn run_export<'a>(rt: &HostRuntime, alloc: Global, export: ExportRows<'a>) -> Re
     });
     match carry_out(rt, alloc, order) {
         Ok(status) => Ok(status),
-        Err(fault) => Err(Stop::of(fault_of(fault), Name::Given(dir), "exporting rows")),
+        Err(fault) => Err(export_stopped(fault_of(fault), dir, table)),
     }
 }
 

@@ -16,7 +16,7 @@ request) or a question (SELECT). It may go over several lines.
   .format table           how answers are shown: table, lines, csv, json
   .status                 the members: who leads, what they have, closed time
   .stop 2  .start 2       a member goes down, comes up
-  .schema                 the tables as they were declared
+  .schema  .schema Pay    the tables as they were declared
   .submit 7 1 INSERT ..;  a request of a client that counts its own
   .clock T                clocks show T microseconds since 1970 from here on
   .help    .quit          this page; leave (end of input does too)

@@ -15,4 +15,5 @@ mod taking;
 mod transfers;
 
 pub use commands::run;
+pub use drawing::draw_beliefs;
 pub use stop::{Fault, Stop};

@@ -1,6 +1,10 @@
 //! What is printed of a store.
+ghost use Rattle.std.specs.Prelude.{IfErr};
+ghost use Rattle.console.specs.Sittings.{IsOfPrinting};
+
 use crate::stop::Fault;
 use model::member::Member;
+use model::stamp::Stamp;
 use std::alloc::{AllocError, Global};
 use std::io;
 use std::io::Write;
@@ -9,8 +13,13 @@ use store::status::{Standing, Status};
 use store::{Store, StoreRefusal};
 use storefolder::Found;
 
+// How many columns an instant has.
+const INSTANT: usize = 26;
+
 /// Prints bytes on standard output, at once.
-pub(crate) fn print_bytes(rt: &HostRuntime, bytes: &[u8]) -> Result<(), Fault> {
+pub(crate) fn print_bytes(rt: &HostRuntime, bytes: &[u8]) -> Result<(), Fault>
+    ensures { IfErr result IsOfPrinting }
+{
     match io::writer(rt).write_all(bytes) {
         Ok(()) => Ok(()),
         Err(error) => Err(Fault::Output(error)),
@@ -18,7 +27,9 @@ pub(crate) fn print_bytes(rt: &HostRuntime, bytes: &[u8]) -> Result<(), Fault> {
 }
 
 /// Prints a text on standard output, at once.
-pub(crate) fn print(rt: &HostRuntime, text: &str) -> Result<(), Fault> {
+pub(crate) fn print(rt: &HostRuntime, text: &str) -> Result<(), Fault>
+    ensures { IfErr result IsOfPrinting }
+{
     print_bytes(rt, text.as_bytes())
 }
 
@@ -60,26 +71,50 @@ pub(crate) fn leads(alloc: Global, leader: Option<Member>) -> Result<String, All
     }
 }
 
-/// The line that a sitting at a terminal begins with.
-pub(crate) fn banner<K: Announces>(
+// Who is there, and who leads.
+fn put_members<K: Announces>(
     alloc: Global,
     dir: &str,
     store: &Store<K>,
-) -> Result<String, AllocError>
+    text: &mut String,
+) -> Result<(), AllocError>
 where
     K::Image: Drop,
 {
     let name = name_of(dir);
     let members = counted(alloc, store.members(), "member")?;
     let leads = leads(alloc, store.leader())?;
-    let decided = match store.decided() {
-        0 => String::from_str(alloc, "nothing decided yet")?,
-        count => {
-            let requests = counted(alloc, count, "request")?;
-            format!(in alloc; "{requests} decided")?
-        }
+    write!(text, "{name}: {members}, {leads}, ")
+}
+
+// An instant behind a line or, where it would pass so many columns, below it.
+fn put_instant(stamp: Stamp, width: Option<usize>, text: &mut String) -> Result<(), AllocError> {
+    let instant = stamp.instant();
+    let fits = width.is_none_or(|columns| text.len().saturating_add(INSTANT) < columns);
+    text.push(if fits { ' ' } else { '\n' })?;
+    write!(text, "{instant}\n")
+}
+
+/// What a sitting at a terminal begins with: who is there, who leads, how many requests are decided, and when the last one was.
+pub(crate) fn banner<K: Announces>(
+    alloc: Global,
+    dir: &str,
+    store: &Store<K>,
+    width: Option<usize>,
+) -> Result<String, AllocError>
+where
+    K::Image: Drop,
+{
+    let mut text = String::new(alloc);
+    put_members(alloc, dir, store, &mut text)?;
+    let Some(last) = store.last_decided() else {
+        text.push_str("nothing decided yet. .help tells what can be typed\n")?;
+        return Ok(text);
     };
-    format!(in alloc; "{name}: {members}, {leads}, {decided}. .help tells what can be typed\n")
+    let requests = counted(alloc, store.decided(), "request")?;
+    write!(text, "{requests} decided, the last one at")?;
+    put_instant(last, width, &mut text)?;
+    Ok(text)
 }
 
 /// What was cut as the store was opened, and what is missing.

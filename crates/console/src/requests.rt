@@ -1,15 +1,47 @@
 //! Requests and questions of a sitting.
 use crate::outputs::{shown_answer, shown_outcome};
-use crate::printing::print_bytes;
+use crate::printing::{print, print_bytes};
 use crate::session::Session;
 use crate::stop::Fault;
+use diagnosis::{fault_in_question, fault_in_request};
+use fault::Refusal;
 use forms::asked_by;
 use model::member::Member;
 use model::request::{Client, RequestNumber};
-use store::Outcome;
+use std::alloc::AllocError;
 use store::announcing::Announces;
 use store::chain::OWN_CLIENT;
+use store::{Outcome, StoreRefusal};
+use storecommands::dot::Form;
 use storecommands::{Kind, read_kind};
+
+// Whether a refusal is one of a text by itself: 10 to 18.
+fn is_refused_text(refusal: &Refusal) -> bool {
+    refusal.number() < 20
+}
+
+/// Whether it is a text that is refused.
+pub(crate) fn is_of_text(refusal: &StoreRefusal) -> bool {
+    match refusal {
+        StoreRefusal::Refused(refusal) => is_refused_text(refusal),
+        _ => false,
+    }
+}
+
+fn is_of_outcome(outcome: &Outcome) -> bool {
+    match outcome {
+        Outcome::Refused(refusal) => is_refused_text(refusal),
+        _ => false,
+    }
+}
+
+// Shows what is wrong in a text, if memory suffices for it.
+fn show_fault(rt: &HostRuntime, fault: Result<Option<String>, AllocError>) -> Result<(), Fault> {
+    match fault {
+        Ok(Some(lines)) => print(rt, lines.as_str()),
+        Ok(None) | Err(_) => Ok(()),
+    }
+}
 
 impl<'a, K: Announces> Session<'a, K>
 where
@@ -25,7 +57,7 @@ where
     ) -> Result<(), Fault> {
         let reading = self.reading(rt)?;
         match self.store.submit(reading, client, number, text) {
-            Ok(outcome) => self.show_outcome(rt, client, number, outcome),
+            Ok(outcome) => self.show_outcome(rt, client, number, outcome, text),
             Err(refusal) => self.refuse(rt, "", refusal),
         }
     }
@@ -37,23 +69,55 @@ where
             return Ok(());
         };
         match self.store.execute(reading, text) {
-            Ok((number, outcome)) => self.show_outcome(rt, client, number, outcome),
+            Ok((number, outcome)) => self.show_outcome(rt, client, number, outcome, text),
             Err(refusal) => self.refuse(rt, "", refusal),
         }
     }
 
+    // Shows what came of a request; at a terminal also where its text is refused.
     fn show_outcome(
         &mut self,
         rt: &HostRuntime,
         client: Client,
         number: RequestNumber,
         outcome: Outcome,
+        text: &str,
     ) -> Result<(), Fault> {
         if !matches!(outcome, Outcome::Accepted(_)) {
             self.is_refused = true;
         }
+        let points = self.points_at_faults() && is_of_outcome(&outcome);
         let line = shown_outcome(self.alloc, self.manner, client, number, outcome)?;
-        print_bytes(rt, line.as_slice())
+        print_bytes(rt, line.as_slice())?;
+        if points {
+            let fault = fault_in_request(self.alloc, self.store.schema(), text);
+            return show_fault(rt, fault);
+        }
+        Ok(())
+    }
+
+    // Whether it is shown where a text is refused: to somebody at a terminal, but not among JSON objects.
+    fn points_at_faults(&self) -> bool {
+        self.place.is_terminal && self.manner.form != Form::Json
+    }
+
+    /// Shows the refusal of a question that a member was asked; at a terminal also where its text is refused.
+    pub fn refuse_question(
+        &mut self,
+        rt: &HostRuntime,
+        member: Member,
+        text: &str,
+        refusal: StoreRefusal,
+    ) -> Result<(), Fault> {
+        let alloc = self.alloc;
+        let points = self.points_at_faults() && is_of_text(&refusal);
+        let before = format!(in alloc; "node {member} ")?;
+        self.refuse(rt, before.as_str(), refusal)?;
+        if points {
+            let fault = fault_in_question(alloc, self.store.schema(), text);
+            return show_fault(rt, fault);
+        }
+        Ok(())
     }
 
     // Asks a member, or if none is named the one that is asked first, and shows the answer.
@@ -70,10 +134,7 @@ where
                 let shown = shown_answer(alloc, self.manner, member, &answer, asked)?;
                 print_bytes(rt, shown.as_slice())
             }
-            Err(refusal) => {
-                let before = format!(in alloc; "node {member} ")?;
-                self.refuse(rt, before.as_str(), refusal)
-            }
+            Err(refusal) => self.refuse_question(rt, member, text, refusal),
         }
     }
 

@@ -1,14 +1,17 @@
 //! A sitting at a store: lines that come in, and what comes of them at once.
+ghost use Rattle.std.specs.Prelude.{◌≡◌, true, IfErr};
+ghost use Rattle.store.specs.Journals.{IsSpent};
+ghost use Rattle.console.specs.Sittings.{IsOfPrinting};
+
 use crate::outputs::Manner;
 use crate::printing::{banner, name_of, print, refusal_lines, warnings};
 use crate::stop::Fault;
 use fault::Refusal;
 use std::alloc::Global;
-use std::rt::Clock;
 use store::announcing::Announces;
 use store::{Store, StoreRefusal};
 use storecommands::dot::Form;
-use storefolder::Found;
+use storefolder::{Found, reading_of};
 
 /// What is known of the place that lines come from and outcomes go to.
 #[derive(Clone, Copy, Debug)]
@@ -39,17 +42,6 @@ where
     pub manner: Manner,
     /// Whether anything was refused.
     pub is_refused: bool,
-}
-
-/// What clocks show: the microseconds since 1970, or what was set.
-pub(crate) fn reading_of(rt: &HostRuntime, clock: Option<i64>) -> Result<i64, StoreRefusal> {
-    if let Some(reading) = clock {
-        return Ok(reading);
-    }
-    match rt.since_1970() {
-        Ok(since) => Ok(i64::try_from(since.as_micros()).unwrap_or(i64::MAX)),
-        Err(_) => Err(StoreRefusal::Refused(Refusal::StoreFault)),
-    }
 }
 
 impl<'a, K: Announces> Session<'a, K>
@@ -100,7 +92,7 @@ where
             let _ = eprint!(*rt; "{warned}");
         }
         if self.place.is_terminal {
-            let line = banner(self.alloc, self.place.dir, &self.store)?;
+            let line = banner(self.alloc, self.place.dir, &self.store, self.place.width)?;
             print(rt, line.as_str())?;
         }
         Ok(())
@@ -120,13 +112,17 @@ where
         print(rt, line.as_str())
     }
 
-    /// Shows a refusal; one after which the store is spent ends the sitting.
+    /// Shows a refusal; one of a store that is spent ends the sitting.
     pub fn refuse(
         &mut self,
         rt: &HostRuntime,
         before: &str,
         refusal: StoreRefusal,
-    ) -> Result<(), Fault> {
+    ) -> Result<(), Fault>
+        ensures noted { self.new ≡ record self.old { is_refused = true } }
+        ensures ends { IsSpent self.old.store.scribe → result ≡ Err (Fault.Refused refusal) }
+        ensures goes_on { ¬ IsSpent self.old.store.scribe → IfErr result IsOfPrinting }
+    {
         self.is_refused = true;
         if self.store.is_spent() {
             return Err(Fault::Refused(refusal));

@@ -1,4 +1,7 @@
 //! What ends a command before its end, and of which file or folder that came.
+ghost use Rattle.std.specs.Prelude.{◌≡◌};
+ghost use Rattle.console.specs.Sittings.{fault_of, no_memory};
+
 use causes::{Cause, Found, Name, Trouble};
 use fault::Refusal;
 use std::alloc::{AllocError, AllocFailed};
@@ -24,6 +27,8 @@ impl From<StoreRefusal> for Fault {
 }
 
 impl From<Refusal> for Fault {
+    ghost from_gives = { λ refusal fault. fault ≡ fault_of refusal };
+
     fn from(refusal: Refusal) -> Fault {
         Fault::Refused(StoreRefusal::Refused(refusal))
     }
@@ -36,12 +41,16 @@ impl From<io::Error> for Fault {
 }
 
 impl From<AllocError> for Fault {
+    ghost from_gives = { λ _ fault. fault ≡ no_memory };
+
     fn from(_error: AllocError) -> Fault {
         Fault::from(Refusal::NoMemory)
     }
 }
 
 impl<T: Drop> From<AllocFailed<T>> for Fault {
+    ghost from_gives = { λ _ fault. fault ≡ no_memory };
+
     fn from(_error: AllocFailed<T>) -> Fault {
         Fault::from(Refusal::NoMemory)
     }
@@ -101,6 +110,24 @@ impl<'a> Stop<'a> {
             Fault::Output(_) => None,
         };
         Stop { fault, cause }
+    }
+
+    /// This came of the file, the folder or the word of this name, with which this was tried, and of which this was found.
+    pub(crate) fn found(
+        fault: Fault,
+        name: Name<'a>,
+        tried: &'static str,
+        found: &'static str,
+    ) -> Stop<'a> {
+        let found = Found::Words(found);
+        Stop {
+            fault,
+            cause: Some(Cause {
+                file: name,
+                tried,
+                found,
+            }),
+        }
     }
 
     /// What to do, in a line; none where the rest says it.

@@ -1,7 +1,12 @@
 //! The lines of a sitting.
+ghost use Rattle.std.specs.Prelude.{◌≡◌, ◌++◌, ◌∷◌, IfOk, IfSome, OnOk, string_bytes};
+ghost use Rattle.console.specs.Lines.{IsWhole, is_ended as ends_so};
+
 use crate::input::Input;
 use crate::session::Session;
 use crate::stop::Fault;
+use fault::Refusal;
+use std::alloc::AllocError;
 use std::io::BufRead;
 use store::announcing::Announces;
 use storecommands::read_dot_command;
@@ -11,30 +16,49 @@ fn is_skipped(line: &str) -> bool {
     line.trim().is_empty() || line.starts_with('#')
 }
 
+// Whether a text ends with a semicolon, but for blanks behind it.
+fn is_ended(text: &str) -> bool
+    ensures { result ≡ ends_so text.now }
+{
+    let text = text.trim_end().as_bytes();
+    let length = text.len();
+    length > 0 && text[length - 1] == b';'
+}
+
+// Adds a line to a text, with LF before it.
+fn push_line(text: &mut String, line: &str) -> Result<(), AllocError>
+    ensures { OnOk result (string_bytes text.new ≡ string_bytes text.old ++ 10 ∷ line.now) }
+{
+    text.push('\n')?;
+    text.push_str(line)
+}
+
 impl<'a, K: Announces> Session<'a, K>
 where
     K::Image: Drop,
 {
-    // The rest of a text whose first line this is: up to a line that ends with a semicolon, or the end of the input.
+    // The text whose first line this is: with LF between them, the next lines up to one that ends with a semicolon, or up to the end of
+    // the input.
     fn whole_text<R: BufRead + Drop>(
         &self,
         rt: &HostRuntime,
         input: &mut Input<R>,
         first: &str,
-    ) -> Result<String, Fault> {
+    ) -> Result<String, Fault>
+        ensures { IfOk result (λ text. IfSome (R.remaining input.old.reader) (λ xs. IsWhole first.now xs (string_bytes text) (R.remaining input.new.reader))) }
+    {
         let mut text = String::from_str(self.alloc, first)?;
-        for _ in 0..u64::MAX {
-            if text.as_str().trim_end().ends_with(';') {
+        for _more in 0..u64::MAX {
+            if is_ended(text.as_str()) {
                 return Ok(text);
             }
             self.prompt(rt, false)?;
             let Some(line) = input.next()? else {
                 return Ok(text);
             };
-            text.push('\n')?;
-            text.push_str(line.as_str())?;
+            push_line(&mut text, line.as_str())?;
         }
-        Ok(text)
+        Err(Fault::from(Refusal::NoMemory))
     }
 
     // A line that begins with a full stop, with those that a request in it goes over. Whether the sitting goes on.

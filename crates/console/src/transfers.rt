@@ -1,11 +1,10 @@
 //! Imports and exports over a store's folder.
-use crate::session::reading_of;
 use progressline::{Progress, ProgressLine};
 use sqlite::Alter;
 use std::alloc::Global;
 use std::io::IsTerminal;
 use store::Device;
-use storefolder::{Kept, Opened};
+use storefolder::{Kept, Opened, reading_of};
 use transfer::{Fault, Order, Work, look_at, work_on};
 
 /// What shows on standard error, where that is a terminal, how far a long work is.

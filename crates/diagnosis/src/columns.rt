@@ -15,8 +15,8 @@ pub(crate) struct Named<'s> {
     pub table: &'s Table,
 }
 
-// That no table has this name.
-fn no_table(alloc: Global, schema: &Schema, name: &str) -> Result<String, AllocError> {
+/// That no table has this name, and the one that may be meant, where its name is near. The error is want of memory.
+pub fn no_table(alloc: Global, schema: &Schema, name: &str) -> Result<String, AllocError> {
     let mut hint = format!(in alloc; "there is no table {name}.")?;
     let names = table_names(alloc, schema)?;
     put_nearest(alloc, name, &names, &mut hint)?;

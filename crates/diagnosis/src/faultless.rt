@@ -15,7 +15,8 @@ use sqlread::query::read_query;
 use sqlread::transaction::read_transaction;
 use std::alloc::{AllocError, Global};
 
-fn fault_of_transaction(
+/// What a text is refused for as a transaction over these tables; none where it is one.
+pub(crate) fn fault_of_transaction(
     alloc: Global,
     schema: &Schema,
     text: &str,
@@ -29,7 +30,8 @@ fn fault_of_transaction(
     }
 }
 
-fn fault_of_question(
+/// What a text is refused for as a question about these tables; none where it is one.
+pub(crate) fn fault_of_question(
     alloc: Global,
     schema: &Schema,
     text: &str,

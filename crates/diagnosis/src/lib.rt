@@ -18,7 +18,10 @@ mod schemas;
 mod scripts;
 mod standing;
 mod tables;
+mod texts;
 mod walk;
 
+pub use columns::no_table;
 pub use files::{Subject, diagnose};
 pub use page::Diagnosis;
+pub use texts::{fault_in_question, fault_in_request};

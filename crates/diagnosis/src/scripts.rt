@@ -63,8 +63,8 @@ fn is_skipped(text: &str) -> bool {
     text.is_empty() || text.starts_with('#')
 }
 
-// Shows what was found in a text of several lines, the first of which has this number.
-fn tell_in_lines(
+/// Shows what was found in a text of several lines, the first of which has this number.
+pub(crate) fn tell_in_lines(
     alloc: Global,
     page: &mut Page,
     first: usize,

@@ -7,7 +7,7 @@ use anyhow::Result;
 use std::alloc::Global;
 use store::Store;
 use store::announcing::Announces;
-use storefolder::{Found, Task, with_store};
+use storefolder::{Found, Task, reading_of, with_store};
 
 const DIR: &str = "pay";
 
@@ -16,7 +16,8 @@ const SCHEMA: &str = "CREATE TABLE Pay (ENo INTEGER, PStart DATE, PEnd DATE, Sal
     PERIOD FOR Paid (PStart, PEnd), PERIOD FOR SYSTEM_TIME (SysStart, SysEnd), \
     PRIMARY KEY (ENo, Paid WITHOUT OVERLAPS)) WITH SYSTEM VERSIONING;";
 
-// What the clock shows in January and in February, so that the program prints the same each time. Others read the system's clock.
+// What the clock is set to in January and in February, so that the program prints the same each time. With none set, `reading_of` reads
+// the system's clock.
 const JANUARY: i64 = 1_767_603_600_000_000;
 
 const FEBRUARY: i64 = 1_770_714_000_000_000;
@@ -75,7 +76,8 @@ impl Task for January {
     where
         K::Image: Drop,
     {
-        request(rt, pay, JANUARY, HIRED)
+        let reading = reading_of(rt, Some(JANUARY))?;
+        request(rt, pay, reading, HIRED)
     }
 }
 
@@ -90,9 +92,10 @@ impl Task for February {
     where
         K::Image: Drop,
     {
-        request(rt, pay, FEBRUARY, RAISED)?;
-        question(rt, pay, FEBRUARY, THEN)?;
-        question(rt, pay, FEBRUARY, NOW)
+        let reading = reading_of(rt, Some(FEBRUARY))?;
+        request(rt, pay, reading, RAISED)?;
+        question(rt, pay, reading, THEN)?;
+        question(rt, pay, reading, NOW)
     }
 }
 

@@ -3,3 +3,5 @@ mod Whole
 mod Logs
 mod Runs
 mod Texts
+mod Dates
+mod Example

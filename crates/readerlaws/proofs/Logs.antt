@@ -1,19 +1,20 @@
 -- Lists of entries: the past stays, one client's requests run in turn, and a repeat changes nothing.
-use Rattle.std.proofs.Common.{◌≡◌, ℕ, zero, suc, ◌+◌, ◌-◌, ◌<◌, ◌≤◌, ◌⊎◌, inl, inr, Bool, true, false, cond, ◌==◌, List, [], ◌∷◌, ◌++◌, length, reverse, slice_get, filter, Option, Some, None, Result, Ok, Err, refl, sym, ap, ◌∙◌, subst, arith, append-nil, append_assoc}
+use Rattle.std.proofs.Common.{◌≡◌, ℕ, zero, suc, ◌+◌, ◌-◌, ◌<◌, ◌≤◌, ◌⊎◌, inl, inr, true, false, cond, ◌==◌, List, [], ◌∷◌, ◌++◌, length, reverse, slice_get, filter, Option, Some, None, Err, refl, sym, ap, ◌∙◌, subst, arith, append-nil, append_assoc}
 use Rattle.std.specs.Prelude.{nat_le, nat_lt, ◌&&◌, All, take, unwrap_or}
 use Rattle.std.specs.Option.{option_map_or}
 use Rattle.std.specs.Result.{result_unwrap_or}
-use Rattle.std.proofs.lemmas.Bool.{cases_Bool, and_parts, and_from, and_left, and_right, lt-leb, le-ltb, eq-eqb, ne_eqb, eqb-true, cond-true, cond-false}
+use Rattle.std.proofs.lemmas.Bool.{cases_Bool, and_from, and_left, and_right, lt-leb, le-ltb, lt-ltb, eq-eqb, ne_eqb, eqb-true, cond-true, cond-false}
 use Rattle.std.proofs.lemmas.List.{reverse-append}
 use Rattle.std.proofs.lemmas.List.Elements.{filter-append}
-use Rattle.fault.specs.declared.refusal.Refusal.{Refusal}
 use Rattle.fault.specs.declared.refusal.Refusal.TheVariants.{Old, Gap}
 use Rattle.model.specs.declared.entry.Entry.{Entry}
 use Rattle.model.specs.declared.entry.Request.{Request}
-use Rattle.model.specs.Tables.{empty_table}
+use Rattle.model.specs.Tables.{IsRow, empty_table}
 use Rattle.model.specs.Transactions.{State, Schema, executed_text}
-use Rattle.model.specs.Logs.{Outcome, executed, is_first, outcome_at, state_after, first_outcome, first_outcomes, kept, outcome, state_at}
-use Rattle.readerlaws.specs.Laws.{PastStays, requests_from, run_in_turn, OneClient, AreAlike, RepeatIsHarmless}
+use Rattle.model.specs.Logs.{Outcome, executed, is_first, outcome_at, state_after, first_outcome, first_outcomes, outcome, state_at}
+use Rattle.safety.proofs.Accepted.{Later}
+use Rattle.safety.proofs.Late.{late_answer}
+use Rattle.readerlaws.specs.Laws.{PastStays, requests_from, run_in_turn, OneClient, AreAlike, RepeatIsHarmless, OnlyTheNextCounts, AnswersStay, AnswerHasTheRows}
 
 -- ---- the past
 
@@ -203,25 +204,24 @@ told_again schema t again o before s l =
     ∙ cond-false _ _ _ (le-ltb n again.number (omega arith))
     ∙ ap (λ x. unwrap_or x (Err Old)) (take_get 8 (n - again.number) (first_outcomes schema again.client before) (omega arith) ∙ s.at)
 
--- a repeat counts for no client
-not_again : (schema : Schema) (c : ℕ) (e : Entry) (again : Request) (before : List Entry) → e.request ≡ Some again → again.number ≤ executed again.client before → Same schema c e before
-not_again schema c e again before asks le = not_counted schema c e again before asks (elim (cases_Bool (again.client == c)) [
-  | inl y ↦ let same : again.client ≡ c = eqb-true again.client c y in let le' : again.number ≤ executed c before = subst (λ k. again.number ≤ executed k before) same le in
-      and_right _ _ (ne_eqb again.number (executed c before + 1) (λ e. omega arith))
+-- a request with another number than the next counts for no client
+not_next : (schema : Schema) (c : ℕ) (e : Entry) (r : Request) (before : List Entry) → e.request ≡ Some r → is_first r before ≡ false → Same schema c e before
+not_next schema c e r before asks other = not_counted schema c e r before asks (elim (cases_Bool (r.client == c)) [
+  | inl y ↦ and_right _ _ (subst (λ k. (r.number == executed k before + 1) ≡ false) (eqb-true r.client c y) other)
   | inr n ↦ and_left _ _ n
 ])
 
-alike : (schema : Schema) (e : Entry) (again : Request) (before : List Entry) → e.request ≡ Some again → again.number ≤ executed again.client before → AreAlike schema (e ∷ before) before
-alike schema e again before asks le =
-    let state : state_after schema (e ∷ before) ≡ state_after schema before = state_other schema e again asks before (ne_eqb again.number (executed again.client before + 1) (λ q. omega arith)) in (
+alike : (schema : Schema) (e : Entry) (r : Request) (before : List Entry) → e.request ≡ Some r → is_first r before ≡ false → AreAlike schema (e ∷ before) before
+alike schema e r before asks other =
+    let state : state_after schema (e ∷ before) ≡ state_after schema before = state_other schema e r asks before other in (
       state,
-      λ t r.
-          (let same = not_again schema r.client e again before asks le in
-          outcome_is schema t r (e ∷ before)
-          ∙ ap (λ n. outcome_by schema t r n (first_outcomes schema r.client (e ∷ before)) (state_after schema (e ∷ before))) same.count
-          ∙ ap (λ os. outcome_by schema t r (executed r.client before) os (state_after schema (e ∷ before))) same.outcomes
-          ∙ ap (λ s. outcome_by schema t r (executed r.client before) (first_outcomes schema r.client before) s) state
-          ∙ sym (outcome_is schema t r before)),
+      λ t s.
+          (let same = not_next schema s.client e r before asks other in
+          outcome_is schema t s (e ∷ before)
+          ∙ ap (λ n. outcome_by schema t s n (first_outcomes schema s.client (e ∷ before)) (state_after schema (e ∷ before))) same.count
+          ∙ ap (λ os. outcome_by schema t s (executed s.client before) os (state_after schema (e ∷ before))) same.outcomes
+          ∙ ap (λ x. outcome_by schema t s (executed s.client before) (first_outcomes schema s.client before) x) state
+          ∙ sym (outcome_is schema t s before)),
     )
 
 pub repeat_is_harmless : RepeatIsHarmless
@@ -229,9 +229,49 @@ repeat_is_harmless schema older between d e r again asks first asks_again client
     let before = between ++ d ∷ older in
     let o = first_outcome schema d.stamp r older in
     let s = stands_after schema r.client r.number o between (d ∷ older) (first_stands schema d r older asks first) in
-    let s' : Stands schema again.client again.number o before = subst (λ k. Stands schema again.client k o before) (sym number) (subst (λ k. Stands schema k r.number o before) (sym client) s) in (
-      alike schema e again before asks_again s'.within,
+    let s' : Stands schema again.client again.number o before = subst (λ k. Stands schema again.client k o before) (sym number) (subst (λ k. Stands schema k r.number o before) (sym client) s) in
+    let w = s'.within in (
+      alike schema e again before asks_again (ne_eqb again.number (executed again.client before + 1) (λ q. omega arith)),
       λ l.
           (told_again schema e.stamp again o before s' (let few : executed again.client before < r.number + 8 = subst (λ k. executed k before < r.number + 8) (sym client) l in omega arith)
           ∙ sym (outcome_first schema d.stamp r older first)),
     )
+
+-- ---- other numbers
+
+take_none : {A : Type 0} (n k : ℕ) (xs : List A) → n ≤ k → slice_get (take n xs) k ≡ None
+take_none zero k xs l = refl
+take_none (suc n) zero xs l = absurd (omega arith)
+take_none (suc n) (suc k) [] l = refl
+take_none (suc n) (suc k) (x ∷ xs) l = take_none n k xs (omega arith)
+
+told_gap : (schema : Schema) (t : ℕ) (r : Request) (before : List Entry) → executed r.client before + 1 < r.number → outcome schema t r before ≡ Err Gap
+told_gap schema t r before l =
+    let n = executed r.client before in
+    outcome_is schema t r before ∙ cond-false _ _ _ (ne_eqb r.number (n + 1) (λ e. omega arith)) ∙ cond-true _ _ _ (lt-ltb n r.number (omega arith))
+
+told_old : (schema : Schema) (t : ℕ) (r : Request) (before : List Entry) → r.number + 8 ≤ executed r.client before → outcome schema t r before ≡ Err Old
+told_old schema t r before l =
+    let n = executed r.client before in
+    outcome_is schema t r before
+    ∙ cond-false _ _ _ (ne_eqb r.number (n + 1) (λ e. omega arith))
+    ∙ cond-false _ _ _ (le-ltb n r.number (omega arith))
+    ∙ ap (λ x. unwrap_or x (Err Old)) (take_none 8 (n - r.number) (first_outcomes schema r.client before) (omega arith))
+
+pub only_the_next_counts : OnlyTheNextCounts
+only_the_next_counts schema before e r asks = (alike schema e r before asks, told_gap schema e.stamp r before, told_old schema e.stamp r before)
+
+-- ---- answers
+
+later_all : (w u : ℕ) (es : List Entry) → w ≤ u → All (λ e. u < e.stamp) es → Later w es
+later_all w u [] l all = tt
+later_all w u (e ∷ es) l all = ((let h = all 0 e (omega arith) in omega arith), later_all w u es l (λ k d p. all (suc k) d (omega arith)))
+
+pub answers_stay : AnswersStay
+answers_stay schema q list later a all = late_answer schema q list later a (λ w l. later_all w q.time.last later l all)
+
+pub answer_has_the_rows : AnswerHasTheRows
+answer_has_the_rows schema n u passes list a row is = (
+  (λ h. let asked = (is.rows row).0 h in let at = asked.1 in let x = at.1.0 in let y = at.1.1 in let same : at.0 ≡ u = omega arith in (subst (λ w. IsRow (state_at schema list w n) row) same at.2, asked.0)),
+  (λ h. (is.rows row).1 (h.1, (u, (omega arith, omega arith), h.0))),
+)

@@ -1,16 +1,14 @@
 -- What a member gives for a question, and the one list of a run.
-use Rattle.std.proofs.Common.{◌≡◌, ℕ, ◌≤◌, ◌<◌, inl, inr, Bool, true, false, cond, List, [], ◌∷◌, Option, Some, None, refl, sym, ap, ◌∙◌, subst, arith}
-use Rattle.std.specs.Prelude.{option_map, nat_le}
+use Rattle.std.proofs.Common.{◌≡◌, ℕ, ◌≤◌, inl, inr, Bool, true, List, ◌++◌, Option, Some, None, refl, ap, ◌∙◌, subst}
 use Rattle.std.proofs.lemmas.Bool.{cases_lt, le-leb, lt-leb, cond-true, cond-false}
-use Rattle.fault.specs.declared.refusal.Refusal.TheVariants.{NotClosed}
 use Rattle.model.specs.Lists.{nth}
-use Rattle.model.specs.Texts.{instant_text}
 use Rattle.model.specs.Transactions.{Schema}
-use Rattle.model.specs.Answers.{Query, Select, Answer, read_at, IsAnswer, IsClosed, closed_query}
-use Rattle.model.specs.Members.{Node, applied, closed_time}
-use Rattle.model.specs.Worlds.{World, Ask, Output, Refused, Answered, new_world, Gives, IsGivenIn, IsGivenBy, IsGivenAt}
+use Rattle.model.specs.Answers.{Query, Select, read_at, IsClosed, closed_query}
+use Rattle.model.specs.Members.{Node, closed_time}
+use Rattle.model.specs.Worlds.{Event, Output, new_world, IsGivenIn, IsGivenBy, IsGivenAt}
+use Rattle.model.specs.Agreement.{Agree}
 use Rattle.onelist.specs.Explained as onelist
-use Rattle.readerlaws.specs.Laws.{RefusedUnlessClosed, OneListExplains}
+use Rattle.readerlaws.specs.Laws.{RefusedUnlessClosed, NothingComesBelow, OneListExplains}
 
 closed_at : (q : Select) (o : Option ℕ) (t : ℕ) → o ≡ Some t → (read_at t q).time.last ≤ t → closed_query q o ≡ Some (read_at t q)
 closed_at q o t e l = ap (closed_query q) e ∙ cond-true _ _ _ (le-leb _ t l)
@@ -32,5 +30,8 @@ refused_unless_closed schema n m w q out x e up g =
 pub one_list_explains : ((schema : Schema) (n : ℕ) → onelist.OneListExplains schema n (new_world n)) → OneListExplains
 one_list_explains law schema n events outs gives =
     let one = law schema n in
-    let explains = (one.explains events outs gives).0 in
-    (one.list events, explains.stamped, explains.told, explains.answered)
+    let explains = one.explains events outs gives in
+    (one.list events, explains.0.stamped, explains.0.told, explains.0.answered, explains.0.brought, explains.1)
+
+pub nothing_comes_below : ((schema : Schema) (n : ℕ) (events : List Event) → Agree schema n (new_world n) events) → NothingComesBelow
+nothing_comes_below law schema n m i t early late x e at time past is = (law schema n (early ++ late)).nothing_later_is_closed early late m i t x e refl at time past is

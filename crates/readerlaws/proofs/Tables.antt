@@ -1,25 +1,26 @@
 -- Tables that arise, and what a change does to their rows.
-use Rattle.std.proofs.Common.{◌≡◌, ℕ, ◌+◌, ◌<◌, ◌≤◌, ◌⊎◌, inl, inr, Bool, true, false, cond, List, [], ◌∷◌, ◌++◌, Option, Some, None, option_map, is_some, is_none, unwrap_or, Result, Ok, Err, refl, sym, ap, ◌∙◌, subst, arith}
-use Rattle.std.specs.Prelude.{◌&&◌, nat_lt}
+use Rattle.std.proofs.Common.{◌≡◌, ℕ, ◌<◌, ◌≤◌, inl, inr, Bool, true, false, cond, List, [], ◌∷◌, ◌++◌, Option, Some, None, option_map, is_none, unwrap_or, Result, Ok, Err, refl, sym, ap, ◌∙◌, subst, arith}
+use Rattle.std.specs.Prelude.{◌&&◌, ◌↔◌, flat_map, Contains}
 use Rattle.std.specs.List.{list_any}
 use Rattle.std.specs.List.Sorted.{IsStrictlySortedBy}
 use Rattle.std.specs.Option.{option_map_or}
-use Rattle.std.proofs.lemmas.Bool.{cases_Bool, cases_lt, and_parts, and_from, leb-true, ltb-true, le-leb, lt-ltb, cond-true, cond-false}
+use Rattle.std.proofs.lemmas.Bool.{cases_lt, and_parts, and_from, leb-true, ltb-true, le-leb, lt-ltb, cond-true, cond-false}
 use Rattle.fault.specs.declared.refusal.Refusal.{Refusal}
 use Rattle.fault.specs.declared.refusal.Refusal.TheVariants.{KeyOverlap, NumberRange}
 use Rattle.model.specs.declared.value.Value.{Value}
-use Rattle.model.specs.Tables.{days, Period, Cell, Table, Row, IsRow, inside, joined, row_at, empty_table}
+use Rattle.model.specs.Tables.{days, Period, Cell, Table, Row, IsRow, inside, row_at, empty_table}
 use Rattle.model.specs.Values.{same_key}
 use Rattle.model.specs.Statements.{meets, is_met, insert_overlaps, inserted, set_overflows, updated, deleted}
 use Rattle.model.specs.Transactions.{Change, Insert, Update, Delete, changed}
-use Rattle.rowlaws.specs.Rows.{Has, Lists, EachListed, OneRow}
+use Rattle.rowlaws.specs.Rows.{Has, Lists, EachListed}
 use Rattle.rowlaws.specs.Cutting.{cut, cut_rows, removed, removed_rows}
 use Rattle.rowlaws.specs.Changes.{IsFine, clashes, overflows, rows_changed, SameResult, ChangeOnRows, OverlapsOnRows, OverflowsOnRows}
 use Rattle.rowlaws.proofs.Keys.{same_key-true, same_key-itself}
 use Rattle.rowlaws.proofs.Anys.{any_has, has_any}
-use Rattle.rowlaws.proofs.Members.{has_left, has_right, has_cases, has_flat}
+use Rattle.rowlaws.proofs.Contents.{has_contains, contains_has}
+use Rattle.rowlaws.proofs.Members.{has_left, has_right, has_cases, has_flat, flat_has}
 use Rattle.rowlaws.proofs.RowFacts.{InRow, both, one_row, row_at_is}
-use Rattle.readerlaws.specs.Laws.{Arises, Empty, Changed, InsertedIsThere, InsertIsRefused, DeletedIsGone, is_met_by, UnmetStays, left_by, MetIsChanged, RowsShareNoDay, RowsAreRuns, NoLongerRun}
+use Rattle.readerlaws.specs.Laws.{Arises, Empty, Changed, InsertedIsThere, InsertIsRefused, DeletedIsGone, UnmetStays, left_by, MetIsChanged, PartsAreThere, RowsShareNoDay, RowsAreRuns, NoLongerRun}
 
 -- ---- a table that arises has a list of its rows
 
@@ -256,3 +257,24 @@ insert_is_refused law listed over key values p t before some short a =
           (h.0, s.1.0, row, s.0, s.1.1))),
       (λ h. cond-true _ _ _ (test ∙ has_any (clashes key p) l.0 h.0 (listed l.0 before h.0 l.1 h.2) (clash key p h.0 h.1 h.3 h.4))),
     )
+
+-- ---- the parts
+
+-- the rows after the change are the parts of the rows before it
+flat_parts : EachListed → (f : Row → List Row) (before after : Table) (rows more : List Row) → Lists rows before → Lists more after → flat_map f rows ≡ more → (row : Row) → IsRow after row ↔ ((old : Row) × IsRow before old × Contains (f old) row)
+flat_parts listed f before after rows more l m e row = (
+  (λ r. let h = flat_has f rows row (subst (λ xs. Has xs row) (sym e) (listed more after row m r)) in (h.0, l.each h.0 h.1, has_contains (f h.0) row h.2)),
+  (λ h. m.each row (subst (λ xs. Has xs row) e (has_flat f rows h.0 row (listed rows before h.0 l h.1) (contains_has (f h.0) row h.2)))),
+)
+
+pub parts_are_there : ChangeOnRows → EachListed → PartsAreThere
+unfolding rows_changed cut_rows removed_rows
+parts_are_there law listed (Insert key values p) t before after row fine a e other = absurd (other key values p refl)
+parts_are_there law listed (Update passes p set) t before after row fine a e other =
+    let old = arises_lists law before a in
+    let new = changed_lists law (Update passes p set) t old.0 before after fine old.1 e in
+    flat_parts listed (cut passes p set t) before after old.0 new.rows_new old.1 new.listed (ok_same (list_any (overflows passes p set) old.0) NumberRange (cut_rows passes p set t old.0) new.rows_new new.are) row
+parts_are_there law listed (Delete passes p) t before after row fine a e other =
+    let old = arises_lists law before a in
+    let new = changed_lists law (Delete passes p) t old.0 before after fine old.1 e in
+    flat_parts listed (removed passes p t) before after old.0 new.rows_new old.1 new.listed (let q = new.are in cc) row

@@ -7,18 +7,20 @@ use Rattle.fault.specs.declared.refusal.Refusal.{Refusal}
 use Rattle.fault.specs.declared.refusal.Refusal.TheVariants.{RowLimit}
 use Rattle.model.specs.declared.entry.Entry.{Entry}
 use Rattle.model.specs.declared.entry.Request.{Request}
-use Rattle.model.specs.Tables.{Table}
+use Rattle.model.specs.Tables.{Table, Row}
 use Rattle.model.specs.Statements.{row_count}
 use Rattle.model.specs.Transactions.{State, Statement, Schema, Place, changed, and_then, within_limit, with_table, run_statement, run_statements, first_orphan, unless_orphan, transacted, executed_text}
 use Rattle.model.specs.Logs.{is_first, state_after, state_at}
 use Rattle.rowlaws.specs.Statements.{AreFine}
 use Rattle.rowlaws.specs.Covering.{References}
-use Rattle.rowlaws.specs.Logs.{AllFine, ReadsFine, FineLogs, LogsOnRows, rows_after}
-use Rattle.rowlaws.specs.Whole.{NoOrphanAfter}
-use Rattle.sqlchecks.specs.Columns.{Tables}
+use Rattle.rowlaws.specs.Logs.{ReadsFine, FineLogs, LogsOnRows, rows_after}
+use Rattle.rowlaws.specs.Whole.{NoneAccepted, NoOrphanAfter}
+use Rattle.rowlaws.specs.Changes.{ChangeOnRows}
+use Rattle.rowlaws.specs.Rows.{Lists}
 use Rattle.sqlread.specs.Meaning.{schema_of}
 use Rattle.apply.specs.Laws.{TextsFine}
-use Rattle.readerlaws.specs.Laws.{Arises, Empty, Changed, NoOrphans, TablesArise}
+use Rattle.readerlaws.specs.Laws.{Arises, Empty, Changed, NoOrphans, OrphansAreRefused, TablesArise}
+use Rattle.readerlaws.proofs.Tables.{arises_lists}
 
 abbrev AllArise : State → Type 0
 AllArise state = (n : ℕ) → Arises (state n)
@@ -95,3 +97,17 @@ no_orphans fine logs on_rows none hold tables list u =
     let schema = schema_of tables in
     let before = reverse (filter (λ (e : Entry). nat_le e.stamp u) list) in
     (hold schema (rows_after schema before) (state_after schema before) (on_rows schema before (logs schema before (fine tables)))).0 (none schema before)
+
+-- ---- a transaction is refused for a day without a parent, or not at all
+
+transacted_is : (schema : Schema) (t : ℕ) (ss : List Statement) (before next : State) → run_statements t ss before ≡ Ok next → transacted schema t ss before ≡ unless_orphan schema next (first_orphan schema next)
+unfolding transacted
+transacted_is schema t ss before next e = ap (λ (x : Result State Refusal). and_then x (λ (s : State). unless_orphan schema s (first_orphan schema s))) e
+
+pub orphans_are_refused : ChangeOnRows → References → NoneAccepted → OrphansAreRefused
+orphans_are_refused law hold none schema t ss before next fine all e =
+    let after = statements_arise t ss before next fine all e in
+    let lists : (n : ℕ) → (rows : List Row) × Lists rows (next n) = λ n. arises_lists law (next n) (after n) in
+    let holds = hold schema (λ n. (lists n).0) next (λ n. (lists n).1) in
+    let is = transacted_is schema t ss before next e in
+    ((λ o. holds.0 (none schema next next (sym is ∙ o))), (λ h. is ∙ ap (unless_orphan schema next) (holds.1 h)))

@@ -1,10 +1,11 @@
--- Fourteen laws that anybody believes of a database. Each ties definitions of `model` or `sqlread`, which are large, to a sentence,
--- which stands above it; the function of the same name in `src/lib.rt` has it for its contract.
-use Rattle.std.specs.Prelude.{◌≡◌, ◌↔◌, ◌⊎◌, ℕ, ◌+◌, ◌<◌, ◌≤◌, Bool, true, false, ◌&&◌, if◌then◌else◌, Option, Some, None, option_map, List, [], ◌∷◌, ◌++◌, length, reverse, All, Result, Ok, Err}
+-- Fourteen laws that anybody believes of a database. Each ties large definitions of `model` or `sqlread` to a sentence, which stands
+-- above it; the function of that name in `src/lib.rt` has it for its contract. The fourteenth is in `Example.antt`.
+use Rattle.std.specs.Prelude.{◌≡◌, ◌↔◌, ◌⊎◌, ℕ, ◌+◌, ◌<◌, ◌≤◌, Bool, true, false, ◌&&◌, if◌then◌else◌, Option, Some, None, option_map, List, [], ◌∷◌, ◌++◌, map, length, reverse, All, Contains, Result, Ok, Err}
 use Rattle.std.specs.Result.{result_unwrap_or}
 use Rattle.fault.specs.declared.refusal.Refusal.{Refusal}
-use Rattle.fault.specs.declared.refusal.Refusal.TheVariants.{KeyOverlap, NotClosed}
+use Rattle.fault.specs.declared.refusal.Refusal.TheVariants.{KeyOverlap, NotClosed, Old, Gap}
 use Rattle.period.specs.Day.{IsDayText}
+use Rattle.period.specs.Instant.{IsInstant, IsInstantText}
 use Rattle.model.specs.declared.value.Value.{Value}
 use Rattle.model.specs.declared.entry.Entry.{Entry}
 use Rattle.model.specs.declared.entry.Request.{Request}
@@ -12,26 +13,30 @@ use Rattle.model.specs.declared.entry.Told.{Told}
 use Rattle.model.specs.Lists.{nth}
 use Rattle.model.specs.Tables.{days, Period, inside, Table, Row, IsRow, joined, row_at, empty_table}
 use Rattle.model.specs.Statements.{meets}
-use Rattle.model.specs.Transactions.{State, Statement, Schema, Change, Insert, Update, Delete, changed, executed_text}
+use Rattle.model.specs.Transactions.{State, Statement, Schema, Change, Insert, Update, Delete, changed, run_statements, transacted, executed_text}
 use Rattle.model.specs.Texts.{instant_text}
 use Rattle.model.specs.Logs.{IsStamped, executed, is_first, outcome_at, state_after, outcome, state_at}
-use Rattle.model.specs.Answers.{Select, Answer, read_at, IsAnswer, IsClosed}
+use Rattle.model.specs.Answers.{as_of, Query, Select, Answer, read_at, IsAnswer, IsClosed}
 use Rattle.model.specs.Members.{Node, applied, closed_time}
-use Rattle.model.specs.Worlds.{World, Event, Ask, Output, Applied, Refused, Answered, new_world, Gives, GivesAll}
-use Rattle.model.specs.Agreement.{IsTold}
+use Rattle.model.specs.Worlds.{World, Event, Ask, Output, Applied, Refused, Answered, new_world, run, Gives, GivesAll}
+use Rattle.model.specs.Agreement.{decided, IsTold}
+use Rattle.rowlaws.specs.Cutting.{cut, removed}
 use Rattle.rowlaws.specs.Changes.{IsFine}
+use Rattle.rowlaws.specs.Statements.{AreFine}
 use Rattle.rowlaws.specs.Covering.{ReferencesHold}
-use Rattle.onelist.specs.Explained.{Gave, IsAnswered}
-use Rattle.sqlsyntax.specs.Transactions.{StatementForm}
+use Rattle.onelist.specs.Explained.{Gave, IsAnswered, WereSubmitted, IsInOrder}
+use Rattle.sqltokens.specs.Syntax as grammar
+use Rattle.sqlsyntax.specs.Queries.{query}
 use Rattle.sqlsyntax.specs.Spelling.{Spells, IsWrongAt}
-use Rattle.sqlchecks.specs.Literals.{day_named}
+use Rattle.sqlchecks.specs.Literals.{day_named, instant_named}
 use Rattle.sqlchecks.specs.Columns.{Tables}
 use Rattle.sqlread.specs.Reading.{IsReading}
 use Rattle.sqlread.specs.Meaning.{schema_of}
 
 -- ---- one table
 
--- A table arises by changes that were accepted, from the empty one on. (`IsFine`: a period that is inserted has a day, and none past the last; a portion has a day.)
+-- A table arises by changes that were accepted, from the empty one on. (`IsFine`: a period that is inserted has a day, and none past
+-- the last; a portion has a day.) By `TablesArise` below these are all the tables that there ever are.
 pub data Arises : Table → Type 0 where
   Empty : Arises empty_table
   Changed : (c : Change) (t : ℕ) (before after : Table) → IsFine c → Arises before → changed c t before ≡ Ok after → Arises after
@@ -62,45 +67,71 @@ abbrev pub UnmetStays : Type 0
 UnmetStays = (c : Change) (t : ℕ) (before after : Table) (row : Row) → IsFine c → Arises before → changed c t before ≡ Ok after →
     IsRow before row → is_met_by c row ≡ false → IsRow after row
 
--- what an UPDATE or a DELETE leaves on a day of a row that it meets: inside the portion what SET makes of the values, or nothing, and outside the values
+-- what an UPDATE or a DELETE leaves on a day of a row that it meets: in the portion what SET makes of the values, or nothing; else the values
 abbrev pub left_by : Change → Row → ℕ → Option (List Value)
 left_by (Update passes p set) row d = if inside p d then set row.values else Some row.values
 left_by (Delete passes p) row d = if inside p d then None else Some row.values
 left_by (Insert key values p) row d = Some row.values
 
--- And what is met becomes what the statement says, born at the instant.
+-- What is met becomes what the statement says, day by day, and is born at the instant.
 abbrev pub MetIsChanged : Type 0
 MetIsChanged = (c : Change) (t : ℕ) (before after : Table) (row : Row) (d : ℕ) → IsFine c → Arises before → changed c t before ≡ Ok after →
     IsRow before row → is_met_by c row ≡ true → inside row.period d ≡ true → after.cell row.key d ≡ option_map (λ values. record { values = values; system_start = t }) (left_by c row d)
+
+-- what becomes of a row: one that is met is cut in what lies before the portion, within it (unless that is deleted) and after it
+abbrev pub parts_by : Change → ℕ → Row → List Row
+parts_by (Insert key values p) t row = row ∷ []
+parts_by (Update passes p set) t row = cut passes p set t row
+parts_by (Delete passes p) t row = removed passes p t row
+
+-- Nothing else is there: after an UPDATE or a DELETE each row is a part of one that was there, and each part is there.
+abbrev pub PartsAreThere : Type 0
+PartsAreThere = (c : Change) (t : ℕ) (before after : Table) (row : Row) → IsFine c → Arises before → changed c t before ≡ Ok after →
+    ((key values : List Value) (p : Period) → c ≡ Insert key values p → ⊥) → IsRow after row ↔ ((old : Row) × IsRow before old × Contains (parts_by c t old) row)
 
 -- 4. Rows of one key share no day: two that do are one.
 abbrev pub RowsShareNoDay : Type 0
 RowsShareNoDay = (table : Table) (a b : Row) (d : ℕ) → IsRow table a → IsRow table b → a.key ≡ b.key → inside a.period d && inside b.period d ≡ true → a ≡ b
 
--- 5. Rows are longest runs: each filled day lies in one row, which is the one that UPDATE and DELETE find; and no longer run of joined days has its days.
+-- 5. Rows are longest runs. Each filled day lies in one row, which is the one that UPDATE and DELETE find.
 abbrev pub RowsAreRuns : Type 0
 RowsAreRuns = (table : Table) (key : List Value) (d : ℕ) (row : Row) → Arises table →
     row_at table key d ≡ Some row ↔ (IsRow table row × (row.key ≡ key) × (inside row.period d ≡ true))
 
+-- And no longer run of joined days has the row's.
 abbrev pub NoLongerRun : Type 0
 NoLongerRun = (table : Table) (row : Row) (p : Period) → IsRow table row → p.start ≤ row.period.start → row.period.end ≤ p.end →
     ((d : ℕ) → p.start < d → d < p.end → joined table row.key d ≡ true) → p ≡ row.period
 
 -- ---- all tables
 
--- 6. Nobody lacks a parent: after each transaction, so at each instant of each list of entries, the day of a parent that a filled day of a child refers to is filled.
+-- 6. Nobody lacks a parent: at each instant, whatever texts were executed, a day that is filled in a child is filled in its parent.
 abbrev pub NoOrphans : Type 0
 NoOrphans = (tables : Tables) (list : List Entry) (u : ℕ) → ReferencesHold (schema_of tables) (state_at (schema_of tables) list u)
 
--- The tables of which this is said, and those above, are all there are: each table at an instant of a list of entries arises.
+-- A transaction whose statements are accepted is refused for no other reason.
+abbrev pub OrphansAreRefused : Type 0
+OrphansAreRefused = (schema : Schema) (t : ℕ) (ss : List Statement) (before next : State) → AreFine ss → ((n : ℕ) → Arises (before n)) →
+    run_statements t ss before ≡ Ok next → (transacted schema t ss before ≡ Ok next) ↔ ReferencesHold schema next
+
+-- Each table at each instant arises as those above.
 abbrev pub TablesArise : Type 0
 TablesArise = (tables : Tables) (list : List Entry) (u n : ℕ) → Arises (state_at (schema_of tables) list u n)
 
 -- ---- lists of entries
 
--- 7. The past stays: entries that come later leave the tables at each instant before them. What a DELETE took is there AS OF the instant before.
+-- 7. The past stays: entries that come later leave the tables at each instant before them. What a DELETE took is there AS OF the instant before it.
 abbrev pub PastStays : Type 0
 PastStays = (schema : Schema) (list later : List Entry) (u : ℕ) → All (λ e. u < e.stamp) later → state_at schema (list ++ later) u ≡ state_at schema list u
+
+-- And so does each answer about instants before them.
+abbrev pub AnswersStay : Type 0
+AnswersStay = (schema : Schema) (q : Query) (list later : List Entry) (a : Answer) → All (λ e. q.time.last < e.stamp) later → IsAnswer schema q list a ↔ IsAnswer schema q (list ++ later) a
+
+-- An answer AS OF an instant has the rows of the table then that pass WHERE, and no other.
+abbrev pub AnswerHasTheRows : Type 0
+AnswerHasTheRows = (schema : Schema) (n u : ℕ) (passes : Row → Bool) (list : List Entry) (a : Answer) (row : Row) → IsAnswer schema (record { table = n; time = as_of u; passes = passes }) list a →
+    Contains (map (λ s. s.row) a.rows) row ↔ (IsRow (state_at schema list u n) row × (passes row ≡ true))
 
 -- the requests of one client, numbered from n on, each with its instant and its text
 abbrev pub requests_from : ℕ → ℕ → List (ℕ × List ℕ) → List Entry
@@ -112,7 +143,7 @@ abbrev pub run_in_turn : Schema → State → List (ℕ × List ℕ) → State
 run_in_turn schema state [] = state
 run_in_turn schema state ((t, text) ∷ more) = run_in_turn schema (result_unwrap_or (executed_text schema t text state) state) more
 
--- 8. One client, no faults: the tables are those of its texts run one after another, and of the next one it is told what that comes to on them.
+-- 8. One client's tables are those of its texts run one after another, and of the next one it is told what that comes to on them.
 abbrev pub OneClient : Type 0
 OneClient = (schema : Schema) (client t : ℕ) (text : List ℕ) (items : List (ℕ × List ℕ)) →
     let before = reverse (requests_from client 1 items) in
@@ -120,45 +151,69 @@ OneClient = (schema : Schema) (client t : ℕ) (text : List ℕ) (items : List (
     (state_after schema before ≡ left)
     × (outcome schema t (record { client = client; number = length items + 1; text = text }) before ≡ outcome_at t (executed_text schema t text left))
 
--- two lists, from the newest entry back, leave the same tables, and each request that comes next is told the same
+-- two lists, from the newest entry back, leave the same tables, and whatever request comes next is told the same
 abbrev pub AreAlike : Schema → List Entry → List Entry → Type 0
 AreAlike schema a b = (state_after schema a ≡ state_after schema b) × ((t : ℕ) (r : Request) → outcome schema t r a ≡ outcome schema t r b)
 
--- 9. A repeat is harmless: a request that was executed and comes again changes nothing, and is told what it was told before, if its number is among the client's latest eight.
+-- 9. A repeat is harmless: a request that was executed and comes again changes nothing, and while its number is among its client's latest eight it is told what it was told.
 abbrev pub RepeatIsHarmless : Type 0
 RepeatIsHarmless = (schema : Schema) (older between : List Entry) (d e : Entry) (r again : Request) → d.request ≡ Some r → is_first r older ≡ true →
     e.request ≡ Some again → again.client ≡ r.client → again.number ≡ r.number →
     let before = between ++ d ∷ older in
     AreAlike schema (e ∷ before) before × (executed r.client before < r.number + 8 → outcome schema e.stamp again before ≡ outcome schema d.stamp r older)
 
+-- Only the number after the last one counts. Any other changes nothing; a greater one is told that there is a gap, and one before the latest eight that it is old.
+abbrev pub OnlyTheNextCounts : Type 0
+OnlyTheNextCounts = (schema : Schema) (before : List Entry) (e : Entry) (r : Request) → e.request ≡ Some r →
+    (is_first r before ≡ false → AreAlike schema (e ∷ before) before) × (executed r.client before + 1 < r.number → outcome schema e.stamp r before ≡ Err Gap)
+    × (r.number + 8 ≤ executed r.client before → outcome schema e.stamp r before ≡ Err Old)
+
 -- ---- runs of a group
 
--- 10. Refused exactly where not closed: a member that is up answers a question of which no later entry can change the answer, by what it has applied; any other it refuses as not closed.
+-- 10. Refused exactly where not closed: of a question about instants up to its closed time a member that is up gives the answer in what it has applied; any other it refuses.
 abbrev pub RefusedUnlessClosed : Type 0
 RefusedUnlessClosed = (schema : Schema) (n m : ℕ) (w : World) (q : Select) (out : List Output) (x : Node) → nth w.nodes m ≡ Some x → x.up ≡ true → Gives schema n w (Ask m q) out →
     ((t : ℕ) → closed_time x ≡ Some t → (read_at t q).time.last ≤ t → (a : Answer) × IsAnswer schema (read_at t q) (applied x) a × (out ≡ Answered m a ∷ []))
     × ((IsClosed q (closed_time x) → ⊥) → out ≡ Refused m (NotClosed (option_map instant_text (closed_time x))) ∷ [])
 
--- 11. One list explains all that a run gives, whatever is lost, late, repeated or cut short: its instants rise, each request that a member tells of stands in it with that outcome,
--- and each answer is the one in it.
+-- Closed is closed: whatever is decided past what a member has applied has a stamp above its closed time.
+abbrev pub NothingComesBelow : Type 0
+NothingComesBelow = (schema : Schema) (n m i t : ℕ) (early late : List Event) (x : Node) (e : Entry) → nth (run schema n (new_world n) early).nodes m ≡ Some x → closed_time x ≡ Some t →
+    length (applied x) < i → nth (decided schema n (new_world n) (early ++ late)) i ≡ Some e → t < e.stamp
+
+-- 11. One list explains all that a run gives, whatever is lost, late, repeated or cut short. Its instants rise; each request that a member tells of stands in it with that
+-- outcome; each answer is the one in it; each request in it was submitted; and what began after something was told or answered stands after that.
 abbrev pub OneListExplains : Type 0
 OneListExplains = (schema : Schema) (n : ℕ) (events : List Event) (outs : List (List Output)) → GivesAll schema n (new_world n) events outs →
     (list : List Entry) × IsStamped list
     × ((k m : ℕ) (told : Told) → Gave outs k (Applied m told) → IsTold schema list told)
     × ((k m : ℕ) (q : Select) (a : Answer) → IsAnswered events outs k m q a → IsAnswer schema (read_at a.last q) list a)
+    × WereSubmitted events list × IsInOrder schema events outs list
 
 -- ---- texts
 
+-- one thing is said and nothing goes wrong, or something goes wrong at one place and nothing is said
+abbrev pub IsOneReading : {A : Type 0} → (A → Type 0) → (ℕ → Type 0) → Type 0
+IsOneReading {A} Says GoesWrongAt =
+    ((a : A) × Says a × ((b : A) → Says b → b ≡ a) × ((at : ℕ) → GoesWrongAt at → ⊥))
+    ⊎ ((at : ℕ) × GoesWrongAt at × ((place : ℕ) → GoesWrongAt place → place ≡ at) × ((a : A) → Says a → ⊥))
+
 -- 12. A text has one reading: it spells one list of statements, or else goes wrong at one place.
 abbrev pub OneReading : Type 0
-OneReading = (text : List ℕ) →
-    ((forms : List StatementForm) × Spells text forms × ((others : List StatementForm) → Spells text others → others ≡ forms) × ((at : ℕ) → IsWrongAt text at → ⊥))
-    ⊎ ((at : ℕ) × IsWrongAt text at × ((place : ℕ) → IsWrongAt text place → place ≡ at) × ((forms : List StatementForm) → Spells text forms → ⊥))
+OneReading = (text : List ℕ) → IsOneReading (Spells text) (IsWrongAt text)
 
--- and it means one thing: its statements, or one refusal
+-- And so of a question.
+abbrev pub OneQuestion : Type 0
+OneQuestion = (text : List ℕ) → IsOneReading (grammar.Spells query text) (grammar.IsWrongAt query text)
+
+-- And a transaction means one thing: its statements, or one refusal.
 abbrev pub OneMeaning : Type 0
 OneMeaning = (tables : Tables) (text : List ℕ) → (r : Result (List Statement) Refusal) × IsReading tables text r × ((s : Result (List Statement) Refusal) → IsReading tables text s → s ≡ r)
 
--- 13. Days are named by their dates: a text names a day exactly where it is the day's date in the calendar.
+-- 13. Days are named by their dates: a text names a day exactly where it is its date in the calendar, as YYYY-MM-DD.
 abbrev pub DaysAreNamed : Type 0
 DaysAreNamed = (d : ℕ) (text : List ℕ) → d ≤ days → (day_named text ≡ Ok d) ↔ IsDayText d text
+
+-- And so of instants, by their date and time of day.
+abbrev pub InstantsAreNamed : Type 0
+InstantsAreNamed = (t : ℕ) (text : List ℕ) → IsInstant t → (instant_named text ≡ Ok t) ↔ IsInstantText t text

@@ -1,4 +1,5 @@
 pub mod CommandLines
+pub mod Comparing
 pub mod CommandRows
 pub mod Groups
 pub mod Judging

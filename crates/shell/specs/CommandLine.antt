@@ -1,6 +1,6 @@
 -- The command lines of the program, in the words of `clap`'s own definitions: what its arguments and subcommands are, and what a
 -- command line asks for.
-use Rattle.std.specs.Prelude.{◌≡◌, ◌<◌, ◌^◌, ◌∷◌, ⊤, ℕ, List, [], Option, Some, None, pos, codes, map, option_map, true, false}
+use Rattle.std.specs.Prelude.{◌≡◌, ◌<◌, ◌^◌, ◌∷◌, ⊤, List, [], Option, Some, None, pos, codes, map, option_map, true, false}
 use Rattle.clap.specs.Lexer.{usize_max}
 use Rattle.clap.specs.Walk.{Row, Rule, Text, all_of, first_of}
 use Rattle.clap.specs.Simple.{App, new_app, new_rule, on_top, with_rule, with_subcommand}

@@ -5,12 +5,12 @@ ghost use Rattle.std.specs.declared.io.Error.{Error};
 ghost use Rattle.fault.specs.declared.refusal.Refusal.TheVariants.{NoMemory, BadFlight};
 ghost use Rattle.fault.specs.declared.refusal.Refusal.{Refusal as AnyRefusal};
 ghost use Rattle.shell.specs.Group.{IsNoGroup};
-ghost use Rattle.shell.specs.Outlets.{IsLastError};
+ghost use Rattle.answertext.specs.Outlets.{IsLastError};
 ghost use Rattle.shell.specs.Since.{BeginsSince, IsSince, status_with};
 
 use crate::audit::audit_line;
 use crate::group::{read_group, run_of};
-use crate::outlet::{Outlet, tell};
+use answertext::outlet::{Outlet, tell};
 use beginnings::Beginning;
 use beginnings::words::{Told, told_of};
 use fault::Refusal;

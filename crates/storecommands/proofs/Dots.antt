@@ -6,7 +6,7 @@ use Rattle.lines.specs.Number.{IsSigned}
 use Rattle.lines.specs.Line.{request_text}
 use Rattle.lines.specs.Reading.{IsNoRequest}
 use Rattle.storecommands.specs.declared.dot.Form.{Form}
-use Rattle.storecommands.specs.declared.dot.DotCommand.TheVariants.{Status, Schema, Help, Quit, Stop, Start, Clock, Format, Beliefs, Submit}
+use Rattle.storecommands.specs.declared.dot.DotCommand.TheVariants.{Status, Schema, SchemaOf, Help, Quit, Stop, Start, Clock, Format, Beliefs, Submit}
 use Rattle.storecommands.specs.Dot.{form_text, IsNoDotCommand}
 
 -- four bytes behind the full stop, as a number
@@ -38,15 +38,16 @@ module _ (rest : List ℕ) where
 -- what begins with none of the words
 pub no_word : (line : List ℕ) → (line ≢ codes ".status") × (line ≢ codes ".schema") × (line ≢ codes ".help") × (line ≢ codes ".quit")
     → ((rest : List ℕ) → line ≢ codes ".stop " ++ rest) → ((rest : List ℕ) → line ≢ codes ".start " ++ rest) → ((rest : List ℕ) → line ≢ codes ".clock " ++ rest)
-    → ((rest : List ℕ) → line ≢ codes ".format " ++ rest) → ((rest : List ℕ) → line ≢ codes ".beliefs " ++ rest) → ((rest : List ℕ) → line ≢ codes ".submit " ++ rest)
+    → ((rest : List ℕ) → line ≢ codes ".format " ++ rest) → ((rest : List ℕ) → line ≢ codes ".schema " ++ rest) → ((rest : List ℕ) → line ≢ codes ".beliefs " ++ rest) → ((rest : List ℕ) → line ≢ codes ".submit " ++ rest)
     → IsNoDotCommand line
-no_word line alone stop start clock form beliefs submit Status h e = alone.0 e
-no_word line alone stop start clock form beliefs submit Schema h e = alone.1 e
-no_word line alone stop start clock form beliefs submit Help h e = alone.2 e
-no_word line alone stop start clock form beliefs submit Quit h e = alone.3 e
-no_word line alone stop start clock form beliefs submit (Stop n) h e = stop (decimal n) e
-no_word line alone stop start clock form beliefs submit (Start n) h e = start (decimal n) e
-no_word line alone stop start clock form beliefs submit (Clock z) h e = clock (signed_decimal z) e
-no_word line alone stop start clock form beliefs submit (Format f) h e = form (form_text f) e
-no_word line alone stop start clock form beliefs submit (Beliefs text) h e = beliefs text.now e
-no_word line alone stop start clock form beliefs submit (Submit c k text) h e = submit (request_text c k text.now) e
+no_word line alone stop start clock form schema beliefs submit Status h e = alone.0 e
+no_word line alone stop start clock form schema beliefs submit Schema h e = alone.1 e
+no_word line alone stop start clock form schema beliefs submit (SchemaOf table) h e = schema table.now e
+no_word line alone stop start clock form schema beliefs submit Help h e = alone.2 e
+no_word line alone stop start clock form schema beliefs submit Quit h e = alone.3 e
+no_word line alone stop start clock form schema beliefs submit (Stop n) h e = stop (decimal n) e
+no_word line alone stop start clock form schema beliefs submit (Start n) h e = start (decimal n) e
+no_word line alone stop start clock form schema beliefs submit (Clock z) h e = clock (signed_decimal z) e
+no_word line alone stop start clock form schema beliefs submit (Format f) h e = form (form_text f) e
+no_word line alone stop start clock form schema beliefs submit (Beliefs text) h e = beliefs text.now e
+no_word line alone stop start clock form schema beliefs submit (Submit c k text) h e = submit (request_text c k text.now) e

@@ -6,7 +6,7 @@ use Rattle.lines.specs.Line.{IsRequest, request_text}
 use Rattle.storecommands.specs.declared.dot.Form.{Form}
 use Rattle.storecommands.specs.declared.dot.Form.TheVariants.{Table, Lines, Csv, Json}
 use Rattle.storecommands.specs.declared.dot.DotCommand.{DotCommand}
-use Rattle.storecommands.specs.declared.dot.DotCommand.TheVariants.{Status, Schema, Help, Quit, Stop, Start, Clock, Format, Beliefs, Submit}
+use Rattle.storecommands.specs.declared.dot.DotCommand.TheVariants.{Status, Schema, SchemaOf, Help, Quit, Stop, Start, Clock, Format, Beliefs, Submit}
 
 abbrev pub form_text : Form → List ℕ
 form_text Table = codes "table"
@@ -17,6 +17,7 @@ form_text Json = codes "json"
 abbrev pub dot_text : DotCommand → List ℕ
 dot_text Status = codes ".status"
 dot_text Schema = codes ".schema"
+dot_text (SchemaOf table) = codes ".schema " ++ table.now
 dot_text Help = codes ".help"
 dot_text Quit = codes ".quit"
 dot_text (Stop member) = codes ".stop " ++ decimal member
@@ -30,6 +31,7 @@ dot_text (Submit client number text) = codes ".submit " ++ request_text client n
 abbrev pub IsInRange : DotCommand → Type 0
 IsInRange Status = ⊤
 IsInRange Schema = ⊤
+IsInRange (SchemaOf table) = ⊤
 IsInRange Help = ⊤
 IsInRange Quit = ⊤
 IsInRange (Stop member) = member < 2 ^ 64

@@ -25,6 +25,8 @@ pub enum DotCommand<'a> {
     Status,
     /// The tables as they were declared.
     Schema,
+    /// The table of this name as it was declared.
+    SchemaOf(&'a str),
     /// What can be typed.
     Help,
     /// To leave.
@@ -122,6 +124,9 @@ pub fn read_dot_command(line: &str) -> Option<DotCommand<'_>>
     }
     if let Some(rest) = after(line, ".format ") {
         return Some(DotCommand::Format(form_of(rest)?));
+    }
+    if let Some(rest) = after(line, ".schema ") {
+        return Some(DotCommand::SchemaOf(rest));
     }
     if let Some(rest) = after(line, ".beliefs ") {
         return Some(DotCommand::Beliefs(rest));

@@ -1,4 +1,6 @@
 //! What an error of a file comes to.
+ghost use Rattle.std.specs.Prelude.{◌≡◌};
+
 use fault::Refusal;
 use std::io;
 use store::{DeviceError, StoreRefusal};
@@ -18,11 +20,8 @@ pub(crate) fn file_refusal(error: &io::Error) -> StoreRefusal {
 }
 
 /// A file that is no part of a store.
-pub(crate) fn no_store() -> StoreRefusal {
+pub(crate) fn no_store() -> StoreRefusal
+    ensures { result ≡ StoreRefusal.NoStore }
+{
     StoreRefusal::NoStore
-}
-
-/// Want of memory.
-pub(crate) fn no_memory() -> StoreRefusal {
-    StoreRefusal::Refused(Refusal::NoMemory)
 }

@@ -3,6 +3,7 @@
 
 mod adopting;
 mod auditing;
+mod clock;
 mod databases;
 mod faults;
 mod form;
@@ -16,6 +17,7 @@ mod task;
 
 pub use adopting::adopt;
 pub use auditing::{Audited, Verdict, audit};
+pub use clock::reading_of;
 pub use form::{Form, read_form};
 pub use journal_file::JournalFile;
 pub use memory::{InMemory, open_in_memory};

@@ -1,0 +1,40 @@
+-- Texts that go over several lines.
+use Rattle.std.proofs.Common.{◌≡◌, ◌∙◌, ℕ, suc, ◌+◌, ◌<◌, Bool, true, false, List, [], ◌∷◌, ◌++◌, Option, None, Some, IfSome, refl, sym, ap, subst, arith, inl, inr, below_more, add-one}
+use Rattle.std.specs.Io.BufRead.{drop_through, first_line}
+use Rattle.console.specs.Lines.{IsBegun, IsWhole, IsNextLine, IsNoLine, behind_lines, with_lines, is_ended}
+
+-- what holds of the bytes that an input has left, where they are known
+pub if_known : (known : Option (List ℕ)) (P Q : List ℕ → Type 0) → ((xs : List ℕ) → P xs → Q xs) → IfSome known P → IfSome known Q
+if_known None P Q f h = h
+if_known (Some xs) P Q f h = f xs h
+
+-- a first line alone
+pub begun_at : (first : List ℕ) (known : Option (List ℕ)) → IfSome known (λ xs. IsBegun first xs 0 first known)
+begun_at first None = tt
+begun_at first (Some xs) = record { spelled = refl; left = refl; each = λ n less. absurd (omega (arith, less)) }
+
+module _ (first xs : List ℕ) (more : ℕ) (text : List ℕ) (behind : Option (List ℕ)) (begun : IsBegun first xs more text behind) where
+  -- a line more
+  pub begun_on : (line longer : List ℕ) (left : Option (List ℕ)) → is_ended text ≡ false → IsNextLine behind line left → longer ≡ text ++ 10 ∷ line → IsBegun first xs (more + 1) longer left
+  begun_on line longer left goes next is =
+      let known = subst (λ (b : Option (List ℕ)). IsNextLine b line left) begun.left next in
+      let one : suc more ≡ more + 1 = sym (add-one more) in
+      let spelled : longer ≡ with_lines first (suc more) xs = is ∙ ap (λ (t : List ℕ). t ++ 10 ∷ line) begun.spelled ∙ ap (λ (l : List ℕ). with_lines first more xs ++ 10 ∷ l) known.0.1 in
+      let behind_it : left ≡ Some (behind_lines (suc more) xs) = known.1 in
+      let last : is_ended (with_lines first more xs) ≡ false = ap is_ended (sym begun.spelled) ∙ goes in
+      record {
+        spelled = spelled ∙ ap (λ (n : ℕ). with_lines first n xs) one;
+        left = behind_it ∙ ap (λ (n : ℕ). Some (behind_lines n xs)) one;
+        each = below_more _ _ begun.each (last, known.0.0);
+      }
+
+  -- it has ended
+  pub whole_ended : is_ended text ≡ true → IsWhole first xs text behind
+  whole_ended ended = (more, begun, inl ended)
+
+  -- the input has
+  pub whole_over : (left : Option (List ℕ)) → IsNoLine behind left → IsWhole first xs text left
+  whole_over left none =
+      let known = subst (λ (b : Option (List ℕ)). IsNoLine b left) begun.left none in
+      let empty : left ≡ Some [] = known.1 ∙ ap (λ (ys : List ℕ). Some (drop_through 10 ys)) known.0 in
+      (more, record { spelled = begun.spelled; left = empty ∙ ap Some (sym known.0); each = begun.each }, inr empty)
