@@ -1,4 +1,4 @@
-"""What texts of the language say, and which refusal they get: docs/FORMATS.md ("The language", "Schemas"), and no code.
+"""What texts of the language say, and which refusal they get: docs/FORMATS.md ("The language"), and no code.
 
 `schema_of`, `transaction_of` and `question_of` take bytes, and give what they say or raise `Refused` with the refusal as it is shown.
 """

@@ -2,6 +2,7 @@
 ghost use Rattle.std.specs.Prelude.{◌≡◌, IfOk};
 ghost use Rattle.flight.specs.Contents.{in_flight};
 ghost use Rattle.beginnings.specs.Beginnings.{beginning_of, IsFound};
+ghost use Rattle.beginnings.specs.Lines.{IsKept};
 
 use crate::stem::{digest_of, stem_of};
 use flight::flight::Flight;
@@ -31,7 +32,8 @@ pub enum Found {
 impl Beginning {
     /// That of all that a flight has. The error is want of memory.
     pub fn of(alloc: Global, flight: &Flight) -> Result<Beginning, AllocError>
-        ensures { IfOk result (λ kept. kept ≡ beginning_of (in_flight flight.now)) }
+        ensures value { IfOk result (λ kept. kept ≡ beginning_of (in_flight flight.now)) }
+        ensures range { IfOk result IsKept }
     {
         let stem = stem_of(alloc, flight)?;
         let answers = flight.answers.as_slice();

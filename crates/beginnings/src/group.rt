@@ -1,7 +1,8 @@
 //! The beginnings of all flights of a group.
-ghost use Rattle.std.specs.Prelude.{◌≡◌, IfOk, length, map};
+ghost use Rattle.std.specs.Prelude.{◌≡◌, All, IfOk, length, map};
 ghost use Rattle.flight.specs.Contents.{in_flight};
 ghost use Rattle.beginnings.specs.Beginnings.{AreFound, beginning_of};
+ghost use Rattle.beginnings.specs.Lines.{IsKept};
 
 use crate::beginning::{Beginning, Found};
 use flight::flight::Flight;
@@ -9,7 +10,8 @@ use std::alloc::{AllocError, Global};
 
 /// Those of all that flights have, in their order. The error is want of memory.
 pub fn beginnings_of(alloc: Global, flights: &[Flight]) -> Result<Vec<Beginning>, AllocError>
-    ensures { IfOk result (λ all. all.items ≡ map (λ f. beginning_of (in_flight f)) flights.now) }
+    ensures value { IfOk result (λ all. all.items ≡ map (λ f. beginning_of (in_flight f)) flights.now) }
+    ensures range { IfOk result (λ all. All IsKept all.items) }
 {
     let mut all = Vec::new(alloc);
     for flight in flights {

@@ -1,10 +1,15 @@
-//! Laws of beginnings. The functions do nothing: what they are for is their contracts.
-ghost use Rattle.std.specs.Prelude.{◌≡◌, ◌++◌, ◌⊎◌};
+//! Laws of beginnings: what these functions are for is their contracts.
+ghost use Rattle.std.specs.Prelude.{◌≡◌, ◌++◌, ◌⊎◌, All, IfOk, MatchOption};
 ghost use Rattle.flight.specs.Contents.{FlightContents};
 ghost use Rattle.flight.specs.Spelling.{flight_text};
 ghost use Rattle.beginnings.specs.Beginnings.{HasBeginning, beginning_of};
 ghost use Rattle.beginnings.specs.Growing.{GoesOn, IsGrown, IsSeenAgain, Collide};
+ghost use Rattle.beginnings.specs.Lines.{IsKept};
 ghost use Rattle.beginnings.specs.Stems.{stem_of, tail_of};
+
+use crate::beginning::Beginning;
+use crate::line::{line_of, read_line};
+use std::alloc::{AllocError, Global};
 
 /// What stays of a flight's file, and the last lines, are the whole file.
 pub fn whole_file()
@@ -27,3 +32,12 @@ pub fn later_ones()
 pub fn no_others()
     ensures { (f g : FlightContents) → HasBeginning g (beginning_of f) → IsSeenAgain f g ⊎ Collide }
 {}
+
+/// Beginnings that are written as a line, which is then read, come back as they were. The error is want of memory.
+pub fn line_again(alloc: Global, seen: &[Beginning]) -> Result<Option<Vec<Beginning>>, AllocError>
+    requires { All IsKept seen.now }
+    ensures { IfOk result (λ read. MatchOption read ⊥ (λ again. again.items ≡ seen.now)) }
+{
+    let line = line_of(alloc, seen)?;
+    read_line(alloc, line.as_str())
+}

@@ -378,10 +378,25 @@ fn play_live<'a, R>(rt: &R, host: &HostRuntime, live: Live<'a>) -> Result<u8, St
 where
     R: AllocGlobal + Files + Print + Eprint + Wait + Threads + Copy + Send + Drop + 'static,
 {
+    let name = live.format.unwrap_or("lines");
+    let Some(form) = form_of(name) else {
+        return refuse_form(rt, name);
+    };
     let file = Name::Given(live.script);
     let mut script = open_script(rt, live.script)?;
+    let look = look_of(host, host, form, false);
     let ended = match BufWriter::new(rt.alloc(), io::writer(rt)) {
-        Ok(mut writer) => run_live(rt, host, live, &mut script, &mut writer),
+        Ok(mut writer) => {
+            run_live(
+                rt,
+                host,
+                live,
+                look,
+                &mut script,
+                &mut writer,
+                &progress_on(host),
+            )
+        }
         Err(_) => Err(Stop::from(Refusal::NoMemory)),
     };
     script_ended(ended, file, "playing the script with live")

@@ -1,3 +1,4 @@
+pub mod Counted
 pub mod Replays
 pub mod Rising
 pub mod Items

@@ -1,17 +1,20 @@
 //! Outcomes and answers, in the form that is asked for.
-ghost use Rattle.std.specs.Prelude.{◌≡◌, IfOk, string_bytes};
-ghost use Rattle.console.specs.Shown.{IsAnswerIn, answer_lines as lines_of_answer, outcome_in, outcome_line as line_of_outcome, told_of as what_is_told};
+ghost use Rattle.std.specs.Prelude.{◌≡◌, IfOk};
+ghost use Rattle.console.specs.Shown.{outcome_shown, shape_of, told_of as what_is_told};
+ghost use Rattle.forms.specs.Shown.{IsOutputIn};
+ghost use Rattle.world.specs.declared.output.Output.TheVariants.{Answered};
 
 use answer::Answer;
-use answertext::Lines;
 use fault::Refusal;
-use looks::{Asked, answer_as_csv, answer_as_json, answer_as_table, outcome_as_json};
+use forms::{Look, outcome_in, output_in};
+use looks::Asked;
 use model::member::Member;
 use model::request::{Client, RequestNumber};
 use model::stamp::Stamp;
 use std::alloc::{AllocError, Global};
 use store::Outcome;
 use storecommands::dot::Form;
+use world::output::Output;
 
 /// How answers and outcomes are shown.
 #[derive(Clone, Copy, PartialEq, Eq, Debug)]
@@ -23,57 +26,44 @@ pub(crate) struct Manner {
     pub width: Option<usize>,
 }
 
-/// An answer as its member gives it: `node N answer` and the answer's lines.
-pub(crate) fn answer_lines(
-    alloc: Global,
-    member: Member,
-    answer: &Answer,
-) -> Result<String, AllocError>
-    ensures { IfOk result (λ text. string_bytes text ≡ lines_of_answer member answer.now) }
+// A form, as all outputs have it.
+fn shape(form: Form) -> forms::Form
+    ensures { result ≡ shape_of form }
 {
-    format!(in alloc; "node {member} answer\n{}", Lines(answer))
+    match form {
+        Form::Table => forms::Form::Table,
+        Form::Lines => forms::Form::Lines,
+        Form::Csv => forms::Form::Csv,
+        Form::Json => forms::Form::Json,
+    }
 }
 
-/// An answer in the form that is asked for.
+/// A member's answer in the form that is asked for. One that comes after another is told so.
 pub(crate) fn shown_answer(
     alloc: Global,
     manner: Manner,
+    is_next: bool,
     member: Member,
-    answer: &Answer,
+    answer: Answer,
     asked: Asked,
 ) -> Result<Vec<u8>, AllocError>
-    ensures { IfOk result (λ text. IsAnswerIn manner.form member answer.now text.items) }
+    ensures { IfOk result (λ text. IsOutputIn (shape_of manner.form) is_next (Answered member answer) text.items) }
 {
-    match manner.form {
-        Form::Lines => {
-            let lines = answer_lines(alloc, member, answer)?;
-            Ok(lines.into_bytes())
-        }
-        Form::Table => answer_as_table(alloc, member, answer, asked, manner.width),
-        Form::Csv => answer_as_csv(alloc, answer),
-        Form::Json => answer_as_json(alloc, member, answer),
-    }
+    let look = Look {
+        form: shape(manner.form),
+        is_quiet: false,
+        width: manner.width,
+    };
+    output_in(
+        alloc,
+        look,
+        asked,
+        is_next,
+        &Output::Answered(member, answer),
+    )
 }
 
-/// The line of an outcome: `request C K` before it, but at a terminal.
-pub(crate) fn outcome_line(
-    alloc: Global,
-    is_terminal: bool,
-    client: Client,
-    number: RequestNumber,
-    outcome: &Outcome,
-) -> Result<String, AllocError>
-    ensures { IfOk result (λ text. string_bytes text ≡ line_of_outcome is_terminal client number outcome.now) }
-{
-    if is_terminal {
-        return format!(in alloc; "{outcome}\n");
-    }
-    let client = client.get();
-    let number = number.get();
-    format!(in alloc; "request {client} {number} {outcome}\n")
-}
-
-// What was told, as other forms have it.
+// What was told, as all outputs have it.
 fn told_of(outcome: Outcome) -> Option<Result<Stamp, Refusal>>
     ensures { result ≡ what_is_told outcome }
 {
@@ -84,7 +74,7 @@ fn told_of(outcome: Outcome) -> Option<Result<Stamp, Refusal>>
     }
 }
 
-/// An outcome in the form that is asked for.
+/// An outcome in the form that is asked for: at a terminal without its client and number, but as an object.
 pub(crate) fn shown_outcome(
     alloc: Global,
     manner: Manner,
@@ -92,12 +82,12 @@ pub(crate) fn shown_outcome(
     number: RequestNumber,
     outcome: Outcome,
 ) -> Result<Vec<u8>, AllocError>
-    ensures { IfOk result (λ text. text.items ≡ outcome_in manner.form manner.is_terminal client number outcome) }
+    ensures { IfOk result (λ text. text.items ≡ outcome_shown manner.form manner.is_terminal client number outcome) }
 {
-    if manner.form == Form::Json {
-        let told = told_of(outcome);
-        return outcome_as_json(alloc, client, number, &told);
+    if manner.is_terminal && manner.form != Form::Json {
+        let line = format!(in alloc; "{outcome}\n")?;
+        return Ok(line.into_bytes());
     }
-    let line = outcome_line(alloc, manner.is_terminal, client, number, &outcome)?;
-    Ok(line.into_bytes())
+    let told = told_of(outcome);
+    outcome_in(alloc, shape(manner.form), client, number, &told)
 }

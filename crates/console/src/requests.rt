@@ -131,7 +131,9 @@ where
         match self.store.ask(reading, member, text) {
             Ok(answer) => {
                 let asked = asked_by(alloc, self.store.schema(), text);
-                let shown = shown_answer(alloc, self.manner, member, &answer, asked)?;
+                let is_next = self.is_behind_csv;
+                let shown = shown_answer(alloc, self.manner, is_next, member, answer, asked)?;
+                self.is_behind_csv = self.manner.form == Form::Csv;
                 print_bytes(rt, shown.as_slice())
             }
             Err(refusal) => self.refuse_question(rt, member, text, refusal),

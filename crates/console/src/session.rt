@@ -40,6 +40,8 @@ where
     /// What clocks show, if not the system's.
     pub clock: Option<i64>,
     pub manner: Manner,
+    /// Whether the last answer was shown as CSV.
+    pub is_behind_csv: bool,
     /// Whether anything was refused.
     pub is_refused: bool,
 }
@@ -71,6 +73,7 @@ where
                 is_terminal: place.is_terminal,
                 width: place.width,
             },
+            is_behind_csv: false,
             is_refused: false,
         }
     }

@@ -1,4 +1,4 @@
 pub mod Letters
 pub mod Errands
 pub mod Taken
-pub mod Printing
+pub mod Saying

@@ -1,5 +1,10 @@
 //! Questions to views.
+ghost use Rattle.std.specs.Prelude.{IfOk};
+ghost use Rattle.live.specs.Saying.{IsReply};
+
 use crate::driver::Driver;
+use crate::said::Said;
+use answer::Answer;
 use fault::{Refusal, Text};
 use model::member::Member;
 use sqlread::query::read_query;
@@ -20,8 +25,7 @@ impl Driver {
         Ok(())
     }
 
-    // The lines of the answer.
-    fn answer<R: Wait>(&mut self, rt: &R, node: Member, text: &Text) -> Result<String, Refusal> {
+    fn answer<R: Wait>(&mut self, rt: &R, node: Member, text: &Text) -> Result<Answer, Refusal> {
         let _query = read_query(self.alloc, &self.schema, text.as_str())?;
         self.look(rt, node)?;
         match self.stations.get_mut(node.saturating_sub(1)) {
@@ -30,24 +34,19 @@ impl Driver {
         }
     }
 
-    /// Asks a view of a node, and gives the lines to print. 43 for want of memory, and nothing is recorded then.
+    /// Asks a view of a node. 43 for want of memory, and nothing is recorded then.
     pub(crate) fn ask<R: Wait>(
         &mut self,
         rt: &R,
         node: Member,
         text: &Text,
-    ) -> Result<String, Refusal> {
+    ) -> Result<Said, Refusal>
+        ensures { IfOk result (IsReply node) }
+    {
         match self.answer(rt, node, text) {
-            Ok(lines) => Ok(format!(in self.alloc; "node {node} answer\n{lines}")?),
-            Err(refusal) => self.refusal_line(node, refusal),
-        }
-    }
-
-    /// The line of a node's refusal; want of memory is none, and ends the play.
-    pub(crate) fn refusal_line(&self, node: Member, refusal: Refusal) -> Result<String, Refusal> {
-        match refusal {
-            Refusal::NoMemory => Err(Refusal::NoMemory),
-            refusal => Ok(format!(in self.alloc; "node {node} refused {refusal}\n")?),
+            Ok(answer) => Ok(Said::Answered(node, answer)),
+            Err(Refusal::NoMemory) => Err(Refusal::NoMemory),
+            Err(refusal) => Ok(Said::Refused(node, refusal)),
         }
     }
 }

@@ -1,9 +1,10 @@
 //! What drives a cluster through a script.
-ghost use Rattle.std.specs.Prelude.{◌≡◌, string_bytes, IfOk};
-ghost use Rattle.live.specs.Printing.{outcome_text};
+ghost use Rattle.std.specs.Prelude.{IfOk};
+ghost use Rattle.live.specs.Saying.{IsOutcomeOf, IsSaidOf, IsStarted};
 
 use crate::errand::Errand;
 use crate::mail::Mail;
+use crate::said::Said;
 use crate::station::Station;
 use fault::{Refusal, Text};
 use flight::flight::Recorded;
@@ -85,16 +86,14 @@ impl Driver {
         (cluster, stations)
     }
 
-    /// Plays a line, and gives what it prints. 43 for want of memory, 41 where a node's thread is gone: the play is over
+    /// Plays a line, and gives what comes of it. 43 for want of memory, 41 where a node's thread is gone: the play is over
     /// then.
-    pub fn play<R: Wait>(&mut self, rt: &R, line: &Line) -> Result<String, Refusal> {
+    pub fn play<R: Wait>(&mut self, rt: &R, line: &Line) -> Result<Said, Refusal>
+        ensures { IfOk result (IsSaidOf line.now) }
+    {
         match line {
-            Line::Clock { node, reading } => self.set_clock(*node, *reading),
-            Line::ClockAll { reading } => self.set_clocks(*reading),
-            Line::Settle { rounds } => self.settle(rt, rounds.unwrap_or(SETTLE_ROUNDS))?,
-            Line::Stop { node } => self.stop(rt, *node)?,
-            Line::Start { node } => return self.start(rt, *node),
-            Line::Ask { node, text } => return self.ask(rt, *node, text),
+            Line::Start { node } => self.start(rt, *node),
+            Line::Ask { node, text } => self.ask(rt, *node, text),
             Line::Submit {
                 node,
                 client,
@@ -106,11 +105,25 @@ impl Driver {
                     number: *number,
                     text: text.clone()?,
                 };
-                return self.submit(rt, *node, request);
+                self.submit(rt, *node, request)
             }
+            line => {
+                self.obey(rt, line)?;
+                Ok(Said::Nothing)
+            }
+        }
+    }
+
+    // Plays a line of which nothing is told.
+    fn obey<R: Wait>(&mut self, rt: &R, line: &Line) -> Result<(), Refusal> {
+        match line {
+            Line::Clock { node, reading } => self.set_clock(*node, *reading),
+            Line::ClockAll { reading } => self.set_clocks(*reading),
+            Line::Settle { rounds } => self.settle(rt, rounds.unwrap_or(SETTLE_ROUNDS))?,
+            Line::Stop { node } => self.stop(rt, *node)?,
             _ => {}
         }
-        Ok(String::new(self.alloc))
+        Ok(())
     }
 
     fn set_clock(&mut self, node: Member, reading: i64) {
@@ -143,28 +156,28 @@ impl Driver {
         }
     }
 
-    fn start<R: Wait>(&mut self, rt: &R, node: Member) -> Result<String, Refusal> {
+    fn start<R: Wait>(&mut self, rt: &R, node: Member) -> Result<Said, Refusal>
+        ensures { IfOk result (IsStarted node) }
+    {
         let Some(station) = self.stations.get_mut(node.saturating_sub(1)) else {
-            return Ok(String::new(self.alloc));
+            return Ok(Said::Nothing);
         };
         if station.runs {
-            return Ok(String::new(self.alloc));
+            return Ok(Said::Nothing);
         }
         match self.cluster.start_node(rt, node) {
             Ok(()) => {
                 station.started();
-                Ok(String::new(self.alloc))
+                Ok(Said::Nothing)
             }
-            Err(refusal) => self.refusal_line(node, refusal),
+            Err(Refusal::NoMemory) => Err(Refusal::NoMemory),
+            Err(refusal) => Ok(Said::Refused(node, refusal)),
         }
     }
 
-    fn submit<R: Wait>(
-        &mut self,
-        rt: &R,
-        node: Member,
-        request: Request,
-    ) -> Result<String, Refusal> {
+    fn submit<R: Wait>(&mut self, rt: &R, node: Member, request: Request) -> Result<Said, Refusal>
+        ensures { IfOk result (IsOutcomeOf request.client request.number) }
+    {
         let client = request.client;
         let number = request.number;
         self.errand = Some(Errand::new(node, request, self.told));
@@ -173,7 +186,7 @@ impl Driver {
             Some(errand) => errand.outcome,
             None => None,
         };
-        Ok(outcome_line(self.alloc, client, number, &outcome)?)
+        Ok(Said::Outcome(client, number, outcome))
     }
 
     // Plays rounds till the request has an outcome, or as many as a line may take.
@@ -188,34 +201,4 @@ impl Driver {
         }
         Ok(())
     }
-}
-
-// What is said of an outcome, or that there is none.
-fn outcome_words(
-    alloc: Global,
-    outcome: &Option<Result<Stamp, Refusal>>,
-) -> Result<String, AllocError>
-    ensures { IfOk result (λ text. string_bytes text ≡ outcome_text outcome.now) }
-{
-    match outcome {
-        None => format!(in alloc; "unanswered"),
-        Some(Ok(stamp)) => {
-            let instant = stamp.instant();
-            format!(in alloc; "accepted {instant}")
-        }
-        Some(Err(refusal)) => format!(in alloc; "refused {refusal}"),
-    }
-}
-
-// The line that is printed of a request.
-fn outcome_line(
-    alloc: Global,
-    client: Client,
-    number: RequestNumber,
-    outcome: &Option<Result<Stamp, Refusal>>,
-) -> Result<String, AllocError> {
-    let words = outcome_words(alloc, outcome)?;
-    let client = client.get();
-    let number = number.get();
-    format!(in alloc; "request {client} {number} {words}\n")
 }

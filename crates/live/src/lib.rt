@@ -8,9 +8,11 @@ pub mod mail;
 pub mod pulse;
 pub mod reading;
 mod round;
+pub mod said;
 pub mod station;
 
 pub use driver::Driver;
 pub use nodes::cluster::{Cluster, Config};
 pub use nodes::gate::{Gate, Point};
 pub use reading::{LiveScript, read_live};
+pub use said::Said;

@@ -1,13 +1,15 @@
 //! What a driver keeps of one node.
-ghost use Rattle.std.specs.Prelude.{◌≡◌, true, false, None, pos, ◌+ℤ◌};
+ghost use Rattle.std.specs.Prelude.{◌≡◌, ◌++◌, ◌∷◌, [], ℕ, true, false, None, IfOk, OnOk, pos, ◌+ℤ◌};
 ghost use Rattle.std.specs.Int.{w64, saturate_signed};
+ghost use Rattle.answertext.specs.Answers.{answer_text};
 
 use crate::pulse::Pulse;
+use answer::Answer;
 use answertext::Lines;
 use fault::{Refusal, Text};
 use flight::flight::Recorded;
 use model::mark::Mark;
-use nodes::View;
+use nodes::{Marked, View};
 use schema::Schema;
 use sqlread::query::read_query;
 use std::alloc::{AllocError, Global};
@@ -72,7 +74,9 @@ impl Station {
         self.pulse.restart();
     }
 
-    fn record(&mut self, mark: Mark, query: &Text, answer: &str) -> Result<(), AllocError> {
+    fn record(&mut self, mark: Mark, query: &Text, answer: &str) -> Result<(), AllocError>
+        ensures { OnOk result (self.new.answers.items ≡ self.old.answers.items ++ record { mark = mark; query = query.now; answer = answer.now } ∷ []) }
+    {
         let query = query.clone()?;
         let answer = Text::new(self.alloc, answer)?;
         self.answers.push(Recorded {
@@ -83,18 +87,20 @@ impl Station {
         Ok(())
     }
 
-    /// The lines with which its view answers a text, which are recorded, as the refusal 33 is. 10 to 17 of the text; 41
-    /// where it has no view; 33, 43 or 45 of the view.
-    pub fn ask(&mut self, schema: &Schema, text: &Text) -> Result<String, Refusal> {
+    /// What its view answers to a text. Its lines are recorded, as the refusal 33 is. 10 to 17 of the text; 41 where it has no
+    /// view; 33, 43 or 45 of the view.
+    pub fn ask(&mut self, schema: &Schema, text: &Text) -> Result<Answer, Refusal>
+        ensures { IfOk result (λ answer. (mark : ℕ) × (self.new.answers.items ≡ self.old.answers.items ++ record { mark = mark; query = text.now; answer = answer_text answer } ∷ [])) }
+    {
         let query = read_query(self.alloc, schema, text.as_str())?;
         let Some(view) = &mut self.view else {
             return Err(Refusal::NodeDown);
         };
         match view.ask(&query) {
-            Ok(marked) => {
-                let lines = format!(in self.alloc; "{}", Lines(&marked.answer))?;
-                self.record(marked.mark, text, lines.as_str())?;
-                Ok(lines)
+            Ok(Marked { mark, answer }) => {
+                let lines = Lines(&answer).to_string(self.alloc)?;
+                self.record(mark, text, lines.as_str())?;
+                Ok(answer)
             }
             Err(Refusal::NotClosed(closed)) => {
                 let mark = view.mark();

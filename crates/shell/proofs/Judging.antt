@@ -1,6 +1,6 @@
 -- Lemmas on what is audited.
 use Rattle.std.proofs.Common.{◌≡◌, ◌≢◌, ◌≤◌, ◌<◌, ◌+◌, ◌∙◌, ℕ, suc, inl, inr, List, [], ◌∷◌, ◌++◌, length, get_or, map, take, ap, sym, subst, arith, append_assoc}
-use Rattle.std.specs.Prelude.{Result, Ok, Err, IfErr, IfOk, ◌⊎◌, string_bytes}
+use Rattle.std.specs.Prelude.{Option, Result, Ok, Err, IfErr, IfOk, ◌⊎◌, string_bytes}
 use Rattle.std.specs.declared.vec.Vec.{Vec}
 use Rattle.std.specs.declared.string.String.{String}
 use Rattle.std.specs.declared.alloc.Global.{Global}
@@ -23,6 +23,7 @@ use Rattle.auditor.specs.Audited.{Explains, IsFirst}
 use Rattle.auditor.specs.Faults.{IsOrderFault, OfRun}
 use Rattle.shell.specs.Audit.{judged_of, judged_from, records_of, IsFaultOf, IsJudged, IsSaid}
 use Rattle.shell.specs.Group.{IsNoGroup, IsRunIn}
+use Rattle.shell.specs.Reported.{IsVerdict}
 
 judged_append : (node : ℕ) (xs : List (Vec Recorded Global)) (own : Vec Recorded Global) → judged_from node (xs ++ own ∷ []) ≡ judged_from node xs ++ map (judged_of (length xs + node)) own.items
 judged_append node [] own =
@@ -80,3 +81,10 @@ pub judged_said : {E : Type 0} (r : Result (ℕ × String Global) E) (texts : Li
     → IsRunIn texts version tables lives answers → IfOk r (λ said. IsSaid (records_of version tables lives answers) said.0 (string_bytes said.1)) → IfOk r (λ said. IsJudged texts said.0 (string_bytes said.1))
 judged_said (Ok said) texts version tables lives answers run h = record { version = version; tables = tables; lives = lives; answers = answers; run = run; said = h }
 judged_said (Err e) texts version tables lives answers run h = h
+
+pub verdict_same : {E : Type 0} (r : Result (Option AuditFault) E) (version : Version) (tables : Tables) (led lives : List (Vec Life Global)) (a b : List Judged) → led ≡ lives → a ≡ b
+    → IfOk r (λ fault. IsVerdict (record { version = version; tables = tables; lives = led; answers = a }) fault)
+    → IfOk r (λ fault. IsVerdict (record { version = version; tables = tables; lives = lives; answers = b }) fault)
+verdict_same r version tables led lives a b l same h =
+    let P : List (Vec Life Global) → List Judged → Type 0 = λ ls xs. IfOk r (λ fault. IsVerdict (record { version = version; tables = tables; lives = ls; answers = xs }) fault) in
+    subst (P lives) same (subst (λ ls. P ls a) l h)

@@ -1,5 +1,6 @@
 pub mod CommandLines
 pub mod CommandRows
+pub mod Comparing
 pub mod Groups
 pub mod Judging
 pub mod Playing

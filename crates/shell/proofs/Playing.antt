@@ -1,6 +1,6 @@
 -- Lemmas on lines that a pilot plays, and on what is printed of them.
 use Rattle.std.proofs.Common.{◌≡◌, ◌∙◌, ◌+◌, ◌<◌, ℕ, inl, inr, List, [], ◌∷◌, ◌++◌, Option, length, get_or, take, drop, refl, sym, ap, subst, append_assoc}
-use Rattle.std.specs.Prelude.{Result, Ok, Err, IfOk, IfSome, OnErr, ◌⊎◌}
+use Rattle.std.specs.Prelude.{Bool, Result, Ok, Err, IfOk, IfSome, OnErr, ◌⊎◌}
 use Rattle.std.specs.Io.KnownBytes.{Appends}
 use Rattle.std.specs.declared.vec.Vec.{Vec}
 use Rattle.std.specs.declared.alloc.Global.{Global}
@@ -10,12 +10,17 @@ use Rattle.answertext.specs.Sinks.{AppendsBeginning}
 use Rattle.flight.specs.declared.flight.Recorded.{Recorded}
 use Rattle.flight.specs.declared.flight.Version.TheVariants.{Three}
 use Rattle.flight.specs.declared.life.Life.{Life}
+use Rattle.forms.specs.declared.form.Form.{Form}
 use Rattle.lines.specs.declared.line.Line.{Line}
 use Rattle.lines.specs.Script.{HasLines}
+use Rattle.live.specs.Saying.{IsSaidOf}
+use Rattle.live.specs.declared.said.Said.{Said}
 use Rattle.sqlchecks.specs.Columns.{Tables}
-use Rattle.shell.specs.Audit.{BeginsSaid, IsSaid, records_of}
-use Rattle.shell.specs.Live.{BeginsLines, BeginsRun, EndsRun, PlaysAll, PrintsRun}
+use Rattle.shell.specs.Audit.{records_of}
+use Rattle.shell.specs.Live.{BeginsLines, BeginsRun, EndsRun, PlaysAll, PlaysLines, PrintsRun}
+use Rattle.shell.specs.Showing.{BeginsVerdict, IsVerdictIn, PlaysIn, PrintsLines, TellsIn, unshown}
 use Rattle.shell.specs.Sim.{IsOfText}
+use Rattle.shell.specs.declared.showing.Showing.{Showing}
 
 module _ {P : Type 0} (plays : P → Line → List ℕ → P → Type 0) where
   pub plays-more : (a : P) (xs : List Line) (printed : List ℕ) (b : P) (y : Line) (text : List ℕ) (c : P)
@@ -79,13 +84,21 @@ module _ {P : Type 0} (plays : P → Line → List ℕ → P → Type 0) where
     begun = (printed, [], append-none printed, grown);
   }
 
+-- what a pilot's lines print is what they may print, where it says of each line what that may say
+module _ {P : Type 0} (form : Form) (plays : P → Line → Said → P → Type 0) (says : (a : P) (line : Line) (said : Said) (b : P) → plays a line said b → IsSaidOf line said) where
+  pub lines_printed : (a : Showing P) (lines : List Line) (printed : List ℕ) (b : Showing P) → PlaysAll (PlaysIn form plays) a lines printed b → PrintsLines form a.has_answered lines printed
+  lines_printed a [] printed b p = p.1
+  lines_printed a (line ∷ lines) printed b p =
+      let q : TellsIn form plays a line p.1 p.3.0 p.0 = p.3.1 in
+      (q.0, p.1, p.2, says a.pilot line q.0 p.0.pilot q.1, q.2, subst (λ (f : Bool). PrintsLines form f lines p.2) q.4 (lines_printed p.0 lines p.2 b p.4), p.5)
+
 -- a run whose lines are all played
-module _ {P : Type 0} (plays : P → Line → List ℕ → P → Type 0) (recorded : P → List (Vec Life Global) → List (Vec Recorded Global) → Type 0) (tables : Tables) (lines : List Line) (pilot : P)
+module _ {P : Type 0} (form : Form) (plays : P → Line → Said → P → Type 0) (recorded : P → List (Vec Life Global) → List (Vec Recorded Global) → Type 0) (tables : Tables) (lines : List Line) (pilot : P)
     (lives : List (Vec Life Global)) (answers : List (Vec Recorded Global)) (a : Option (List ℕ)) where
   -- what is said was
-  pub run_printed : {E : Type 0} (r : Result ℕ E) (b c : Option (List ℕ)) → (printed : List ℕ) × (last : P) × PlaysAll plays pilot lines printed last × recorded last lives answers × Appends a b printed
-      → IfOk r (λ status. (line : List ℕ) × IsSaid (records_of Three tables lives answers) status line × Appends b c line)
-      → IfOk r (λ status. PrintsRun plays recorded tables lines pilot status a c)
+  pub run_printed : {E : Type 0} (r : Result ℕ E) (b c : Option (List ℕ)) → (printed : List ℕ) × (last : Showing P) × PlaysLines form plays pilot lines printed last × recorded last.pilot lives answers × Appends a b printed
+      → IfOk r (λ status. (text : List ℕ) × IsVerdictIn form (records_of Three tables lives answers) status text × Appends b c text)
+      → IfOk r (λ status. PrintsRun form plays recorded tables lines pilot status a c)
   run_printed (Ok status) b c f s = record {
     printed = f.0;
     last = f.1;
@@ -93,16 +106,16 @@ module _ {P : Type 0} (plays : P → Line → List ℕ → P → Type 0) (record
     lives = lives;
     answers = answers;
     told = f.3;
-    line = s.0;
+    text = s.0;
     said = s.1;
     grown = appends-more a b c f.0 s.0 f.4 s.2;
   }
   run_printed (Err e) b c f s = s
 
   -- what is said was not written whole
-  pub run_begun : {E O : Type 0} (r : Result ℕ E) (holds : O → Option (List ℕ)) (x y : O) → (printed : List ℕ) × (last : P) × PlaysAll plays pilot lines printed last × recorded last lives answers × Appends a (holds x) printed
-      → OnErr r ((y ≡ x) ⊎ BeginsSaid (records_of Three tables lives answers) (holds x) (holds y))
-      → OnErr r (BeginsLines plays lines pilot a (holds y) ⊎ BeginsRun plays recorded tables lines pilot a (holds y))
+  pub run_begun : {E O : Type 0} (r : Result ℕ E) (holds : O → Option (List ℕ)) (x y : O) → (printed : List ℕ) × (last : Showing P) × PlaysLines form plays pilot lines printed last × recorded last.pilot lives answers × Appends a (holds x) printed
+      → OnErr r ((y ≡ x) ⊎ BeginsVerdict form (records_of Three tables lives answers) (holds x) (holds y))
+      → OnErr r (BeginsLines (PlaysIn form plays) lines (unshown pilot) a (holds y) ⊎ BeginsRun form plays recorded tables lines pilot a (holds y))
   run_begun (Ok status) holds x y f s = s
   run_begun {E} {O} (Err e) holds x y f (inl same) = inl (record {
     some = lines;
@@ -121,14 +134,15 @@ module _ {P : Type 0} (plays : P → Line → List ℕ → P → Type 0) (record
     answers = answers;
     told = f.3;
     status = s.0;
-    line = s.1;
+    text = s.1;
     said = s.2;
     begun = begins-more a (holds x) (holds y) f.0 s.1 f.4 s.3;
   })
 
 -- what was read is a script; what was played is followed by what is said
 module _ (known : Option (List ℕ)) (text : List ℕ) (is : IfSome known (λ bytes. text ≡ bytes)) (nodes : ℕ) (tables : Tables) (lines : List Line) (has : HasLines text nodes tables lines)
-    {P : Type 0} (plays : P → Line → List ℕ → P → Type 0) (recorded : P → List (Vec Life Global) → List (Vec Recorded Global) → Type 0) (pilot : P) (a c : Option (List ℕ)) where
-  pub run_ended : {E : Type 0} (r : Result ℕ E) → IfOk r (λ status. PrintsRun plays recorded tables lines pilot status a c) → IfOk r (λ status. IsOfText known (EndsRun nodes status a c))
-  run_ended (Ok status) p = (text, is, (tables, lines, has, (p.lives, p.answers, (p.printed, p.line, p.said, p.grown))))
+    {P : Type 0} (form : Form) (plays : P → Line → Said → P → Type 0) (says : (a : P) (line : Line) (said : Said) (b : P) → plays a line said b → IsSaidOf line said)
+    (recorded : P → List (Vec Life Global) → List (Vec Recorded Global) → Type 0) (pilot : P) (a c : Option (List ℕ)) where
+  pub run_ended : {E : Type 0} (r : Result ℕ E) → IfOk r (λ status. PrintsRun form plays recorded tables lines pilot status a c) → IfOk r (λ status. IsOfText known (EndsRun form nodes status a c))
+  run_ended (Ok status) p = (text, is, (tables, lines, has, (p.lives, p.answers, (p.printed, p.text, lines_printed form plays says (unshown pilot) lines p.printed p.last p.played, p.said, p.grown))))
   run_ended (Err e) p = p

@@ -70,10 +70,6 @@ pub record IsJudged (texts : List (List ℕ)) (status : ℕ) (line : List ℕ) :
   pub run : IsRunIn texts version tables lives answers
   pub said : IsSaid (records_of version tables lives answers) status line
 
--- known bytes grow by a beginning of what is said of what was recorded
-abbrev pub BeginsSaid : Records → Option (List ℕ) → Option (List ℕ) → Type 0
-BeginsSaid r old new = (status : ℕ) × (line : List ℕ) × IsSaid r status line × AppendsBeginning old new line
-
 -- known bytes grow by a beginning of what is said of the flight files in these texts
 abbrev pub BeginsJudged : List (List ℕ) → Option (List ℕ) → Option (List ℕ) → Type 0
 BeginsJudged texts old new = (status : ℕ) × (line : List ℕ) × IsJudged texts status line × AppendsBeginning old new line

@@ -165,9 +165,9 @@ beliefs_app = with_rule (with_rule (with_rule (new_app (codes "beliefs")) svg_ru
 abbrev pub lanes_app : App
 lanes_app = with_rule (with_rule (with_rule (with_rule (new_app (codes "lanes")) svg_rule) from_rule) to_rule) script_rule
 
--- live --nodes N --seed S --loss P [--dir DIR] SCRIPT
+-- live --nodes N --seed S --loss P [--dir DIR] [--format FORM] SCRIPT
 abbrev pub live_app : App
-live_app = with_rule (with_rule (with_rule (with_rule (with_rule (new_app (codes "live")) nodes_rule) seed_rule) loss_rule) dir_rule) script_rule
+live_app = with_rule (with_rule (with_rule (with_rule (with_rule (with_rule (new_app (codes "live")) nodes_rule) seed_rule) loss_rule) dir_rule) format_rule) script_rule
 
 -- audit [--report] [--json] [--since LINE] FILE..
 abbrev pub audit_app : App
@@ -192,6 +192,7 @@ pub record AsksLive (rows : List Row) (live : LiveValues) : Type 0 where
   pub seed_fits : live.seed < 2 ^ 64
   pub loss : GivesNumber (codes "loss") rows live.loss
   pub dir : option_map (λ text. text.now) live.dir ≡ first_of (codes "dir") rows
+  pub format : option_map (λ text. text.now) live.format ≡ first_of (codes "format") rows
   pub script : Some live.script.now ≡ first_of (codes "SCRIPT") rows
 
 -- the matches of `sim` give these values

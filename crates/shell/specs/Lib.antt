@@ -4,5 +4,6 @@ pub mod Group
 pub mod Live
 pub mod Reading
 pub mod Reported
+pub mod Showing
 pub mod Since
 pub mod Sim

@@ -61,7 +61,7 @@ fn fault_line(alloc: Global, fault: AuditFault) -> Result<String, AllocError>
 }
 
 // Whether the events of one run explain all lives and answers of a group of 3 to 7 nodes.
-fn explain(
+pub(crate) fn explain(
     alloc: Global,
     version: Version,
     schema: &Schema,

@@ -317,6 +317,7 @@ fn live_words<'a>(alloc: Global) -> Result<Parser<'a>, AllocError>
         .arg(seed_word(alloc))?
         .arg(loss_word(alloc))?
         .arg(dir_word(alloc))?
+        .arg(format_word(alloc))?
         .arg(script_word(alloc))
 }
 
@@ -429,6 +430,7 @@ fn live_of<'a>(matches: &ArgMatches<'a>) -> Option<Live<'a>>
     let loss: u8 = matches.get_one("loss")?;
     let script = text_of(matches, "SCRIPT")?;
     let dir = text_of(matches, "dir");
+    let format = text_of(matches, "format");
     if nodes < 3 || nodes > 7 || loss > 100 {
         return None;
     }
@@ -437,6 +439,7 @@ fn live_of<'a>(matches: &ArgMatches<'a>) -> Option<Live<'a>>
         seed,
         loss,
         dir,
+        format,
         script,
     })
 }

@@ -1,32 +1,36 @@
 //! The command `live`.
-ghost use Rattle.std.specs.Prelude.{◌≡◌, ◌≤◌, ◌⊎◌, ℕ, List, Err, IfOk, IfErr, OnErr, OnOk, string_bytes, vec_len};
+ghost use Rattle.std.specs.Prelude.{◌≡◌, ◌≤◌, ◌⊎◌, ℕ, List, Err, IfOk, IfErr, OnErr, OnOk, vec_len};
 ghost use Rattle.std.specs.Io.KnownBytes.{Appends};
 ghost use Rattle.std.specs.declared.io.Error.{Error};
 ghost use Rattle.flight.specs.declared.flight.Version.TheVariants.{Three};
 ghost use Rattle.answertext.specs.Sinks.{AppendsBeginning};
-ghost use Rattle.shell.specs.Audit.{BeginsSaid, IsSaid, records_of};
-ghost use Rattle.shell.specs.Live.{BeginsLines, BeginsRun, EndsRun, PlaysAll, PrintsRun};
+ghost use Rattle.shell.specs.Audit.{records_of};
+ghost use Rattle.shell.specs.Live.{BeginsLines, BeginsRun, EndsRun, PlaysAll, PlaysLines, PrintsRun};
 ghost use Rattle.answertext.specs.Outlets.{IsLastError};
+ghost use Rattle.shell.specs.Showing.{BeginsVerdict, IsVerdictIn, PlaysIn, unshown};
 ghost use Rattle.shell.specs.Sim.{IsOfText};
+ghost use Rattle.shell.specs.declared.showing.Showing.{Showing as AnyShowing};
 
-use crate::audit::audit_line;
 use crate::command::Live;
 use crate::databases::databases_in_memory;
 use crate::pilot::Pilot;
+use crate::showing::{Manner, Printed, Showing};
 use crate::sim::read_text;
 use crate::stop::Stop;
+use crate::verdict::verdict_in;
 use answertext::outlet::{Outlet, tell};
 use causes::{Cause, Found, Name, Trouble};
 use durable::SqlKeeper;
 use fault::{Refusal, Text};
-use flight::flight::Version;
 use flight::life::{Ending, Life};
 use folder::{Flown, Folder, Made, make_databases};
+use forms::Look;
 use lines::line::Line;
 use live::driver::stations;
 use live::{Cluster, Config, Driver, Gate, LiveScript, Point, read_live};
 use model::member::Member;
 use network::Weather;
+use progressline::Progress;
 use script::run_fault::RunFault;
 use sqlite::{Alter, Connection};
 use std::alloc::Global;
@@ -43,53 +47,89 @@ impl Gate for OpenGate {
     fn pass(&self, _node: Member, _point: Point) {}
 }
 
-// Plays one line, and writes what it prints. The error is the outlet's, or what the play was refused by.
-fn play_line<R: Wait, P: Pilot, O: Outlet>(
+// Tells on standard error what is told beside what is printed.
+fn tell_beside<R: Eprint>(rt: &R, printed: &Printed) {
+    if !printed.beside.is_empty() {
+        let beside = printed.beside.as_str();
+        let _ = eprint!(rt; "{beside}");
+    }
+}
+
+// What a run is asked for, and the folder that was made for it.
+#[derive(Drop)]
+struct Run<'a> {
+    live: Live<'a>,
+    look: Look,
+    made: Option<Made<'a>>,
+}
+
+// Plays one line, and writes what is printed of it. What is shown of the work is taken away before anything that goes to a terminal. The error is the outlet's, or what the play was refused by.
+fn play_line<R: Eprint + Wait, P: Pilot, O: Outlet, Q: Progress>(
     rt: &R,
-    pilot: &mut P,
+    manner: Manner<'_>,
+    showing: &mut Showing<P>,
     line: &Line,
     outlet: &mut O,
+    progress: &Q,
 ) -> Result<(), RunFault>
-    ensures played { OnOk result ((text : List ℕ) × P.plays pilot.old line.now text pilot.new × Appends (O.holds outlet.old) (O.holds outlet.new) text) }
-    ensures begun { OnErr result ((outlet.new ≡ outlet.old) ⊎ ((text : List ℕ) × P.plays pilot.old line.now text pilot.new × AppendsBeginning (O.holds outlet.old) (O.holds outlet.new) text)) }
+    ensures played { OnOk result ((text : List ℕ) × PlaysIn manner.entry.look.form P.plays showing.old line.now text showing.new × Appends (O.holds outlet.old) (O.holds outlet.new) text) }
+    ensures begun { OnErr result ((outlet.new ≡ outlet.old) ⊎ ((text : List ℕ) × PlaysIn manner.entry.look.form P.plays showing.old line.now text showing.new × AppendsBeginning (O.holds outlet.old) (O.holds outlet.new) text)) }
     ensures failed { (error : Error) → result ≡ Err (RunFault.Output error) → IsLastError O.fails error outlet.new }
 {
-    let text = pilot.play(rt, line)?;
-    tell(text.as_str(), outlet)?;
+    let printed = showing.play(rt, manner, line)?;
+    if printed.is_for_terminal(manner.look) {
+        progress.hide();
+    }
+    tell_beside(rt, &printed);
+    tell(printed.text.as_str(), outlet)?;
     Ok(())
 }
 
-// Plays the lines in turn, and writes what each prints before the next one is played.
-fn play_lines<R: Wait, P: Pilot, O: Outlet>(
+// Plays the lines in turn, and writes what is printed of each before the next one is played.
+fn play_lines<R: Eprint + Wait, P: Pilot, O: Outlet, Q: Progress>(
     rt: &R,
-    pilot: &mut P,
+    manner: Manner<'_>,
+    showing: &mut Showing<P>,
     lines: &[Line],
     outlet: &mut O,
+    progress: &Q,
 ) -> Result<(), RunFault>
-    ensures played { OnOk result ((printed : List ℕ) × PlaysAll P.plays pilot.old lines.now printed pilot.new × Appends (O.holds outlet.old) (O.holds outlet.new) printed) }
-    ensures begun { OnErr result (BeginsLines P.plays lines.now pilot.old (O.holds outlet.old) (O.holds outlet.new)) }
+    ensures played { OnOk result ((printed : List ℕ) × PlaysAll (PlaysIn manner.entry.look.form P.plays) showing.old lines.now printed showing.new × Appends (O.holds outlet.old) (O.holds outlet.new) printed) }
+    ensures begun { OnErr result (BeginsLines (PlaysIn manner.entry.look.form P.plays) lines.now showing.old (O.holds outlet.old) (O.holds outlet.new)) }
     ensures failed { (error : Error) → result ≡ Err (RunFault.Output error) → IsLastError O.fails error outlet.new }
 {
+    let mut done: usize = 0;
+    progress.begin("lines", lines.len());
     for line in lines {
-        play_line(rt, pilot, line, outlet)?;
+        play_line(rt, manner, showing, line, outlet, progress)?;
+        done = done.saturating_add(1);
+        progress.tell(done);
     }
     Ok(())
 }
 
 // Plays the lines, and stops all nodes, also after a fault: nobody has a database open then.
-fn fly<R: Wait + Threads, P: Pilot, O: Outlet>(
+fn fly<R: Eprint + Wait + Threads, P: Pilot, O: Outlet, Q: Progress>(
     rt: &R,
-    alloc: Global,
-    mut pilot: P,
+    manner: Manner<'_>,
+    pilot: P,
     lines: &[Line],
     outlet: &mut O,
+    progress: &Q,
 ) -> Result<Flown, RunFault>
-    ensures flown { IfOk result (λ flown. (printed : List ℕ) × (last : P) × PlaysAll P.plays pilot lines.now printed last
-        × P.recorded last flown.lives.items flown.answers.items × Appends (O.holds outlet.old) (O.holds outlet.new) printed) }
-    ensures begun { OnErr result (BeginsLines P.plays lines.now pilot (O.holds outlet.old) (O.holds outlet.new)) }
+    ensures flown { IfOk result (λ flown. (printed : List ℕ) × (last : AnyShowing P) × PlaysLines manner.entry.look.form P.plays pilot lines.now printed last
+        × P.recorded last.pilot flown.lives.items flown.answers.items × Appends (O.holds outlet.old) (O.holds outlet.new) printed) }
+    ensures begun { OnErr result (BeginsLines (PlaysIn manner.entry.look.form P.plays) lines.now (unshown pilot) (O.holds outlet.old) (O.holds outlet.new)) }
     ensures failed { (error : Error) → result ≡ Err (RunFault.Output error) → IsLastError O.fails error outlet.new }
 {
-    let played = play_lines(rt, &mut pilot, lines, outlet);
+    let alloc = manner.alloc;
+    let mut showing = Showing::new(pilot);
+    let played = play_lines(rt, manner, &mut showing, lines, outlet, progress);
+    progress.hide();
+    let Showing {
+        pilot,
+        has_answered: _,
+    } = showing;
     let ended = pilot.end(rt, alloc);
     played?;
     Ok(ended?)
@@ -217,24 +257,28 @@ fn finish<'a, R: Files>(
     }
 }
 
-// Leaves the folder whole, where there is one, and then writes what an audit says of the run. It gives the exit status.
-fn end_run<'a, R: AllocGlobal + Files, O: Outlet>(
+// Leaves the folder whole, where there is one, and then writes the verdict on the run. It gives the exit status.
+fn end_run<'a, R, O>(
     rt: &R,
     host: &HostRuntime,
-    made: Option<Made<'a>>,
+    run: Run<'a>,
     script: &LiveScript,
     flown: Flown,
     outlet: &mut O,
 ) -> Result<u8, Stop<'a>>
-    ensures said { IfOk result (λ status. (line : List ℕ) × IsSaid (records_of Three script.now.schema flown.lives.items flown.answers.items) status line × Appends (O.holds outlet.old) (O.holds outlet.new) line) }
+where
+    R: AllocGlobal + Eprint + Files,
+    O: Outlet,
+    ensures said { IfOk result (λ status. (text : List ℕ) × IsVerdictIn run.entry.look.form (records_of Three script.now.schema flown.lives.items flown.answers.items) status text × Appends (O.holds outlet.old) (O.holds outlet.new) text) }
     ensures sent { OnOk result (O.is_sent outlet.new) }
-    ensures begun { OnErr result ((outlet.new ≡ outlet.old) ⊎ BeginsSaid (records_of Three script.now.schema flown.lives.items flown.answers.items) (O.holds outlet.old) (O.holds outlet.new)) }
+    ensures begun { OnErr result ((outlet.new ≡ outlet.old) ⊎ BeginsVerdict run.entry.look.form (records_of Three script.now.schema flown.lives.items flown.answers.items) (O.holds outlet.old) (O.holds outlet.new)) }
     ensures failed { IfErr result (λ stop. (error : Error) → stop.fault ≡ RunFault.Output error → IsLastError O.fails error outlet.new) }
 {
-    let said = audit_line(rt.alloc(), Version::Three, &script.schema, &flown);
-    finish(rt, host, made, &script.schema_text, flown)?;
-    let (status, line) = said?;
-    tell(line.as_str(), outlet)?;
+    let said = verdict_in(rt.alloc(), run.look.form, &script.schema, &flown);
+    finish(rt, host, run.made, &script.schema_text, flown)?;
+    let (status, verdict) = said?;
+    tell_beside(rt, &verdict);
+    tell(verdict.text.as_str(), outlet)?;
     Ok(status)
 }
 
@@ -245,59 +289,69 @@ fn give_up<R: Files>(rt: &R, host: &HostRuntime, made: Option<Made<'_>>) {
     }
 }
 
-// Has a pilot play the script, leaves the folder whole, where there is one, and prints what an audit says of what the
-// nodes recorded. After a fault the databases are closed, where they can be.
-fn run_by<'a, R, P, O>(
+// Has a pilot play the script, leaves the folder whole, where there is one, and prints the verdict on what the nodes
+// recorded. After a fault the databases are closed, where they can be.
+fn run_by<'a, R, P, O, Q>(
     rt: &R,
     host: &HostRuntime,
-    live: Live<'a>,
-    made: Option<Made<'a>>,
+    run: Run<'a>,
     script: &LiveScript,
     pilot: P,
     outlet: &mut O,
+    progress: &Q,
 ) -> Result<u8, Stop<'a>>
 where
     R: AllocGlobal + Files + Eprint + Wait + Threads,
     P: Pilot,
     O: Outlet,
-    ensures printed { IfOk result (λ status. PrintsRun P.plays P.recorded script.now.schema script.now.lines.items pilot status (O.holds outlet.old) (O.holds outlet.new)) }
+    Q: Progress,
+    ensures printed { IfOk result (λ status. PrintsRun run.entry.look.form P.plays P.recorded script.now.schema script.now.lines.items pilot status (O.holds outlet.old) (O.holds outlet.new)) }
     ensures sent { OnOk result (O.is_sent outlet.new) }
-    ensures begun { OnErr result (BeginsLines P.plays script.now.lines.items pilot (O.holds outlet.old) (O.holds outlet.new)
-        ⊎ BeginsRun P.plays P.recorded script.now.schema script.now.lines.items pilot (O.holds outlet.old) (O.holds outlet.new)) }
+    ensures begun { OnErr result (BeginsLines (PlaysIn run.entry.look.form P.plays) script.now.lines.items (unshown pilot) (O.holds outlet.old) (O.holds outlet.new)
+        ⊎ BeginsRun run.entry.look.form P.plays P.recorded script.now.schema script.now.lines.items pilot (O.holds outlet.old) (O.holds outlet.new)) }
     ensures failed { IfErr result (λ stop. (error : Error) → stop.fault ≡ RunFault.Output error → IsLastError O.fails error outlet.new) }
 {
-    match fly(rt, rt.alloc(), pilot, script.lines.as_slice(), outlet) {
+    let manner = Manner {
+        alloc: rt.alloc(),
+        look: run.look,
+        schema: &script.schema,
+    };
+    match fly(rt, manner, pilot, script.lines.as_slice(), outlet, progress) {
         Ok(flown) => {
-            tell_fallen(rt, live, flown.lives.as_slice());
-            end_run(rt, host, made, script, flown, outlet)
+            tell_fallen(rt, run.live, flown.lives.as_slice());
+            end_run(rt, host, run, script, flown, outlet)
         }
         Err(fault) => {
-            give_up(rt, host, made);
+            give_up(rt, host, run.made);
             Err(Stop::from(fault))
         }
     }
 }
 
-/// Reads a script to its end, plays it on nodes that run on threads of their own, and prints what its lines give and then
-/// what an audit says of the run. It gives the exit status, 0 or where the audit says no 1, or what ended the command:
+/// Reads a script to its end, plays it on nodes that run on threads of their own, and prints in this form what its lines give and then
+/// what an audit says of the run. Of CSV the answers are printed, and all else is told on standard error. How many lines are played is
+/// told to who asks for it. It gives the exit status, 0 or where the audit says no 1, or what ended the command:
 /// want of memory, the error of the outlet's last call, or a refusal, with the file that a refusal of the folder came of. 60
 /// and 10 to 18 are of the script; then 44 where the folder has a file of one of the nodes already, and 40 where there is no
 /// such folder, or a database or a flight can't be made there. After a refusal of the script nothing is printed; where the
 /// nodes do not start, the files that were made are removed. Else each database is closed in the end, also after an
 /// error of the outlet, and whole without its log. A node that went down in a step, as its store failed or memory was
 /// refused, is told on standard error.
-pub fn run_live<'a, R, I, O>(
+pub fn run_live<'a, R, I, O, Q>(
     rt: &R,
     host: &HostRuntime,
     live: Live<'a>,
+    look: Look,
     reader: &mut I,
     outlet: &mut O,
+    progress: &Q,
 ) -> Result<u8, Stop<'a>>
 where
     R: AllocGlobal + Files + Eprint + Wait + Threads + Copy + Send + Drop + 'static,
     I: io::Read,
     O: Outlet,
-    ensures said { IfOk result (λ status. IsOfText (I.remaining reader.old) (EndsRun live.entry.nodes status (O.holds outlet.old) (O.holds outlet.new))) }
+    Q: Progress,
+    ensures said { IfOk result (λ status. IsOfText (I.remaining reader.old) (EndsRun look.form live.entry.nodes status (O.holds outlet.old) (O.holds outlet.new))) }
     ensures sent { OnOk result (O.is_sent outlet.new) }
     ensures failed { IfErr result (λ stop. (error : Error) → stop.fault ≡ RunFault.Output error → IsLastError O.fails error outlet.new) }
 {
@@ -305,5 +359,6 @@ where
     let text = read_text(alloc, reader)?;
     let script = read_live(alloc, text.as_str(), live.nodes)?;
     let (made, driver) = start_somewhere(rt, host, live, &script)?;
-    run_by(rt, host, live, made, &script, driver, outlet)
+    let run = Run { live, look, made };
+    run_by(rt, host, run, &script, driver, outlet, progress)
 }

@@ -1,34 +1,36 @@
 //! Who plays a script's lines on nodes, and gives what they recorded.
-ghost use Rattle.std.specs.Prelude.{ℕ, List, ⊤, IfOk, string_bytes};
+ghost use Rattle.std.specs.Prelude.{List, ⊤, IfOk};
 ghost use Rattle.std.specs.declared.vec.Vec.{Vec as AnyVec};
 ghost use Rattle.std.specs.declared.alloc.Global.{Global as AnyGlobal};
 ghost use Rattle.flight.specs.declared.flight.Recorded.{Recorded as AnyRecorded};
 ghost use Rattle.flight.specs.declared.life.Life.{Life as AnyLife};
 ghost use Rattle.lines.specs.declared.line.Line.{Line as AnyLine};
+ghost use Rattle.live.specs.Saying.{IsSaidOf};
+ghost use Rattle.live.specs.declared.said.Said.{Said as AnySaid};
 
 use fault::Refusal;
 use flight::flight::Recorded;
 use folder::Flown;
 use lines::line::Line;
-use live::Driver;
 use live::station::Station;
+use live::{Driver, Said};
 use std::alloc::{AllocError, Global};
 use std::sync::Wait;
 use std::thread::Threads;
 
 /// Who plays a script's lines on nodes. Of a line `plays` is known only where it was played, and `recorded` of lives and
-/// answers only where the end gave them: who promises them over any pilot can't invent what was printed, nor what nodes
+/// answers only where the end gave them: who promises them over any pilot can't invent what a line says, nor what nodes
 /// recorded.
 pub trait Pilot {
-    /// The pilot before a line, the line, what it prints, and the pilot after it.
-    ghost plays: { Self → AnyLine → List ℕ → Self → Type 0 };
+    /// The pilot before a line, the line, what it says, and the pilot after it.
+    ghost plays: { Self → AnyLine → AnySaid → Self → Type 0 };
 
     /// The pilot before its end, and the lives and answers that its nodes recorded, node by node.
     ghost recorded: { Self → List (AnyVec AnyLife AnyGlobal) → List (AnyVec AnyRecorded AnyGlobal) → Type 0 };
 
-    /// Plays a line, and gives what it prints.
-    fn play<R: Wait>(&mut self, rt: &R, line: &Line) -> Result<String, Refusal>
-        ensures { IfOk result (λ text. plays self.old line.now (string_bytes text) self.new) };
+    /// Plays a line, and gives what it says.
+    fn play<R: Wait>(&mut self, rt: &R, line: &Line) -> Result<Said, Refusal>
+        ensures { IfOk result (λ said. plays self.old line.now said self.new) };
 
     /// Stops all nodes, and gives what they recorded. The error is want of memory.
     fn end<R: Wait + Threads>(self, rt: &R, alloc: Global) -> Result<Flown, AllocError>
@@ -36,11 +38,11 @@ pub trait Pilot {
 }
 
 impl Pilot for Driver {
-    ghost plays = { λ _ _ _ _. ⊤ };
+    ghost plays = { λ _ line said _. IsSaidOf line said };
 
     ghost recorded = { λ _ _ _. ⊤ };
 
-    fn play<R: Wait>(&mut self, rt: &R, line: &Line) -> Result<String, Refusal> {
+    fn play<R: Wait>(&mut self, rt: &R, line: &Line) -> Result<Said, Refusal> {
         Driver::play(self, rt, line)
     }
 

@@ -90,7 +90,7 @@ fn verdict_on(
 }
 
 // The status with which an audit ends.
-fn status_of(fault: Option<AuditFault>) -> u8
+pub(crate) fn status_of(fault: Option<AuditFault>) -> u8
     ensures { result ≡ status_of fault }
 {
     if fault.is_none() { 0 } else { 1 }

@@ -1,68 +1,112 @@
 //! The command `sim`.
-ghost use Rattle.std.specs.Prelude.{◌≡◌, ◌≢◌, ◌⊎◌, ℕ, List, string_bytes, IfSome, IfOk, IfErr, OnOk, OnErr, Err};
-ghost use Rattle.std.specs.declared.io.Error.{Error as AnyError};
-ghost use Rattle.answertext.specs.Outlets.{IsLastError};
+ghost use Rattle.std.specs.Prelude.{◌≡◌, ◌⊎◌, ◌≤◌, ℕ, List, string_bytes, IfSome, IfOk, IfErr, OnOk, OnErr, Err};
+ghost use Rattle.std.specs.declared.io.Error.{Error};
 ghost use Rattle.fault.specs.declared.refusal.Refusal.TheVariants.{NoMemory, BadScript};
 ghost use Rattle.fault.specs.declared.refusal.Refusal.{Refusal as AnyRefusal};
-ghost use Rattle.sqlchecks.specs.Columns.{Tables};
-ghost use Rattle.lines.specs.declared.line.Line.{Line};
-ghost use Rattle.shell.specs.Sim.{IsSimFault, IsOfText, PrintsScript, BeginsScript};
-ghost use Rattle.lines.specs.Script.{HasLines};
+ghost use Rattle.model.specs.Worlds.{new_world};
+ghost use Rattle.script.specs.Faults.{IsFaultOf};
+ghost use Rattle.script.specs.Stage.{IsBegun, IsPrinted};
+ghost use Rattle.shell.specs.Sim.{acts_of, EndsScript, IsBadScript, IsNoScript, IsScript, IsToldAs};
 
+use crate::source::Source;
 use answertext::outlet::Outlet;
 use fault::Refusal;
+use lines::laws::ways_apart;
+use lines::line::Line;
 use lines::script::{Script, read_script};
+use schema::Schema;
 use script::player::Player;
 use script::run_fault::RunFault;
 use std::alloc::Global;
 use std::io;
 
-/// Reads a script to its end, plays it, and prints exactly what its lines give, from the opening of its group on. It
-/// gives the exit status 0, or what ended the command: want of memory, the outlet's own last error, or a bad script or the
-/// refusal of its schema. A bad script or schema prints nothing, and the others leave a beginning of what is printed. A
-/// script that cannot be read, or is not UTF-8, is bad at line 0.
-pub fn run_sim<R: io::Read, O: Outlet>(
+/// Reads a script to its end, and plays it as `play_text` does. Where the source fails nothing is printed: want of memory is told
+/// as that, and any other of its errors as 60 at line 0.
+pub fn run_sim<S: Source, O: Outlet>(
     alloc: Global,
-    reader: &mut R,
+    source: &mut S,
     outlet: &mut O,
 ) -> Result<u8, RunFault>
-    ensures status { IfOk result (λ status. status ≡ 0) }
-    ensures script { OnOk result (IfSome (R.remaining reader.old)
-        (λ bytes. (members : ℕ) × (schema : Tables) × (lines : List Line) × HasLines bytes members schema lines)) }
-    ensures printed { OnOk result (IsOfText (R.remaining reader.old) (λ text. PrintsScript text (O.holds outlet.old) (O.holds outlet.new))) }
-    ensures begun { OnErr result ((outlet.new ≡ outlet.old) ⊎ IsOfText (R.remaining reader.old) (λ text. BeginsScript text (O.holds outlet.old) (O.holds outlet.new))) }
-    ensures err { IfErr result (IsSimFault (R.remaining reader.old)) }
-    ensures sent { OnOk result (O.is_sent outlet.new) }
-    ensures failed { IfErr result (λ fault. (error : AnyError) → fault ≡ RunFault.Output error → IsLastError O.fails error outlet.new) }
-    ensures bad { (line : ℕ) → result ≡ Err (RunFault.Refused (BadScript line)) → outlet.new ≡ outlet.old }
-    ensures refused { (refusal : AnyRefusal) → result ≡ Err (RunFault.Refused refusal) → refusal ≢ NoMemory → outlet.new ≡ outlet.old }
+    ensures { ((bytes : List ℕ) × S.gives source.old bytes source.new × EndsScript O.holds O.fails O.is_sent bytes outlet.old result outlet.new)
+        ⊎ ((error : Error) × S.fails source.old error source.new × ((refusal : AnyRefusal) × IsToldAs error refusal × (result ≡ Err (RunFault.Refused refusal))) × (outlet.new ≡ outlet.old)) }
+{
+    match source.read_all(alloc) {
+        Ok(bytes) => play_text(alloc, bytes.as_slice(), outlet),
+        Err(error) => Err(RunFault::Refused(told_as(&error))),
+    }
+}
+
+/// Plays the script whose text these bytes are, and prints exactly what its lines give, from the opening of its group on. It gives the
+/// exit status 0, or what ended it: 60 where they are no script, at line 0 where they are not UTF-8, or the refusal of the
+/// script's schema, and then nothing is printed; want of memory, or the error of the outlet's last call, and then a
+/// beginning is.
+pub fn play_text<O: Outlet>(alloc: Global, bytes: &[u8], outlet: &mut O) -> Result<u8, RunFault>
+    ensures { EndsScript O.holds O.fails O.is_sent bytes.now outlet.old result outlet.new }
 {
     // Their contracts say that all members agree about whatever happens, and that one list explains it.
     safety::agreement();
     onelist::one_list_explains();
-    let text = read_text(alloc, reader)?;
-    let script = read_script(alloc, text.as_str())?;
+    let script = script_of(alloc, bytes)?;
     let Script {
         members,
         schema,
         lines,
     } = script;
-    let mut player = Player::new(alloc, members, schema)?;
-    player.play_all(&lines, outlet)?;
-    outlet.send()?;
+    play_lines(alloc, members, schema, lines.as_slice(), outlet)?;
     Ok(0)
 }
 
-// All that the reader has left, as text: what cannot be read, or is no text, is a bad script at
-// line 0.
+// The script whose text these bytes are.
+fn script_of(alloc: Global, bytes: &[u8]) -> Result<Script, Refusal>
+    ensures script { IfOk result (λ script. IsScript bytes.now script.members script.schema script.lines.items) }
+    ensures err { IfErr result (λ refusal. (refusal ≡ NoMemory) ⊎ (IsNoScript bytes.now × IsBadScript bytes.now refusal)) }
+{
+    // Its contract says that no script is bad at a line, or has a schema that is refused.
+    ways_apart();
+    match str::from_utf8(bytes) {
+        Ok(text) => read_script(alloc, text),
+        Err(_) => Err(Refusal::BadScript(0)),
+    }
+}
+
+// Plays the lines of a script from the opening of its group on, and prints exactly what they give.
+fn play_lines<O: Outlet>(
+    alloc: Global,
+    members: usize,
+    schema: Schema,
+    lines: &[Line],
+    outlet: &mut O,
+) -> Result<(), RunFault>
+    requires least { 3 ≤ members }
+    requires most { members ≤ 7 }
+    ensures printed { OnOk result (IsPrinted schema members (new_world members) (acts_of members schema lines.now) (O.holds outlet.old) (O.holds outlet.new)) }
+    ensures sent { OnOk result (O.is_sent outlet.new) }
+    ensures begun { OnErr result (IsBegun schema members (new_world members) (acts_of members schema lines.now) (O.holds outlet.old) (O.holds outlet.new)) }
+    ensures whose { IfErr result (IsFaultOf O.fails outlet.new) }
+{
+    let mut player = Player::new(alloc, members, schema)?;
+    player.play_all(lines, outlet)?;
+    outlet.send()?;
+    Ok(())
+}
+
+// What the error of a source is told as.
+fn told_as(error: &io::Error) -> Refusal
+    ensures { IsToldAs error.now result }
+{
+    match error.kind() {
+        io::ErrorKind::OutOfMemory => Refusal::NoMemory,
+        _ => Refusal::BadScript(0),
+    }
+}
+
+// All that the reader has left, as text: what cannot be read, or is no text, is a bad script at line 0.
 pub(crate) fn read_text<R: io::Read>(alloc: Global, reader: &mut R) -> Result<String, Refusal>
     ensures text { IfOk result (λ text. IfSome (R.remaining reader.old) (λ bytes. string_bytes text ≡ bytes)) }
     ensures err { IfErr result (λ refusal. (refusal ≡ NoMemory) ⊎ (refusal ≡ BadScript 0)) }
 {
-    let mut bytes = Vec::new(alloc);
-    match reader.read_to_end(&mut bytes) {
-        Ok(_) => String::from_utf8(bytes).map_err(|_| Refusal::BadScript(0)),
-        Err(error) if error.kind() == io::ErrorKind::OutOfMemory => Err(Refusal::NoMemory),
-        Err(_) => Err(Refusal::BadScript(0)),
+    match reader.read_all(alloc) {
+        Ok(bytes) => String::from_utf8(bytes).map_err(|_| Refusal::BadScript(0)),
+        Err(error) => Err(told_as(&error)),
     }
 }

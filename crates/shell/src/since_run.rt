@@ -1,14 +1,18 @@
 //! The command `audit` with a line that was kept of an earlier one.
-ghost use Rattle.std.specs.Prelude.{◌≡◌, ◌++◌, string_bytes, Err, IfOk, OnOk};
+ghost use Rattle.std.specs.Prelude.{◌≡◌, ◌++◌, ◌⊎◌, ℕ, List, map, string_bytes, Err, IfOk, IfErr, OnErr, OnOk};
+ghost use Rattle.std.specs.Io.KnownBytes.{Appends};
 ghost use Rattle.std.specs.declared.io.Error.{Error};
 ghost use Rattle.answertext.specs.Outlets.{IsLastError};
-ghost use Rattle.shell.specs.Since.{status_with};
+ghost use Rattle.fault.specs.declared.refusal.Refusal.TheVariants.{NoMemory, BadFlight};
+ghost use Rattle.fault.specs.declared.refusal.Refusal.{Refusal as AnyRefusal};
+ghost use Rattle.shell.specs.Group.{IsNoGroup};
+ghost use Rattle.shell.specs.Since.{BeginsSince, IsSince, status_with};
 
 use crate::audit::audit_line;
 use crate::group::{read_group, run_of};
 use answertext::outlet::{Outlet, tell};
 use beginnings::Beginning;
-use beginnings::words::{Told, told_of};
+use beginnings::words::told_of;
 use fault::Refusal;
 use script::run_fault::RunFault;
 use std::alloc::{AllocError, Global};
@@ -30,16 +34,16 @@ fn joined(alloc: Global, line: &str, words: &str) -> Result<String, AllocError>
 }
 
 // The exit status of an audit of the flights in these texts beside what was kept of them, and what is printed of it.
-fn judge(alloc: Global, seen: &[Beginning], texts: &[String]) -> Result<(u8, String), Refusal> {
+fn judge(alloc: Global, seen: &[Beginning], texts: &[String]) -> Result<(u8, String), Refusal>
+    ensures ok { IfOk result (λ said. IsSince (map string_bytes texts.now) seen.now said.0 (string_bytes said.1)) }
+    ensures err { IfErr result (λ refusal. (refusal ≡ NoMemory) ⊎ ((refusal ≡ BadFlight) × IsNoGroup (map string_bytes texts.now))) }
+{
     let (version, schema, flights) = read_group(alloc, texts)?;
-    let Told {
-        is_beginning,
-        words,
-    } = told_of(alloc, flights.as_slice(), seen)?;
+    let told = told_of(alloc, flights.as_slice(), seen)?;
     let flown = run_of(alloc, flights)?;
     let (verdict, line) = audit_line(alloc, version, &schema, &flown)?;
-    let text = joined(alloc, line.as_str(), words.as_str())?;
-    Ok((status_with(verdict, is_beginning), text))
+    let text = joined(alloc, line.as_str(), told.words.as_str())?;
+    Ok((status_with(verdict, told.is_beginning), text))
 }
 
 /// Judges the flights in these texts as `run_audit` does, and prints, behind the line of the verdict, whether they begin as was kept of
@@ -53,7 +57,10 @@ pub fn run_since<O: Outlet>(
     texts: &[String],
     outlet: &mut O,
 ) -> Result<u8, RunFault>
+    ensures said { IfOk result (λ status. (text : List ℕ) × IsSince (map string_bytes texts.now) seen.now status text × Appends (O.holds outlet.old) (O.holds outlet.new) text) }
     ensures sent { OnOk result (O.is_sent outlet.new) }
+    ensures begun { OnErr result ((outlet.new ≡ outlet.old) ⊎ BeginsSince (map string_bytes texts.now) seen.now (O.holds outlet.old) (O.holds outlet.new)) }
+    ensures refused { (refusal : AnyRefusal) → result ≡ Err (RunFault.Refused refusal) → ((refusal ≡ NoMemory) ⊎ ((refusal ≡ BadFlight) × IsNoGroup (map string_bytes texts.now))) × (outlet.new ≡ outlet.old) }
     ensures failed { (error : Error) → result ≡ Err (RunFault.Output error) → IsLastError O.fails error outlet.new }
 {
     let (status, text) = judge(alloc, seen, texts)?;

@@ -1,2 +1,3 @@
+pub mod Imports
 pub mod Questions
 pub mod Told

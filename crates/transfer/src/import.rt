@@ -1,7 +1,11 @@
 //! Rows of a CSV file into a store.
+ghost use Rattle.std.specs.Prelude.{◌≡◌, ◌≢◌, ◌<◌, ◌⊎◌, ℕ, false, IsTrue, IsFalse, IfOk, OnOk, OnErr};
+ghost use Rattle.transfer.specs.Imports.{IsCounted, IsDone, IsFar, IsImported, IsStopped, rows_in};
+
 use crate::asked::Import;
 use crate::printing::print;
 use crate::stop::Fault;
+use crate::taking::Takes;
 use crate::told::{count_text, fault_text, outcome_text};
 use csvrows::{Request, Stop, read_requests};
 use fault::Refusal;
@@ -10,8 +14,7 @@ use schema::Schema;
 use sqlchecks::column::find_table;
 use std::alloc::Global;
 use std::fs;
-use store::announcing::Announces;
-use store::{Outcome, Store};
+use store::Outcome;
 
 // The line of this number, where the first is 1.
 fn line_at(bytes: &[u8], number: usize) -> &[u8] {
@@ -50,7 +53,9 @@ pub(crate) fn read_rows(
 }
 
 // How many rows requests have.
-fn rows_of(requests: &[Request]) -> usize {
+fn rows_of(requests: &[Request]) -> usize
+    ensures { result ≡ rows_in requests.now }
+{
     let mut rows: usize = 0;
     for request in requests {
         rows = rows.saturating_add(request.rows);
@@ -66,30 +71,59 @@ struct Came {
     is_whole: bool,
 }
 
+fn is_accepted(outcome: &Outcome) -> bool
+    ensures yes { IsTrue result → (stamp : ℕ) × (outcome.now ≡ Outcome.Accepted stamp) }
+    ensures no { IsFalse result → (stamp : ℕ) → outcome.now ≢ Outcome.Accepted stamp }
+{
+    matches!(outcome, Outcome::Accepted(_))
+}
+
+// Hands in a request, and tells what comes of it: whether it is accepted, and is counted then.
+fn store_one<T: Takes, Q: Progress>(
+    rt: &HostRuntime,
+    import: Import<'_>,
+    request: &Request,
+    reading: i64,
+    store: &mut T,
+    came: &mut Came,
+    progress: &Q,
+) -> Result<bool, Fault>
+    requires { came.old.requests < usize.MAX }
+    ensures accepted { IfOk result (λ is_accepted. IsTrue is_accepted → IsCounted T.takes store.old request.now came.old came.new store.new) }
+    ensures stopped { IfOk result (λ is_accepted. IsFalse is_accepted → (came.new ≡ came.old) × IsStopped T.takes store.old request.now store.new) }
+    ensures failed { OnErr result ((came.new ≡ came.old) ⊎ IsCounted T.takes store.old request.now came.old came.new store.new) }
+{
+    let alloc: Global = rt.alloc();
+    let outcome = store.take(reading, request.text.as_str())?;
+    let text = outcome_text(alloc, import, request, &outcome)?;
+    let is_accepted = is_accepted(&outcome);
+    if is_accepted {
+        came.rows = came.rows.saturating_add(request.rows);
+        came.requests += 1;
+    }
+    progress.hide();
+    print(rt, text.as_str())?;
+    Ok(is_accepted)
+}
+
 // Hands in requests, each when the one before it is accepted, and tells what comes of each.
-fn store_all<K: Announces, Q: Progress>(
+fn store_all<T: Takes, Q: Progress>(
     rt: &HostRuntime,
     import: Import<'_>,
     requests: &[Request],
     reading: i64,
-    store: &mut Store<K>,
+    store: &mut T,
     came: &mut Came,
     progress: &Q,
 ) -> Result<(), Fault>
-where
-    K::Image: Drop,
+    requires { (came.old.rows ≡ 0) × (came.old.requests ≡ 0) × (came.old.is_whole ≡ false) }
+    ensures far { (mid : T) × IsFar T.takes store.old requests.now came.new mid }
+    ensures done { OnOk result (IsDone T.takes store.old requests.now came.new store.new) }
 {
-    let alloc: Global = rt.alloc();
     for request in requests {
-        let (_, outcome) = store.execute(reading, request.text.as_str())?;
-        let text = outcome_text(alloc, import, request, &outcome)?;
-        progress.hide();
-        if !matches!(outcome, Outcome::Accepted(_)) {
-            return print(rt, text.as_str());
+        if !store_one(rt, import, request, reading, store, came, progress)? {
+            return Ok(());
         }
-        came.rows = came.rows.saturating_add(request.rows);
-        came.requests = came.requests.saturating_add(1);
-        print(rt, text.as_str())?;
         progress.tell(came.rows);
     }
     came.is_whole = true;
@@ -98,17 +132,16 @@ where
 
 /// Stores the rows of a file, request by request up to one that is not accepted, and tells how many were stored. The exit status is 1
 /// where not all were.
-pub(crate) fn import_rows<K: Announces, Q: Progress>(
+pub(crate) fn import_rows<T: Takes, Q: Progress>(
     rt: &HostRuntime,
     alloc: Global,
     import: Import<'_>,
     requests: &[Request],
     reading: i64,
-    store: &mut Store<K>,
+    store: &mut T,
     progress: &Q,
 ) -> Result<u8, Fault>
-where
-    K::Image: Drop,
+    ensures { IfOk result (λ status. IsImported T.takes store.old requests.now status store.new) }
 {
     let mut came = Came {
         rows: 0,

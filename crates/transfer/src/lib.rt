@@ -7,6 +7,7 @@ mod import;
 mod printing;
 mod questions;
 mod stop;
+mod taking;
 mod told;
 
 pub use asked::{Export, Import, Order, Versions, Work, look_at, work_on};

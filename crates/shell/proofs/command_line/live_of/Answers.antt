@@ -40,5 +40,6 @@ returns-clause-some c = record {
   loss = number_given _ (λ bs r. ParsesUnsigned 8 10 bs r × ExplainsUnsignedError 10 bs r × HasUnsignedDigitsIfOk bs r) 8 (λ t r g. g.0) (found_of c.args.matches.now) (codes "loss") c.in_ok-loss.loss
       c.in_ok-loss.ensures.none c.in_ok-loss.ensures.value;
   dir = c.text_of-dir.ensures;
+  format = c.text_of-format.ensures;
   script = c.in_ok-script.ensures;
 }

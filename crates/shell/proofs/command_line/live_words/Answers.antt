@@ -13,4 +13,5 @@ returns c =
     let seed = with_arg _ _ _ _ _ c.in_ok-arg-2.ensures nodes c.seed_word.ensures in
     let loss = with_arg _ _ _ _ _ c.in_ok-arg-3.ensures seed c.loss_word.ensures in
     let dir = with_arg _ _ _ _ _ c.in_ok-arg-4.ensures loss c.dir_word.ensures in
-    IfOk-weaker c.arg-5.result _ _ (λ r added. with_arg _ _ _ _ _ added dir c.script_word.ensures) c.arg-5.ensures
+    let format = with_arg _ _ _ _ _ c.in_ok-arg-5.ensures dir c.format_word.ensures in
+    IfOk-weaker c.arg-6.result _ _ (λ r added. with_arg _ _ _ _ _ added format c.script_word.ensures) c.arg-6.ensures
