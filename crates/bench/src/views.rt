@@ -19,8 +19,11 @@ use view::{Item, Name, Publisher, View};
 // How many rows are published before anything is measured.
 const FIRST: u32 = 1_000;
 
-// How many updates are then published, one by one, while views are asked.
+// How many updates are then published while views are asked.
 const MORE: u32 = 100_000;
+
+// How many of them are published at once.
+const AT_ONCE: [usize; 3] = [1, 16, 256];
 
 // For how many milliseconds views are asked before anything is counted, and while nothing is published.
 const READY: u64 = 200;
@@ -56,15 +59,35 @@ pub(crate) fn tell<R: Print + Clock + Wait + Threads + Sync>(
     schema: &Schema,
 ) -> Result<()> {
     println!(rt; "each in a second, all views together, each on a thread of its own")?;
-    println!(rt; " views   questions   while one publishes   published")?;
-    for views in [0, 1, 8] {
-        let quiet = measure(rt, alloc, schema, views, 0)?;
-        let busy = measure(rt, alloc, schema, views, MORE)?;
+    println!(rt; " views   questions   while one publishes   published   16 at once  256 at once")?;
+    for views in [0, 1, 2, 4, 8] {
+        let quiet = measure(rt, alloc, schema, views, 0, 1)?;
         let asked = quiet.rate(quiet.answers);
-        let meanwhile = busy.rate(busy.answers);
-        let published = busy.rate(MORE.into());
-        println!(rt; "{views:>6}{asked:>12}{meanwhile:>22}{published:>12}")?;
+        print!(rt; "{views:>6}{asked:>12}")?;
+        tell_published(rt, alloc, schema, views)?;
     }
+    Ok(())
+}
+
+// Prints how many questions so many views answer while one publishes updates one by one, and how many updates are published,
+// one by one and more of them at once.
+fn tell_published<R: Print + Clock + Wait + Threads + Sync>(
+    rt: &R,
+    alloc: Global,
+    schema: &Schema,
+    views: usize,
+) -> Result<()> {
+    for at_once in AT_ONCE {
+        let busy = measure(rt, alloc, schema, views, MORE, at_once)?;
+        let published = busy.rate(MORE.into());
+        if at_once == 1 {
+            let meanwhile = busy.rate(busy.answers);
+            print!(rt; "{meanwhile:>22}{published:>12}")?;
+        } else {
+            print!(rt; "{published:>13}")?;
+        }
+    }
+    println!(rt; "")?;
     Ok(())
 }
 
@@ -75,26 +98,28 @@ impl Figures {
     }
 }
 
-// Publishes so many updates while so many views are asked.
+// Publishes so many updates, some at once, while so many views are asked.
 fn measure<R: Clock + Wait + Threads + Sync>(
     rt: &R,
     alloc: Global,
     schema: &Schema,
     views: usize,
     more: u32,
+    at_once: usize,
 ) -> Result<Figures> {
     let query = read_query(alloc, schema, "SELECT * FROM Dept WHERE DNo = 999;")?;
     let items = items(alloc, FIRST, more)?;
     let mut publisher = open(rt, alloc, schema)?;
     let readers = take_readers(alloc, &mut publisher, views)?;
-    write_and_ask(rt, publisher, items, readers, &query)
+    write_and_ask(rt, publisher, items, at_once, readers, &query)
 }
 
-// Publishes these items while the views are asked.
+// Publishes these items, so many at once, while the views are asked.
 fn write_and_ask<R: Clock + Wait + Threads + Sync>(
     rt: &R,
     publisher: Publisher,
     items: Vec<Item>,
+    at_once: usize,
     readers: Vec<Reader>,
     query: &Query,
 ) -> Result<Figures> {
@@ -104,7 +129,7 @@ fn write_and_ask<R: Clock + Wait + Threads + Sync>(
     };
     let ((publisher, nanos), readers) = thread::join(
         rt,
-        || write_all(rt, publisher, items, &stage),
+        || write_all(rt, publisher, items, at_once, &stage),
         || ask_all(rt, readers, query, &stage),
     );
     publisher.stop(rt);
@@ -196,34 +221,42 @@ fn take_readers(alloc: Global, publisher: &mut Publisher, count: usize) -> Resul
     Ok(readers)
 }
 
-// Publishes these items once the views are being asked.
+// Publishes these items, so many at once, when the views are being asked.
 fn write_all<R: Clock + Wait>(
     rt: &R,
     mut publisher: Publisher,
     items: Vec<Item>,
+    at_once: usize,
     stage: &Stage,
 ) -> (Publisher, Result<u128>) {
     thread::sleep(rt, Duration::from_millis(READY));
     stage.is_begun.store(true, Ordering::SeqCst);
-    let nanos = publish_all(rt, &mut publisher, items);
+    let nanos = publish_all(rt, &mut publisher, items, at_once);
     stage.is_done.store(true, Ordering::SeqCst);
     (publisher, nanos)
 }
 
-// The nanoseconds of publishing these items one by one, or of some time where there are none.
+// The nanoseconds of publishing these items, so many at once, or of some time where there are none.
 fn publish_all<R: Clock + Wait>(
     rt: &R,
     publisher: &mut Publisher,
     items: Vec<Item>,
+    at_once: usize,
 ) -> Result<u128> {
     let start = Instant::now(rt)?;
     if items.is_empty() {
         thread::sleep(rt, Duration::from_millis(QUIET));
     }
+    let mut pending = 0usize;
     for item in items {
         add(publisher, item)?;
-        publisher.publish(rt)?;
+        pending = pending.saturating_add(1);
+        if pending >= at_once {
+            publisher.publish(rt)?;
+            pending = 0;
+        }
     }
+    publisher.publish(rt)?;
     Ok(start.elapsed(rt)?.as_nanos())
 }
 

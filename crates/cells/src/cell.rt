@@ -44,7 +44,7 @@ pub struct Out {
 /// the first of those before the torn step. All this holds while its store is
 /// honest. The store never holds anything but what was stored before the last step or after it.
 ///
-/// End it by `stop`; one that is dropped keeps the memory of what it published.
+/// End it by `stop`; views of one that is dropped still answer.
 #[derive(Drop)]
 pub struct Cell<K: Keeper> {
     alloc: Global,
@@ -143,8 +143,8 @@ impl<K: Keeper> Cell<K> {
     /// the last mark and the packet's, with the reading that the packet bears or, where it bears none, this one, which the
     /// node's clock shows, and with what it told of requests. A refused step and one without effect are recorded
     /// too. Then the entries that
-    /// became applied are published, and what became sealed, for which it may wait for a view that reads; where there is no memory to publish
-    /// them they stay pending, and a later step publishes them.
+    /// became applied are published, and what became sealed; where there is no memory to publish them they stay pending, and a later
+    /// step publishes them. It waits for no view.
     ///
     /// 41 where the node is down; 42 where the life has its last step or no mark is left; 43 where there is no
     /// memory to record the step: these record and change nothing. A step that goes down is recorded as torn, and so is
@@ -216,8 +216,8 @@ impl<K: Keeper> Cell<K> {
         self.publisher.told()
     }
 
-    /// A view of this life that has seen what is published. 45 once eight were taken, of which none comes back, or where
-    /// there is no reader; 43 for want of memory. A refusal changes nothing.
+    /// A view of this life that has seen what is published. 45 once eight were taken, of which none comes back; 43 for want
+    /// of memory. A refusal changes nothing.
     pub fn take_view(&mut self) -> Result<View, Refusal>
         ensures same { (self.new.node ≡ self.old.node) × (self.new.life ≡ self.old.life) }
         ensures publisher { IsSameLife self.old.publisher self.new.publisher × (published self.new.publisher ≡ published self.old.publisher) × (pending self.new.publisher ≡ pending self.old.publisher) }
@@ -231,8 +231,7 @@ impl<K: Keeper> Cell<K> {
     }
 
     /// Gives the store and the life back as they are, the life not marked as stopped: the store holds what the life replays to or, after a torn step, what was
-    /// stored before that step or after it. It may wait for a view that reads; from then on views are refused 45.
-    /// Takes no memory.
+    /// stored before that step or after it. From then on views are refused 45. Takes no memory.
     pub fn leave<R: Wait>(self, rt: &R) -> (K::Image, Life)
         ensures life { result.1 ≡ self.life }
         ensures suits { K.suits result.0 (members_of self.node) (schema_of (tables_of self.node)) }
@@ -250,8 +249,7 @@ impl<K: Keeper> Cell<K> {
     }
 
     /// Ends the life, and gives the store back: it holds what the life replays to or, after a torn
-    /// step, what was stored before that step or after it. It may wait for a view that reads; from then on views are
-    /// refused 45. Takes no memory.
+    /// step, what was stored before that step or after it. From then on views are refused 45. Takes no memory.
     pub fn stop<R: Wait>(self, rt: &R) -> (K::Image, Life)
         ensures life { IsLifeWith self.life result.1 [] (ending_of self.node.is_up self.life.ending) }
         ensures suits { K.suits result.0 (members_of self.node) (schema_of (tables_of self.node)) }

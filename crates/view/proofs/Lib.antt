@@ -1,4 +1,5 @@
-pub mod Turns
+pub mod Counting
+pub mod Placing
 pub mod Taking
 pub mod Parts
 pub mod Seeing

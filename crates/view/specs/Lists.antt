@@ -1,23 +1,24 @@
--- What is published, pending and taken by the writer.
-use Rattle.std.specs.Prelude.{◌≡◌, ℕ, ◌+◌, ◌≤◌, List, [], ◌∷◌, ◌++◌, take, length}
+-- What stands in the list that a life shares with its views.
+use Rattle.std.specs.Prelude.{◌≡◌, ℕ, ◌+◌, ◌≤◌, List, ◌∷◌, [], ◌++◌, Some, take, length, slice_get}
+use Rattle.atomic_table.specs.declared.shared.Seat.{Seat}
+use Rattle.boxcar.specs.Table.{Shelves, Where, Shows}
+use Rattle.history.specs.declared.front.Front.{Front}
 use Rattle.history.specs.declared.item.Item.{Item}
-use Rattle.logbook.specs.Pages.{Book}
 use Rattle.view.specs.declared.published.Published.{Published}
-use Rattle.view.specs.declared.published.More.{More}
 use Rattle.view.specs.declared.published.Shown.{Shown}
 
--- what the two copies have in common
-abbrev pub shown_of : Published → Shown
-shown_of p = record { items = p.items.items; front = p.front }
+-- the seat is the one that sets the count
+abbrev pub IsCounter : Published → Seat (Unit {0}) ℕ → Type 0
+IsCounter p seat = (seat.table_id ≡ p.count.shared.table_id) × (seat.id ≡ 0)
 
--- one more item
-abbrev pub applied : Shown → More → Shown
-applied s more = record { items = s.items ++ more.item ∷ []; front = more.front }
+-- each of the first items stands in the list, at its index
+abbrev pub ArePlaced : Shelves → List Item → List (Where Shown) → Type 0
+ArePlaced list items places = (k : ℕ) (p : Where Shown) → slice_get places k ≡ Some p → Shows list p × (p.index ≡ k) × (slice_get items k ≡ Some p.value.item)
 
--- the list has the first n of the items, of which the front tells
-abbrev pub IsAt : Shown → List Item → Book → ℕ → Type 0
-IsAt s items book n = (s.items ≡ take n items) × (s.front.seen.log ≡ take n items) × (s.front.seen.book ≡ book) × (n ≤ length items)
-
--- the history has the first `count` of the items: those that the writer took, and at most one more
+-- the history has the first `count` of the items: those that are placed, and at most one more
 abbrev pub IsGrown : ℕ → List Item → ℕ → List Item → Type 0
-IsGrown queued items count log = (log ≡ take count items) × (queued ≤ count) × (count ≤ queued + 1) × (count ≤ length items)
+IsGrown placed items count log = (log ≡ take count items) × (placed ≤ count) × (count ≤ placed + 1) × (count ≤ length items)
+
+-- what is shown tells of the front's list with one item more
+abbrev pub IsNext : Front → Shown → Type 0
+IsNext front s = (s.front.seen.book ≡ front.seen.book) × (s.front.seen.log ≡ front.seen.log ++ s.item ∷ [])

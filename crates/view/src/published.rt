@@ -1,52 +1,70 @@
-//! The value that the writer shows to readers.
-ghost use Rattle.std.specs.Prelude.{◌≡◌, [], ◌∷◌, ◌++◌};
+//! What a life shares with its views.
+ghost use Rattle.std.specs.Prelude.{◌≡◌, IfOk};
+ghost use Rattle.view.specs.Rules.{named_book};
 
+use crate::rule::{Counted, Listed, Named, Sets};
+use atomic_table::Seat;
+use boxcar::table::{Placed, Table};
+use boxcar::tag::Tag;
 use history::{Front, Item};
-use left_right::Absorb;
-use std::alloc::AllocError;
-use std::collections::LinkedList;
+use std::alloc::{AllocError, Global};
 
-/// A list of items, with the token that the history begins with it.
+/// An item, with the token that the history begins with the list which it ends.
 #[derive(Drop)]
-pub struct Published {
-    pub items: Vec<Item>,
-    pub front: Front,
-}
-
-/// One more item, with the token for the list that it makes.
-#[derive(Drop)]
-pub struct More {
+pub struct Shown {
     pub item: Item,
     pub front: Front,
 }
 
-/// What the two copies of a published list have in common. No value of it is made.
-pub struct Shown {
-    pub items: LinkedList<Item>,
-    pub front: Front,
+/// What shows that an item stands in the list.
+pub type Place = Placed<Shown, Listed, Global>;
+
+/// The right to set the count.
+pub type Counter = Seat<(), u64>;
+
+// What the count is once the life has ended.
+const ENDED: u64 = u64::MAX;
+
+/// The items of a life, and how many of them are published. An item keeps its place for good, so that nobody who reads or
+/// publishes waits for another.
+#[derive(Drop)]
+pub struct Published {
+    pub list: Table<Shown, Listed, Global>,
+    pub count: atomic_table::Table<(), u64, (), Counted, Global>,
+    ghost one_word: { count.shared.table_id.words ≡ 1 },
 }
 
-impl Absorb<More> for Published {
-    type State = Shown;
+impl Published {
+    ghost use Rattle.view.specs.Lists.{IsCounter};
 
-    ghost state = { λ p. record { items = p.items.items; front = p.front } };
-
-    ghost applied = { λ s more. record { items = s.items ++ more.item ∷ []; front = more.front } };
-
-    fn absorb_first(&mut self, more: &More, _other: &Published) -> Result<(), AllocError> {
-        let item = more.item.clone()?;
-        self.items.push(item)?;
-        self.front = more.front.again();
-        Ok(())
+    /// No items, of the history that the token is of. The error is want of memory.
+    pub fn new(alloc: Global, front: &Front) -> Result<(Published, Counter), AllocError>
+        ensures book { IfOk result (λ p. named_book p.0.list.tag ≡ front.now.seen.book) }
+        ensures counter { IfOk result (λ p. IsCounter p.0 p.1 × (p.1.me.0 ≡ 0)) }
+    {
+        let list = Table::new(alloc, Tag::of::<Front, Named>(front))?;
+        let (count, counter) = atomic_table::Table::of_words(alloc, &[0], &())?;
+        Ok((Published { list, count }, counter))
     }
 
-    fn absorb_second(&mut self, more: More, _other: &Published) -> Result<(), More> {
-        if self.items.reserve(1).is_err() {
-            return Err(more);
-        }
-        let More { item, front } = more;
-        self.items.push_reserved(item);
-        self.front = front;
-        Ok(())
+    /// How many items are published; none once the life has ended.
+    pub fn counted(&self) -> Option<u64> {
+        let count = self.count.shared.peek(0);
+        if count == ENDED { None } else { Some(count) }
+    }
+
+    /// Publishes the first items, so many of them.
+    pub fn set(&self, counter: &mut Counter, count: u64)
+        requires { IsCounter self.now counter.old }
+        ensures { IsCounter self.now counter.new × (counter.new.me.0 ≡ count) }
+    {
+        self.count.shared.store::<Sets>(counter, 0, count);
+    }
+
+    /// Tells that the life has ended.
+    pub fn end(&self, mut counter: Counter)
+        requires { IsCounter self.now counter }
+    {
+        self.set(&mut counter, ENDED);
     }
 }

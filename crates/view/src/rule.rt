@@ -1,40 +1,38 @@
-//! The rule of the published list, and what its two kinds of atomic step tell: to publish, at the publisher's seat, and
-//! to enter, at a view's own.
-ghost use Rattle.std.specs.Prelude.{None};
-ghost use Rattle.view.specs.Rules.{Keeps, Shows};
+//! The rules of what a life shares with its views: of the list of its items, and of the count of those that are published.
+ghost use Rattle.view.specs.Rules.{numbers_of, IsListed, IsCounted, sets};
 
-use crate::published::Published;
-use atomic_table::{Join, Split};
-use crossbeam_utils::rule::{Outcome, Protocol};
+use crate::published::Shown;
+use atomic_table::{Play, TableRule};
+use boxcar::Keeps;
+use boxcar::tag::Names;
 use history::Front;
 
-/// What a seat knows is the list that it published or saw last, if any. The published list begins with each of these.
-pub struct Grows;
+/// How a list is named after the history of its items.
+pub struct Named;
 
-impl Protocol<Published, Option<Front>> for Grows {
-    ghost holds = { Keeps };
-
-    ghost first = { None };
+impl Names<Front> for Named {
+    ghost numbers = { λ front. numbers_of front.seen.book };
 }
 
-/// A step by which a seat comes to know the list that is published after it.
-pub struct Sees;
+/// Each item stands at its number in the history, with the token for the list that ends with it.
+pub struct Listed;
 
-impl Outcome<Published, Option<Front>> for Sees {
-    ghost then = { Shows };
+impl Keeps<Shown> for Listed {
+    ghost holds = { IsListed };
 }
 
-/// What the publisher knows is told to a new view.
-pub struct Notes;
+/// The publisher, whose seat is the first one, knows the count.
+pub struct Counted;
 
-impl Split<Option<Front>> for Notes {
-    ghost left = { λ v. v };
+impl TableRule<(), u64, ()> for Counted {
+    ghost holds = { λ _. IsCounted };
 
-    ghost right = { λ v. v };
+    ghost first = { λ _. 0 };
 }
 
-impl Join<Option<Front>> for Notes {
-    ghost both = { λ _ w. w };
+/// The step by which the publisher sets the count.
+pub struct Sets;
 
-    ghost spent = { None };
+impl Play<(), u64> for Sets {
+    ghost then = { sets };
 }

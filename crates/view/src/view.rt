@@ -1,25 +1,24 @@
 //! A view of a life, from its caller's own thread.
-ghost use Rattle.std.specs.Prelude.{◌≡◌, ◌≢◌, ◌⊎◌, take, Some, false, OnOk, IfOk, IfErr, MatchResult};
+ghost use Rattle.std.specs.Prelude.{◌≡◌, ◌≢◌, ◌⊎◌, false, OnOk, IfOk, IfErr, MatchResult};
+ghost use Rattle.std.specs.Arc.{arc_value};
 ghost use mathlib.Core.List.{IsPrefix};
-ghost use Rattle.left_right.specs.Sides.{view};
 ghost use Rattle.fault.specs.declared.refusal.Refusal.TheVariants.{NoMemory, NoView};
 ghost use Rattle.sqlread.specs.Meaning.{schema_of};
 ghost use Rattle.sqlread.specs.Shapes.{query_of};
 ghost use Rattle.answer.specs.Answers.{columns_in};
 ghost use Rattle.apply.specs.View.{is_failed};
 ghost use Rattle.history.specs.Items.{Rises, last_mark};
+ghost use Rattle.view.specs.Rules.{named_book};
 
 use crate::published::Published;
 use crate::replay::{Replay, Reply};
-use crate::rule::{Grows, Sees};
 use crate::told::{Name, Told};
 use answer::Answer;
-use core::mem::replace_with;
 use fault::Refusal;
 use history::Front;
-use left_right::reader::Reader;
 use model::mark::Mark;
 use sqlread::query::Query;
+use std::sync::Arc;
 
 /// An answer, and the mark by which it is known how much was seen.
 #[derive(Debug, Drop)]
@@ -34,11 +33,11 @@ pub struct Marked {
 #[derive(Drop)]
 pub struct View {
     name: Name,
-    reader: Reader<Published, Option<Front>, Grows>,
+    published: Arc<Published>,
     replay: Replay,
     /// Of the list that is seen.
     front: Front,
-    ghost known: { view reader.place ≡ Some replay.front },
+    ghost named: { named_book (arc_value published).list.tag ≡ front.seen.book },
     ghost one_life: { replay.front.seen.book ≡ front.seen.book },
 }
 
@@ -46,19 +45,15 @@ impl View {
     ghost use Rattle.view.specs.Viewing.{seen_by, name_seen, schema_seen, book_seen, IsSameView, name_told, list_told, IsOwn, RestsOn, answer_in, Answers};
     ghost use Rattle.view.specs.declared.told.Told.{Told};
 
-    /// A view that has seen what was read last.
-    pub(crate) fn of(
-        name: Name,
-        reader: Reader<Published, Option<Front>, Grows>,
-        replay: Replay,
-    ) -> View
-        requires { view reader.place ≡ Some replay.front }
-        ensures { (result.name ≡ name) × (result.replay ≡ replay) × (result.front ≡ replay.front) }
+    /// A view that has seen the list that the token tells of.
+    pub(crate) fn of(name: Name, published: Arc<Published>, replay: Replay, front: Front) -> View
+        requires named { named_book (arc_value published).list.tag ≡ front.seen.book }
+        requires one_life { replay.front.seen.book ≡ front.seen.book }
+        ensures { (result.name ≡ name) × (result.replay ≡ replay) × (result.front ≡ front) }
     {
-        let front = replay.front.again();
         View {
             name,
-            reader,
+            published,
             replay,
             front,
         }
@@ -90,75 +85,27 @@ impl View {
         self.front.mark_or(self.name.opening)
     }
 
-    // `enter`, by value.
-    #[tactic(auto, using(crate::proofs::Turns::before_of))]
-    fn entered(self) -> (View, Result<(), Refusal>)
-        ensures same { IsSameView self result.0 }
-        ensures front { result.0.front ≡ self.front }
-        ensures up { OnOk result.1 (is_failed result.0.replay.tables ≡ false) }
-        ensures whole { OnOk result.1 (take result.0.replay.applied result.0.replay.front.seen.log ≡ result.0.replay.front.seen.log) }
-        ensures refused { IfErr result.1 (λ e. (e ≡ NoView) ⊎ (e ≡ NoMemory)) }
-    {
-        let View {
-            name,
-            reader,
-            mut replay,
-            front,
-        } = self;
-        if replay.renew().is_err() {
-            let view = View {
-                name,
-                reader,
-                replay,
-                front,
-            };
-            return (view, Err(Refusal::NoMemory));
-        }
-        let reading = match reader.enter_as::<Sees>() {
-            Ok(reading) => reading,
-            Err(reader) => {
-                let view = View {
-                    name,
-                    reader,
-                    replay,
-                    front,
-                };
-                return (view, Err(Refusal::NoView));
-            }
-        };
-        // The publisher waits for a reading that is not left, so what is new is copied and is taken in afterwards.
-        let copied = replay.fetch(reading.get());
-        let reader = reading.leave();
-        let done = replay.take_in(copied);
-        let view = View {
-            name,
-            reader,
-            replay,
-            front,
-        };
-        match done {
-            Ok(()) => (view, Ok(())),
-            Err(_) => (view, Err(Refusal::NoMemory)),
-        }
-    }
-
-    // Takes what is published, and brings the tables up to it. What is seen stays.
-    fn enter(&mut self) -> Result<(), Refusal>
+    // Brings the tables up to what is published now. What is seen stays.
+    fn bring_up(&mut self) -> Result<(), Refusal>
         ensures same { IsSameView self.old self.new }
         ensures front { self.new.front ≡ self.old.front }
         ensures up { OnOk result (is_failed self.new.replay.tables ≡ false) }
-        ensures whole { OnOk result (take self.new.replay.applied self.new.replay.front.seen.log ≡ self.new.replay.front.seen.log) }
         ensures refused { IfErr result (λ e. (e ≡ NoView) ⊎ (e ≡ NoMemory)) }
     {
-        replace_with(self, (), |view, ()| view.entered())
+        self.replay.renew()?;
+        let Some(count) = self.published.counted() else {
+            return Err(Refusal::NoView);
+        };
+        self.replay.take_in(&*self.published, count)?;
+        Ok(())
     }
 
     /// Answers a question from what is published now, which is at least what was seen before and all that was told, and has
     /// then seen that; one without system time is AS OF the closed time of what is then seen: the greater of the last entry's stamp and the
     /// greatest sealed time.
     ///
-    /// 33 with that closed time where the question is not closed at it; 43 for want of memory, and 45 where
-    /// there is no reading, as once the life has ended: these change nothing. It waits for nobody.
+    /// 33 with that closed time where the question is not closed at it; 43 for want of memory, and 45 once the life has
+    /// ended: these change nothing. It waits for nobody.
     #[tactic(auto, using(crate::proofs::Seeing::same_grows, crate::proofs::Seeing::rests_still, crate::proofs::Seeing::rests_more, crate::proofs::Seeing::refused))]
     pub fn ask(&mut self, query: &Query) -> Result<Marked, Refusal>
         ensures same { IsSameView self.old self.new }
@@ -169,7 +116,7 @@ impl View {
         ensures mark { IfOk result (λ a. a.mark ≡ last_mark (name_seen self.old).opening (seen_by self.new)) }
         ensures columns { IfOk result (λ a. a.answer.columns.items ≡ columns_in (schema_seen self.old) query.now.table) }
     {
-        self.enter()?;
+        self.bring_up()?;
         // What is published is never shorter than what was told, but no clause says so.
         if !self.front.begins(&self.replay.front) {
             return Err(Refusal::NoView);
