@@ -1,11 +1,13 @@
 -- What an event sends, and the run with one event more.
-use Rattle.std.proofs.Common.{◌≡◌, ◌∙◌, ℕ, suc, ◌+◌, ◌-◌, Bool, true, false, List, [], ◌∷◌, ◌++◌, map, drop, length, Option, Some, None, refl, sym, ap, append-nil, arith}
-use Rattle.std.specs.Prelude.{slice_get, if◌then◌else◌, ◌&&◌}
+use Rattle.std.proofs.Common.{◌≡◌, ◌∙◌, ℕ, suc, ◌+◌, ◌-◌, Bool, true, false, List, [], ◌∷◌, ◌++◌, map, drop, length, Option, Some, None, refl, sym, ap, subst, append-nil, arith}
+use Rattle.std.specs.Prelude.{slice_get, option_map, if◌then◌else◌, ◌&&◌}
 use Rattle.std.specs.List.{filter_map, range_with_len}
 use Rattle.std.specs.declared.vec.Vec.{Vec}
 use Rattle.std.specs.declared.alloc.Global.{Global}
 use Rattle.std.proofs.Math.Seq.{drop-append_seam}
 use Rattle.std.proofs.lemmas.List.{length-map, length-append}
+use Rattle.std.proofs.lemmas.Option.{slice_get-map}
+use Rattle.safety.proofs.Lists.{same_some}
 use Rattle.model.specs.Lists.{nth}
 use Rattle.model.specs.Transactions.{Schema}
 use Rattle.model.specs.Steps.{Effect, Moves, Refuses, Nothing}
@@ -52,6 +54,15 @@ one_item xs (y ∷ ys) x one is = absurd (omega (arith, sym one ∙ ap length is
 pub columns_of_one : (tables : Tables) (s : Schema) (n : ℕ) (w : World) (e : Given) (outs before : List (Vec Out Global)) (o : Vec Out Global) →
     GivesAll s n w (event_of e ∷ []) (map (λ o. outputs_of o.items) outs) → EachShowsColumns tables (e ∷ []) outs → outs ≡ before ++ o ∷ [] → ShowsColumns tables e o.items
 columns_of_one tables s n w e outs before o gives columns is = columns 0 e o refl (one_item outs before o (given_one s n w (event_of e) outs gives) is)
+
+-- what it gave, in the words of the crates below
+pub gives_of_one : (s : Schema) (n : ℕ) (opening : World) (early : List Event) (e : Event) (outs before : List (Vec Out Global)) (o : Vec Out Global) →
+    GivesAll s n (run s n opening early) (e ∷ []) (map (λ o. outputs_of o.items) outs) → outs ≡ before ++ o ∷ [] → Gives s n (run s n opening early) e (outputs_of o.items)
+gives_of_one s n opening early e outs before o gives is =
+    let at : slice_get outs 0 ≡ Some o = one_item outs before o (given_one s n (run s n opening early) e outs gives) is in
+    let same : gives.0 ≡ outputs_of o.items = same_some (slice_get (map (λ (o : Vec Out Global). outputs_of o.items) outs) 0) gives.0 (outputs_of o.items) (ap (λ l. slice_get l 0) gives.2)
+        (slice_get-map (λ (o : Vec Out Global). outputs_of o.items) outs 0 ∙ ap (λ x. option_map (λ (o : Vec Out Global). outputs_of o.items) x) at) in
+    subst (λ z. Gives s n (run s n opening early) e z) same gives.3
 
 -- ---- messages among outputs
 

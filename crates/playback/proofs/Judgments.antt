@@ -13,7 +13,7 @@ use Rattle.moments.specs.Behind.{Records}
 use Rattle.moments.specs.Faults.{NoneAre}
 use Rattle.moments.specs.declared.recorded.AuditFault.{AuditFault}
 use Rattle.moments.specs.declared.recorded.AuditFault.TheVariants.{NoMemory as NoMemoryLeft}
-use Rattle.auditor.specs.Audited.{Explains, IsFirst}
+use Rattle.auditor.specs.Joined.{Explains, IsFirst}
 use Rattle.auditor.specs.Faults.{IsOrderFault, OfRun}
 use Rattle.playback.specs.Judging.{judged_of, judged_from, IsExplained, IsFaultOf}
 

@@ -8,13 +8,13 @@ use Rattle.moments.specs.Rising.{Rise}
 use Rattle.moments.specs.declared.recorded.AuditFault.{AuditFault}
 use Rattle.moments.specs.declared.recorded.AuditFault.TheVariants.{NoMemory}
 use Rattle.moments.specs.declared.recorded.Recorded.{Recorded as Judged}
-use Rattle.auditor.specs.Audited.{Explains, IsFirst}
+use Rattle.auditor.specs.Joined.{Explains, IsFirst}
 use Rattle.auditor.specs.Faults.{IsOrderFault, OfRun}
-use Rattle.auditor.specs.Upheld.{Upholds}
+use Rattle.auditor.specs.Joined.{Upholds}
 use Rattle.flight.specs.declared.flight.Recorded.{Recorded}
 use Rattle.flight.specs.declared.flight.Version.TheVariants.{Three}
 use Rattle.flight.specs.declared.life.Life.{Life}
-use Rattle.model.specs.Agreement.{Agree}
+use Rattle.believed.specs.Agreement.{Agree}
 use Rattle.model.specs.Worlds.{Event, new_world}
 use Rattle.sqlchecks.specs.Columns.{Tables}
 use Rattle.sqlread.specs.Meaning.{schema_of}

@@ -145,6 +145,8 @@ fn go_on(
     ensures members { OnOk result (members_in world.new ≡ members_in world.old) }
     ensures live { OnOk result (world.new.is_spent ≡ false) }
 {
+    // Its contract says that what members apply begins what is decided.
+    safety::agreement();
     world.run(&[event.clone()?])?;
     add_all(world, members, list)
 }

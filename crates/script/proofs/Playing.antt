@@ -1,6 +1,6 @@
 -- Lemmas on what lines bring and print.
 use Rattle.std.proofs.Common.{◌≡◌, ◌∙◌, ℕ, suc, ◌+◌, ◌-◌, ◌<◌, ℤ, Bool, true, false, List, [], ◌∷◌, ◌++◌, map, take, drop, length, Option, Some, None, Result, Ok, Err, ◌⊎◌, inl, inr, refl, sym, ap, subst, append_assoc, add-one, arith}
-use Rattle.std.specs.Prelude.{slice_get, slice_index_or, IfErr, IsErr, MatchResult, if◌then◌else◌, ◌&&◌}
+use Rattle.std.specs.Prelude.{slice_get, slice_index_or, option_map, IfErr, IsErr, MatchResult, if◌then◌else◌, ◌&&◌}
 use Rattle.std.specs.List.{All, flat_map}
 use Rattle.std.specs.declared.vec.Vec.{Vec}
 use Rattle.std.specs.declared.alloc.Global.{Global}
@@ -8,6 +8,8 @@ use Rattle.std.specs.Io.KnownBytes.{Appends}
 use Rattle.std.proofs.Math.Seq.{drop-append_seam, drop-cons}
 use Rattle.std.proofs.lemmas.List.{take_more, length-map, length-append, flat_map_more, take-append-drop}
 use Rattle.std.proofs.lemmas.Grind.{flat_map-append}
+use Rattle.std.proofs.lemmas.Option.{slice_get-map}
+use Rattle.safety.proofs.Lists.{same_some}
 use Rattle.model.specs.Lists.{nth}
 use Rattle.model.specs.Transactions.{Schema}
 use Rattle.model.specs.Steps.{Effect, Moves, Refuses, Nothing}
@@ -430,6 +432,15 @@ one_item xs (y ∷ ys) x one is = absurd (omega (arith, sym one ∙ ap length is
 pub columns_of_one : (tables : Tables) (s : Schema) (n : ℕ) (w : World) (e : Given) (outs before : List (Vec Out Global)) (o : Vec Out Global) →
     GivesAll s n w (event_of e ∷ []) (map (λ o. outputs_of o.items) outs) → EachShowsColumns tables (e ∷ []) outs → outs ≡ before ++ o ∷ [] → ShowsColumns tables e o.items
 columns_of_one tables s n w e outs before o gives columns is = columns 0 e o refl (one_item outs before o (given_one s n w (event_of e) outs gives) is)
+
+-- what it gave, in the words of the crates below
+pub gives_of_one : (s : Schema) (n : ℕ) (opening : World) (early : List Event) (e : Event) (outs before : List (Vec Out Global)) (o : Vec Out Global) →
+    GivesAll s n (run s n opening early) (e ∷ []) (map (λ o. outputs_of o.items) outs) → outs ≡ before ++ o ∷ [] → Gives s n (run s n opening early) e (outputs_of o.items)
+gives_of_one s n opening early e outs before o gives is =
+    let at : slice_get outs 0 ≡ Some o = one_item outs before o (given_one s n (run s n opening early) e outs gives) is in
+    let same : gives.0 ≡ outputs_of o.items = same_some (slice_get (map (λ (o : Vec Out Global). outputs_of o.items) outs) 0) gives.0 (outputs_of o.items) (ap (λ l. slice_get l 0) gives.2)
+        (slice_get-map (λ (o : Vec Out Global). outputs_of o.items) outs 0 ∙ ap (λ x. option_map (λ (o : Vec Out Global). outputs_of o.items) x) at) in
+    subst (λ z. Gives s n (run s n opening early) e z) same gives.3
 
 module _ (old new : Play) (r : Result (Unit {0}) RunFault) (c d : Option (List ℕ)) where
   pub delivers_some : (place k : ℕ) → suc place ≡ k →

@@ -19,7 +19,7 @@ use Rattle.moments.specs.Behind.{Records}
 use Rattle.moments.specs.Faults.{NoneAre}
 use Rattle.moments.specs.declared.recorded.AuditFault.{AuditFault}
 use Rattle.moments.specs.declared.recorded.AuditFault.TheVariants.{NoMemory as NoMemoryLeft}
-use Rattle.auditor.specs.Audited.{Explains, IsFirst}
+use Rattle.auditor.specs.Joined.{Explains, IsFirst}
 use Rattle.auditor.specs.Faults.{IsOrderFault, OfRun}
 use Rattle.shell.specs.Audit.{judged_of, judged_from, records_of, IsFaultOf, IsJudged, IsSaid}
 use Rattle.shell.specs.Group.{IsNoGroup, IsRunIn}

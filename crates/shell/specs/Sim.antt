@@ -3,12 +3,13 @@ use Rattle.std.specs.Prelude.{◌≡◌, ℕ, List, Option, IfSome, ◌⊎◌, �
 use Rattle.fault.specs.declared.refusal.Refusal.TheVariants.{NoMemory, BadScript}
 use Rattle.lines.specs.declared.line.Line.{Line}
 use Rattle.lines.specs.Script.{HasLines, IsScriptFault}
-use Rattle.model.specs.Agreement.{Agree}
+use Rattle.believed.specs.Agreement.{Agree}
 use Rattle.model.specs.Worlds.{new_world}
-use Rattle.onelist.specs.Explained.{IsExplained}
+use Rattle.believed.specs.Explained.{IsExplained}
 use Rattle.script.specs.declared.run_fault.RunFault.{RunFault}
 use Rattle.script.specs.declared.run_fault.RunFault.TheVariants.{Refused, Output}
-use Rattle.script.specs.Stage.{Act, opening_stage, played_all, events_in, IsPrinted, IsBegun}
+use Rattle.script.specs.Stage.{Act, opening_stage, events_in}
+use Rattle.script.specs.Brought.{played_all, IsPrinted, IsBegun}
 use Rattle.sqlchecks.specs.Columns.{Tables}
 use Rattle.sqlread.specs.Meaning.{schema_of}
 

@@ -38,8 +38,7 @@ pub fn run_sim<R: io::Read, O: Outlet>(
     ensures refused { (refusal : AnyRefusal) → result ≡ Err (RunFault.Refused refusal) → refusal ≢ NoMemory → outlet.new ≡ outlet.old }
 {
     // Their contracts say that all members agree about whatever happens, and that one list explains it.
-    safety::agreement();
-    onelist::one_list_explains();
+    believed::promises();
     let text = read_text(alloc, reader)?;
     let script = read_script(alloc, text.as_str())?;
     let Script {

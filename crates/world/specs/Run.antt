@@ -7,6 +7,7 @@ use Rattle.model.specs.Worlds.{World, Event, new_world, run}
 use Rattle.sqlchecks.specs.Columns.{Tables}
 use Rattle.sqlread.specs.Meaning.{schema_of}
 use Rattle.world.specs.declared.history.World.{World as Whole}
+use Rattle.believed.specs.Worlds.{run as runs}
 use Rattle.world.specs.View.{event_of}
 
 abbrev pub schema_in : Whole → Schema
@@ -32,6 +33,10 @@ abbrev pub AddsBeginning : List Event → List Event → List Event → Type 0
 AddsBeginning old new these = (count : ℕ) × (new ≡ old ++ take count these)
 
 -- the world after what happened
+abbrev pub world_in : Whole → World
+world_in w = runs (schema_in w) (members_in w) (opening_of w) (events_of w)
+
+-- the same, in the words of the crates below
 abbrev pub now_of : Whole → World
 now_of w = run (schema_in w) (members_in w) (opening_of w) (events_of w)
 

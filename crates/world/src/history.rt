@@ -1,11 +1,12 @@
 //! A group, and all that happened to it.
 ghost use Rattle.std.specs.Prelude.{◌≡◌, ◌++◌, ◌∷◌, ◌≤◌, ◌↔◌, [], true, false, map, None, IfOk, IsErr, IsOk, OnErr, OnOk, if◌then◌else◌};
-ghost use Rattle.model.specs.Agreement.{Agree, decided};
-ghost use Rattle.model.specs.Worlds.{Gives, GivesAll, new_world};
-ghost use Rattle.onelist.specs.Explained.{IsDecidedInOrder, IsExplained, WereSubmitted};
-ghost use Rattle.progress.specs.Progress.{CanServe};
+ghost use Rattle.believed.specs.Agreement.{Agree, decided};
+ghost use Rattle.believed.specs.Explained.{IsDecidedInOrder, IsExplained, WereSubmitted};
+ghost use Rattle.believed.specs.Progress.{CanServe};
+ghost use Rattle.believed.specs.Worlds.{GivesAll};
+ghost use Rattle.model.specs.Worlds.{Gives, GivesAll as GivesThen, new_world};
 ghost use Rattle.sqlread.specs.Meaning.{schema_of};
-ghost use Rattle.sqlread.specs.Reading.{IsSchema};
+ghost use Rattle.believed.specs.Meaning.{IsSchema};
 ghost use Rattle.world.specs.View.{commit_in, durable_in, entry_in, event_of, if_up, outputs_of, world_of, IsRun};
 
 use crate::event::Event;
@@ -28,7 +29,7 @@ pub struct World {
 }
 
 impl World {
-    ghost use Rattle.world.specs.Run.{schema_in, tables_in, members_in, opening_of, events_of, now_of, member_of, AddsBeginning};
+    ghost use Rattle.world.specs.Run.{schema_in, tables_in, members_in, opening_of, events_of, now_of, world_in, member_of, AddsBeginning};
     ghost use Rattle.world.specs.View.{EachShowsColumns, ShowsColumns};
 
     /// A group of 3 to 7 members in one program, with tables of this schema: all up, as followers in term 0 with no vote, no floor
@@ -99,7 +100,7 @@ impl World {
     /// Each of these events, until memory is refused. No events take no memory.
     fn run_all(&mut self, events: &[Event]) -> Result<Vec<Vec<Output>>, AllocError>
         requires live { self.old.is_spent ≡ false }
-        ensures gives { IfOk result (λ outs. GivesAll (schema_in self.old) (members_in self.old) (now_of self.old) (map event_of events.now) (map (λ o. outputs_of o.items) outs.items)) }
+        ensures gives { IfOk result (λ outs. GivesThen (schema_in self.old) (members_in self.old) (now_of self.old) (map event_of events.now) (map (λ o. outputs_of o.items) outs.items)) }
         ensures columns { IfOk result (λ outs. EachShowsColumns (tables_in self.old) events.now outs.items) }
         ensures kept { OnOk result (events_of self.new ≡ events_of self.old ++ map event_of events.now) }
         ensures begun { OnErr result (AddsBeginning (events_of self.old) (events_of self.new) (map event_of events.now)) }
@@ -149,7 +150,7 @@ impl World {
     /// later call gives it too, and changes nothing. Kept are the earlier events, and then those of
     /// these that were done, from the first on.
     pub fn run(&mut self, events: &[Event]) -> Result<Vec<Vec<Output>>, AllocError>
-        ensures gives { IfOk result (λ outs. GivesAll (schema_in self.old) (members_in self.old) (now_of self.old) (map event_of events.now) (map (λ o. outputs_of o.items) outs.items)) }
+        ensures gives { IfOk result (λ outs. GivesAll (schema_in self.old) (members_in self.old) (world_in self.old) (map event_of events.now) (map (λ o. outputs_of o.items) outs.items)) }
         ensures columns { IfOk result (λ outs. EachShowsColumns (tables_in self.old) events.now outs.items) }
         ensures kept { OnOk result (events_of self.new ≡ events_of self.old ++ map event_of events.now) }
         ensures begun { OnErr result (AddsBeginning (events_of self.old) (events_of self.new) (map event_of events.now)) }
@@ -157,7 +158,7 @@ impl World {
         ensures explained { IsExplained (schema_in self.new) (members_in self.new) (opening_of self.new) (events_of self.new) }
         ensures invented { WereSubmitted (events_of self.new) (decided (schema_in self.new) (members_in self.new) (opening_of self.new) (events_of self.new)) }
         ensures ordered { IsDecidedInOrder (schema_in self.new) (members_in self.new) (opening_of self.new) (events_of self.new) }
-        ensures serves { CanServe (schema_in self.new) (members_in self.new) (now_of self.new) }
+        ensures serves { CanServe (schema_in self.new) (members_in self.new) (world_in self.new) }
         ensures language { IsSchema (tables_in self.new) (schema_in self.new) }
         ensures tables { tables_in self.new ≡ tables_in self.old }
         ensures same { (schema_in self.new ≡ schema_in self.old) × (members_in self.new ≡ members_in self.old) }
@@ -167,12 +168,9 @@ impl World {
         ensures spent { self.old.is_spent ≡ true → IsErr result }
         ensures stays { self.old.is_spent ≡ true → self.new ≡ self.old }
     {
-        safety::agreement();
-        onelist::one_list_explains();
-        onelist::nothing_invented();
-        onelist::in_real_order();
-        progress::always_serves();
-        sqlread::laws::schema_is_spelled();
+        believed::same_runs();
+        believed::promises();
+        believed::meanings();
         self.check_live()?;
         match self.run_all(events) {
             Ok(outs) => Ok(outs),

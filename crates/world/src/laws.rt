@@ -2,7 +2,7 @@
 ghost use Rattle.std.specs.Prelude.{◌≡◌, ℕ, ℤ, Bool, List, map};
 ghost use Rattle.model.specs.Transactions.{Schema};
 ghost use Rattle.model.specs.Worlds.{World, Event as ModelEvent};
-ghost use Rattle.progress.specs.Progress.{AllMild};
+ghost use Rattle.believed.specs.Progress.{AllMild};
 ghost use Rattle.world.specs.declared.event.Event.{Event};
 ghost use Rattle.world.specs.View.{event_of};
 

@@ -3,7 +3,7 @@ use Rattle.std.specs.Prelude.{IfErr}
 use Rattle.moments.specs.Behind.{Records}
 use Rattle.moments.specs.Faults.{NoneAre}
 use Rattle.flight.specs.declared.flight.Version.TheVariants.{Three}
-use Rattle.auditor.specs.Audited.{Explains, IsFirst}
+use Rattle.auditor.specs.Joined.{Explains, IsFirst}
 use Rattle.auditor.specs.Faults.{IsOrderFault, OfRun}
 use Rattle.auditor.specs.View.{event_of}
 use Rattle.playback.proofs.Judgments.{fault_told}

@@ -2,7 +2,7 @@ use Rattle.std.proofs.Common.{rules, map}
 use Rattle.std.specs.Prelude.{IfErr}
 use Rattle.moments.specs.Behind.{Records}
 use Rattle.moments.specs.Faults.{NoneAre}
-use Rattle.auditor.specs.Audited.{Explains, IsFirst}
+use Rattle.auditor.specs.Joined.{Explains, IsFirst}
 use Rattle.auditor.specs.Faults.{IsOrderFault, OfRun}
 use Rattle.auditor.specs.View.{event_of}
 use Rattle.shell.proofs.Judging.{fault_told}
