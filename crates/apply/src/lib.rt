@@ -2,6 +2,7 @@
 #![tactic(auto)]
 
 mod asking;
+mod bites;
 mod executing;
 pub mod laws;
 pub mod tables;

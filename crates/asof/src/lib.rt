@@ -2,6 +2,7 @@
 #![tactic(auto)]
 
 pub mod ask;
+mod bites;
 mod found;
 mod named;
 mod shown;

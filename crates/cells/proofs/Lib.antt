@@ -4,3 +4,4 @@ pub mod Items
 pub mod Listing
 pub mod Runs
 pub mod Telling
+mod Biting

@@ -1,6 +1,7 @@
 //! A node with the record of its life.
 #![tactic(auto)]
 
+mod bites;
 pub mod cell;
 pub mod copies;
 pub mod laws;

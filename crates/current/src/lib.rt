@@ -1,6 +1,7 @@
 //! The current rows of all tables, run by statements.
 #![tactic(auto)]
 
+mod bites;
 mod compare;
 pub mod current;
 mod cut;

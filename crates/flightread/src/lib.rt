@@ -1,6 +1,7 @@
 //! Reading flight files.
 #![tactic(auto)]
 
+mod bites;
 mod lives;
 mod reading;
 

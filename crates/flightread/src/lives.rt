@@ -19,7 +19,11 @@ use schema::Schema;
 use std::alloc::Global;
 
 // What was stored as a life began.
-fn read_opening(alloc: Global, version: Version, text: &str) -> Result<(Opening, &str), Refusal>
+pub(crate) fn read_opening(
+    alloc: Global,
+    version: Version,
+    text: &str,
+) -> Result<(Opening, &str), Refusal>
     ensures ok { IfOk result (λ p. Spells (IsOpening version) (opening_text version) text.now (in_opening p.0) p.1.now) }
     ensures only { IfOk result (λ p. SpellsOnly (IsOpening version) (opening_text version) text.now (in_opening p.0) p.1.now) }
     ensures err { IfErr result (IsUnread (IsOpening version) (opening_text version) text.now) }

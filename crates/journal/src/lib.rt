@@ -1,6 +1,7 @@
 //! The text of a store's journals: its blocks, their lines, and what a log comes to in short.
 #![tactic(auto)]
 
+mod bites;
 pub mod blocks;
 pub mod digest;
 pub mod laws;

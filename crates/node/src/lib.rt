@@ -1,6 +1,7 @@
 //! One member with what it keeps over a restart, what it tells of requests and of what is sealed, and what it answers.
 #![tactic(auto)]
 
+mod bites;
 pub mod durable;
 pub mod node;
 mod reading;

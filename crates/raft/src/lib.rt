@@ -3,6 +3,7 @@
 //! with fixed members.
 #![tactic(auto)]
 
+mod bites;
 mod counted;
 mod floors;
 mod following;

@@ -29,7 +29,11 @@ fn longer_waiting(waiting: Option<SealedFloor>, seal: SealedFloor) -> Option<Sea
 impl Core {
     /// The seal's entry is applied: it has the seal's term.
     #[tactic(auto, using(crate::proofs::Sealing::applied_within, crate::proofs::Sealing::applied_past))]
-    fn is_applied<S: Shelf>(&self, shelf: &mut S, seal: SealedFloor) -> Result<bool, StoreError>
+    pub(crate) fn is_applied<S: Shelf>(
+        &self,
+        shelf: &mut S,
+        seal: SealedFloor,
+    ) -> Result<bool, StoreError>
         requires up { S.is_up shelf.old ≡ true }
         requires reaches { S.is_honest shelf.old → Reaches self.now (S.stored shelf.old).log }
         ensures ok { IfOk result (λ yes. S.is_honest shelf.new → yes ≡ is_applied (node_of self.now (S.stored shelf.old).log) seal) }

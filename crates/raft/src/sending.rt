@@ -126,7 +126,7 @@ impl Core {
 
     /// The greatest index that can be committed now: up to there a majority match, and an entry of its
     /// own term stands there. Where the entry is of another term, so are all before it.
-    fn commits<S: Shelf>(&self, shelf: &mut S) -> Result<usize, StoreError>
+    pub(crate) fn commits<S: Shelf>(&self, shelf: &mut S) -> Result<usize, StoreError>
         requires up { S.is_up shelf.old ≡ true }
         requires reaches { S.is_honest shelf.old → Reaches self.now (S.stored shelf.old).log }
         requires rises { S.is_honest shelf.old → go_on None self.now.term (log_of self.now (S.stored shelf.old).log) ≡ true }
@@ -152,7 +152,7 @@ impl Core {
 
     /// Commits what can be committed now that the log of a member is known to agree further, so that a seal that waits may
     /// count, and sends what comes of it: to all where something is committed, else to that member what it has not yet.
-    fn on_agreed<S: Shelf>(
+    pub(crate) fn on_agreed<S: Shelf>(
         &mut self,
         shelf: &mut S,
         sender: Member,

@@ -147,7 +147,7 @@ impl Core {
 
     /// What is to be stored, after a step that left the log as it was: none where the hard state is as
     /// it was, too.
-    fn change_of_hard_state(&self, before: HardState) -> Option<Change>
+    pub(crate) fn change_of_hard_state(&self, before: HardState) -> Option<Change>
         ensures value { MatchOption result
             (hard_in self.now ≡ before)
             (λ c. (c.hard ≡ hard_in self.now) × (c.kept ≡ self.now.log.shelved + vec_len self.now.log.tail) × (c.entries.items ≡ [])

@@ -2,6 +2,7 @@
 #![tactic(auto)]
 
 mod assignment;
+mod bites;
 mod change;
 mod given;
 mod insert;

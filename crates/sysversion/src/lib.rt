@@ -1,6 +1,7 @@
 //! Versions of all rows that ever were current, with their system times.
 #![tactic(auto)]
 
+mod bites;
 pub mod key_versions;
 pub mod lists;
 mod reached;

@@ -1,6 +1,7 @@
 //! What a node's life publishes, and views of it that wait for nobody.
 #![tactic(auto)]
 
+mod bites;
 pub mod laws;
 mod published;
 pub mod publisher;

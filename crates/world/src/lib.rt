@@ -1,6 +1,7 @@
 //! All members of a group in one program, through lists of events.
 #![tactic(auto)]
 
+mod bites;
 pub mod event;
 mod group;
 pub mod history;

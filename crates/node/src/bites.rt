@@ -1,0 +1,95 @@
+//! What no body that meets these contracts does. Each function is a law: nobody calls it, it does nothing but one call, and its
+//! clauses follow from those of the call alone.
+ghost use Rattle.std.specs.Prelude.{◌≡◌, ◌≤◌, Some, None, true, take, IfErr, OnOk, MatchOption};
+ghost use Rattle.fault.specs.declared.refusal.Refusal.TheVariants.{NoMemory};
+ghost use Rattle.keep.specs.Log.{IsSmall};
+ghost use Rattle.keep.specs.declared.change.Change as changes;
+ghost use Rattle.model.specs.Answers as model;
+ghost use Rattle.model.specs.Answers.{closed_query};
+ghost use Rattle.model.specs.Members.{closed_time};
+ghost use Rattle.sqlread.specs.Meaning.{schema_of, select_of};
+ghost use Rattle.sqlread.specs.Shapes.{query_of};
+ghost use Rattle.apply.specs.View.{AreTables};
+ghost use Rattle.raft.specs.View.{after_change};
+ghost use Rattle.node.specs.Member.{member_of};
+ghost use Rattle.node.specs.Saving.{IsDue};
+
+use crate::node::{Node, Out, finish, store};
+use answer::Answer;
+use apply::Tables;
+use fault::Refusal;
+use keep::change::Change;
+use keep::error::StoreError;
+use keep::keeper::Keeper;
+use model::stamp::Stamp;
+use raft::state::{Core, Taken};
+use sqlread::query::Query;
+use std::alloc::Global;
+
+/// A change is stored.
+fn skips_a_save<K: Keeper>(
+    alloc: Global,
+    core: &Core,
+    keeper: &mut K,
+    change: &Option<Change>,
+) -> Result<(), StoreError>
+    ghost saved: { changes.Change }
+    requires due { K.is_honest keeper.old → IsDue core.now change.now (K.stored keeper.old) }
+    requires small { MatchOption change.now (Unit {0}) IsSmall }
+    requires serves { K.serves keeper.old core.now.members (schema_of core.now.schema) }
+    requires up { K.is_up keeper.old ≡ true }
+    requires changed { change.now ≡ Some saved }
+    ensures { OnOk result (K.is_honest keeper.new → (K.stored keeper.new).hard ≡ saved.hard) }
+{
+    store(alloc, core, keeper, change)
+}
+
+/// Where nothing changed no save is asked for.
+fn saves_for_nothing<K: Keeper>(
+    alloc: Global,
+    core: &Core,
+    keeper: &mut K,
+    change: &Option<Change>,
+) -> Result<(), StoreError>
+    requires due { K.is_honest keeper.old → IsDue core.now change.now (K.stored keeper.old) }
+    requires small { MatchOption change.now (Unit {0}) IsSmall }
+    requires serves { K.serves keeper.old core.now.members (schema_of core.now.schema) }
+    requires up { K.is_up keeper.old ≡ true }
+    requires unchanged { change.now ≡ None }
+    ensures { K.saves keeper.new ≡ K.saves keeper.old }
+{
+    store(alloc, core, keeper, change)
+}
+
+/// Messages leave only once the change is stored.
+fn sends_before_it_saves<K: Keeper>(
+    alloc: Global,
+    core: &Core,
+    keeper: &mut K,
+    tables: &mut Tables,
+    taken: Taken,
+    sealed_before: Option<Stamp>,
+) -> Result<Out, StoreError>
+    ghost saved: { changes.Change }
+    requires due { K.is_honest keeper.old → IsDue core.now taken.change (K.stored keeper.old) }
+    requires current { K.is_honest keeper.old → AreTables core.now.schema (take taken.committed_before (after_change taken.change (K.stored keeper.old)).log) tables.old }
+    requires rises { K.is_honest keeper.old → taken.committed_before ≤ core.now.commit }
+    requires small { MatchOption taken.change (Unit {0}) IsSmall }
+    requires serves { K.serves keeper.old core.now.members (schema_of core.now.schema) }
+    requires up { K.is_up keeper.old ≡ true }
+    requires changed { taken.change ≡ Some saved }
+    ensures { OnOk result (K.is_honest keeper.new → (K.stored keeper.new).hard ≡ saved.hard) }
+{
+    finish(alloc, core, keeper, tables, taken, sealed_before)
+}
+
+/// A question that is closed, be it by a seal alone, is answered, unless there is no memory.
+fn refuses_the_sealed<K: Keeper>(node: &Node<K>, query: &Query) -> Result<Answer, Refusal>
+    ghost asked: { model.Query }
+    requires up { node.now.is_up ≡ true }
+    requires honest { K.is_honest node.now.keeper }
+    requires closed { closed_query (select_of (query_of query.now)) (closed_time (member_of node.now)) ≡ Some asked }
+    ensures { IfErr result (λ refusal. refusal ≡ NoMemory) }
+{
+    node.ask(query)
+}
