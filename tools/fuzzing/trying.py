@@ -15,7 +15,7 @@ SEEKING, TRIES = 60, 400
 FORMATS = Path(__file__).resolve().parent.parent.parent / "docs" / "FORMATS.md"
 PLACES = {
     "B": "[0-9]+", "N": "[0-9]+", "MARK": "[0-9]+", "I": "[0-9]+", "K": "[0-9]+", "L": "[0-9]+", "V": "[0-9]+", "INSTANT": "[0-9: .-]{26}",
-    "TABLE": "[A-Za-z0-9_]+", "(KEY)": r"\(.*\)", "DAY": "[0-9-]{10}",
+    "TABLE": "[A-Za-z0-9_]+", "(VALUE,..)": r"\(.*\)", "DAY": "[0-9-]{10}",
 }
 Ended = collections.namedtuple("Ended", "words status out err seconds")
 
@@ -34,12 +34,19 @@ class Refusals:
     def __init__(self):
         self.forms, self.met = {}, collections.Counter()
         for line in FORMATS.read_text().splitlines():
-            found = re.fullmatch(r"\| ([0-9]+) \| (`.*`) \| .* \|", line)
+            found = re.fullmatch(r"\|([0-9]+)\|((?:[^|\\]|\\\|)+)\|.*\|", line)
             if found and int(found[1]) not in self.forms:
-                self.forms[int(found[1])] = [self.form(text) for text in re.findall("`([^`]*)`", found[2])]
+                self.forms[int(found[1])] = [self.form(text) for text in self.texts(found[2])]
         every = [f"{number} {form}" for number, forms in self.forms.items() for form in forms]
         self.any = re.compile("|".join(sorted(every, key=len, reverse=True)))
         self.within = re.compile(rb"(?:^|[ \"])([1-9][0-9]) [a-z]", re.M)
+
+    def texts(self, cell):
+        """The texts of a row: with what stands in brackets and without, and with what may stand in place of what follows the last comma."""
+        first, *others = cell.split("\\|")
+        for text in [first, *(f"{first.rpartition(', ')[0]}, {it}" for it in others)]:
+            found = re.fullmatch(r"(.*)\[(.*)\]", text)
+            yield from (found[1], found[1] + found[2]) if found else (text,)
 
     def form(self, text):
         return " ".join(PLACES.get(word.rstrip(","), re.escape(word.rstrip(","))) + ("," if word.endswith(",") else "") for word in text.split(" "))
