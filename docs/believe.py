@@ -156,7 +156,7 @@ def breaks(line):
         depth += (letter in "([{") - (letter in ")]}")
         if letter == " " and line[:at].strip():
             before, behind = line[:at].split()[-1], line[at + 1:].split(" ")[0]
-            bad = min(BEFORE.get(behind, 6), BEHIND.get(before[-1], 6), 3 if behind[:1] in ("(", "[", "λ") else 6)
+            bad = min(BEFORE.get(behind, 6), BEHIND.get(before[-1], 6), 0 if before == "in" else 6, 3 if behind[:1] in ("(", "[", "λ") else 6)
             found.append((at, depth, bad))
     return found
 
@@ -374,9 +374,9 @@ class Book:
     def written_file(self, path, definitions, remarks):
         source = self.sources[path]
         lines = []
-        if path not in self.shown_heads:
-            self.shown_heads.add(path)
-            lines += source.head + ([""] if source.head else [])
+        if path not in self.shown_heads and "\n".join(source.head) not in self.shown_heads:
+            head, self.shown_heads = source.head, self.shown_heads | {path, "\n".join(source.head)}
+            lines += head + ([""] if head else [])
         mark = "--" if path.endswith(".antt") else "//"
         named = [it for d in definitions for it in self.repository.named_in(d)]
         lines += self.written_notes(mark, path, named, self.at[definitions[-1]])

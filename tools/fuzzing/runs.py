@@ -331,11 +331,11 @@ VERDICT = re.compile(rb"audit: (yes|5[1-4] .*)\n")
 def stored_groups():
     """Flights of the repository, of all versions."""
     found = []
-    for path in sorted(glob.glob(f"{ROOT}/crates/rows/data/*.flights")):
+    for path in sorted(glob.glob(f"{ROOT}/crates/test_cases/data/*.flights")):
         with open(path, "rb") as file:
             texts = re.split(rb"(?<=\nend\n)(?=bitable flight )", file.read())
         found.append([text for text in texts if text])
-    for names in (f"{ROOT}/crates/rows/data/node[123].flight", f"{ROOT}/examples/flights/node[123].flight"):
+    for names in (f"{ROOT}/crates/test_cases/data/node[123].flight", f"{ROOT}/examples/flights/node[123].flight"):
         texts = []
         for path in sorted(glob.glob(names)):
             with open(path, "rb") as file:

@@ -1,28 +1,28 @@
 -- A world that is looked at, and what its members have stored in short.
 use Rattle.std.proofs.Common.{◌≡◌, ◌∙◌, ◌<◌, ◌≤◌, ◌+◌, ℕ, zero, suc, List, [], ◌∷◌, ◌++◌, length, map, take, Option, Some, None, refl, sym, ap, add-one}
 use Rattle.std.specs.Prelude.{replicate, option_map, option_and_then, unwrap_or, slice_get}
-use Rattle.std.proofs.lemmas.List.{take_more, take_all}
+use Rattle.std.proofs.lemmas.List.{take_more}
 use Rattle.std.proofs.lemmas.List.Sums.{fold-append}
-use Rattle.std.proofs.lemmas.Option.{same_Some, get_or_from_slice_get, slice_get_within}
+use Rattle.std.proofs.lemmas.Option.{get_or_from_slice_get, slice_get_within}
 use Rattle.model.specs.Lists.{nth}
 use Rattle.model.specs.Members.{Node}
-use Rattle.model.specs.Transactions.{Schema}
+use Rattle.model.specs.Transactions.{Language}
 use Rattle.model.specs.Worlds.{World, Event, happens, run, new_world}
 use Rattle.model.specs.declared.entry.Entry.{Entry}
-use Rattle.sqlread.specs.Meaning.{schema_of}
+use Rattle.sqlread.specs.Meaning.{language_of}
 use Rattle.world.specs.declared.history.World.{World as Whole}
 use Rattle.world.specs.declared.event.Event.{Event as Given}
 use Rattle.model.specs.Worlds.Event.{Start}
-use Rattle.world.specs.Run.{schema_in, tables_in, members_in, events_of, now_of, member_of}
-use Rattle.world.specs.View.{Stored, durable_of, stored_of, if_up, entry_in, event_of}
+use Rattle.world.specs.Run.{language_in, tables_in, members_in, events_of, now_of, member_of}
+use Rattle.world.specs.View.{if_up, entry_in, event_of}
 use Rattle.moments.specs.Behind.{log_in}
-use Rattle.journal.specs.Digests.{next_digest, digest_of, summary_of}
+use Rattle.journal.specs.Digests.{next_digest, digest_of}
 use Rattle.adopt.specs.View.{IsLookedAt}
 
 -- ---- what stays the same
 
 pub now_same : (old new : Whole) → IsLookedAt old new → now_of new ≡ now_of old
-now_same old new same = λ i. run (schema_of (same.tables i)) (same.members i) (new_world (same.members i)) (map event_of (same.kept i))
+now_same old new same = λ i. run (language_of (same.tables i)) (same.members i) (new_world (same.members i)) (map event_of (same.kept i))
 
 pub member_same : (old new : Whole) (node : ℕ) → IsLookedAt old new → member_of new node ≡ member_of old node
 member_same old new node same = ap (λ (w : World). nth w.nodes node) (now_same old new same)
@@ -52,33 +52,11 @@ digest_more log i e at =
     let grown : take (i + 1) log ≡ take i log ++ e ∷ [] = take_more log i e within ∙ ap (λ (x : Entry). take i log ++ x ∷ []) (get_or_from_slice_get log i e e (sym at)) in
     sym (ap digest_of grown ∙ fold-append next_digest (replicate 32 0) (take i log) (e ∷ []))
 
-pub digest_all : (log : List Entry) (i : ℕ) (digest : List ℕ) → length log ≤ i → digest ≡ digest_of (take i log) → digest ≡ digest_of log
-digest_all log i digest past is = is ∙ ap digest_of (take_all i log past)
-
 -- ---- in short
-
-summed_up : (o : Option Node) (s : Stored) (digest : List ℕ) → Some s ≡ option_map (λ (x : Node). stored_of (durable_of x)) o → (s.length ≡ length (unwrap_or (option_map (λ (x : Node). x.log) o) []) → digest ≡ digest_of (unwrap_or (option_map (λ (x : Node). x.log) o) [])) →
-    Some (record { hard = s.hard; length = s.length; digest = digest }) ≡ option_map (λ (x : Node). summary_of (durable_of x)) o
-summed_up None s digest h is = absurd (cc h)
-summed_up (Some x) s digest h is =
-    let same : s ≡ stored_of (durable_of x) = same_Some _ _ h in
-    let digests : digest ≡ digest_of x.log = is (ap (λ (t : Stored). t.length) same) in
-    λ i. Some (record { hard = (same i).hard; length = (same i).length; digest = digests i })
-
-pub summed : (m : Option Node) (s : Stored) (digest : List ℕ) → Some s ≡ option_map (λ (x : Node). stored_of (durable_of x)) (if_up m) → (s.length ≡ length (log_in m) → digest ≡ digest_of (log_in m)) →
-    Some (record { hard = s.hard; length = s.length; digest = digest }) ≡ option_map (λ (x : Node). summary_of (durable_of x)) (if_up m)
-summed m s digest h is = summed_up (if_up m) s digest h is
-
-none_of : (o : Option Node) → None ≡ option_map (λ (x : Node). stored_of (durable_of x)) o → None ≡ option_map (λ (x : Node). summary_of (durable_of x)) o
-none_of None h = refl
-none_of (Some x) h = absurd (cc h)
-
-pub none_stored : (m : Option Node) → None ≡ option_map (λ (x : Node). stored_of (durable_of x)) (if_up m) → None ≡ option_map (λ (x : Node). summary_of (durable_of x)) (if_up m)
-none_stored m h = none_of (if_up m) h
 
 -- ---- a run that is played again
 
-run_on : (s : Schema) (n : ℕ) (w : World) (before after : List Event) → run s n w (before ++ after) ≡ run s n (run s n w before) after
+run_on : (s : Language) (n : ℕ) (w : World) (before after : List Event) → run s n w (before ++ after) ≡ run s n (run s n w before) after
 run_on s n w [] after = refl
 run_on s n w (e ∷ before) after = run_on s n (happens s n w e) before after
 
@@ -86,9 +64,9 @@ run_on s n w (e ∷ before) after = run_on s n (happens s n w e) before after
 pub played_on : (w trial one two : Whole) (given : List Given) (node : ℕ) → tables_in trial ≡ tables_in w → members_in trial ≡ members_in w → trial.kept.items ≡ [] → given ≡ w.kept.items →
     events_of one ≡ events_of trial ++ map event_of given → tables_in one ≡ tables_in trial → members_in one ≡ members_in trial →
     events_of two ≡ events_of one ++ Start node ∷ [] → tables_in two ≡ tables_in one → members_in two ≡ members_in one →
-    now_of two ≡ happens (schema_in w) (members_in w) (now_of w) (Start node)
+    now_of two ≡ happens (language_in w) (members_in w) (now_of w) (Start node)
 played_on w trial one two given node tables members empty same kept1 tables1 members1 kept2 tables2 members2 =
     let t = tables2 ∙ tables1 ∙ tables in
     let n = members2 ∙ members1 ∙ members in
     let e : events_of two ≡ events_of w ++ Start node ∷ [] = kept2 ∙ (λ i. (kept1 ∙ (λ j. map event_of (empty j) ++ map event_of (same j))) i ++ Start node ∷ []) in
-    (λ i. run (schema_of (t i)) (n i) (new_world (n i)) (e i)) ∙ run_on (schema_in w) (members_in w) (new_world (members_in w)) (events_of w) (Start node ∷ [])
+    (λ i. run (language_of (t i)) (n i) (new_world (n i)) (e i)) ∙ run_on (language_in w) (members_in w) (new_world (members_in w)) (events_of w) (Start node ∷ [])

@@ -8,11 +8,11 @@ use Rattle.std.proofs.lemmas.List.{take-append-drop, length-map}
 use Rattle.model.specs.Worlds.{World, Event, happens}
 use Rattle.model.specs.Worlds.Event.{Start}
 use Rattle.sqlchecks.specs.Columns.{Tables}
-use Rattle.sqlread.specs.Meaning.{schema_of}
+use Rattle.sqlread.specs.Meaning.{language_of}
 use Rattle.flight.specs.declared.flight.Version.{Version}
 use Rattle.flight.specs.declared.life.Life.{Life}
 use Rattle.world.specs.declared.history.World.{World as Whole}
-use Rattle.world.specs.Run.{schema_in, tables_in, members_in, events_of, now_of}
+use Rattle.world.specs.Run.{language_in, tables_in, members_in, events_of, now_of}
 use Rattle.world.specs.View.{event_of}
 use Rattle.moments.specs.declared.moment.Deed.{Deed}
 use Rattle.moments.specs.declared.moment.Deed.TheVariants.{Opens, Takes, Tears, Answers, Stops}
@@ -33,21 +33,9 @@ use Rattle.adopt.specs.declared.telling.Telling.{Telling}
 use Rattle.adopt.specs.Taken.{event_taken, taken_in}
 use Rattle.adopt.specs.Lines.{summary_at, line_of, torn_lines, left_lines, down_lines, deed_lines, noted_by}
 use Rattle.adopt.specs.Spelled.{Place, sight, lines_at, place_after, Spells, last_lines}
-use Rattle.adopt.specs.View.{IsLookedAt, place_of, IsEnd, IsOpening, IsTear, IsSameTelling, IsTold, AreTold}
-use Rattle.adopt.proofs.Looking.{now_same}
+use Rattle.adopt.specs.View.{place_of, IsEnd, IsOpening, IsTear, IsSameTelling, IsTold, AreTold}
 
 -- ---- the run is looked at
-
-pub run_same : (x : Replay) (w : Whole) → IsLive x → IsLookedAt x.world w → IsSameRun x (record x { world = w })
-run_same x w live same =
-    let now = now_same x.world w same in
-    record {
-      kept = ap (map event_of) same.kept;
-      past = λ i. record { world = now i; marks = (past_of x).marks };
-      tables = same.tables;
-      members = same.members;
-      live = record { live = same.live; posted = live.posted ∙ ap (λ (v : World). v.sent) (sym now) };
-    }
 
 pub run_itself : (x : Replay) → IsLive x → IsSameRun x x
 run_itself x live = record { kept = refl; past = refl; tables = refl; members = refl; live = live }
@@ -107,7 +95,7 @@ pub told_so : (v : Version) (lives : List (Vec Life Global)) (answers : List Rec
     count ≡ length one.replay.world.kept.items → s.taken ≡ option_and_then event_taken (slice_get (events_of two.replay.world) count) →
     (IsEnd m.deed → s.before ≡ summary_at (past_of old.replay).world m.node) →
     (IsOpening m.deed → s.after ≡ summary_at (past_of two.replay).world m.node) →
-    (IsTear m.deed → s.started ≡ summary_at (happens (schema_in three.replay.world) (members_in three.replay.world) (now_of three.replay.world) (Start m.node)) m.node) →
+    (IsTear m.deed → s.started ≡ summary_at (happens (language_in three.replay.world) (members_in three.replay.world) (now_of three.replay.world) (Start m.node)) m.node) →
     new.lines.items ≡ three.lines.items ++ deed_lines lives answers three.noted m.node m.deed s → new.noted ≡ noted_by lives three.noted m.node m.deed → new.replay ≡ three.replay →
     IsTold (record { version = v; tables = tables_in old.replay.world; lives = lives; answers = answers }) (members_in old.replay.world) old new m
 told_so v lives answers old one two three new m s count first follows lined noted next counted taken before after' started adds notes stays =
@@ -123,8 +111,8 @@ told_so v lives answers old one two three new m s count first follows lined note
     let behind1 : B t (members_in one.replay.world) (past_of one.replay) = subst (λ ts. B ts (members_in one.replay.world) (past_of one.replay)) run1.tables follows.1 in
     let behind2 : B t n (past_of one.replay) = subst (λ k. B t k (past_of one.replay)) run1.members behind1 in
     let behind : B t n p = subst (λ q. B t n q) run1.past behind2 in
-    let past2 : past_of two.replay ≡ after (schema_of t) n p m.mark now = here.past ∙ (λ i. after (schema_of (run1.tables i)) (run1.members i) (run1.past i) m.mark now) in
-    let past3 : past_of three.replay ≡ after (schema_of t) n p m.mark now = run3.past ∙ past2 in
+    let past2 : past_of two.replay ≡ after (language_of t) n p m.mark now = here.past ∙ (λ i. after (language_of (run1.tables i)) (run1.members i) (run1.past i) m.mark now) in
+    let past3 : past_of three.replay ≡ after (language_of t) n p m.mark now = run3.past ∙ past2 in
     let tables3 : tables_in three.replay.world ≡ t = run3.tables ∙ here.tables ∙ run1.tables in
     let members3 : members_in three.replay.world ≡ n = run3.members ∙ here.members ∙ run1.members in
     let noted3 : three.noted ≡ old.noted = next.noted ∙ noted ∙ first.noted in
@@ -132,10 +120,10 @@ told_so v lives answers old one two three new m s count first follows lined note
     let S : Sight = sight r n p.world m.node now in
     let seen : s.taken ≡ S.taken = taken ∙ taken_next (events_of one.replay.world) now (events_of two.replay.world) count here.kept (counted ∙ sym (mapped one.replay.world)) in
     let opened : IsOpening m.deed → s.after ≡ S.after = λ h. after' h ∙ ap (λ (q : Past). summary_at q.world m.node) past2 in
-    let begun : IsTear m.deed → s.started ≡ S.started = λ h. started h ∙ (λ i. summary_at (happens (schema_of (tables3 i)) (members3 i) (past3 i).world (Start m.node)) m.node) in
+    let begun : IsTear m.deed → s.started ≡ S.started = λ h. started h ∙ (λ i. summary_at (happens (language_of (tables3 i)) (members3 i) (past3 i).world (Start m.node)) m.node) in
     let told : deed_lines lives answers three.noted m.node m.deed s ≡ deed_lines lives answers old.noted m.node m.deed S =
     ap (λ k. deed_lines lives answers k m.node m.deed s) noted3 ∙ same_lines lives answers old.noted m.node m.deed s S seen before opened begun in
-    let newest : past_of new.replay ≡ after (schema_of t) n p m.mark now = ap past_of stays ∙ past3 in
+    let newest : past_of new.replay ≡ after (language_of t) n p m.mark now = ap past_of stays ∙ past3 in
     let notes3 : new.noted ≡ noted_by lives old.noted m.node m.deed = notes ∙ ap (λ k. noted_by lives k m.node m.deed) noted3 in
     record {
       now = now;
@@ -176,9 +164,6 @@ told_more v lives answers old cur new ms m told here =
       members = one.members ∙ told.members;
       live = one.live;
     }
-
-pub none_told : (r : Records) (n : ℕ) (x : Telling) → IsLive x.replay → AreTold r n x x []
-none_told r n x live = record { more = []; lines = sym (append-nil x.lines.items); spells = (refl, refl); tables = refl; members = refl; live = live }
 
 -- ---- a moment that has no events
 

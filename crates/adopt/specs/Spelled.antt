@@ -2,7 +2,7 @@
 use Rattle.std.specs.Prelude.{◌≡◌, ℕ, zero, suc, List, [], ◌∷◌, ◌++◌, length}
 use Rattle.model.specs.Worlds.{World, Event, happens, run}
 use Rattle.model.specs.Worlds.Event.{Start}
-use Rattle.sqlread.specs.Meaning.{schema_of}
+use Rattle.sqlread.specs.Meaning.{language_of}
 use Rattle.moments.specs.declared.moment.Moment.{Moment}
 use Rattle.moments.specs.Moments.{IsTimeline}
 use Rattle.moments.specs.Past.{Past, beginning, after}
@@ -26,15 +26,15 @@ abbrev pub sight : Records → ℕ → World → ℕ → List Event → Sight
 sight r n w node now = record {
   taken = taken_in now;
   before = summary_at w node;
-  after = summary_at (run (schema_of r.tables) n w now) node;
-  started = summary_at (happens (schema_of r.tables) n (run (schema_of r.tables) n w now) (Start node)) node;
+  after = summary_at (run (language_of r.tables) n w now) node;
+  started = summary_at (happens (language_of r.tables) n (run (language_of r.tables) n w now) (Start node)) node;
 }
 
 abbrev pub lines_at : Records → ℕ → Place → Moment → List Event → List Line
 lines_at r n p m now = deed_lines r.lives r.answers p.noted m.node m.deed (sight r n p.past.world m.node now)
 
 abbrev pub place_after : Records → ℕ → Place → Moment → List Event → Place
-place_after r n p m now = record { past = after (schema_of r.tables) n p.past m.mark now; noted = noted_by r.lives p.noted m.node m.deed }
+place_after r n p m now = record { past = after (language_of r.tables) n p.past m.mark now; noted = noted_by r.lives p.noted m.node m.deed }
 
 -- moment by moment these lines tell what happened, from one place up to another
 abbrev pub Spells : Records → ℕ → Place → List Moment → List Line → Place → Type 0

@@ -2,7 +2,7 @@
 ghost use Rattle.std.specs.Prelude.{◌≡◌, ◌≤◌, false, length, IfOk, OnOk};
 ghost use Rattle.model.specs.Worlds.{happens};
 ghost use Rattle.model.specs.Worlds.Event.{Start};
-ghost use Rattle.world.specs.Run.{schema_in, members_in, now_of, member_of};
+ghost use Rattle.world.specs.Run.{language_in, members_in, now_of, member_of};
 ghost use Rattle.moments.specs.Behind.{log_in};
 ghost use Rattle.journal.specs.Digests.{digest_of};
 ghost use Rattle.adopt.specs.Lines.{summary_in, summary_at};
@@ -68,7 +68,7 @@ pub(crate) fn summary_if_started(
     requires least { 3 ≤ members }
     requires most { members ≤ 7 }
     requires members { members_in world.now ≡ members }
-    ensures { IfOk result (λ found. found ≡ summary_at (happens (schema_in world.now) (members_in world.now) (now_of world.now) (Start node)) node) }
+    ensures { IfOk result (λ found. found ≡ summary_at (happens (language_in world.now) (members_in world.now) (now_of world.now) (Start node)) node) }
 {
     let mut trial = World::new(alloc, members, world.schema().clone()?)?;
     let _played = trial.run(world.events())?;

@@ -2,7 +2,7 @@
 ghost use Rattle.std.specs.Prelude.{◌≡◌, ◌≤◌, ◌++◌, ◌∷◌, [], length, IfOk, IfErr, OnOk};
 ghost use Rattle.model.specs.Worlds.{happens};
 ghost use Rattle.model.specs.Worlds.Event.{Start};
-ghost use Rattle.world.specs.Run.{schema_in, tables_in, members_in, now_of};
+ghost use Rattle.world.specs.Run.{language_in, tables_in, members_in, now_of};
 ghost use Rattle.moments.specs.Behind.{IsBehind};
 ghost use Rattle.moments.specs.Faults.{IsFaultAt, IsNo, Lacks};
 ghost use Rattle.moments.specs.View.{past_of, IsLive, IsSameRun};
@@ -108,7 +108,7 @@ impl Telling {
         requires least { 3 ≤ members }
         requires most { members ≤ 7 }
         requires members { members_in self.now.replay.world ≡ members }
-        ensures { IfOk result (λ found. IsTear deed → found ≡ summary_at (happens (schema_in self.now.replay.world) (members_in self.now.replay.world) (now_of self.now.replay.world) (Start node)) node) }
+        ensures { IfOk result (λ found. IsTear deed → found ≡ summary_at (happens (language_in self.now.replay.world) (members_in self.now.replay.world) (now_of self.now.replay.world) (Start node)) node) }
     {
         match deed {
             Deed::Tears { .. } => {

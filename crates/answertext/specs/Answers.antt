@@ -22,13 +22,13 @@ end_text None = codes "9999-12-31 23:59:59.999999"
 end_text (Some t) = instant_text t
 
 -- what a column shows of a row
-abbrev pub cell_text : Shown → Shows → List ℕ
-cell_text row (Key i) = optional_text (slice_get row.key.items i)
-cell_text row (Value i) = optional_text (slice_get row.values.items i)
-cell_text row Start = day_text row.period.start.number
-cell_text row End = day_text row.period.end.number
-cell_text row SystemStart = instant_text row.system_start
-cell_text row SystemEnd = end_text row.end
+abbrev pub slot_text : Shown → Shows → List ℕ
+slot_text row (Key i) = optional_text (slice_get row.key.items i)
+slot_text row (Value i) = optional_text (slice_get row.values.items i)
+slot_text row Start = day_text row.period.start.number
+slot_text row End = day_text row.period.end.number
+slot_text row SystemStart = instant_text row.system_start
+slot_text row SystemEnd = end_text row.end
 
 abbrev pub joined : List (List ℕ) → List ℕ
 joined texts = join_with_byte 44 texts
@@ -41,7 +41,7 @@ abbrev pub heading_text : ℕ → List Column → List ℕ
 heading_text last columns = line (codes "last " ++ instant_text last) ++ line (codes "columns " ++ joined (map (λ c. c.name) columns))
 
 abbrev pub row_text : List Column → Shown → List ℕ
-row_text columns row = line (codes "row " ++ joined (map (λ c. cell_text row c.shows) columns))
+row_text columns row = line (codes "row " ++ joined (map (λ c. slot_text row c.shows) columns))
 
 abbrev pub count_text : ℕ → List ℕ
 count_text count = line (codes "rows " ++ decimal count)

@@ -2,11 +2,11 @@
 ghost use Rattle.std.specs.Prelude.{Some, IfErr, length, flat_map, map};
 ghost use Rattle.answertext.specs.Outlets.{IsWriteFault};
 ghost use Rattle.answertext.specs.Sinks.{Puts, WritesOrBegins};
-ghost use Rattle.answertext.specs.Answers.{answer_text, heading_text, row_text, cell_text, count_text, joined};
+ghost use Rattle.answertext.specs.Answers.{answer_text, heading_text, row_text, slot_text, count_text, joined};
 
-use crate::cell::Cell;
 use crate::outlet::{Outlet, WriteFault};
 use crate::sink::Sink;
+use crate::slot::Slot;
 use answer::{Answer, Column, Shown};
 use itoa::Buffer;
 use model::stamp::Stamp;
@@ -93,19 +93,19 @@ fn put_row<S: Sink>(columns: &[Column], row: &Shown, sink: &mut S) -> Result<(),
     ensures { Puts S.takes S.begins sink.old result (row_text columns.now row.now) sink.new }
 {
     sink.put("row ")?;
-    put_cells(columns, row, sink)?;
+    put_slots(columns, row, sink)?;
     sink.put("\n")
 }
 
 // What each column shows of the row, with commas between them.
-fn put_cells<S: Sink>(columns: &[Column], row: &Shown, sink: &mut S) -> Result<(), S::Fault>
-    ensures { Puts S.takes S.begins sink.old result (joined (map (λ c. cell_text row.now c.shows) columns.now)) sink.new }
+fn put_slots<S: Sink>(columns: &[Column], row: &Shown, sink: &mut S) -> Result<(), S::Fault>
+    ensures { Puts S.takes S.begins sink.old result (joined (map (λ c. slot_text row.now c.shows) columns.now)) sink.new }
 {
     let mut comma = "";
     for column in columns {
         let shows = column.shows;
-        let cell = Cell { row, shows };
-        sink.put(format_args!("{comma}{cell}"))?;
+        let slot = Slot { row, shows };
+        sink.put(format_args!("{comma}{slot}"))?;
         comma = ",";
     }
     Ok(())

@@ -2,8 +2,8 @@
 #![tactic(auto)]
 
 mod answers;
-mod cell;
 pub mod outlet;
 pub mod sink;
+mod slot;
 
 pub use answers::{Lines, write_answer};

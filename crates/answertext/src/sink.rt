@@ -1,4 +1,4 @@
-//! Where texts go: piece by piece into a formatter, or whole into a writer, of which it is known what it holds where it fails.
+//! Where texts go: chunk by chunk into a formatter, or whole into a writer, of which it is known what it holds where it fails.
 ghost use Rattle.std.specs.Prelude.{ℕ, List, [], ◌++◌, ⊤, IfSome};
 ghost use Rattle.std.specs.Fmt.{HasWritten, IsPlainFormatter};
 ghost use Rattle.answertext.specs.Sinks.{WritesOrBegins, Puts};
@@ -6,7 +6,7 @@ ghost use Rattle.answertext.specs.Appending.{has_written-nothing, has_written-mo
 
 use std::{fmt, io};
 
-/// What takes texts piece by piece.
+/// What takes texts chunk by chunk.
 pub trait Sink {
     /// Why a text was not taken whole.
     type Fault: From<fmt::Error>;
@@ -17,9 +17,9 @@ pub trait Sink {
     /// The sink before, a text of which a beginning was put, and the sink after.
     ghost begins: { Self → List ℕ → Self → Type 0 };
 
-    /// Puts a piece. At a fault a beginning of it may have been put.
-    fn put<D: fmt::Display + Drop>(&mut self, piece: D) -> Result<(), Self::Fault>
-        ensures { IfSome (D.output piece) (λ text. Puts takes begins self.old result text self.new) };
+    /// Puts a chunk. At a fault a beginning of it may have been put.
+    fn put<D: fmt::Display + Drop>(&mut self, chunk: D) -> Result<(), Self::Fault>
+        ensures { IfSome (D.output chunk) (λ text. Puts takes begins self.old result text self.new) };
 
     ghost nothing: { (a : Self) → takes a [] a };
 
@@ -39,8 +39,8 @@ impl<W: fmt::Write> Sink for fmt::Formatter<W> {
 
     ghost begins = { λ a text b. ⊤ };
 
-    fn put<D: fmt::Display + Drop>(&mut self, piece: D) -> fmt::Result {
-        self.write(piece)
+    fn put<D: fmt::Display + Drop>(&mut self, chunk: D) -> fmt::Result {
+        self.write(chunk)
     }
 
     ghost nothing = { λ a plain. has_written-nothing W.write_str_gives a plain };

@@ -11,7 +11,7 @@ use Rattle.model.specs.Answers.{Query, read_at, closed_query}
 use Rattle.versionlaws.specs.Versions.{Version, Keeps}
 use Rattle.versionlaws.specs.Committing.{KeptLater}
 use Rattle.sqlread.specs.Shapes.{QueryShape}
-use Rattle.sqlread.specs.Meaning.{select_of, schema_of}
+use Rattle.sqlread.specs.Meaning.{select_of, language_of}
 use Rattle.answer.specs.declared.Answer.{Answer}
 use Rattle.answer.specs.Answers.{columns_in}
 use Rattle.sysversion.specs.Versions as versions
@@ -23,13 +23,13 @@ abbrev read : ℕ → QueryShape → Query
 read t q = read_at t (select_of q)
 
 pub asked_of : KeptLater → (schema : columns.Tables) (q : QueryShape) (list : List Entry) (time : Option ℕ) (tables : Tables) → AreTables schema list tables → IsStamped list → (r : Result Answer Refusal)
-    → IfOk r (λ a. IsAnswered q time (versions.versions_of tables.versions q.table) a) → IfErr r (λ refusal. IsUnanswered q time refusal) → IsAskedOf (schema_of schema) q list time r
+    → IfOk r (λ a. IsAnswered q time (versions.versions_of tables.versions q.table) a) → IfErr r (λ refusal. IsUnanswered q time refusal) → IsAskedOf (language_of schema) q list time r
 asked_of later schema q list time tables are stamped (Ok a) ok err =
     let t : ℕ = ok.0 in
     let vs : List Version = versions.versions_of tables.versions q.table in
-    let history : ℕ → Table = λ u. state_at (schema_of schema) list u q.table in
+    let history : ℕ → Table = λ u. state_at (language_of schema) list u q.table in
     let holds = are.held stamped q.table in
-    let keeps : Keeps vs history t = later (schema_of schema) q.table list vs t stamped holds in
+    let keeps : Keeps vs history t = later (language_of schema) q.table list vs t stamped holds in
     let query : closed_query (select_of q) time ≡ Some (read t q) = ap (closed_query (select_of q)) ok.1 ∙ rw (le-leb (read t q).time.last t ok.2) refl in
     (t, ok.1, query, ok.3 history keeps holds.apart)
 asked_of later schema q list time tables are stamped (Err refusal) ok err = err

@@ -11,7 +11,7 @@ use Rattle.model.specs.declared.entry.Request.{Request}
 use Rattle.model.specs.declared.entry.Entry.{Entry}
 use Rattle.model.specs.Stamps.{above}
 use Rattle.model.specs.Tables.{Row, IsRow, empty_table}
-use Rattle.model.specs.Transactions.{State, Schema, executed_text}
+use Rattle.model.specs.Transactions.{State, Language, executed_text}
 use Rattle.model.specs.Logs.{IsStamped, last_entry, closed, least_stamp, Outcome, executed, state_after, state_at, first_outcome, first_outcomes, kept, outcome, is_first}
 use Rattle.rowlaws.specs.Rows.{Lists}
 use Rattle.rowlaws.specs.Touching.{IsTouched}
@@ -24,7 +24,7 @@ use Rattle.versionlaws.specs.Committing.{committed, CommitEntry, EntryStays}
 use Rattle.current.specs.declared.current.Current.{Current}
 use Rattle.current.specs.Current as current
 use Rattle.sqlchecks.specs.Columns as columns
-use Rattle.sqlread.specs.Meaning.{schema_of}
+use Rattle.sqlread.specs.Meaning.{language_of}
 use Rattle.sysversion.specs.declared.Versions.{Versions}
 use Rattle.sysversion.specs.Versions as versions
 use Rattle.retry.specs.Judging.{Verdict, New, Gap, number_of, outcomes_of, again, judged_by, judged, with_outcome}
@@ -117,8 +117,8 @@ bound_less list e s = by (last_entry list) refl
 -- ---- one more entry
 
 module _ (tables : columns.Tables) (list : List Entry) (e : Entry) where
-  abbrev schema : Schema
-  schema = schema_of tables
+  abbrev language : Language
+  language = language_of tables
 
   abbrev before : List Entry
   before = reverse list
@@ -131,17 +131,17 @@ module _ (tables : columns.Tables) (list : List Entry) (e : Entry) where
 
   -- what becomes of the state, and of a client's requests
   abbrev after_request : ℕ → Option Request → List Entry → State → State
-  after_request t o es state = option_map_or (λ (r : Request). cond (is_first r es) (result_unwrap_or (executed_text schema t r.text state) state) state) o state
+  after_request t o es state = option_map_or (λ (r : Request). cond (is_first r es) (result_unwrap_or (executed_text language t r.text state) state) state) o state
 
   abbrev is_request : ℕ → ℕ → Option Request → Bool
   is_request client number o = option_map_or (λ (r : Request). r.client == client && r.number == number) o false
 
   abbrev outcomes_with : ℕ → ℕ → Option Request → List Entry → List Outcome → List Outcome
-  outcomes_with client t o es earlier = option_map_or (λ (r : Request). cond (r.client == client && is_first r es) (first_outcome schema t r es ∷ earlier) earlier) o earlier
+  outcomes_with client t o es earlier = option_map_or (λ (r : Request). cond (r.client == client && is_first r es) (first_outcome language t r es ∷ earlier) earlier) o earlier
 
-  state_is : (o : Option Request) → e.request ≡ o → state_after schema (reverse all) ≡ after_request e.stamp o before (state_after schema before)
+  state_is : (o : Option Request) → e.request ≡ o → state_after language (reverse all) ≡ after_request e.stamp o before (state_after language before)
   unfolding state_after
-  state_is o h = ap (state_after schema) more ∙ ap (λ r. after_request e.stamp r before (state_after schema before)) h
+  state_is o h = ap (state_after language) more ∙ ap (λ r. after_request e.stamp r before (state_after language before)) h
 
   executed_is : (o : Option Request) (client : ℕ) → e.request ≡ o → executed client (reverse all) ≡ cond (is_request client (executed client before + 1) o) (executed client before + 1) (executed client before)
   unfolding executed
@@ -149,24 +149,24 @@ module _ (tables : columns.Tables) (list : List Entry) (e : Entry) where
 
   -- the outcomes that are kept for a client after an entry of this request
   abbrev kept_after : Option Request → ℕ → List Outcome
-  kept_after o client = take 8 (outcomes_with client e.stamp o before (first_outcomes schema client before))
+  kept_after o client = take 8 (outcomes_with client e.stamp o before (first_outcomes language client before))
 
-  kept_is : (o : Option Request) (client : ℕ) → e.request ≡ o → kept schema client (reverse all) ≡ kept_after o client
+  kept_is : (o : Option Request) (client : ℕ) → e.request ≡ o → kept language client (reverse all) ≡ kept_after o client
   unfolding first_outcomes
-  kept_is o client h = ap (kept schema client) more ∙ ap (λ r. kept_after r client) h
+  kept_is o client h = ap (kept language client) more ∙ ap (λ r. kept_after r client) h
 
   module _ (stays_held : EntryStays) (old : Tables) (are : AreTables tables list old) where
     -- nothing is executed
     same : (new : Tables) → new.current ≡ old.current → new.versions ≡ old.versions → new.requests ≡ old.requests → new.last ≡ Some e.stamp
-        → state_after schema (reverse all) ≡ state_after schema before → ((c : ℕ) → executed c (reverse all) ≡ executed c before) → ((c : ℕ) → kept schema c (reverse all) ≡ kept schema c before)
+        → state_after language (reverse all) ≡ state_after language before → ((c : ℕ) → executed c (reverse all) ≡ executed c before) → ((c : ℕ) → kept language c (reverse all) ≡ kept language c before)
         → AreTables tables all new
     same new c v r l state numbers outcomes = record {
-      rows = subst (λ (s : State). AllListed (current.rows_of new.current) s) (sym state) (subst (λ (x : Current). AllListed (current.rows_of x) (state_after schema before)) (sym c) are.rows);
+      rows = subst (λ (s : State). AllListed (current.rows_of new.current) s) (sym state) (subst (λ (x : Current). AllListed (current.rows_of x) (state_after language before)) (sym c) are.rows);
       numbers = λ k. ap (λ x. number_of x k) r ∙ are.numbers k ∙ sym (numbers k);
       outcomes = λ k. ap (λ x. outcomes_of x k) r ∙ are.outcomes k ∙ sym (outcomes k);
       last = l ∙ sym (closed_more list e);
-      held = λ s n. subst (λ (x : Versions). Holds (versions.versions_of x n) (λ u. state_at schema all u n) (least_stamp all) (state_after schema (reverse all) n)) (sym v)
-          (stays_held schema n list e (versions.versions_of old.versions n) s (are.held (stamped_before list (e ∷ []) s) n) (ap (λ (x : State). x n) state));
+      held = λ s n. subst (λ (x : Versions). Holds (versions.versions_of x n) (λ u. state_at language all u n) (least_stamp all) (state_after language (reverse all) n)) (sym v)
+          (stays_held language n list e (versions.versions_of old.versions n) s (are.held (stamped_before list (e ∷ []) s) n) (ap (λ (x : State). x n) state));
       current_schema = ap current.schema_in c ∙ are.current_schema;
       versions_schema = ap versions.schema_in v ∙ are.versions_schema;
     }
@@ -188,24 +188,24 @@ module _ (tables : columns.Tables) (list : List Entry) (e : Entry) where
         | inr n ↦ rw n refl
       ]
 
-      kept_same : (c : ℕ) → kept_after (Some r) c ≡ kept schema c before
+      kept_same : (c : ℕ) → kept_after (Some r) c ≡ kept language c before
       kept_same c = elim (cases_Bool (r.client == c)) [
         | inl y ↦ rw (y, is_later) refl
         | inr n ↦ rw n refl
       ]
 
-      state_same : after_request e.stamp (Some r) before (state_after schema before) ≡ state_after schema before
+      state_same : after_request e.stamp (Some r) before (state_after language before) ≡ state_after language before
       state_same = rw is_later refl
 
       pub asked_again : (new : Tables) → new.current ≡ old.current → new.versions ≡ old.versions → new.requests ≡ old.requests → new.last ≡ Some e.stamp → AreTables tables all new
       asked_again new c v q l = same new c v q l (state_is (Some r) asks ∙ state_same) (λ k. executed_is (Some r) k asks ∙ none_more k) (λ k. kept_is (Some r) k asks ∙ kept_same k)
 
-      pub outcome_again : o ≡ outcome schema e.stamp r before
+      pub outcome_again : o ≡ outcome language e.stamp r before
       unfolding outcome
       outcome_again =
-          known_outcome (number_of old.requests r.client) (outcomes_of old.requests r.client) r.number (first_outcome schema e.stamp r before) o known
-          ∙ ap (λ n. outcome_by (first_outcome schema e.stamp r before) n r.number (outcomes_of old.requests r.client)) (are.numbers r.client)
-          ∙ ap (outcome_by (first_outcome schema e.stamp r before) (executed r.client before) r.number) (are.outcomes r.client)
+          known_outcome (number_of old.requests r.client) (outcomes_of old.requests r.client) r.number (first_outcome language e.stamp r before) o known
+          ∙ ap (λ n. outcome_by (first_outcome language e.stamp r before) n r.number (outcomes_of old.requests r.client)) (are.numbers r.client)
+          ∙ ap (outcome_by (first_outcome language e.stamp r before) (executed r.client before) r.number) (are.outcomes r.client)
 
     -- a request that is executed
     module _ (r : Request) (asks : e.request ≡ Some r) (unknown : unless_new (judged old.requests r.client r.number) ≡ None) where
@@ -213,13 +213,13 @@ module _ (tables : columns.Tables) (list : List Entry) (e : Entry) where
       is_next = subst (λ n. (r.number == n + 1) ≡ true) (are.numbers r.client) (new_number (number_of old.requests r.client) (outcomes_of old.requests r.client) r.number unknown)
 
       abbrev next : State
-      next = result_unwrap_or (executed_text schema e.stamp r.text (state_after schema before)) (state_after schema before)
+      next = result_unwrap_or (executed_text language e.stamp r.text (state_after language before)) (state_after language before)
 
-      state_next : after_request e.stamp (Some r) before (state_after schema before) ≡ next
+      state_next : after_request e.stamp (Some r) before (state_after language before) ≡ next
       state_next = rw is_next refl
 
-      module _ (o : Outcome) (is : o ≡ first_outcome schema e.stamp r before) where
-        pub outcome_first : o ≡ outcome schema e.stamp r before
+      module _ (o : Outcome) (is : o ≡ first_outcome language e.stamp r before) where
+        pub outcome_first : o ≡ outcome language e.stamp r before
         unfolding outcome
         outcome_first = rw is_next is
 
@@ -240,18 +240,18 @@ module _ (tables : columns.Tables) (list : List Entry) (e : Entry) where
           | inl y ↦
               let i : r.client ≡ c = eqb-true r.client c y in
               let z : (c == r.client) ≡ true = eq-eqb c r.client (sym i) in
-              let first = first_outcome schema e.stamp r before in
+              let first = first_outcome language e.stamp r before in
               rw (y, z, is_next) (
               ap (λ x. with_outcome x (outcomes_of old.requests r.client)) is ∙ ap (with_outcome first) (are.outcomes r.client)
-              ∙ ap (λ xs. first ∷ xs) (take_less 7 (first_outcomes schema r.client before)) ∙ ap (λ k. take 8 (first ∷ first_outcomes schema k before)) i)
+              ∙ ap (λ xs. first ∷ xs) (take_less 7 (first_outcomes language r.client before)) ∙ ap (λ k. take 8 (first ∷ first_outcomes language k before)) i)
           | inr n ↦
               let z : (c == r.client) ≡ false = elim (cases_Bool (c == r.client)) [ inl y ↦ absurd (both (eq-eqb r.client c (sym (eqb-true c r.client y))) n) | inr m ↦ m ] in
               rw (n, z) (are.outcomes c)
         ]
 
-        pub executed_first : CommitEntry → HeldByKey → HeldBefore → FineLogs → ReadsFine schema → (new : Tables)
+        pub executed_first : CommitEntry → HeldByKey → HeldBefore → FineLogs → ReadsFine language → (new : Tables)
             → AllListed (current.rows_of new.current) next
-            → ((n : ℕ) → IsCommitted e.stamp (state_after schema before n) (next n) (versions.versions_of old.versions n) (versions.versions_of new.versions n))
+            → ((n : ℕ) → IsCommitted e.stamp (state_after language before n) (next n) (versions.versions_of old.versions n) (versions.versions_of new.versions n))
             → ((c : ℕ) → number_of new.requests c ≡ cond (c == r.client) r.number (number_of old.requests c))
             → ((c : ℕ) → outcomes_of new.requests c ≡ cond (c == r.client) (with_outcome o (outcomes_of old.requests r.client)) (outcomes_of old.requests c))
             → new.last ≡ Some e.stamp → current.schema_in new.current ≡ current.schema_in old.current → versions.schema_in new.versions ≡ versions.schema_in old.versions
@@ -266,22 +266,22 @@ module _ (tables : columns.Tables) (list : List Entry) (e : Entry) where
           versions_schema = made' ∙ are.versions_schema;
         }
           where
-            state : state_after schema (reverse all) ≡ next
+            state : state_after language (reverse all) ≡ next
             state = state_is (Some r) asks ∙ state_next
 
-            by : IsStamped all → (n : ℕ) → IsCommitted e.stamp (state_after schema before n) (next n) (versions.versions_of old.versions n) (versions.versions_of new.versions n)
-                → Holds (versions.versions_of new.versions n) (λ u. state_at schema all u n) (least_stamp all) (state_after schema (reverse all) n)
+            by : IsStamped all → (n : ℕ) → IsCommitted e.stamp (state_after language before n) (next n) (versions.versions_of old.versions n) (versions.versions_of new.versions n)
+                → Holds (versions.versions_of new.versions n) (λ u. state_at language all u n) (least_stamp all) (state_after language (reverse all) n)
             by s n (inl stays) =
-                subst (λ (x : List Version). Holds x (λ u. state_at schema all u n) (least_stamp all) (state_after schema (reverse all) n)) (sym stays.1)
-                (stays_held schema n list e (versions.versions_of old.versions n) s (are.held (stamped_before list (e ∷ []) s) n) (ap (λ (x : State). x n) state ∙ stays.0))
+                subst (λ (x : List Version). Holds x (λ u. state_at language all u n) (least_stamp all) (state_after language (reverse all) n)) (sym stays.1)
+                (stays_held language n list e (versions.versions_of old.versions n) s (are.held (stamped_before list (e ∷ []) s) n) (ap (λ (x : State). x n) state ∙ stays.0))
             by s n (inr turned) =
                 let held = are.held (stamped_before list (e ∷ []) s) n in
                 let bound = bound_less list e s in
-                let born : (row : Row) → IsRow (state_after schema before n) row → row.system_start < e.stamp = λ row h. let b = held_before (versions.versions_of old.versions n) (λ u. state_at schema list u n) (least_stamp list) (state_after schema before n) row held h in omega arith in
-                let touched = whole e.stamp (state_after schema before n) (next n) turned.0 turned.1 turned.2 born in
-                let now : IsTouched (state_after schema before n) (state_after schema (reverse all) n) turned.0 turned.1 = subst (λ (x : State). IsTouched (state_after schema before n) (x n) turned.0 turned.1) (sym state) touched in
-                by_key (committed e.stamp turned.0 turned.1 (versions.versions_of old.versions n)) (versions.versions_of new.versions n) (λ u. state_at schema all u n) (least_stamp all) (state_after schema (reverse all) n)
-                (commit schema n list e (versions.versions_of old.versions n) turned.0 turned.1 s (fine schema all reads) held now) turned.3
+                let born : (row : Row) → IsRow (state_after language before n) row → row.system_start < e.stamp = λ row h. let b = held_before (versions.versions_of old.versions n) (λ u. state_at language list u n) (least_stamp list) (state_after language before n) row held h in omega arith in
+                let touched = whole e.stamp (state_after language before n) (next n) turned.0 turned.1 turned.2 born in
+                let now : IsTouched (state_after language before n) (state_after language (reverse all) n) turned.0 turned.1 = subst (λ (x : State). IsTouched (state_after language before n) (x n) turned.0 turned.1) (sym state) touched in
+                by_key (committed e.stamp turned.0 turned.1 (versions.versions_of old.versions n)) (versions.versions_of new.versions n) (λ u. state_at language all u n) (least_stamp all) (state_after language (reverse all) n)
+                (commit language n list e (versions.versions_of old.versions n) turned.0 turned.1 s (fine language all reads) held now) turned.3
 
 -- ---- before any entry
 
@@ -289,11 +289,11 @@ pub of_no_entry : NoVersions → LogsOnRows → (tables : columns.Tables) (new :
     → current.schema_in new.current ≡ tables → versions.schema_in new.versions ≡ tables → AreTables tables [] new
 unfolding state_after executed first_outcomes rows_after
 of_no_entry none logs tables new rows kept' numbers outcomes last made made' = record {
-  rows = λ n. subst (λ (x : List Row). Lists x (state_after (schema_of tables) [] n)) (sym (rows n)) (logs (schema_of tables) [] tt n);
+  rows = λ n. subst (λ (x : List Row). Lists x (state_after (language_of tables) [] n)) (sym (rows n)) (logs (language_of tables) [] tt n);
   numbers = numbers;
   outcomes = outcomes;
   last = last;
-  held = λ s n. subst (λ (x : List Version). Holds x (λ u. state_at (schema_of tables) [] u n) 0 empty_table) (sym (kept' n)) (none (λ u. state_at (schema_of tables) [] u n));
+  held = λ s n. subst (λ (x : List Version). Holds x (λ u. state_at (language_of tables) [] u n) 0 empty_table) (sym (kept' n)) (none (λ u. state_at (language_of tables) [] u n));
   current_schema = made;
   versions_schema = made';
 }

@@ -28,7 +28,7 @@ use Rattle.sqlread.specs.declared.statement.Statement.TheVariants as read
 use Rattle.sqlread.specs.Shapes.{StatementShape, InsertShape, UpdateShape, DeleteShape, statement_of}
 use Rattle.model.specs.Periods.{period_of}
 use Rattle.sqlread.specs.Shapes as shapes
-use Rattle.sqlread.specs.Meaning.{meaning, meanings, all_days, schema_of}
+use Rattle.sqlread.specs.Meaning.{meaning, meanings, all_days, language_of}
 use Rattle.sqlread.specs.Changes.{Given, in_table, assignments_after, list_in, given, values_in, value_given, day_of, day_given, row_given, insert_into, insert_in, portion_in, if_given, all_given, update_in, delete_in, statement_in, statements_in}
 use Rattle.sqlread.specs.Texts.{transaction_in}
 use Rattle.rowlaws.specs.Rows.{Has}
@@ -40,7 +40,7 @@ unfolding days
 portion_fine None = omega arith
 portion_fine (Some p) = p.ordered
 
-pub statement_fine : (s : Read) → IsFine (meaning (statement_of s)).change
+pub statement_fine : (s : Read) → IsFine (meaning (statement_of s)).action
 unfolding days
 statement_fine (read.Insert i) = (i.period.ordered, i.period.end.in_range)
 statement_fine (read.Update u) = portion_fine u.portion
@@ -175,11 +175,11 @@ in_some_table tables name f a e =
     let y = bind_ok _ (λ table. f x.0 table.1) a x.2 in
     (x.0, y.0.1, y.2)
 
-insert_fine : LiteralsInCalendar → (tables : Tables) (form : InsertForm) (s : InsertShape) → insert_in tables form ≡ Ok s → IsFine (meaning (shapes.Insert s)).change
+insert_fine : LiteralsInCalendar → (tables : Tables) (form : InsertForm) (s : InsertShape) → insert_in tables form ≡ Ok s → IsFine (meaning (shapes.Insert s)).action
 unfolding insert_in
 insert_fine calendar tables form s e = let t = in_some_table tables form.0 _ s e in into_fine calendar t.0 t.1 form s t.2
 
-update_fine : (tables : Tables) (form : UpdateForm) (s : UpdateShape) → update_in tables form ≡ Ok s → IsFine (meaning (shapes.Update s)).change
+update_fine : (tables : Tables) (form : UpdateForm) (s : UpdateShape) → update_in tables form ≡ Ok s → IsFine (meaning (shapes.Update s)).action
 unfolding update_in
 update_fine tables form s e =
     let t = in_some_table tables form.0 _ s e in
@@ -191,7 +191,7 @@ update_fine tables form s e =
     let c = made (all_given (comparisons_in table) form.1.1.1) (λ conditions. record { table = place; portion = portion; assignments = b.0; conditions = conditions }) s b.2 in
     subst (λ (x : UpdateShape). (unwrap_or x.portion all_days).start < (unwrap_or x.portion all_days).end) c.1 (optional_has table form.1.0 portion a.1)
 
-delete_fine : (tables : Tables) (form : DeleteForm) (s : DeleteShape) → delete_in tables form ≡ Ok s → IsFine (meaning (shapes.Delete s)).change
+delete_fine : (tables : Tables) (form : DeleteForm) (s : DeleteShape) → delete_in tables form ≡ Ok s → IsFine (meaning (shapes.Delete s)).action
 unfolding delete_in
 delete_fine tables form s e =
     let t = in_some_table tables form.0 _ s e in
@@ -202,13 +202,13 @@ delete_fine tables form s e =
     let c = made (all_given (comparisons_in table) form.1.1) (λ conditions. record { table = place; portion = portion; conditions = conditions }) s a.2 in
     subst (λ (x : DeleteShape). (unwrap_or x.portion all_days).start < (unwrap_or x.portion all_days).end) c.1 (optional_has table form.1.0 portion a.1)
 
-read_fine : LiteralsInCalendar → (tables : Tables) (form : StatementForm) (s : StatementShape) → statement_in tables form ≡ Ok s → IsFine (meaning s).change
+read_fine : LiteralsInCalendar → (tables : Tables) (form : StatementForm) (s : StatementShape) → statement_in tables form ≡ Ok s → IsFine (meaning s).action
 unfolding statement_in
-read_fine calendar tables (inl insert) s e = let a = bind_ok (insert_in tables insert) _ s e in let k : shapes.Insert a.0 ≡ s = let h = a.2 in cc in subst (λ (x : StatementShape). IsFine (meaning x).change) k (insert_fine calendar tables insert a.0 a.1)
-read_fine calendar tables (inr (inl update)) s e = let a = bind_ok (update_in tables update) _ s e in let k : shapes.Update a.0 ≡ s = let h = a.2 in cc in subst (λ (x : StatementShape). IsFine (meaning x).change) k (update_fine tables update a.0 a.1)
-read_fine calendar tables (inr (inr delete)) s e = let a = bind_ok (delete_in tables delete) _ s e in let k : shapes.Delete a.0 ≡ s = let h = a.2 in cc in subst (λ (x : StatementShape). IsFine (meaning x).change) k (delete_fine tables delete a.0 a.1)
+read_fine calendar tables (inl insert) s e = let a = bind_ok (insert_in tables insert) _ s e in let k : shapes.Insert a.0 ≡ s = let h = a.2 in cc in subst (λ (x : StatementShape). IsFine (meaning x).action) k (insert_fine calendar tables insert a.0 a.1)
+read_fine calendar tables (inr (inl update)) s e = let a = bind_ok (update_in tables update) _ s e in let k : shapes.Update a.0 ≡ s = let h = a.2 in cc in subst (λ (x : StatementShape). IsFine (meaning x).action) k (update_fine tables update a.0 a.1)
+read_fine calendar tables (inr (inr delete)) s e = let a = bind_ok (delete_in tables delete) _ s e in let k : shapes.Delete a.0 ≡ s = let h = a.2 in cc in subst (λ (x : StatementShape). IsFine (meaning x).action) k (delete_fine tables delete a.0 a.1)
 
-all_fine : (ss : List StatementShape) → ((s : StatementShape) → Has ss s → IsFine (meaning s).change) → AreFine (map meaning ss)
+all_fine : (ss : List StatementShape) → ((s : StatementShape) → Has ss s → IsFine (meaning s).action) → AreFine (map meaning ss)
 all_fine [] h = tt
 all_fine (s ∷ ss) h = (h s (inl refl), all_fine ss (λ x g. h x (inr g)))
 
@@ -218,7 +218,7 @@ unless_long false r x a e = e
 
 statements_fine : LiteralsInCalendar → (tables : Tables) (forms : List StatementForm) (ss : List StatementShape) → statements_in tables forms ≡ Ok ss → AreFine (map meaning ss)
 unfolding statements_in
-statements_fine calendar tables forms ss e = all_fine ss (each_in (statement_in tables) (λ s. IsFine (meaning s).change) (read_fine calendar tables) forms ss (unless_long _ _ _ ss e))
+statements_fine calendar tables forms ss e = all_fine ss (each_in (statement_in tables) (λ s. IsFine (meaning s).action) (read_fine calendar tables) forms ss (unless_long _ _ _ ss e))
 
 text_fine : LiteralsInCalendar → (tables : Tables) (text : List ℕ) (ss : List StatementShape) → transaction_in tables text ≡ Ok ss → AreFine (map meaning ss)
 unfolding transaction_in
@@ -227,8 +227,8 @@ text_fine calendar tables text ss e =
     statements_fine calendar tables a.0 ss a.2
 
 -- what any text says is well formed
-pub reads_fine : LiteralsInCalendar → (tables : Tables) → ReadsFine (schema_of tables)
-unfolding schema_of
+pub reads_fine : LiteralsInCalendar → (tables : Tables) → ReadsFine (language_of tables)
+unfolding language_of
 reads_fine calendar tables text = by (transaction_in tables text) refl
   where
     by : (r : Result (List StatementShape) Refusal) → transaction_in tables text ≡ r → AreFine (result_unwrap_or (meanings r) [])

@@ -5,7 +5,7 @@ use Rattle.std.proofs.Props.{props}
 use mathlib.Core.HLevel.{is_prop→PathP, Unit-prop}
 use Rattle.model.specs.declared.value.Value.{Value}
 use Rattle.model.specs.declared.entry.Entry.{Entry}
-use Rattle.model.specs.Tables.{Table, Row, Cell, IsRow}
+use Rattle.model.specs.Tables.{Table, Row, Fact, IsRow}
 use Rattle.schema.specs.Shape.{TableShape, ReferenceShape}
 use Rattle.schema.specs.declared.table.Kind.{Kind}
 use Rattle.sqlchecks.specs.Columns as columns
@@ -30,7 +30,7 @@ row_set = hlevel (props, key_set)
 version_set : IsSet Version
 version_set = hlevel (props, row_set)
 
-cell_set : IsSet (Option Cell)
+cell_set : IsSet (Option Fact)
 cell_set = hlevel (props, key_set)
 
 row_prop : (table : Table) (row : Row) → IsProp (IsRow table row)

@@ -6,7 +6,7 @@ ghost use Rattle.model.specs.Transactions.{State, first_orphan};
 ghost use Rattle.rowlaws.specs.Statements.{AllListed};
 ghost use Rattle.rowlaws.specs.Transactions.{TransactionsFollow};
 ghost use Rattle.rowlaws.specs.Whole.{ComesFromWhole, WholeItself, WholeThen};
-ghost use Rattle.sqlread.specs.Meaning.{schema_of, meaning};
+ghost use Rattle.sqlread.specs.Meaning.{language_of, meaning};
 ghost use Rattle.sqlread.specs.Shapes.{statement_of};
 ghost use Rattle.current.specs.Current.{rows_of, schema_in, table_count};
 ghost use Rattle.current.specs.Touched.{removed_in, added_in};
@@ -53,8 +53,8 @@ fn transact(
     t: Stamp,
     before: Touched,
 ) -> Result<Touched, Refusal>
-    ensures ok { IfOk result (λ touched. ComesFromWhole (schema_of (schema_in current.old)) (rows_of current.old) (removed_in before) (added_in before) → IsTransacted (schema_of (schema_in current.old)) t (map meaning (map statement_of statements.now)) (rows_of current.old) (rows_of current.new) (removed_in touched) (added_in touched)) }
-    ensures err { IfErr result (λ refusal. ComesFromWhole (schema_of (schema_in current.old)) (rows_of current.old) (removed_in before) (added_in before) → IsRefusedWhole (schema_of (schema_in current.old)) t (map meaning (map statement_of statements.now)) (rows_of current.old) (rows_of current.new) refusal) }
+    ensures ok { IfOk result (λ touched. ComesFromWhole (language_of (schema_in current.old)) (rows_of current.old) (removed_in before) (added_in before) → IsTransacted (language_of (schema_in current.old)) t (map meaning (map statement_of statements.now)) (rows_of current.old) (rows_of current.new) (removed_in touched) (added_in touched)) }
+    ensures err { IfErr result (λ refusal. ComesFromWhole (language_of (schema_in current.old)) (rows_of current.old) (removed_in before) (added_in before) → IsRefusedWhole (language_of (schema_in current.old)) t (map meaning (map statement_of statements.now)) (rows_of current.old) (rows_of current.new) refusal) }
     ensures back { IfErr result (λ refusal. (refusal ≡ NoMemory) ⊎ AreBack (rows_of current.old) (rows_of current.new)) }
     ensures schema { schema_in current.new ≡ schema_in current.old }
     ensures tables { IfOk result (λ touched. length touched.tables.items ≤ table_count current.old) }
@@ -80,7 +80,7 @@ fn transact(
 
 // The statements of a text, none of one that does not read.
 fn statements(alloc: Global, schema: &Schema, text: &str) -> Result<Vec<Statement>, AllocError>
-    ensures { IfOk result (λ all. map meaning (map statement_of all.items) ≡ result_unwrap_or ((schema_of schema.now).reads text.now) []) }
+    ensures { IfOk result (λ all. map meaning (map statement_of all.items) ≡ result_unwrap_or ((language_of schema.now).reads text.now) []) }
 {
     match read_transaction(alloc, schema, text) {
         Ok(transaction) => Ok(transaction.statements),
@@ -102,7 +102,7 @@ pub(crate) fn execute(
     text: &str,
     t: Stamp,
 ) -> Result<Outcome, AllocError>
-    ensures executed { IfOk result (λ outcome. (state : State) → AllListed (rows_of current.old) state → stored.schema_in versions.old ≡ schema_in current.old → first_orphan (schema_of (schema_in current.old)) state ≡ None → IsExecuted (schema_of (schema_in current.old)) t text.now state (rows_of current.new) (versions_of versions.old) (versions_of versions.new) outcome) }
+    ensures executed { IfOk result (λ outcome. (state : State) → AllListed (rows_of current.old) state → stored.schema_in versions.old ≡ schema_in current.old → first_orphan (language_of (schema_in current.old)) state ≡ None → IsExecuted (language_of (schema_in current.old)) t text.now state (rows_of current.new) (versions_of versions.old) (versions_of versions.new) outcome) }
     ensures current_schema { schema_in current.new ≡ schema_in current.old }
     ensures versions_schema { stored.schema_in versions.new ≡ stored.schema_in versions.old }
 {

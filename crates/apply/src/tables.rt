@@ -6,7 +6,7 @@ ghost use Rattle.model.specs.declared.entry.Entry as entries;
 ghost use Rattle.model.specs.Logs.{IsStamped, closed, outcome};
 ghost use Rattle.sqlchecks.specs.Columns as columns;
 ghost use Rattle.sqlread.specs.Calendar.{LiteralsInCalendar};
-ghost use Rattle.sqlread.specs.Meaning.{schema_of};
+ghost use Rattle.sqlread.specs.Meaning.{language_of};
 ghost use Rattle.sqlread.specs.Shapes.{query_of};
 ghost use Rattle.answer.specs.Answers.{columns_in};
 ghost use Rattle.retry.specs.Judging.{judged};
@@ -114,7 +114,7 @@ impl Tables {
     // Takes in one more entry. After want of memory it is of no list.
     fn take(&mut self, entry: &Entry) -> Result<Option<Outcome>, AllocError>
         ensures kept { OnOk result ((schema : columns.Tables) (list : List entries.Entry) → AreTables schema list self.old → AreTables schema (list ++ entry.now ∷ []) self.new) }
-        ensures outcome { IfOk result (λ o. (schema : columns.Tables) (list : List entries.Entry) → AreTables schema list self.old → o ≡ option_map (λ r. outcome (schema_of schema) entry.now.stamp r (reverse list)) entry.now.request) }
+        ensures outcome { IfOk result (λ o. (schema : columns.Tables) (list : List entries.Entry) → AreTables schema list self.old → o ≡ option_map (λ r. outcome (language_of schema) entry.now.stamp r (reverse list)) entry.now.request) }
         ensures failed { is_failed self.new ≡ is_failed self.old }
     {
         log_laws();
@@ -144,7 +144,7 @@ impl Tables {
     /// Want of memory is never an outcome: the value has then failed, and answers only that.
     pub fn apply(&mut self, entry: &Entry) -> Result<Option<Outcome>, AllocError>
         ensures kept { OnOk result ((schema : columns.Tables) (list : List entries.Entry) → AreTables schema list self.old → AreTables schema (list ++ entry.now ∷ []) self.new) }
-        ensures outcome { IfOk result (λ o. (schema : columns.Tables) (list : List entries.Entry) → AreTables schema list self.old → o ≡ option_map (λ r. outcome (schema_of schema) entry.now.stamp r (reverse list)) entry.now.request) }
+        ensures outcome { IfOk result (λ o. (schema : columns.Tables) (list : List entries.Entry) → AreTables schema list self.old → o ≡ option_map (λ r. outcome (language_of schema) entry.now.stamp r (reverse list)) entry.now.request) }
         ensures err { OnErr result (is_failed self.new ≡ true) }
         ensures up { OnOk result (is_failed self.new ≡ false) }
         ensures once_failed { is_failed self.old ≡ true → result ≡ Err alloc_error }
@@ -175,7 +175,7 @@ impl Tables {
     /// The answer is that in the list of the entries applied. It stays the answer where each entry that is applied
     /// later has a stamp above the closed time, as is so of `closed`; that it is so of a later one is the caller's to know.
     pub fn ask(&self, query: &Query, closed: Option<Stamp>) -> Result<Answer, Refusal>
-        ensures asked { (schema : columns.Tables) (list : List entries.Entry) → AreTables schema list self.now → IsStamped list → IsAskedOf (schema_of schema) (query_of query.now) list closed result }
+        ensures asked { (schema : columns.Tables) (list : List entries.Entry) → AreTables schema list self.now → IsStamped list → IsAskedOf (language_of schema) (query_of query.now) list closed result }
         ensures columns { (schema : columns.Tables) (list : List entries.Entry) → AreTables schema list self.now → IfOk result (λ a. a.columns.items ≡ columns_in schema query.now.table) }
         ensures once_failed { is_failed self.now ≡ true → result ≡ Err NoMemory }
     {

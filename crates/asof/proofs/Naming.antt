@@ -27,17 +27,6 @@ use Rattle.asof.specs.Named.{equal_at, said_by, or_else, said_at, day_of, IsName
 
 -- ---- places of lists
 
-pub got_before : (xs : List Value) (v : Value) (n : ℕ) → n < length xs → slice_get (xs ++ v ∷ []) n ≡ slice_get xs n
-got_before [] v n l = absurd (omega arith)
-got_before (x ∷ xs) v zero l = refl
-got_before (x ∷ xs) v (suc n) l = got_before xs v n (omega arith)
-
-pub got_last : (xs : List Value) (v : Value) (n : ℕ) → n ≡ length xs → slice_get (xs ++ v ∷ []) n ≡ Some v
-got_last [] v zero e = refl
-got_last [] v (suc n) e = absurd (omega (arith, e))
-got_last (x ∷ xs) v zero e = absurd (omega (arith, e))
-got_last (x ∷ xs) v (suc n) e = got_last xs v n (omega (arith, e))
-
 some_at : (xs : List Value) (i : ℕ) → i < length xs → (x : Value) × (slice_get xs i ≡ Some x)
 some_at [] i l = absurd (omega arith)
 some_at (x ∷ xs) zero l = (x, refl)

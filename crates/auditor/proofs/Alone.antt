@@ -1,7 +1,7 @@
 -- The join of the lives is one, and what it leads to is one: where a moment has no events, nothing explains the lives.
 use Rattle.std.proofs.Common.{◌≡◌, ◌∙◌, ℕ, List, [], ◌∷◌, ◌++◌, length, sym, subst}
 use Rattle.model.specs.Worlds.{Event}
-use Rattle.sqlread.specs.Meaning.{schema_of}
+use Rattle.sqlread.specs.Meaning.{language_of}
 use Rattle.moments.specs.declared.moment.Moment.{Moment}
 use Rattle.moments.specs.declared.recorded.AuditFault.{AuditFault}
 use Rattle.moments.specs.Moments.{all_moments, IsTimeline}
@@ -20,7 +20,7 @@ not_past r n p q past [] later m es events led none goes =
 not_past r n p q past (k ∷ before) later m es events led none goes =
     let L : Past → Type 0 = λ x. Leads r n x before led.1 past in
     let next = subst L (same_after r n p k led.0 goes.0 led.3 goes.3) led.4 in
-    not_past r n (after (schema_of r.tables) n p k.mark goes.0) q past before later m led.1 goes.1 next none goes.4
+    not_past r n (after (language_of r.tables) n p k.mark goes.0) q past before later m led.1 goes.1 next none goes.4
 
 by_moment : (r : Records) (moments : List Moment) (f : AuditFault) → IsTimeline r.lives r.answers moments → IsStuck r (length r.lives) (beginning (length r.lives)) moments f → NoneAre (Explains r)
 by_moment r moments f timeline stuck events e =

@@ -7,16 +7,15 @@ use Rattle.model.specs.Worlds.{Event}
 use Rattle.flight.specs.declared.flight.Version.{Version}
 use Rattle.flight.specs.declared.life.Life.{Life}
 use Rattle.sqlchecks.specs.Columns.{Tables}
-use Rattle.sqlread.specs.Meaning.{schema_of}
+use Rattle.sqlread.specs.Meaning.{language_of}
 use Rattle.world.specs.Run.{tables_in, members_in, events_of}
 use Rattle.moments.specs.declared.replay.Replay.{Replay}
 use Rattle.moments.specs.declared.moment.Moment.{Moment}
 use Rattle.moments.specs.declared.recorded.Recorded.{Recorded}
-use Rattle.moments.specs.Past.{Past, after, beginning}
+use Rattle.moments.specs.Past.{Past, after}
 use Rattle.moments.specs.Behind.{Records, IsBehind}
-use Rattle.auditor.specs.Audited.{Leads, IsFirst, IsStuck}
+use Rattle.auditor.specs.Audited.{Leads, IsStuck}
 use Rattle.moments.specs.Faults.{IsFaultAt, IsNo, Lacks, NoneAre}
-use Rattle.moments.specs.Moments.{IsTimeline}
 use Rattle.moments.specs.declared.recorded.AuditFault.{AuditFault}
 use Rattle.auditor.proofs.Judging.{no_weaker}
 use Rattle.std.proofs.Math.Seq.{drop-cons}
@@ -24,12 +23,12 @@ use Rattle.std.proofs.lemmas.List.{take-append-drop}
 use Rattle.moments.specs.View.{past_of, Follows}
 use Rattle.auditor.specs.View.{IsLed}
 
-leads_more : (r : Records) (n : ℕ) (p q : Past) (ms : List Moment) (m : Moment) (es now : List Event) → Leads r n p ms es q → IsBehind r n q m now → Leads r n p (ms ++ m ∷ []) (es ++ now) (after (schema_of r.tables) n q m.mark now)
+leads_more : (r : Records) (n : ℕ) (p q : Past) (ms : List Moment) (m : Moment) (es now : List Event) → Leads r n p ms es q → IsBehind r n q m now → Leads r n p (ms ++ m ∷ []) (es ++ now) (after (language_of r.tables) n q m.mark now)
 leads_more r n p q [] m es now led behind =
     let B : Past → Type 0 = λ x. IsBehind r n x m now in
-    (now, [], ap (λ xs. xs ++ now) led.0 ∙ sym (append-nil now), subst B led.1 behind, (refl, ap (λ (x : Past). after (schema_of r.tables) n x m.mark now) led.1))
+    (now, [], ap (λ xs. xs ++ now) led.0 ∙ sym (append-nil now), subst B led.1 behind, (refl, ap (λ (x : Past). after (language_of r.tables) n x m.mark now) led.1))
 leads_more r n p q (k ∷ ms) m es now led behind =
-    (led.0, led.1 ++ now, ap (λ xs. xs ++ now) led.2 ∙ append_assoc led.0 led.1 now, led.3, leads_more r n (after (schema_of r.tables) n p k.mark led.0) q ms m led.1 now led.4 behind)
+    (led.0, led.1 ++ now, ap (λ xs. xs ++ now) led.2 ∙ append_assoc led.0 led.1 now, led.3, leads_more r n (after (language_of r.tables) n p k.mark led.0) q ms m led.1 now led.4 behind)
 
 -- one more moment
 pub led_more : (v : Version) (lives : List (Vec Life Global)) (answers : List Recorded) (old cur new : Replay) (ms : List Moment) (m : Moment) (es : List Event) →
@@ -42,8 +41,8 @@ led_more v lives answers old cur new ms m es led follows =
     let B : Tables → Type 0 = λ t. IsBehind (record { version = v; tables = t; lives = lives; answers = answers }) (members_in cur.world) (past_of cur) m now in
     let C : ℕ → Type 0 = λ n. IsBehind (record { version = v; tables = tables_in old.world; lives = lives; answers = answers }) n (past_of cur) m now in
     let behind = subst C led.members (subst B led.tables follows.1) in
-    let past : past_of new ≡ after (schema_of (tables_in old.world)) (members_in old.world) (past_of cur) m.mark now =
-    here.past ∙ ap (λ (t : Tables). after (schema_of t) (members_in cur.world) (past_of cur) m.mark now) led.tables ∙ ap (λ (n : ℕ). after (schema_of (tables_in old.world)) n (past_of cur) m.mark now) led.members in
+    let past : past_of new ≡ after (language_of (tables_in old.world)) (members_in old.world) (past_of cur) m.mark now =
+    here.past ∙ ap (λ (t : Tables). after (language_of t) (members_in cur.world) (past_of cur) m.mark now) led.tables ∙ ap (λ (n : ℕ). after (language_of (tables_in old.world)) n (past_of cur) m.mark now) led.members in
     let L : Past → Type 0 = λ q. Leads (record { version = v; tables = tables_in old.world; lives = lives; answers = answers }) (members_in old.world) (past_of old) (ms ++ m ∷ []) (es ++ now) q in (
       es ++ now,
       record {
@@ -84,14 +83,3 @@ pub stuck_if : {T : Type 0} (v : Version) (lives : List (Vec Life Global)) (answ
     IfErr res (IsNo (IsStuck (record { version = v; tables = tables_in old.world; lives = lives; answers = answers }) (members_in old.world) (past_of old) all))
 stuck_if {T} v lives answers old cur all i m es (Ok x) led within is said = said
 stuck_if {T} v lives answers old cur all i m es (Err f) led within is said = stuck_at v lives answers old cur all i m es f led within is said
-
--- a replay that began with these tables and so many members
-pub first_from : (r : Records) (x : Replay) (moments : List Moment) (f : AuditFault) → tables_in x.world ≡ r.tables → members_in x.world ≡ length r.lives → past_of x ≡ beginning (length r.lives) →
-    IsTimeline r.lives r.answers moments →
-    IsNo (IsStuck (record { version = r.version; tables = tables_in x.world; lives = r.lives; answers = r.answers }) (members_in x.world) (past_of x) moments) f → IsNo (IsFirst r) f
-first_from r x moments f tables members past timeline said =
-    no_weaker (IsStuck (record { version = r.version; tables = tables_in x.world; lives = r.lives; answers = r.answers }) (members_in x.world) (past_of x) moments) (IsFirst r) f (λ g stuck.
-    let A : Tables → Type 0 = λ t. IsStuck (record { version = r.version; tables = t; lives = r.lives; answers = r.answers }) (members_in x.world) (past_of x) moments g in
-    let B : ℕ → Type 0 = λ n. IsStuck r n (past_of x) moments g in
-    let C : Past → Type 0 = λ p. IsStuck r (length r.lives) p moments g in
-    (moments, timeline, subst C past (subst B members (subst A tables stuck)))) said

@@ -5,3 +5,5 @@ pub mod Leading
 pub mod Sorting
 pub mod Listing
 pub mod Upholding
+pub mod JoinedSame
+pub mod Verdicts

@@ -17,7 +17,7 @@ use Rattle.model.specs.Lists.{nth, IsBeginning}
 use Rattle.model.specs.Agreement.{Agree, IsTold}
 use Rattle.model.specs.Answers.{Answer, IsAnswer, Query, Select, read_at, closed_query}
 use Rattle.model.specs.Members.{Node, applied, closed_time}
-use Rattle.model.specs.Transactions.{Schema}
+use Rattle.model.specs.Transactions.{Language}
 use Rattle.model.specs.Worlds.{World, Event, Output, Ask, Sent, Applied, Refused, Answered, Gives, IsGivenAt, IsGivenBy, IsGivenIn, new_world, run, happens}
 use Rattle.model.specs.declared.entry.Entry.{Entry}
 use Rattle.model.specs.declared.entry.Told.{Told}
@@ -28,7 +28,7 @@ use Rattle.flight.specs.declared.flight.Version.TheVariants.{One, Two, Three}
 use Rattle.flight.specs.declared.life.Life.{Life}
 use Rattle.flight.specs.declared.life.Step.{Step}
 use Rattle.flight.specs.declared.outcome.Outcome.{Outcome}
-use Rattle.sqlread.specs.Meaning.{schema_of, select_of}
+use Rattle.sqlread.specs.Meaning.{language_of, select_of}
 use Rattle.sqlread.specs.Shapes.{QueryShape}
 use Rattle.sqlread.specs.Texts.{query_in}
 use Rattle.moments.specs.declared.moment.Deed.TheVariants.{Takes, Answers}
@@ -44,20 +44,15 @@ use Rattle.auditor.proofs.Listing.{answer_listed, step_listed}
 
 -- ---- a moment among all
 
-abbrev schema_in : Records → Schema
-schema_in r = schema_of r.tables
+abbrev schema_in : Records → Language
+schema_in r = language_of r.tables
 
 abbrev opening_of : Records → World
 opening_of r = new_world (length r.lives)
 
-run_append : (s : Schema) (n : ℕ) (w : World) (xs ys : List Event) → run s n w (xs ++ ys) ≡ run s n (run s n w xs) ys
+run_append : (s : Language) (n : ℕ) (w : World) (xs ys : List Event) → run s n w (xs ++ ys) ≡ run s n (run s n w xs) ys
 run_append s n w [] ys = refl
 run_append s n w (x ∷ xs) ys = run_append s n (happens s n w x) xs ys
-
-leads_run : (r : Records) (n : ℕ) (p q : Past) (ms : List Moment) (events : List Event) → Leads r n p ms events q → q.world ≡ run (schema_in r) n p.world events
-leads_run r n p q [] events led = ap (λ (x : Past). x.world) led.1 ∙ ap (run (schema_in r) n p.world) (sym led.0)
-leads_run r n p q (m ∷ ms) events led =
-    leads_run r n (after (schema_in r) n p m.mark led.0) q ms led.1 led.4 ∙ sym (run_append (schema_in r) n p.world led.0 led.1) ∙ ap (run (schema_in r) n p.world) (sym led.2)
 
 -- what is behind one moment of those that happened
 record IsPlaced (r : Records) (n : ℕ) (p : Past) (m : Moment) (events : List Event) : Type 0 where
@@ -181,7 +176,7 @@ closed_by q (Some t) r is =
     let tested = by_test (nat_le (read_at t q).time.last t) (read_at t q) r is in
     (t, refl, subst (λ (x : Query). x.time.last ≤ t) tested.1 (leb-true (read_at t q).time.last t tested.0))
 
-closes_in : (s : Schema) (m : ℕ) (q : Select) (y : Node) (c : Option Query) (x : Answer) (out : List Output) (k : ℕ) → closed_query q (closed_time y) ≡ c → IsGivenIn s m y c out → out ≡ Answered k x ∷ [] → Closes (Some y) m k x.last
+closes_in : (s : Language) (m : ℕ) (q : Select) (y : Node) (c : Option Query) (x : Answer) (out : List Output) (k : ℕ) → closed_query q (closed_time y) ≡ c → IsGivenIn s m y c out → out ≡ Answered k x ∷ [] → Closes (Some y) m k x.last
 closes_in s m q y None x out k is given shape = absurd (cc (given, shape))
 closes_in s m q y (Some r) x out k is (a, answers, gave) shape =
     let same : a ≡ x = cc (gave, shape) in
@@ -189,11 +184,11 @@ closes_in s m q y (Some r) x out k is (a, answers, gave) shape =
     let last : x.last ≡ r.time.last = ap (λ (z : Answer). z.last) (sym same) ∙ answers.last in
     record { named = cc (gave, shape); member = y; time = c.0; is = refl; closed = c.1; within = omega (arith, c.2, last) }
 
-closes_by : (s : Schema) (m : ℕ) (q : Select) (y : Node) (up : Bool) (x : Answer) (out : List Output) (k : ℕ) → IsGivenBy s m q y up out → out ≡ Answered k x ∷ [] → Closes (Some y) m k x.last
+closes_by : (s : Language) (m : ℕ) (q : Select) (y : Node) (up : Bool) (x : Answer) (out : List Output) (k : ℕ) → IsGivenBy s m q y up out → out ≡ Answered k x ∷ [] → Closes (Some y) m k x.last
 closes_by s m q y false x out k given shape = absurd (cc (given, shape))
 closes_by s m q y true x out k given shape = closes_in s m q y (closed_query q (closed_time y)) x out k refl given shape
 
-closes_at : (s : Schema) (m : ℕ) (q : Select) (o : Option Node) (x : Answer) (out : List Output) (k : ℕ) → IsGivenAt s m q o out → out ≡ Answered k x ∷ [] → Closes o m k x.last
+closes_at : (s : Language) (m : ℕ) (q : Select) (o : Option Node) (x : Answer) (out : List Output) (k : ℕ) → IsGivenAt s m q o out → out ≡ Answered k x ∷ [] → Closes o m k x.last
 closes_at s m q None x out k given shape = absurd (cc (given, shape))
 closes_at s m q (Some y) x out k given shape = closes_by s m q y y.up x out k given shape
 
@@ -201,7 +196,7 @@ beginning_within : (xs ys : List Entry) → IsBeginning xs ys → length xs ≤ 
 beginning_within xs ys (rest, is) = omega (arith, ap length is, length-append xs rest)
 
 abbrev Always : Type 0
-Always = (schema : Schema) (n : ℕ) (events : List Event) → Agree schema n (new_world n) events
+Always = (language : Language) (n : ℕ) (events : List Event) → Agree language n (new_world n) events
 
 -- what was not decided by then is stamped above what was closed at a member
 later_above : Always → (r : Records) (events early late : List Event) (node k last : ℕ) → AgreesIn r events → early ++ late ≡ events → Closes (nth (run (schema_in r) (length r.lives) (opening_of r) early).nodes node) node k last →

@@ -1,7 +1,7 @@
 -- When a run explains what was recorded, and where none does.
 use Rattle.std.specs.Prelude.{◌≡◌, ℕ, List, [], ◌∷◌, ◌++◌, length}
 use Rattle.model.specs.Worlds.{Event}
-use Rattle.sqlread.specs.Meaning.{schema_of}
+use Rattle.sqlread.specs.Meaning.{language_of}
 use Rattle.moments.specs.declared.moment.Moment.{Moment}
 use Rattle.moments.specs.declared.recorded.AuditFault.{AuditFault}
 use Rattle.moments.specs.Moments.{IsTimeline}
@@ -12,7 +12,7 @@ use Rattle.moments.specs.Faults.{NoneAre, IsFaultAt}
 -- moment by moment these events happened, from one past up to another
 abbrev pub Leads : Records → ℕ → Past → List Moment → List Event → Past → Type 0
 Leads r n p [] events q = (events ≡ []) × (q ≡ p)
-Leads r n p (m ∷ moments) events q = (now : List Event) × (later : List Event) × (events ≡ now ++ later) × IsBehind r n p m now × Leads r n (after (schema_of r.tables) n p m.mark now) moments later q
+Leads r n p (m ∷ moments) events q = (now : List Event) × (later : List Event) × (events ≡ now ++ later) × IsBehind r n p m now × Leads r n (after (language_of r.tables) n p m.mark now) moments later q
 
 -- The join of the lives is whole, and these are its events; in the run over them each node begins, takes and tells, is cut
 -- short, answers and ends as was recorded

@@ -16,7 +16,7 @@ use Rattle.flight.specs.declared.flight.Version.TheVariants.{One, Two, Three}
 use Rattle.flight.specs.declared.life.Life.{Life}
 use Rattle.flight.specs.declared.life.Step.{Step}
 use Rattle.flight.specs.declared.outcome.Outcome.{Outcome}
-use Rattle.sqlread.specs.Meaning.{schema_of, select_of}
+use Rattle.sqlread.specs.Meaning.{language_of, select_of}
 use Rattle.sqlread.specs.Shapes.{QueryShape}
 use Rattle.sqlread.specs.Texts.{query_in}
 use Rattle.moments.specs.Behind.{Records, IsText}
@@ -24,7 +24,7 @@ use Rattle.moments.specs.declared.recorded.Recorded.{Recorded}
 
 -- the entries that the run of these events decides
 abbrev pub decided_in : Records → List Event → List Entry
-decided_in r events = decided (schema_of r.tables) (length r.lives) (new_world (length r.lives)) events
+decided_in r events = decided (language_of r.tables) (length r.lives) (new_world (length r.lives)) events
 
 -- this answer was recorded: its question was asked in the run, it is what the decided entries give, run one at a time, and what
 -- was not decided as it was asked is stamped after its last instant
@@ -35,7 +35,7 @@ pub record IsUpheld (r : Records) (events : List Event) (a : Recorded) (x : Answ
   pub before : List Event
   pub after : List Event
   pub asked : before ++ Ask a.node (select_of question) ∷ after ≡ events
-  pub given : IsAnswer (schema_of r.tables) (read_at x.last (select_of question)) (decided_in r events) x
+  pub given : IsAnswer (language_of r.tables) (read_at x.last (select_of question)) (decided_in r events) x
   pub closed : (i : ℕ) (e : Entry) → length (decided_in r before) < i → nth (decided_in r events) i ≡ Some e → x.last < e.stamp
 
 -- the text says that the question was not closed
@@ -53,6 +53,6 @@ HasOutcomes Three = ⊤
 -- one question are equal, whichever nodes gave them and whenever (one without system time is AS OF the last instant that it names).
 pub record Upholds (r : Records) (events : List Event) : Type 0 where
   pub outcomes : (node : ℕ) (own : Vec Life Global) (life : Life) (step : Step) (o : Outcome) → HasOutcomes r.version → nth r.lives node ≡ Some own → Contains own.items life → Contains life.steps.items step →
-      Contains step.outcomes o → (told : Told) × (outcome_of told ≡ o) × IsTold (schema_of r.tables) (decided_in r events) told
+      Contains step.outcomes o → (told : Told) × (outcome_of told ≡ o) × IsTold (language_of r.tables) (decided_in r events) told
   pub answers : (a : Recorded) → Contains r.answers a → ((x : Answer) × IsUpheld r events a x) ⊎ IsPutOff a
   pub equal : (a b : Recorded) (x y : Answer) → IsUpheld r events a x → IsUpheld r events b y → a.query ≡ b.query → x.last ≡ y.last → a.answer ≡ b.answer

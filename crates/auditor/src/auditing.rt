@@ -1,17 +1,18 @@
 //! The audit.
 ghost use Rattle.std.specs.Prelude.{◌≡◌, ◌≤◌, List, length, map, IfOk, IfErr, OnOk};
-ghost use Rattle.model.specs.Agreement.{Agree};
+ghost use Rattle.believed.specs.Agreement.{Agree};
+ghost use Rattle.believed.specs.Explained.{IsExplained};
+ghost use Rattle.believed.specs.Meaning.{IsLanguage};
 ghost use Rattle.model.specs.Worlds.{Event as ModelEvent, new_world};
-ghost use Rattle.onelist.specs.Explained.{IsExplained};
-ghost use Rattle.sqlread.specs.Meaning.{schema_of};
+ghost use Rattle.sqlread.specs.Meaning.{language_of};
 ghost use Rattle.world.specs.Run.{tables_in, members_in};
 ghost use Rattle.world.specs.View.{event_of};
 ghost use Rattle.moments.specs.Faults.{IsNo, NoneAre};
 ghost use Rattle.moments.specs.Rising.{Rise};
 ghost use Rattle.moments.specs.View.{past_of, IsLive};
-ghost use Rattle.auditor.specs.Audited.{Explains, IsFirst, IsStuck};
+ghost use Rattle.auditor.specs.Audited.{Explains as ExplainsThen, IsFirst as IsFirstThen, IsStuck};
 ghost use Rattle.auditor.specs.Faults.{IsOrderFault, OfRun};
-ghost use Rattle.auditor.specs.Upheld.{Upholds};
+ghost use Rattle.auditor.specs.Joined.{Explains, IsFirst, Upholds};
 ghost use Rattle.auditor.specs.View.{IsLed};
 
 use flight::flight::Version;
@@ -52,8 +53,8 @@ fn explain(
 ) -> Result<Vec<Event>, AuditFault>
     requires least { 3 ≤ length lives.now }
     requires most { length lives.now ≤ 7 }
-    ensures ok { IfOk result (λ events. Explains (record { version = version; tables = schema.now; lives = lives.now; answers = answers.now }) (map event_of events.items)) }
-    ensures fault { IfErr result (IsNo (IsFirst (record { version = version; tables = schema.now; lives = lives.now; answers = answers.now }))) }
+    ensures ok { IfOk result (λ events. ExplainsThen (record { version = version; tables = schema.now; lives = lives.now; answers = answers.now }) (map event_of events.items)) }
+    ensures fault { IfErr result (IsNo (IsFirstThen (record { version = version; tables = schema.now; lives = lives.now; answers = answers.now }))) }
 {
     let moments = timeline(alloc, lives, answers)?;
     let mut replay = Replay::new(alloc, lives.len(), schema.clone()?)?;
@@ -91,17 +92,19 @@ pub fn audit(
     requires most { length lives.now ≤ 7 }
     ensures rise { OnOk result (Rise lives.now) }
     ensures ok { IfOk result (λ events. Explains (record { version = version; tables = schema.now; lives = lives.now; answers = answers.now }) (map event_of events.items)) }
-    ensures agree { IfOk result (λ events. Agree (schema_of schema.now) (length lives.now) (new_world (length lives.now)) (map event_of events.items)) }
-    ensures explained { IfOk result (λ events. IsExplained (schema_of schema.now) (length lives.now) (new_world (length lives.now)) (map event_of events.items)) }
+    ensures agree { IfOk result (λ events. Agree (language_of schema.now) (length lives.now) (new_world (length lives.now)) (map event_of events.items)) }
+    ensures explained { IfOk result (λ events. IsExplained (language_of schema.now) (length lives.now) (new_world (length lives.now)) (map event_of events.items)) }
     ensures upholds { IfOk result (λ events. Upholds (record { version = version; tables = schema.now; lives = lives.now; answers = answers.now }) (map event_of events.items)) }
     ensures order { IfErr result (IsOrderFault lives.now) }
     ensures no { IfErr result (OfRun (λ _. NoneAre (Explains (record { version = version; tables = schema.now; lives = lives.now; answers = answers.now })))) }
     ensures first { IfErr result (OfRun (IsFirst (record { version = version; tables = schema.now; lives = lives.now; answers = answers.now }))) }
+    ensures language { IsLanguage schema.now (language_of schema.now) }
 {
     safety::agreement();
     safety::one_answer();
     one_text();
-    onelist::one_list_explains();
+    believed::promises();
+    believed::meanings();
     check_order(lives)?;
     explain(alloc, version, schema, lives, answers)
 }

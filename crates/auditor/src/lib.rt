@@ -2,6 +2,8 @@
 #![tactic(auto)]
 
 mod auditing;
+mod verdict;
 
 pub use auditing::audit;
 pub use moments::{AuditFault, Recorded};
+pub use verdict::{explain, judge};

@@ -1,13 +1,13 @@
 -- What is kept of nodes, one after the other.
 use Rattle.std.proofs.Common.{◌≡◌, ◌≢◌, ◌∙◌, ℕ, ◌+◌, ◌<◌, ◌≤◌, List, [], ◌∷◌, ◌++◌, length, take, get_or, refl, sym, ap, arith, subst, inl, inr, length-append}
-use Rattle.std.specs.Prelude.{All, codes, decimal}
+use Rattle.std.specs.Prelude.{All, codes}
 use Rattle.std.proofs.lemmas.List.{take_more}
 use Rattle.fault.specs.declared.refusal.Refusal.{Refusal}
 use Rattle.hex.specs.Hex.{encode_lower}
 use Rattle.flight.specs.Additions.{Adds}
 use Rattle.flight.specs.Spelling.{each_text, number_text}
 use Rattle.flight.specs.Reading.{Spells, SpellsOnly, IsUnread, SpellsOnlyTo, IsUnreadTo}
-use Rattle.flight.proofs.Lists.{Taken, taken_none, taken_more, taken_all, all_later, each_push}
+use Rattle.flight.proofs.Lists.{Taken, taken_more, taken_all, all_later, each_push}
 use Rattle.flight.proofs.Lengths.{after_number}
 use Rattle.beginnings.specs.Lines.{digest_text, part_text, IsKept, IsOver}
 use Rattle.beginnings.specs.declared.beginning.Beginning.{Beginning}
@@ -23,9 +23,6 @@ part_on b rest =
 
 abbrev pub PartsTaken : List ℕ → List Beginning → List ℕ → Type 0
 PartsTaken text taken left = Taken Beginning IsKept part_text (λ xs other. IsOver other) text taken left
-
-pub parts_begin : (text : List ℕ) → PartsTaken text [] text
-parts_begin text = taken_none IsKept part_text (λ xs other. IsOver other) text
 
 nothing_left : (left : List ℕ) → 0 < length left → (other : List ℕ) → IsOver other → left ≢ other
 nothing_left left some other over = λ e. absurd (omega (arith, some, ap length (e ∙ over)))

@@ -1,26 +1,18 @@
 -- What stays of lives.
-use Rattle.std.proofs.Common.{◌≡◌, ◌∙◌, ℕ, suc, ◌-◌, List, [], ◌∷◌, ◌++◌, length, map, refl, sym, ap, arith, append_assoc, append-nil, inl, inr, Option, None, Some}
-use Rattle.std.specs.Prelude.{◌⊎◌, codes, if◌then◌else◌, option_map, slice_get}
-use Rattle.std.proofs.lemmas.List.{length-map}
-use Rattle.std.proofs.lemmas.Option.{slice_get-map}
+use Rattle.std.proofs.Common.{◌≡◌, ◌∙◌, ℕ, suc, ◌-◌, List, [], ◌∷◌, ◌++◌, length, refl, sym, ap, arith, append_assoc, append-nil, inl, inr}
+use Rattle.std.specs.Prelude.{◌⊎◌, codes, if◌then◌else◌, slice_get}
 use Rattle.model.specs.Lists.{IsBeginning}
-use Rattle.flight.specs.Contents.{LifeContents, in_life}
+use Rattle.flight.specs.Contents.{LifeContents}
 use Rattle.flight.specs.Ranges.{is_up}
 use Rattle.flight.specs.Spelling.{each_text, ending_text, life_text, opening_text, step_text}
 use Rattle.flight.specs.declared.life.Ending.{Ending}
 use Rattle.flight.specs.declared.life.Ending.TheVariants.{Up, Stopped, Torn}
-use Rattle.flight.specs.declared.life.Life.{Life}
-use Rattle.flight.specs.declared.life.Step.{Step}
 use Rattle.flight.specs.declared.flight.Version.{Version}
 use Rattle.beginnings.specs.Growing.{IsLonger}
-use Rattle.beginnings.specs.Stems.{ends_up, is_up_life, up_line}
+use Rattle.beginnings.specs.Stems.{is_up_life, up_line}
 use Rattle.beginnings.proofs.Leading.{Leads, chained, ending, life, opening, steps}
 
 -- ---- whether the last life is up
-
-pub last_is : (xs : List Life) (o : Option Life) → o ≡ slice_get xs (length xs - 1) → is_up_life (option_map in_life o) ≡ ends_up (map in_life xs)
-last_is xs o is =
-    ap (λ p. is_up_life (option_map in_life p)) is ∙ sym (ap is_up_life (ap (λ n. slice_get (map in_life xs) (n - 1)) (length-map xs in_life) ∙ slice_get-map in_life xs (length xs - 1)))
 
 -- a life more before the last one
 up_before : (l m : LifeContents) (later : List LifeContents) → up_line (l ∷ m ∷ later) ≡ up_line (m ∷ later)

@@ -9,7 +9,7 @@ ghost use Rattle.beginnings.specs.Stems.{ends_up, said, stem_of, tail_of, up_lin
 
 use flight::flight::{Flight, Recorded};
 use flight::life::{Ending, Life};
-use flight::text_of_flight;
+use flight::{put_answers, text_of_flight};
 use sha2::{Digest, Sha256};
 use std::alloc::{AllocError, Global};
 
@@ -37,27 +37,6 @@ fn up_line(lives: &[Life]) -> &'static str
     ensures { result.now ≡ up_line (map in_life lives.now) }
 {
     if ends_up(lives) { "up\n" } else { "" }
-}
-
-fn put_answer(recorded: &Recorded, text: &mut String) -> Result<(), AllocError>
-    ensures { OnOk result (Adds (string_bytes text.old) (string_bytes text.new) (answer_text recorded.now)) }
-{
-    let mark = recorded.mark.number();
-    let query = recorded.query.as_str();
-    let query_length = query.len();
-    write!(text, "answer {mark}\nquery {query_length}\n{query}\n")?;
-    let answer = recorded.answer.as_str();
-    let answer_length = answer.len();
-    write!(text, "text {answer_length}\n{answer}\n")
-}
-
-fn put_answers(answers: &[Recorded], text: &mut String) -> Result<(), AllocError>
-    ensures { OnOk result (Adds (string_bytes text.old) (string_bytes text.new) (each_text answer_text answers.now)) }
-{
-    for answer in answers {
-        put_answer(answer, text)?;
-    }
-    Ok(())
 }
 
 // Answers as they stand in a flight's file.

@@ -1,9 +1,9 @@
 //! Days below the boxes.
-use crate::marks::{Mark, day_marks};
 use crate::plan::{LEAST_DAY, Plan};
-use crate::words::{Parts, words_wide};
+use crate::ticks::{Tick, day_ticks};
 use beliefs::calendar::{LAST_DAY, day_or_no_end, length_text};
 use std::alloc::AllocError;
+use svgparts::{Parts, words_wide};
 
 impl Plan<'_> {
     /// Dates under the boxes, the length of each stretch between them, and, where it is not to scale, a ruler that is. It gives
@@ -71,15 +71,15 @@ impl Plan<'_> {
             parts.line((*x, top), (place(*day), y), "join")?;
         }
         parts.line((*left, y), (*right, y), "rule")?;
-        for mark in &day_marks(self.alloc, *first, *last, scale)? {
-            put_mark(mark, place(mark.at), y, parts)?;
+        for tick in &day_ticks(self.alloc, *first, *last, scale)? {
+            put_tick(tick, place(tick.at), y, parts)?;
         }
         parts.words(*left - 14.0, y + 4.0, "days to scale", "e soft small")
     }
 }
 
-fn put_mark(mark: &Mark<u32>, x: f64, y: f64, parts: &mut Parts) -> Result<(), AllocError> {
-    let words = mark.words.as_str();
+fn put_tick(tick: &Tick<u32>, x: f64, y: f64, parts: &mut Parts) -> Result<(), AllocError> {
+    let words = tick.words.as_str();
     let high = if words.is_empty() { 3.0 } else { 6.0 };
     parts.line((x, y), (x, y + high), "rule")?;
     if words.is_empty() {

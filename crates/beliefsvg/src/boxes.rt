@@ -2,11 +2,11 @@
 use crate::colours::Kind;
 use crate::places::{greater, lesser, whole};
 use crate::plan::{LINE, Plan, labels_of};
-use crate::words::{Parts, fitted, words_wide};
 use beliefs::calendar::{LAST_DAY, day_or_no_end};
 use beliefs::picture::Version;
 use model::stamp::{LAST_MICROS, Stamp};
 use std::alloc::{AllocError, Global};
+use svgparts::{Parts, fitted, words_wide};
 
 // So many versions of a key have a tip each.
 const TIPS: usize = 120;

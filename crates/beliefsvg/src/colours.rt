@@ -1,7 +1,7 @@
 //! Colours of versions.
-use crate::words::Parts;
 use beliefs::picture::{Picture, Version};
 use std::alloc::{AllocError, Global};
+use svgparts::Parts;
 
 /// How versions are coloured.
 #[derive(Clone, Copy, PartialEq, Eq)]

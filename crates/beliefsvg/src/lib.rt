@@ -4,12 +4,11 @@
 mod below;
 mod boxes;
 mod colours;
-mod marks;
-mod marks_of_time;
 mod page;
 mod places;
 mod plan;
 mod rulers;
-mod words;
+mod ticks;
+mod ticks_of_time;
 
 pub use page::{MOST, beliefs_as_svg};

@@ -3,7 +3,6 @@ use crate::boxes::instant_text;
 use crate::colours::{Colours, Kind, STEPS, colours_of, in_order};
 use crate::places::whole;
 use crate::plan::{Plan, labels_of};
-use crate::words::{Parts, words_wide};
 use answer::Answer;
 use beliefs::calendar::day_or_no_end;
 use beliefs::lines::put_wrapped;
@@ -11,6 +10,7 @@ use beliefs::picture::{Asking, Picture, pictures_of};
 use model::member::Member;
 use std::alloc::{AllocError, Global};
 use std::num::saturating_f64_to_usize;
+use svgparts::{Parts, words_wide};
 
 /// How many versions are drawn at most.
 pub const MOST: usize = 200;

@@ -1,11 +1,11 @@
 //! Where the parts of a picture of one key stand.
 use crate::colours::Colours;
 use crate::places::{fit, greater, last_of, lesser, places_of, seconds, sum_of, whole};
-use crate::words::{Parts, words_wide};
 use beliefs::calendar::LAST_DAY;
 use beliefs::picture::{OPEN, Picture, Version};
 use beliefs::widths::{label, place_of};
 use std::alloc::{AllocError, Global};
+use svgparts::{Parts, words_wide};
 
 // The room for instants on the left, and that for the ruler of system time on the right.
 pub(crate) const LEFT: f64 = 158.0;

@@ -1,11 +1,11 @@
 //! Instants beside the boxes.
 use crate::boxes::instant_text;
-use crate::marks_of_time::instant_marks;
 use crate::places::{lesser, seconds};
 use crate::plan::{LEFT, Plan};
-use crate::words::Parts;
+use crate::ticks_of_time::instant_ticks;
 use beliefs::picture::OPEN;
 use std::alloc::AllocError;
+use svgparts::Parts;
 
 impl Plan<'_> {
     fn least_gap(&self) -> f64 {
@@ -68,16 +68,16 @@ impl Plan<'_> {
             parts.line((from, *y), (x, height(*instant)), "join")?;
         }
         parts.line((x, *low), (x, *high), "rule")?;
-        for mark in &instant_marks(self.alloc, *start, *end, scale)? {
-            let y = height(mark.at);
-            let wide = if mark.words.as_str().is_empty() {
+        for tick in &instant_ticks(self.alloc, *start, *end, scale)? {
+            let y = height(tick.at);
+            let wide = if tick.words.as_str().is_empty() {
                 3.0
             } else {
                 6.0
             };
             parts.line((x, y), (x + wide, y), "rule")?;
-            if !mark.words.as_str().is_empty() {
-                parts.words(x + 10.0, y + 4.0, mark.words.as_str(), "soft small")?;
+            if !tick.words.as_str().is_empty() {
+                parts.words(x + 10.0, y + 4.0, tick.words.as_str(), "soft small")?;
             }
         }
         parts.words(x + 6.0, *high - 12.0, "to scale", "m soft small")

@@ -1,5 +1,5 @@
 -- A life with one step more.
-use Rattle.std.proofs.Common.{◌≡◌, ◌∙◌, ℕ, List, [], ◌∷◌, ◌++◌, fold, Err, refl, sym, ap, subst, ⊎_elim}
+use Rattle.std.proofs.Common.{◌≡◌, ◌∙◌, ℕ, List, [], ◌∷◌, ◌++◌, fold, Err, refl, sym, ap, ⊎_elim}
 use Rattle.std.proofs.lemmas.List.Sums.{fold-append}
 use Rattle.std.proofs.lemmas.Grind.{merely}
 use Rattle.fault.specs.declared.refusal.Refusal.{Refusal}
@@ -38,9 +38,6 @@ same_seat old new o steps a b c = rw (a, b, c) refl
 -- a life that opens
 opens_with : (o : Opening) (x : Node) → o.hard ≡ hard_of x → o.entries.items ≡ x.log → durable_of x ≡ opened_with o
 opens_with o x hard log = rw (hard, log) refl
-
-pub stored_first : (P : Durable → Type 0) (o : Opening) (x y : Node) → y ≡ x → o.hard ≡ hard_of y → o.entries.items ≡ x.log → P (durable_of x) → P (opened_with o)
-stored_first P o x y same hard log held = subst P (opens_with o x (hard ∙ ap hard_of same) log) held
 
 pub replayed_first : (c : Seated) (o : Opening) (steps : List Step) (x : Node) → steps ≡ [] → c.member ≡ x → x ≡ started_from (durable_of x) → o.hard ≡ hard_of c.member → o.entries.items ≡ x.log → c.member ≡ taken_through c o steps
 replayed_first c o steps x none same opened hard log = rw none (same ∙ opened ∙ ap started_from (opens_with o x (hard ∙ ap hard_of same) log))

@@ -5,7 +5,7 @@ use Rattle.model.specs.Lists.{nth, IsBeginning}
 use Rattle.model.specs.declared.entry.Entry.{Entry}
 use Rattle.model.specs.Stamps.{TIME_LAST, above, greater}
 use Rattle.model.specs.Logs.{IsStamped, closed}
-use Rattle.model.specs.Transactions.{Schema}
+use Rattle.model.specs.Transactions.{Language}
 use Rattle.model.specs.Members.{Node, applied, closed_time}
 use Rattle.model.specs.Worlds.{World, Event}
 use Rattle.model.specs.Agreement.{Agree, decided}
@@ -78,9 +78,9 @@ by_time (Some t) n h = let less : t < n = h t refl in omega (arith, less)
 
 -- ---- a member of a run
 
-step_rises : (schema : Schema) (n : ℕ) (opening : World) (events : List Event) → Agree schema n opening events → (me mark : ℕ) (x y : Node)
-    → WasAt schema n opening events me x → WasAt schema n opening events me y → Grows x y → RisesFrom (closed_time x) (items_by mark x y)
-step_rises schema n opening events agree me mark x y was is grows =
+step_rises : (language : Language) (n : ℕ) (opening : World) (events : List Event) → Agree language n opening events → (me mark : ℕ) (x y : Node)
+    → WasAt language n opening events me x → WasAt language n opening events me y → Grows x y → RisesFrom (closed_time x) (items_by mark x y)
+step_rises language n opening events agree me mark x y was is grows =
     let es : List Entry = slice_range y.log x.commit y.commit in
     let whole : applied y ≡ applied x ++ es = applied_more x y grows in
     let ours = agree.applied_is_decided is.early is.late me y is.moment is.at in
@@ -88,30 +88,30 @@ step_rises schema n opening events agree me mark x y was is grows =
     let over : (i : ℕ) (e : Entry) → nth es i ≡ Some e → above (closed_time x) ≤ e.stamp = λ i e at.
     let place = far (applied x) es i e at in
     let there : nth (applied y) place.0 ≡ Some e = subst (λ (l : List Entry). nth l place.0 ≡ Some e) (sym whole) place.2 in
-    let all : nth (decided schema n opening events) place.0 ≡ Some e = subst (λ (l : List Entry). nth l place.0 ≡ Some e) ours.0.1 (in_longer (applied y) ours.0.0 place.0 e there) in
+    let all : nth (decided language n opening events) place.0 ≡ Some e = subst (λ (l : List Entry). nth l place.0 ≡ Some e) ours.0.1 (in_longer (applied y) ours.0.0 place.0 e there) in
     by_time (closed_time x) e.stamp (λ t closed_then. agree.nothing_later_is_closed was.early was.late me place.0 t x e was.moment was.at closed_then place.1 all) in
     rises_join (closed_time x) (marked mark es) (marked_seal mark (risen x.sealed y.sealed)) (marked_rise (closed_time x) mark es over stamps)
     (seal_rises (fold closed_after (closed_time x) (marked mark es)) mark (risen x.sealed y.sealed))
 
-pub runs_rise : (schema : Schema) (n : ℕ) (opening : World) → ((events : List Event) → Agree schema n opening events) → RunsRise schema n opening
-runs_rise schema n opening agree events me mark x y before was is grows rises entries sealed =
+pub runs_rise : (language : Language) (n : ℕ) (opening : World) → ((events : List Event) → Agree language n opening events) → RunsRise language n opening
+runs_rise language n opening agree events me mark x y before was is grows rises entries sealed =
     let closed_then : closed_in before ≡ closed_time x = ap (λ (es : List Entry). greater (closed es) (sealed_in before)) entries ∙ ap (λ (t : Option ℕ). greater (closed (applied x)) t) sealed in
     rises_join None before (items_by mark x y) rises
-    (subst (λ (t : Option ℕ). RisesFrom t (items_by mark x y)) (sym (closed_is before rises ∙ closed_then)) (step_rises schema n opening events (agree events) me mark x y was is grows))
+    (subst (λ (t : Option ℕ). RisesFrom t (items_by mark x y)) (sym (closed_is before rises ∙ closed_then)) (step_rises language n opening events (agree events) me mark x y was is grows))
 
 -- ---- members of one run
 
-begun : (schema : Schema) (n : ℕ) (opening : World) (events : List Event) → Agree schema n opening events → BegunEarlier → (seen : List Item) → IsPublishedIn schema n opening events seen → IsBegun seen (decided schema n opening events)
-begun schema n opening events agree earlier seen p =
+begun : (language : Language) (n : ℕ) (opening : World) (events : List Event) → Agree language n opening events → BegunEarlier → (seen : List Item) → IsPublishedIn language n opening events seen → IsBegun seen (decided language n opening events)
+begun language n opening events agree earlier seen p =
     let x : Node = p.node in
     let ours = agree.applied_is_decided p.was.early p.was.late p.me x p.was.moment p.was.at in
     let closed_then : closed_in p.whole ≡ closed_time x = ap (λ (es : List Entry). greater (closed es) (sealed_in p.whole)) p.entries ∙ ap (λ (t : Option ℕ). greater (closed (applied x)) t) p.sealed in
-    let whole : IsBegun p.whole (decided schema n opening events) = record {
-      begins = subst (λ (es : List Entry). IsBeginning es (decided schema n opening events)) (sym p.entries) ours.0;
+    let whole : IsBegun p.whole (decided language n opening events) = record {
+      begins = subst (λ (es : List Entry). IsBeginning es (decided language n opening events)) (sym p.entries) ours.0;
       later = λ i t e is further at. agree.nothing_later_is_closed p.was.early p.was.late p.me i t x e p.was.moment p.was.at (sym closed_then ∙ is) (subst (λ (es : List Entry). length es < i) p.entries further) at;
     } in
-    earlier seen p.whole (decided schema n opening events) p.rises p.first whole
+    earlier seen p.whole (decided language n opening events) p.rises p.first whole
 
-pub members_agree : (schema : Schema) (n : ℕ) (opening : World) → ((events : List Event) → Agree schema n opening events) → LivesAgree → BegunEarlier → MembersAgree schema n opening
-members_agree schema n opening agree same earlier events one two p q =
-    same schema one two (decided schema n opening events) (begun schema n opening events (agree events) earlier one p) (begun schema n opening events (agree events) earlier two q)
+pub members_agree : (language : Language) (n : ℕ) (opening : World) → ((events : List Event) → Agree language n opening events) → LivesAgree → BegunEarlier → MembersAgree language n opening
+members_agree language n opening agree same earlier events one two p q =
+    same language one two (decided language n opening events) (begun language n opening events (agree events) earlier one p) (begun language n opening events (agree events) earlier two q)

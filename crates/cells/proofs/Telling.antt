@@ -12,7 +12,7 @@ use Rattle.node.specs.declared.node.Fault.TheVariants.{Down}
 use Rattle.node.specs.View.{IsEmpty, IsGiven, started_from, told_between, works}
 use Rattle.node.specs.Work as work
 use Rattle.node.specs.Work.{Work}
-use Rattle.sqlread.specs.Meaning.{schema_of}
+use Rattle.sqlread.specs.Meaning.{language_of}
 use Rattle.flight.specs.declared.life.Ending.{Ending}
 use Rattle.flight.specs.declared.life.Ending.TheVariants.{Up, Torn}
 use Rattle.flight.specs.declared.life.Packet.{Packet}
@@ -56,7 +56,7 @@ told_whole old new o before after s a b c e was is told had =
     ∙ sym (same_told old new o after a b c)
 
 -- what was given as told is what the step tells
-pub told_given : (schema : Tables) (x y : Node) (s made : Step) (outcomes : List Outcome) (told : List Told) → s ≡ with_outcomes outcomes made → outcomes ≡ outcomes_of told → told ≡ told_between (schema_of schema) y.log x.commit y.commit → s.outcomes ≡ told_by schema x y
+pub told_given : (schema : Tables) (x y : Node) (s made : Step) (outcomes : List Outcome) (told : List Told) → s ≡ with_outcomes outcomes made → outcomes ≡ outcomes_of told → told ≡ told_between (language_of schema) y.log x.commit y.commit → s.outcomes ≡ told_by schema x y
 told_given schema x y s made outcomes told is of all = ap outcomes_at is ∙ of ∙ ap outcomes_of all
 
 -- nothing is told where nothing changes

@@ -4,7 +4,7 @@ use Rattle.sqlchecks.specs.Columns.{Tables}
 use Rattle.model.specs.Members.{Node}
 use Rattle.model.specs.Kept.{node_after}
 use Rattle.keep.specs.Durable.{Durable, IsBeforeOrAfter}
-use Rattle.sqlread.specs.Meaning.{schema_of}
+use Rattle.sqlread.specs.Meaning.{language_of}
 use Rattle.node.specs.View.{durable_of, started_from, told_between, works}
 use Rattle.node.specs.Work as work
 use Rattle.node.specs.Work.{Work}
@@ -52,7 +52,7 @@ IsLeft schema n me life = IsBeforeOrAfter (durable_of (replay schema n me life))
 
 -- what is recorded of a step that takes member x to y: what it told of the requests that became applied
 abbrev pub told_by : Tables → Node → Node → List Outcome
-told_by schema x y = outcomes_of (told_between (schema_of schema) y.log x.commit y.commit)
+told_by schema x y = outcomes_of (told_between (language_of schema) y.log x.commit y.commit)
 
 -- what each of the steps tells, from member x on
 unfoldable pub told_from : Tables → ℕ → ℕ → Node → List Step → List (List Outcome)

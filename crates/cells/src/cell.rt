@@ -1,6 +1,6 @@
 //! A node with its life, and with what it publishes of it.
 ghost use Rattle.std.specs.Prelude.{◌≡◌, ◌≢◌, ◌≤◌, ◌<◌, ◌+◌, ◌⊎◌, [], ◌++◌, ◌∷◌, true, false, Some, None, Err, IfOk, IfErr, OnOk, OnErr, MatchOption, MatchResult, slice_range, unwrap_or};
-ghost use Rattle.sqlread.specs.Meaning.{schema_of};
+ghost use Rattle.sqlread.specs.Meaning.{language_of};
 ghost use Rattle.keep.specs.Durable.{Durable};
 ghost use Rattle.node.specs.View.{durable_of, spares_memory, Gave, IsKept, LeavesUp, risen, told_between};
 ghost use Rattle.node.specs.Member.{effect_at, me_of, member_of, members_of, tables_of, IsSameSeat};
@@ -28,7 +28,7 @@ use node::{Fault, Node, Out as NodeOut};
 use schema::Schema;
 use std::alloc::{AllocError, Global};
 use std::sync::Wait;
-use view::{Name, Publisher, Told, View};
+use view::{Name, Notice, Publisher, View};
 
 /// What a step gives: its mark, and what the node gave.
 #[derive(Debug, Drop)]
@@ -97,15 +97,15 @@ impl<K: Keeper> Cell<K> {
     ) -> Result<Cell<K>, (Refusal, K::Image)>
         requires few { members ≤ 7 }
         requires member { (1 ≤ me) × (me ≤ members) }
-        requires suits { K.suits image members (schema_of schema) }
+        requires suits { K.suits image members (language_of schema) }
         ensures opened { IfOk result (λ c. (c.node.is_up ≡ true) × (c.life.steps.items ≡ []) × (Some c.life.opening.mark ≡ mark_after (unwrap_or last 0))) }
         ensures stored { IfOk result (λ c. K.is_honest c.node.keeper → K.holds image (opened_with c.life.opening)) }
         ensures group { IfOk result (λ c. (tables_of c.node ≡ schema) × (members_of c.node ≡ members) × (me_of c.node ≡ me)) }
         ensures none { IfOk result (λ c. (published c.publisher ≡ []) × (pending c.publisher ≡ []) × (views_of c.publisher ≡ 0)) }
         ensures refused { IfErr result (λ e. IsStartRefusal (mark_after (unwrap_or last 0)) e.0) }
-        ensures bad { IfErr result (λ e. e.0 ≡ BadStore → K.is_bad e.1 members (schema_of schema) ⊎ ((d : Durable) → K.holds e.1 d → ⊥)) }
+        ensures bad { IfErr result (λ e. e.0 ≡ BadStore → K.is_bad e.1 members (language_of schema) ⊎ ((d : Durable) → K.holds e.1 d → ⊥)) }
         ensures back { IfErr result (λ e. (d : Durable) → K.holds e.1 d → K.holds image d) }
-        ensures suits { IfErr result (λ e. K.suits e.1 members (schema_of schema)) }
+        ensures suits { IfErr result (λ e. K.suits e.1 members (language_of schema)) }
     {
         let Some(mark) = Mark::after(last.map_or(0, Mark::number)) else {
             return Err((Refusal::LifeFull, image));
@@ -160,7 +160,7 @@ impl<K: Keeper> Cell<K> {
             × (K.is_honest self.new.node.keeper → Gave (member_of self.old.node) (member_of self.new.node) (effect_at self.old.node (work_of packet)) (given_of result))) }
         ensures applied { IfOk result (λ out. K.is_honest self.new.node.keeper → out.given.applied.items ≡ slice_range (member_of self.new.node).log (member_of self.old.node).commit (member_of self.new.node).commit) }
         ensures sealed { IfOk result (λ out. K.is_honest self.new.node.keeper → out.given.sealed ≡ risen (member_of self.old.node).sealed (member_of self.new.node).sealed) }
-        ensures told { IfOk result (λ out. K.is_honest self.new.node.keeper → out.given.told.items ≡ told_between (schema_of (tables_of self.old.node)) (member_of self.new.node).log (member_of self.old.node).commit (member_of self.new.node).commit) }
+        ensures told { IfOk result (λ out. K.is_honest self.new.node.keeper → out.given.told.items ≡ told_between (language_of (tables_of self.old.node)) (member_of self.new.node).log (member_of self.old.node).commit (member_of self.new.node).commit) }
         ensures published { (published self.new.publisher ≡ published self.old.publisher) ⊎ (K.is_honest self.new.node.keeper → published self.new.publisher ≡ items_of self.new.node self.new.life) }
         ensures silent { OnErr result (published self.new.publisher ≡ published self.old.publisher) }
         ensures life { IsSameLife self.old.publisher self.new.publisher × (views_of self.new.publisher ≡ views_of self.old.publisher) }
@@ -210,7 +210,7 @@ impl<K: Keeper> Cell<K> {
     }
 
     /// Tells of what is published. Takes no memory.
-    pub fn told(&self) -> Told
+    pub fn told(&self) -> Notice
         ensures { IsTold (record { node = me_of self.now.node; opening = self.now.life.opening.mark }) (book_of self.now.publisher) (published self.now.publisher) result }
     {
         self.publisher.told()
@@ -234,7 +234,7 @@ impl<K: Keeper> Cell<K> {
     /// stored before that step or after it. From then on views are refused 45. Takes no memory.
     pub fn leave<R: Wait>(self, rt: &R) -> (K::Image, Life)
         ensures life { result.1 ≡ self.life }
-        ensures suits { K.suits result.0 (members_of self.node) (schema_of (tables_of self.node)) }
+        ensures suits { K.suits result.0 (members_of self.node) (language_of (tables_of self.node)) }
         ensures stored { self.node.is_up ≡ true → (d : Durable) → K.holds result.0 d → d ≡ durable_of (replay (tables_of self.node) (members_of self.node) (me_of self.node) self.life) }
         ensures torn { self.node.is_up ≡ false → (d : Durable) → K.holds result.0 d → ∥ IsLeft (tables_of self.node) (members_of self.node) (me_of self.node) self.life d ∥₁ }
     {
@@ -252,7 +252,7 @@ impl<K: Keeper> Cell<K> {
     /// step, what was stored before that step or after it. From then on views are refused 45. Takes no memory.
     pub fn stop<R: Wait>(self, rt: &R) -> (K::Image, Life)
         ensures life { IsLifeWith self.life result.1 [] (ending_of self.node.is_up self.life.ending) }
-        ensures suits { K.suits result.0 (members_of self.node) (schema_of (tables_of self.node)) }
+        ensures suits { K.suits result.0 (members_of self.node) (language_of (tables_of self.node)) }
         ensures stored { self.node.is_up ≡ true → (d : Durable) → K.holds result.0 d → d ≡ durable_of (replay (tables_of self.node) (members_of self.node) (me_of self.node) self.life) }
         ensures torn { self.node.is_up ≡ false → (d : Durable) → K.holds result.0 d → ∥ IsLeft (tables_of self.node) (members_of self.node) (me_of self.node) self.life d ∥₁ }
     {

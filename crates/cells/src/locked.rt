@@ -1,6 +1,6 @@
 //! A cell for several threads to feed under a lock, and the shares of those that feed it.
 ghost use Rattle.std.specs.Prelude.{◌≡◌, ◌≤◌, ◌<◌, ◌+◌, ◌⊎◌, [], ◌∷◌, length, true, Some, Err, IfOk, IfErr, OnOk, OnErr, MatchOption, MatchResult, slice_range};
-ghost use Rattle.sqlread.specs.Meaning.{schema_of};
+ghost use Rattle.sqlread.specs.Meaning.{language_of};
 ghost use Rattle.node.specs.View.{spares_memory, Gave, IsKept, LeavesUp, risen, told_between};
 ghost use Rattle.node.specs.Member.{effect_at, me_of, member_of, members_of, tables_of, IsSameSeat};
 ghost use Rattle.fault.specs.declared.refusal.Refusal.TheVariants.{NoMemory, NoView};
@@ -20,7 +20,7 @@ use node::Fault;
 use std::marker::Brand;
 use std::sync::Wait;
 use std::sync::ledger::{Book, Ledger, Share};
-use view::{Told, View};
+use view::{Notice, View};
 
 /// Which life lies under a lock: the ledger of its steps, and the history that its tokens tell of. A call of a function that
 /// is generic in it picks both, so that all that is taken from under the lock is known to be of that life.
@@ -81,7 +81,7 @@ impl<K: Keeper, L: Naming> LockedNode<K, L> {
             × (K.is_honest self.new.cell.node.keeper → Gave (member_of self.old.cell.node) (member_of self.new.cell.node) (effect_at self.old.cell.node (work_of packet)) (given_of result))) }
         ensures applied { IfOk result (λ out. K.is_honest self.new.cell.node.keeper → out.given.applied.items ≡ slice_range (member_of self.new.cell.node).log (member_of self.old.cell.node).commit (member_of self.new.cell.node).commit) }
         ensures sealed { IfOk result (λ out. K.is_honest self.new.cell.node.keeper → out.given.sealed ≡ risen (member_of self.old.cell.node).sealed (member_of self.new.cell.node).sealed) }
-        ensures told { IfOk result (λ out. K.is_honest self.new.cell.node.keeper → out.given.told.items ≡ told_between (schema_of (tables_of self.old.cell.node)) (member_of self.new.cell.node).log (member_of self.old.cell.node).commit (member_of self.new.cell.node).commit) }
+        ensures told { IfOk result (λ out. K.is_honest self.new.cell.node.keeper → out.given.told.items ≡ told_between (language_of (tables_of self.old.cell.node)) (member_of self.new.cell.node).log (member_of self.old.cell.node).commit (member_of self.new.cell.node).commit) }
         ensures published { (published self.new.cell.publisher ≡ published self.old.cell.publisher) ⊎ (K.is_honest self.new.cell.node.keeper → published self.new.cell.publisher ≡ items_of self.new.cell.node self.new.cell.life) }
         ensures silent { OnErr result (published self.new.cell.publisher ≡ published self.old.cell.publisher) }
         ensures life { IsSameLife self.old.cell.publisher self.new.cell.publisher × (views_of self.new.cell.publisher ≡ views_of self.old.cell.publisher) }
@@ -112,7 +112,7 @@ impl<K: Keeper, L: Naming> LockedNode<K, L> {
     }
 
     /// `Cell::told`.
-    pub fn told(&self) -> Told
+    pub fn told(&self) -> Notice
         ensures told { IsTold (record { node = me_of self.now.cell.node; opening = self.now.cell.life.opening.mark }) L.history (published self.now.cell.publisher) result }
     {
         self.cell.told()

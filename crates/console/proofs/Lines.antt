@@ -1,17 +1,12 @@
 -- Texts that go over several lines.
-use Rattle.std.proofs.Common.{◌≡◌, ◌∙◌, ℕ, suc, ◌+◌, ◌<◌, Bool, true, false, List, [], ◌∷◌, ◌++◌, Option, None, Some, IfSome, refl, sym, ap, subst, arith, inl, inr, below_more, add-one}
-use Rattle.std.specs.Io.BufRead.{drop_through, first_line}
+use Rattle.std.proofs.Common.{◌≡◌, ◌∙◌, ℕ, suc, ◌+◌, ◌<◌, true, false, List, [], ◌∷◌, ◌++◌, Option, None, Some, IfSome, sym, ap, subst, inl, inr, below_more, add-one}
+use Rattle.std.specs.Io.BufRead.{drop_through}
 use Rattle.console.specs.Lines.{IsBegun, IsWhole, IsNextLine, IsNoLine, behind_lines, with_lines, is_ended}
 
 -- what holds of the bytes that an input has left, where they are known
 pub if_known : (known : Option (List ℕ)) (P Q : List ℕ → Type 0) → ((xs : List ℕ) → P xs → Q xs) → IfSome known P → IfSome known Q
 if_known None P Q f h = h
 if_known (Some xs) P Q f h = f xs h
-
--- a first line alone
-pub begun_at : (first : List ℕ) (known : Option (List ℕ)) → IfSome known (λ xs. IsBegun first xs 0 first known)
-begun_at first None = tt
-begun_at first (Some xs) = record { spelled = refl; left = refl; each = λ n less. absurd (omega (arith, less)) }
 
 module _ (first xs : List ℕ) (more : ℕ) (text : List ℕ) (behind : Option (List ℕ)) (begun : IsBegun first xs more text behind) where
   -- a line more

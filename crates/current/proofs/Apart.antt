@@ -7,15 +7,15 @@ use Rattle.std.proofs.lemmas.List.Elements.{filter-append}
 use Rattle.model.specs.declared.value.Value.{Value}
 use Rattle.model.specs.Tables.{Table, Row, Period}
 use Rattle.model.specs.Statements.{meets}
-use Rattle.model.specs.Transactions.{Change, Insert, Update, Delete}
+use Rattle.model.specs.Transactions.{Action, Insert, Update, Delete}
 use Rattle.rowlaws.specs.Rows.{Has, Lists}
 use Rattle.rowlaws.specs.Cutting.{part, if_days, pieces, rest}
 use Rattle.rowlaws.specs.Touching.{same_row, rows_without, removed_by, added_by}
 use Rattle.rowlaws.proofs.Members.{has_cases, has_flat, flat_has, filter_has}
 use Rattle.rowlaws.proofs.RowFacts.{one_row, both}
 use Rattle.rowlaws.proofs.Anys.{any_has, has_any, same_test}
-use Rattle.current.specs.Cuts.{is_met, made, removed_at, added_at}
-use Rattle.current.proofs.InLine.{HasPortion}
+use Rattle.current.specs.Corrections.{is_met, made, removed_at, added_at}
+use Rattle.current.proofs.InStrand.{HasPortion}
 use Rattle.rowlaws.proofs.SameRow.{same_row-true, same_row-itself}
 
 -- a part of the row
@@ -52,7 +52,7 @@ module _ (r : Row) (p : Period) (t : ℕ) (a : r.period.start < p.end) (b : p.st
   mid_part : (values : List Value) → PartOf r (part r (max r.period.start p.start) (min r.period.end p.end) values t)
   mid_part values = record { key = refl; from = omega arith; some = omega arith; to = omega arith }
 
-made_part : (c : Change) (t : ℕ) (r y : Row) → HasPortion c → is_met c r ≡ true → r.period.start < r.period.end → Has (made c t r) y → PartOf r y
+made_part : (c : Action) (t : ℕ) (r y : Row) → HasPortion c → is_met c r ≡ true → r.period.start < r.period.end → Has (made c t r) y → PartOf r y
 made_part (Insert k v p) t r y fine met some h = absurd (both met refl)
 made_part (Update passes p set) t r y fine met some h =
     let o = overlap passes p r met in
@@ -167,17 +167,17 @@ module _ (test : Row → Bool) (g : Row → List Row) (rows : List Row) (table :
       ∙ flat_filter test (λ r. rows_without (g r) (r ∷ [])) rows
 
 -- it is an UPDATE or a DELETE
-abbrev pub IsOfRows : Change → Type 0
+abbrev pub IsOfRows : Action → Type 0
 IsOfRows (Insert key values p) = ⊥
 IsOfRows (Update passes p set) = Unit {0}
 IsOfRows (Delete passes p) = Unit {0}
 
-pub removed_is : (c : Change) (t : ℕ) (rows : List Row) (table : Table) → IsOfRows c → HasPortion c → Lists rows table → removed_by c t rows ≡ flat_map (removed_at c t) rows
+pub removed_is : (c : Action) (t : ℕ) (rows : List Row) (table : Table) → IsOfRows c → HasPortion c → Lists rows table → removed_by c t rows ≡ flat_map (removed_at c t) rows
 removed_is (Insert k v p) t rows table of fine l = absurd of
 removed_is (Update passes p set) t rows table of fine l = removed_alone (meets passes p) (pieces p set t) rows table l (λ r y h m i. made_part (Update passes p set) t r y fine m (l.each r h).some i)
 removed_is (Delete passes p) t rows table of fine l = removed_alone (meets passes p) (rest p t) rows table l (λ r y h m i. made_part (Delete passes p) t r y fine m (l.each r h).some i)
 
-pub added_is : (c : Change) (t : ℕ) (rows : List Row) (table : Table) → IsOfRows c → HasPortion c → Lists rows table → added_by c t rows ≡ flat_map (added_at c t) rows
+pub added_is : (c : Action) (t : ℕ) (rows : List Row) (table : Table) → IsOfRows c → HasPortion c → Lists rows table → added_by c t rows ≡ flat_map (added_at c t) rows
 added_is (Insert k v p) t rows table of fine l = absurd of
 added_is (Update passes p set) t rows table of fine l = added_alone (meets passes p) (pieces p set t) rows table l (λ r y h m i. made_part (Update passes p set) t r y fine m (l.each r h).some i)
 added_is (Delete passes p) t rows table of fine l = added_alone (meets passes p) (rest p t) rows table l (λ r y h m i. made_part (Delete passes p) t r y fine m (l.each r h).some i)

@@ -1,4 +1,4 @@
--- What becomes of the lines where the map changes at one key.
+-- What becomes of the strands where the map changes at one key.
 use Rattle.std.proofs.Common.{◌≡◌, Result, Ok, Err, Bool, true, false, ◌++◌, ◌==◌, ◌∷◌, length, List, [], Option, Some, refl, sym, ap, ◌∙◌, subst, inl, inr, map, arith, cond}
 use Rattle.std.specs.BTreeMap.{get, get_by, UpdatesBy, WritesThrough}
 use Rattle.std.specs.Map.{lookup, set_value}
@@ -14,7 +14,7 @@ use Rattle.overlaps.specs.Key.{key_cmp_total}
 use Rattle.current.specs.declared.row.Row.{Row as Declared}
 use Rattle.current.specs.Rows.{row_of}
 use Rattle.current.specs.Plans.{instead}
-use Rattle.current.specs.Stored.{Map, line_in, lines_of, rows_in, with_line}
+use Rattle.current.specs.ByKey.{Map, strand_in, strands_of, rows_in, with_strand}
 
 -- equal keys have the same rows
 pub same_got : (m : Map) (key k : List Value) → same_key key k ≡ true → get key_cmp m key ≡ get key_cmp m k
@@ -24,42 +24,42 @@ same_got m key k same =
     let alike : key_cmp key ≡ key_cmp k = λ i q. key_cmp_total.congr key k q equal i in
     ap (λ compare. get_by compare m) alike
 
-pub same_lines : (m : Map) (key k : List Value) → same_key key k ≡ true → lines_of m key ≡ lines_of m k
-same_lines m key k same = ap line_in (same_got m key k same)
+pub same_strands : (m : Map) (key k : List Value) → same_key key k ≡ true → strands_of m key ≡ strands_of m k
+same_strands m key k same = ap strand_in (same_got m key k same)
 
-pub lines_changed : (m n : Map) (key : List Value) (w : Option (List Declared)) (rows : List Row) → UpdatesBy key_cmp (key_cmp key) m n w → line_in w ≡ rows → lines_of n ≡ with_line key rows (lines_of m)
+pub strands_changed : (m n : Map) (key : List Value) (w : Option (List Declared)) (rows : List Row) → UpdatesBy key_cmp (key_cmp key) m n w → strand_in w ≡ rows → strands_of n ≡ with_strand key rows (strands_of m)
 unfolding same_key
-lines_changed m n key w rows updates here = λ i k. at k i
+strands_changed m n key w rows updates here = λ i k. at k i
   where
-    at : (k : List Value) → lines_of n k ≡ with_line key rows (lines_of m) k
-    at k = ap line_in (updates.0 k) ∙ elim (cases_Bool (same_key key k)) [
-      | inl same ↦ ap (λ b. line_in (cond b w (get key_cmp m k))) same ∙ here ∙ sym (ap (λ b. cond b rows (lines_of m k)) same)
-      | inr other ↦ ap (λ b. line_in (cond b w (get key_cmp m k))) other ∙ sym (ap (λ b. cond b rows (lines_of m k)) other)
+    at : (k : List Value) → strands_of n k ≡ with_strand key rows (strands_of m) k
+    at k = ap strand_in (updates.0 k) ∙ elim (cases_Bool (same_key key k)) [
+      | inl same ↦ ap (λ b. strand_in (cond b w (get key_cmp m k))) same ∙ here ∙ sym (ap (λ b. cond b rows (strands_of m k)) same)
+      | inr other ↦ ap (λ b. strand_in (cond b w (get key_cmp m k))) other ∙ sym (ap (λ b. cond b rows (strands_of m k)) other)
     ]
 
--- a change that leaves the key's rows as they are changes nothing
-pub lines_same : (m : Map) (key : List Value) (rows : List Row) → lines_of m key ≡ rows → lines_of m ≡ with_line key rows (lines_of m)
-lines_same m key rows here = λ i k. at k i
+-- an action that leaves the key's rows as they are changes nothing
+pub strands_same : (m : Map) (key : List Value) (rows : List Row) → strands_of m key ≡ rows → strands_of m ≡ with_strand key rows (strands_of m)
+strands_same m key rows here = λ i k. at k i
   where
-    at : (k : List Value) → lines_of m k ≡ with_line key rows (lines_of m) k
+    at : (k : List Value) → strands_of m k ≡ with_strand key rows (strands_of m) k
     at k = elim (cases_Bool (same_key key k)) [
-      | inl same ↦ sym (same_lines m key k same) ∙ here ∙ sym (ap (λ b. cond b rows (lines_of m k)) same)
-      | inr other ↦ sym (ap (λ b. cond b rows (lines_of m k)) other)
+      | inl same ↦ sym (same_strands m key k same) ∙ here ∙ sym (ap (λ b. cond b rows (strands_of m k)) same)
+      | inr other ↦ sym (ap (λ b. cond b rows (strands_of m k)) other)
     ]
 
-pub lines_kept : (m n : Map) (key : List Value) (w : Option (List Declared)) → UpdatesBy key_cmp (key_cmp key) m n w → line_in w ≡ lines_of m key → lines_of n ≡ lines_of m
-lines_kept m n key w updates here = lines_changed m n key w (lines_of m key) updates here ∙ sym (lines_same m key (lines_of m key) refl)
+pub strands_kept : (m n : Map) (key : List Value) (w : Option (List Declared)) → UpdatesBy key_cmp (key_cmp key) m n w → strand_in w ≡ strands_of m key → strands_of n ≡ strands_of m
+strands_kept m n key w updates here = strands_changed m n key w (strands_of m key) updates here ∙ sym (strands_same m key (strands_of m key) refl)
 
 -- ---- what `get_mut` lent was written
 
 updates_from_write : (m n : Map) (key : List Value) (v w : List Declared) → Some v ≡ get key_cmp m key → WritesThrough key_cmp (key_cmp key) m w n → UpdatesBy key_cmp (key_cmp key) m n (Some w)
 updates_from_write m n key v w value writes = writes.3 (subst IsSome value refl)
 
-pub lines_written : (m n : Map) (key : List Value) (v w : List Declared) (rows : List Row) → Some v ≡ get key_cmp m key → WritesThrough key_cmp (key_cmp key) m w n → map row_of w ≡ rows → lines_of n ≡ with_line key rows (lines_of m)
-lines_written m n key v w rows value writes here = lines_changed m n key (Some w) rows (updates_from_write m n key v w value writes) here
+pub strands_written : (m n : Map) (key : List Value) (v w : List Declared) (rows : List Row) → Some v ≡ get key_cmp m key → WritesThrough key_cmp (key_cmp key) m w n → map row_of w ≡ rows → strands_of n ≡ with_strand key rows (strands_of m)
+strands_written m n key v w rows value writes here = strands_changed m n key (Some w) rows (updates_from_write m n key v w value writes) here
 
-pub lines_written_back : (m n : Map) (key : List Value) (v w : List Declared) → Some v ≡ get key_cmp m key → WritesThrough key_cmp (key_cmp key) m w n → w ≡ v → lines_of n ≡ lines_of m
-lines_written_back m n key v w value writes here = lines_kept m n key (Some w) (updates_from_write m n key v w value writes) (ap (map row_of) here ∙ ap line_in value)
+pub strands_written_back : (m n : Map) (key : List Value) (v w : List Declared) → Some v ≡ get key_cmp m key → WritesThrough key_cmp (key_cmp key) m w n → w ≡ v → strands_of n ≡ strands_of m
+strands_written_back m n key v w value writes here = strands_kept m n key (Some w) (updates_from_write m n key v w value writes) (ap (map row_of) here ∙ ap strand_in value)
 
 pub none_from_is_empty : (rows : List Declared) → (length rows == 0) ≡ true → map row_of rows ≡ []
 none_from_is_empty [] e = refl
@@ -74,17 +74,6 @@ on_ok (Err e) f ok = ok
 pub on_err : {A E : Type 0} (r : Result A E) {P Q : Type 0} → (P → Q) → OnErr r P → OnErr r Q
 on_err (Ok a) f err = err
 on_err (Err e) f err = f err
-
-set_back : (test : List Value → Bool) (es : List (List Value × List Declared)) (v w : List Declared) → lookup test es ≡ Some v → w ≡ v → rows_in (set_value test es w) ≡ rows_in es
-set_back test [] v w h same = refl
-set_back test (e ∷ es) v w h same = by (test e.0) h (set_back test es v w)
-  where
-    by : (b : Bool) → cond b (Some e.1) (lookup test es) ≡ Some v → (lookup test es ≡ Some v → w ≡ v → rows_in (set_value test es w) ≡ rows_in es) → rows_in (cond b ((e.0, w) ∷ es) (e ∷ set_value test es w)) ≡ rows_in (e ∷ es)
-    by true g more = let f : e.1 ≡ v = cc in ap (λ rs. map row_of rs ++ rows_in es) (same ∙ sym f)
-    by false g more = ap (λ rs. map row_of e.1 ++ rs) (more g same)
-
-pub rows_written_back : (m n : Map) (key : List Value) (v w : List Declared) → Some v ≡ get key_cmp m key → WritesThrough key_cmp (key_cmp key) m w n → w ≡ v → rows_in n.entries ≡ rows_in m.entries
-rows_written_back m n key v w value writes same = ap rows_in writes.0 ∙ set_back (λ q. is_eq (key_cmp key q)) m.entries v w (sym value) same
 
 pub instead_none : (rows : List Declared) (more : List Row) → (length rows == 0) ≡ true → map row_of rows ≡ instead (map row_of rows) more
 instead_none [] more e = refl

@@ -3,12 +3,12 @@ pub mod Parts
 pub mod Walks
 pub mod Changed
 pub mod Placed
-pub mod InLine
+pub mod InStrand
 pub mod Sorted
 pub mod Moves
 pub mod Cutting
 pub mod Planning
-pub mod TableCut
+pub mod TableCorrection
 pub mod Tabled
 pub mod Running
 pub mod Apart
@@ -18,7 +18,7 @@ pub mod Joined
 pub mod UndoTables
 pub mod OfKey
 pub mod Naming
-pub mod KeyCut
+pub mod KeyCorrection
 pub mod Orphans
 pub mod Checked
 pub mod Suspected

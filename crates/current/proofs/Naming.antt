@@ -12,7 +12,7 @@ use Rattle.std.specs.BTreeMap.{IsOrdered}
 use Rattle.model.specs.declared.value.Value.{Value}
 use Rattle.model.specs.Values.{key_cmp, value_cmp, same_key}
 use Rattle.model.specs.Tables.{Row}
-use Rattle.model.specs.Transactions.{Change}
+use Rattle.model.specs.Transactions.{Action}
 use Rattle.period.specs.declared.period.Period.{Period as DeclaredPeriod}
 use Rattle.model.specs.Periods.{period_of}
 use Rattle.rowlaws.specs.Rows.{Has}
@@ -25,12 +25,12 @@ use Rattle.sqlchecks.specs.declared.field.Field.TheVariants.{Key}
 use Rattle.sqlchecks.specs.Columns.{kept_at}
 use Rattle.sqlchecks.specs.Comparisons.{holds, compares, passes_all}
 use Rattle.sqlread.specs.declared.statement.Assignment.{Assignment}
-use Rattle.current.specs.declared.cut.Cut.{Cut}
-use Rattle.current.specs.Cuts.{is_met, is_stuck, kept, removed_at, added_at, cut_change, change_of_cut}
-use Rattle.current.specs.Stored.{Map, lines_of, rows_in, in_line}
-use Rattle.current.proofs.InLine.{each_in_line}
-use Rattle.current.proofs.Sorted.{in_its_line, in_all}
-use Rattle.current.proofs.OfKey.{line_of_key}
+use Rattle.current.specs.declared.correction.Correction.{Correction}
+use Rattle.current.specs.Corrections.{is_met, is_stuck, kept, removed_at, added_at, correction_action, action_of_correction}
+use Rattle.current.specs.ByKey.{Map, strands_of, rows_in, in_strand}
+use Rattle.current.proofs.InStrand.{each_in_strand}
+use Rattle.current.proofs.Sorted.{in_its_strand, in_all}
+use Rattle.current.proofs.OfKey.{strand_of_key}
 use Rattle.current.proofs.Walks.{unmet_in_range}
 
 -- ---- the key that conditions name
@@ -77,26 +77,14 @@ one_more xs front i v h e = let more : i + 1 ≡ suc i = omega arith in ap (λ (
     next (y ∷ ys) zero g = let same : y ≡ v = ap (λ o. option_map_or (λ (x : Value). x) o y) g in ap (λ z. z ∷ []) same
     next (y ∷ ys) (suc n) g = ap (λ zs. y ∷ zs) (next ys n g)
 
-pub take_whole : (xs : List Value) (i : ℕ) → length xs ≤ i → take i xs ≡ xs
-take_whole [] zero l = refl
-take_whole [] (suc i) l = refl
-take_whole (x ∷ xs) zero l = absurd (omega arith)
-take_whole (x ∷ xs) (suc i) l = ap (λ ys. x ∷ ys) (take_whole xs i (omega arith))
-
 -- ---- rows that are not of the key
 
 -- a row that is met passes WHERE
-passing : (conditions : List Comparison) (p : DeclaredPeriod) (assignments : Option (Bor (List Assignment))) (r : Row) → is_met (cut_change conditions (period_of p) assignments) r ≡ true → passes_all conditions r ≡ true
+passing : (conditions : List Comparison) (p : DeclaredPeriod) (assignments : Option (Bor (List Assignment))) (r : Row) → is_met (correction_action conditions (period_of p) assignments) r ≡ true → passes_all conditions r ≡ true
 passing conditions p None r h = (and_parts _ _ (and_parts _ _ h).0).0
 passing conditions p (Some a) r h = (and_parts _ _ (and_parts _ _ h).0).0
 
-pub met_passes : (cut : Cut) (r : Row) → is_met (change_of_cut cut) r ≡ true → passes_all cut.conditions.now r ≡ true
-met_passes cut r h = passing cut.conditions.now cut.portion cut.assignments r h
-
-module _ (c : Change) (t : ℕ) (k : List Value) where
-  OnlyMet : List Row → Type 0
-  OnlyMet rows = (r : Row) → Has rows r → is_met c r ≡ true → r.key ≡ k
-
+module _ (c : Action) (t : ℕ) (k : List Value) where
   unmet_other : (r : Row) → (is_met c r ≡ true → r.key ≡ k) → same_key r.key k ≡ false → is_met c r ≡ false
   unmet_other r h other = elim (cases_Bool (is_met c r)) [
     | inl y ↦ absurd (both (subst (λ l. same_key r.key l ≡ true) (h y) (same_key-itself r.key)) other)
@@ -144,21 +132,21 @@ module _ (c : Change) (t : ℕ) (k : List Value) where
 
 -- ---- the plan for the rows of one key
 
-module _ (c : Change) (t : ℕ) (m : Map) (ordered : IsOrdered key_cmp m) (in_lines : (l : List Value) → in_line l 0 (lines_of m l) ≡ true) (k : List Value) (only : (r : Row) → Has (rows_in m.entries) r → is_met c r ≡ true → r.key ≡ k) where
-  pub removed_line : flat_map (removed_at c t) (lines_of m k) ≡ flat_map (removed_at c t) (rows_in m.entries)
-  removed_line = ap (flat_map (removed_at c t)) (sym (line_of_key m ordered in_lines k)) ∙ sym (only_of_key c t k (removed_at c t) (λ r h. rw h refl) (rows_in m.entries) only)
+module _ (c : Action) (t : ℕ) (m : Map) (ordered : IsOrdered key_cmp m) (in_strands : (l : List Value) → in_strand l 0 (strands_of m l) ≡ true) (k : List Value) (only : (r : Row) → Has (rows_in m.entries) r → is_met c r ≡ true → r.key ≡ k) where
+  pub removed_strand : flat_map (removed_at c t) (strands_of m k) ≡ flat_map (removed_at c t) (rows_in m.entries)
+  removed_strand = ap (flat_map (removed_at c t)) (sym (strand_of_key m ordered in_strands k)) ∙ sym (only_of_key c t k (removed_at c t) (λ r h. rw h refl) (rows_in m.entries) only)
 
-  pub added_line : flat_map (added_at c t) (lines_of m k) ≡ flat_map (added_at c t) (rows_in m.entries)
-  added_line = ap (flat_map (added_at c t)) (sym (line_of_key m ordered in_lines k)) ∙ sym (only_of_key c t k (added_at c t) (λ r h. rw h refl) (rows_in m.entries) only)
+  pub added_strand : flat_map (added_at c t) (strands_of m k) ≡ flat_map (added_at c t) (rows_in m.entries)
+  added_strand = ap (flat_map (added_at c t)) (sym (strand_of_key m ordered in_strands k)) ∙ sym (only_of_key c t k (added_at c t) (λ r h. rw h refl) (rows_in m.entries) only)
 
-  pub stuck_line : list_any (is_stuck c) (lines_of m k) ≡ list_any (is_stuck c) (rows_in m.entries)
-  stuck_line = ap (list_any (is_stuck c)) (sym (line_of_key m ordered in_lines k)) ∙ sym (any_of_key c t k (rows_in m.entries) only)
+  pub stuck_strand : list_any (is_stuck c) (strands_of m k) ≡ list_any (is_stuck c) (rows_in m.entries)
+  stuck_strand = ap (list_any (is_stuck c)) (sym (strand_of_key m ordered in_strands k)) ∙ sym (any_of_key c t k (rows_in m.entries) only)
 
-  pub short_line : length (lines_of m k) ≤ length (rows_in m.entries)
-  short_line = subst (λ rs. length rs ≤ length (rows_in m.entries)) (line_of_key m ordered in_lines k) (short_of_key c t k (rows_in m.entries))
+  pub short_strand : length (strands_of m k) ≤ length (rows_in m.entries)
+  short_strand = subst (λ rs. length rs ≤ length (rows_in m.entries)) (strand_of_key m ordered in_strands k) (short_of_key c t k (rows_in m.entries))
 
-  pub long_line : length (flat_map (kept c t) (rows_in m.entries)) + length (lines_of m k) ≡ length (rows_in m.entries) + length (flat_map (kept c t) (lines_of m k))
-  long_line = subst (λ rs. length (flat_map (kept c t) (rows_in m.entries)) + length rs ≡ length (rows_in m.entries) + length (flat_map (kept c t) rs)) (line_of_key m ordered in_lines k) (long_of_key c t k (rows_in m.entries) only)
+  pub long_strand : length (flat_map (kept c t) (rows_in m.entries)) + length (strands_of m k) ≡ length (rows_in m.entries) + length (flat_map (kept c t) (strands_of m k))
+  long_strand = subst (λ rs. length (flat_map (kept c t) (rows_in m.entries)) + length rs ≡ length (rows_in m.entries) + length (flat_map (kept c t) rs)) (strand_of_key m ordered in_strands k) (long_of_key c t k (rows_in m.entries) only)
 
   -- the rows of another key stay
   stays : (l : List Value) (rows : List Row) → same_key l k ≡ false → ((r : Row) → Has rows r → (r.key ≡ l) × Has (rows_in m.entries) r) → flat_map (kept c t) rows ≡ rows
@@ -168,14 +156,14 @@ module _ (c : Change) (t : ℕ) (m : Map) (ordered : IsOrdered key_cmp m) (in_li
       let unmet = unmet_other c t k r (only r here.1) (subst (λ x. same_key x k ≡ false) (sym here.0) other) in
       rw (unmet_kept c t k r unmet) (ap (λ more. r ∷ more) (stays l rows other (λ s i. h s (inr i))))
 
-  pub line_stays : (l : List Value) → same_key l k ≡ false → flat_map (kept c t) (lines_of m l) ≡ lines_of m l
-  line_stays l other = stays l (lines_of m l) other (λ r h. ((each_in_line l 0 (lines_of m l) r (in_lines l) h).key, in_all m ordered in_lines l r h))
+  pub strand_stays : (l : List Value) → same_key l k ≡ false → flat_map (kept c t) (strands_of m l) ≡ strands_of m l
+  strand_stays l other = stays l (strands_of m l) other (λ r h. ((each_in_strand l 0 (strands_of m l) r (in_strands l) h).key, in_all m ordered in_strands l r h))
 
--- ---- rows after a change have the keys of rows before
+-- ---- rows after an action have the keys of rows before
 
-pub cut_short : (c : Change) (t columns : ℕ) (m n : Map) (om : IsOrdered key_cmp m) (im : (l : List Value) → in_line l 0 (lines_of m l) ≡ true) (on : IsOrdered key_cmp n) (in' : (l : List Value) → in_line l 0 (lines_of n l) ≡ true)
-    → ((k : List Value) → lines_of n k ≡ flat_map (kept c t) (lines_of m k)) → ((r : Row) → Has (rows_in m.entries) r → length r.key ≤ columns) → (r : Row) → Has (rows_in n.entries) r → length r.key ≤ columns
-cut_short c t columns m n om im on in' each short r h =
-    let f = flat_has (kept c t) (lines_of m r.key) r (subst (λ rs. Has rs r) (each r.key) (in_its_line n on in' r h)) in
-    let same = (each_in_line r.key 0 (lines_of m r.key) f.0 (im r.key) f.1).key in
+pub correction_short : (c : Action) (t columns : ℕ) (m n : Map) (om : IsOrdered key_cmp m) (im : (l : List Value) → in_strand l 0 (strands_of m l) ≡ true) (on : IsOrdered key_cmp n) (in' : (l : List Value) → in_strand l 0 (strands_of n l) ≡ true)
+    → ((k : List Value) → strands_of n k ≡ flat_map (kept c t) (strands_of m k)) → ((r : Row) → Has (rows_in m.entries) r → length r.key ≤ columns) → (r : Row) → Has (rows_in n.entries) r → length r.key ≤ columns
+correction_short c t columns m n om im on in' each short r h =
+    let f = flat_has (kept c t) (strands_of m r.key) r (subst (λ rs. Has rs r) (each r.key) (in_its_strand n on in' r h)) in
+    let same = (each_in_strand r.key 0 (strands_of m r.key) f.0 (im r.key) f.1).key in
     subst (λ (k : List Value). length k ≤ columns) same (short f.0 (in_all m om im r.key f.0 f.1))

@@ -14,14 +14,14 @@ use Rattle.rowlaws.specs.Covering.{AllInOrder, lesser, missing, missing_by, plac
 use Rattle.rowlaws.proofs.RowFacts.{both}
 use Rattle.schema.specs.Shape.{TableShape, ReferenceShape}
 use Rattle.sqlchecks.specs.Columns.{Tables}
-use Rattle.sqlread.specs.Meaning.{values_at, reference_of, references_from, schema_of}
+use Rattle.sqlread.specs.Meaning.{values_at, reference_of, references_from, language_of}
 use Rattle.current.specs.declared.row.Row.{Row as Declared}
 use Rattle.current.specs.Rows.{row_of}
 use Rattle.current.specs.declared.table.TableRows.{TableRows}
 use Rattle.current.specs.Places.{rows_at}
 use Rattle.current.specs.Table.{rows_of_table}
 use Rattle.current.proofs.Lists.{drop_here}
-use Rattle.current.specs.Stored.{rows_in}
+use Rattle.current.specs.ByKey.{rows_in}
 use Rattle.current.proofs.Planning.{Entry}
 use Rattle.current.proofs.Sorted.{map_sorted}
 
@@ -165,12 +165,12 @@ none_in_table fs all n end total l h none =
 pub none_left : (fs : List Reference) (all : Rows) (n end : ℕ) (total : Option Place) → end ≤ n → missing_in_tables fs all (range_with_len n (end - n)) ≡ total → None ≡ total
 none_left fs all n end total l h = sym (ap (missing_in_tables fs all) (range_none n end l)) ∙ h
 
-pub orphan_is : (ts : Tables) (all : Rows) → rows_orphan (schema_of ts) all ≡ missing_in_tables (references_from 0 ts) all (range_with_len 0 (length ts))
-unfolding rows_orphan schema_of
+pub orphan_is : (ts : Tables) (all : Rows) → rows_orphan (language_of ts) all ≡ missing_in_tables (references_from 0 ts) all (range_with_len 0 (length ts))
+unfolding rows_orphan language_of
 orphan_is ts all = refl
 
 pub all_in_order : (ts : List TableRows) → AllInOrder (rows_at rows_of_table ts)
 unfolding IsStrictlySortedBy
 all_in_order [] n = tt
-all_in_order (t ∷ ts) zero = map_sorted t.index.lines t.ordered t.in_lines
+all_in_order (t ∷ ts) zero = map_sorted t.index.strands t.ordered t.in_strands
 all_in_order (t ∷ ts) (suc n) = all_in_order ts n

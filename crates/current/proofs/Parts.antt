@@ -15,7 +15,7 @@ use Rattle.sqlread.specs.declared.statement.Assignment.{Assignment}
 use Rattle.sqlread.specs.Meaning.{set_of}
 use Rattle.current.specs.declared.row.Row.{Row as DeclaredRow}
 use Rattle.current.specs.Rows.{row_of}
-use Rattle.current.specs.Cuts.{cut_change, AreSet, new_part, is_met, is_stuck, made}
+use Rattle.current.specs.Corrections.{correction_action, AreSet, new_part, is_met, is_stuck, made}
 
 pub record AreDays (x p : Declared) (before within after : Option Declared) : Type 0 where
   pub before_days : (d : ℕ) → has_day before d ≡ (inside (period_of x) d && nat_lt d p.start.number)
@@ -29,17 +29,14 @@ are_parts x p before within after h = record {
   after_days = λ d. h.after_days d;
 }
 
-not_none : {A : Type 0} (o : Option A) (a : A) → o ≡ Some a → is_none o ≡ false
-not_none o a h = rw h refl
-
 stuck_not : (b : Bool) (o : Option (List Value)) (a : List Value) → o ≡ Some a → (b && is_none o) ≡ false
 stuck_not true o a h = rw h refl
 stuck_not false o a h = refl
 
 pub parts_are : PartsOfUpdate → PartsOfDelete → (conditions : List Comparison) (p : Declared) (assignments : Option (Bor (List Assignment))) (t : ℕ) (row : DeclaredRow) (before within after : Option Declared) (new : Option (Vec Value Global))
-    → IsTrue (is_met (cut_change conditions (period_of p) assignments) (row_of row)) → AreSet assignments row.values.items new → AreDays row.period p before within after
-    → (row_of_part (row_of row) before row.values.items t ++ (new_part (row_of row) within new t ++ row_of_part (row_of row) after row.values.items t) ≡ made (cut_change conditions (period_of p) assignments) t (row_of row))
-    × (is_stuck (cut_change conditions (period_of p) assignments) (row_of row) ≡ false)
+    → IsTrue (is_met (correction_action conditions (period_of p) assignments) (row_of row)) → AreSet assignments row.values.items new → AreDays row.period p before within after
+    → (row_of_part (row_of row) before row.values.items t ++ (new_part (row_of row) within new t ++ row_of_part (row_of row) after row.values.items t) ≡ made (correction_action conditions (period_of p) assignments) t (row_of row))
+    × (is_stuck (correction_action conditions (period_of p) assignments) (row_of row) ≡ false)
 parts_are of_update of_delete conditions p None t row before within after new met set days =
     let none : new ≡ None = set in (
       ap (λ n. row_of_part (row_of row) before row.values.items t ++ (new_part (row_of row) within n t ++ row_of_part (row_of row) after row.values.items t)) none

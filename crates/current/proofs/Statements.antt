@@ -11,28 +11,28 @@ use Rattle.fault.specs.declared.refusal.Refusal.TheVariants.{KeyOverlap, NumberR
 use Rattle.model.specs.declared.value.Value.{Value}
 use Rattle.model.specs.Periods.{period_of}
 use Rattle.model.specs.Tables.{days, Period, Row}
-use Rattle.model.specs.Transactions.{Statement, Change, Insert, Update, Delete, run_statement}
+use Rattle.model.specs.Transactions.{Statement, Action, Insert, Update, Delete, run_statement}
 use Rattle.rowlaws.specs.Rows.{Has, Apart, SameRows, RowCount}
-use Rattle.rowlaws.specs.Changes.{IsFine, rows_changed, ChangeOnRows, clashes, new_row}
+use Rattle.rowlaws.specs.Changes.{IsFine, rows_changed, ActionOnRows, clashes, new_row}
 use Rattle.rowlaws.specs.Cutting.{cut_rows, removed_rows}
 use Rattle.rowlaws.specs.Touching.{Untouched, TouchedBy, removed_by, added_by, rows_without}
 use Rattle.rowlaws.specs.Statements.{Rows}
 use Rattle.rowlaws.proofs.Members.{has_left, has_right, has_cases}
 use Rattle.current.specs.declared.table.TableRows.{TableRows}
-use Rattle.current.specs.declared.cut.Cut.{Cut}
-use Rattle.current.specs.Cuts.{is_stuck, kept, cut_change, change_of_cut}
+use Rattle.current.specs.declared.correction.Correction.{Correction}
+use Rattle.current.specs.Corrections.{is_stuck, kept, correction_action, action_of_correction}
 use Rattle.current.specs.Places.{rows_at}
-use Rattle.current.specs.Table.{rows_of_table, IsInserted, IsInsertRefused, IsCut, IsCutRefused}
+use Rattle.current.specs.Table.{rows_of_table, IsInserted, IsInsertRefused, IsCorrection, IsCorrectionRefused}
 use Rattle.current.specs.Run.{IsRun, IsRefused}
-use Rattle.current.proofs.InLine.{HasPortion}
+use Rattle.current.proofs.InStrand.{HasPortion}
 use Rattle.current.proofs.Sorted.{map_sorted, apart_sorted}
 use Rattle.current.proofs.Tabled.{rows_at-is, rows_at-set}
-use Rattle.current.proofs.TableCut.{cut_portion}
+use Rattle.current.proofs.TableCorrection.{correction_portion}
 use Rattle.current.proofs.Running.{ran, stopped, too_many}
 use Rattle.current.proofs.Apart.{IsOfRows, removed_is, added_is}
 
 pub table_apart : (y : TableRows) → Apart (rows_of_table y)
-table_apart y = apart_sorted (rows_of_table y) (map_sorted y.index.lines y.ordered y.in_lines)
+table_apart y = apart_sorted (rows_of_table y) (map_sorted y.index.strands y.ordered y.in_strands)
 
 here_is : (n : ℕ) (a b : List Row) → cond (n == n) a b ≡ a
 here_is n a b = ap (λ c. cond c a b) (eq-eqb n n refl)
@@ -42,28 +42,28 @@ other_is m n a b h = ap (λ c. cond c a b) h
 
 -- ---- the rows after UPDATE and DELETE
 
-cut_changed : (c : Change) (t : ℕ) (rows : List Row) → IsOfRows c → list_any (is_stuck c) rows ≡ false → rows_changed c t rows ≡ Ok (flat_map (kept c t) rows)
+correction_changed : (c : Action) (t : ℕ) (rows : List Row) → IsOfRows c → list_any (is_stuck c) rows ≡ false → rows_changed c t rows ≡ Ok (flat_map (kept c t) rows)
 unfolding rows_changed cut_rows removed_rows
-cut_changed (Insert k v p) t rows of h = absurd of
-cut_changed (Update passes p set) t rows of h = rw h refl
-cut_changed (Delete passes p) t rows of h = refl
+correction_changed (Insert k v p) t rows of h = absurd of
+correction_changed (Update passes p set) t rows of h = rw h refl
+correction_changed (Delete passes p) t rows of h = refl
 
-cut_stuck : (c : Change) (t : ℕ) (rows : List Row) → IsOfRows c → list_any (is_stuck c) rows ≡ true → rows_changed c t rows ≡ Err NumberRange
+correction_stuck : (c : Action) (t : ℕ) (rows : List Row) → IsOfRows c → list_any (is_stuck c) rows ≡ true → rows_changed c t rows ≡ Err NumberRange
 unfolding rows_changed
-cut_stuck (Insert k v p) t rows of h = absurd of
-cut_stuck (Update passes p set) t rows of h = rw h refl
-cut_stuck (Delete passes p) t rows of h = absurd (never rows h)
+correction_stuck (Insert k v p) t rows of h = absurd of
+correction_stuck (Update passes p set) t rows of h = rw h refl
+correction_stuck (Delete passes p) t rows of h = absurd (never rows h)
   where
     never : (rs : List Row) → list_any (is_stuck (Delete passes p)) rs ≡ true → ⊥
     never [] g = cc
     never (r ∷ rs) g = never rs g
 
-fine_portion : (c : Change) → IsOfRows c → HasPortion c → IsFine c
+fine_portion : (c : Action) → IsOfRows c → HasPortion c → IsFine c
 fine_portion (Insert k v p) of h = absurd of
 fine_portion (Update passes p set) of h = h
 fine_portion (Delete passes p) of h = h
 
-of_rows : (conditions : List Comparison) (p : Period) (assignments : Option (Bor (List Assignment))) → IsOfRows (cut_change conditions p assignments)
+of_rows : (conditions : List Comparison) (p : Period) (assignments : Option (Bor (List Assignment))) → IsOfRows (correction_action conditions p assignments)
 of_rows conditions p None = tt
 of_rows conditions p (Some a) = tt
 
@@ -88,7 +88,7 @@ one_comes key values p t rows = refl
 one_longer : (rows : List Row) (r : Row) → length (rows ++ r ∷ []) ≡ length rows + 1
 one_longer rows r = length-append rows (r ∷ [])
 
-module _ (on_rows : ChangeOnRows) (count : RowCount) (untouched : Untouched) (touched : TouchedBy) (same_rows : SameRows) (tables : List TableRows) (n : ℕ) (l : n < length tables) (x y : TableRows) (at : x ≡ get_or tables n x) where
+module _ (on_rows : ActionOnRows) (count : RowCount) (untouched : Untouched) (touched : TouchedBy) (same_rows : SameRows) (tables : List TableRows) (n : ℕ) (l : n < length tables) (x y : TableRows) (at : x ≡ get_or tables n x) where
   abbrev rows : Rows
   rows = rows_at rows_of_table tables
 
@@ -117,25 +117,25 @@ module _ (on_rows : ChangeOnRows) (count : RowCount) (untouched : Untouched) (to
       ]
 
   module _ (t : ℕ) (removed added : Rows) (g c : List Row) (went : (m : ℕ) → removed m ≡ cond (m == n) g []) (came : (m : ℕ) → added m ≡ cond (m == n) c []) where
-    pub cut_run : (cut : Cut) → IsCut (change_of_cut cut) t (rows_of_table x) (rows_of_table y) g c → IsRun t (record { table = n; change = change_of_cut cut }) rows more removed added
-    cut_run cut h =
-        let change : Change = change_of_cut cut in
-        let of = of_rows cut.conditions.now (period_of cut.portion) cut.assignments in
-        let portion = cut_portion cut in
-        let k : IsCut change t (rows n) (more n) g c = subst (λ rs. IsCut change t rs (more n) g c) (sym rows_here) (subst (λ rs. IsCut change t (rows_of_table x) rs g c) (sym more_here) h) in
-        ran on_rows count untouched touched same_rows (record { table = n; change = change }) t rows more removed added (fine_portion change of portion) (record {
-          after = flat_map (kept change t) (rows n);
-          is = cut_changed change t (rows n) of k.0;
+    pub correction_run : (correction : Correction) → IsCorrection (action_of_correction correction) t (rows_of_table x) (rows_of_table y) g c → IsRun t (record { table = n; action = action_of_correction correction }) rows more removed added
+    correction_run correction h =
+        let action : Action = action_of_correction correction in
+        let of = of_rows correction.conditions.now (period_of correction.portion) correction.assignments in
+        let portion = correction_portion correction in
+        let k : IsCorrection action t (rows n) (more n) g c = subst (λ rs. IsCorrection action t rs (more n) g c) (sym rows_here) (subst (λ rs. IsCorrection action t (rows_of_table x) rs g c) (sym more_here) h) in
+        ran on_rows count untouched touched same_rows (record { table = n; action = action }) t rows more removed added (fine_portion action of portion) (record {
+          after = flat_map (kept action t) (rows n);
+          is = correction_changed action t (rows n) of k.0;
           few = k.1;
           same = k.2;
           apart = more_apart;
           others = λ m f. (more_other m f, went m ∙ other_is m n g [] f, came m ∙ other_is m n c [] f);
-          went = λ table i. went n ∙ here_is n g [] ∙ k.3 ∙ sym (removed_is change t (rows n) table of portion i);
-          came = λ table i. came n ∙ here_is n c [] ∙ k.4 ∙ sym (added_is change t (rows n) table of portion i);
+          went = λ table i. went n ∙ here_is n g [] ∙ k.3 ∙ sym (removed_is action t (rows n) table of portion i);
+          came = λ table i. came n ∙ here_is n c [] ∙ k.4 ∙ sym (added_is action t (rows n) table of portion i);
         })
 
     pub insert_run : (key values : List Value) (p : Period) → p.start < p.end → p.end ≤ days → IsInserted (new_row key values p t) (rows_of_table x) (rows_of_table y) → g ≡ [] → c ≡ new_row key values p t ∷ []
-        → IsRun t (record { table = n; change = Insert key values p }) rows more removed added
+        → IsRun t (record { table = n; action = Insert key values p }) rows more removed added
     insert_run key values p some short h none one =
         let row : Row = new_row key values p t in
         let k : IsInserted row (rows n) (more n) = subst (λ rs. IsInserted row rs (more n)) (sym rows_here) (subst (λ rs. IsInserted row (rows_of_table x) rs) (sym more_here) h) in
@@ -143,7 +143,7 @@ module _ (on_rows : ChangeOnRows) (count : RowCount) (untouched : Untouched) (to
         let room = k.1 in
         let to : (r : Row) → Has (more n) r → Has (rows n ++ row ∷ []) r = λ r i. elim ((k.2 r).0 i) [ inl a ↦ has_left (rows n) (row ∷ []) r a | inr e ↦ has_right (rows n) (row ∷ []) r (inl e) ] in
         let from : (r : Row) → Has (rows n ++ row ∷ []) r → Has (more n) r = λ r i. elim (has_cases (rows n) (row ∷ []) r i) [ inl a ↦ (k.2 r).1 (inl a) | inr b ↦ elim b [ inl e ↦ (k.2 r).1 (inr e) | inr z ↦ absurd z ] ] in
-        ran on_rows count untouched touched same_rows (record { table = n; change = Insert key values p }) t rows more removed added (some, short) (record {
+        ran on_rows count untouched touched same_rows (record { table = n; action = Insert key values p }) t rows more removed added (some, short) (record {
           after = rows n ++ row ∷ [];
           is = insert_changed key values p t (rows n) k.0;
           few = omega (arith, long, room);
@@ -154,23 +154,23 @@ module _ (on_rows : ChangeOnRows) (count : RowCount) (untouched : Untouched) (to
           came = λ table i. came n ∙ here_is n c [] ∙ one ∙ sym (one_comes key values p t (rows n));
         })
 
-  pub cut_refused : (t : ℕ) (cut : Cut) (refusal : Refusal) → IsCutRefused (change_of_cut cut) t (rows_of_table x) refusal → IsRefused t (record { table = n; change = change_of_cut cut }) rows refusal
-  cut_refused t cut refusal h =
-      let change : Change = change_of_cut cut in
-      let s : Statement = record { table = n; change = change } in
-      let of = of_rows cut.conditions.now (period_of cut.portion) cut.assignments in
-      let fine = fine_portion change of (cut_portion cut) in
-      elim (subst (λ rs. IsCutRefused change t rs refusal) (sym rows_here) h) [
+  pub correction_refused : (t : ℕ) (correction : Correction) (refusal : Refusal) → IsCorrectionRefused (action_of_correction correction) t (rows_of_table x) refusal → IsRefused t (record { table = n; action = action_of_correction correction }) rows refusal
+  correction_refused t correction refusal h =
+      let action : Action = action_of_correction correction in
+      let s : Statement = record { table = n; action = action } in
+      let of = of_rows correction.conditions.now (period_of correction.portion) correction.assignments in
+      let fine = fine_portion action of (correction_portion correction) in
+      elim (subst (λ rs. IsCorrectionRefused action t rs refusal) (sym rows_here) h) [
         | inl memory ↦ inl memory
         | inr other ↦ elim other [
-          | inl range ↦ inr (λ state listed. subst (λ r. run_statement t s state ≡ Err r) (sym range.0) (stopped on_rows count untouched touched same_rows s t rows NumberRange fine (cut_stuck change t (rows n) of range.1) state listed))
-          | inr limit ↦ inr (λ state listed. subst (λ r. run_statement t s state ≡ Err r) (sym limit.0) (too_many on_rows count untouched touched same_rows s t rows (flat_map (kept change t) (rows n)) fine (cut_changed change t (rows n) of limit.1) limit.2 state listed))
+          | inl range ↦ inr (λ state listed. subst (λ r. run_statement t s state ≡ Err r) (sym range.0) (stopped on_rows count untouched touched same_rows s t rows NumberRange fine (correction_stuck action t (rows n) of range.1) state listed))
+          | inr limit ↦ inr (λ state listed. subst (λ r. run_statement t s state ≡ Err r) (sym limit.0) (too_many on_rows count untouched touched same_rows s t rows (flat_map (kept action t) (rows n)) fine (correction_changed action t (rows n) of limit.1) limit.2 state listed))
         ]
       ]
 
-  pub insert_refused : (t : ℕ) (key values : List Value) (p : Period) (refusal : Refusal) → p.start < p.end → p.end ≤ days → IsInsertRefused (new_row key values p t) (rows_of_table x) refusal → IsRefused t (record { table = n; change = Insert key values p }) rows refusal
+  pub insert_refused : (t : ℕ) (key values : List Value) (p : Period) (refusal : Refusal) → p.start < p.end → p.end ≤ days → IsInsertRefused (new_row key values p t) (rows_of_table x) refusal → IsRefused t (record { table = n; action = Insert key values p }) rows refusal
   insert_refused t key values p refusal some short h =
-      let s : Statement = record { table = n; change = Insert key values p } in
+      let s : Statement = record { table = n; action = Insert key values p } in
       let row : Row = new_row key values p t in
       let long = one_longer (rows n) row in
       elim (subst (λ rs. IsInsertRefused row rs refusal) (sym rows_here) h) [

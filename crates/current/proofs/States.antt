@@ -5,7 +5,7 @@ use Rattle.std.proofs.lemmas.Bool.{cases_Bool, and_parts, and_from, ltb-true, lt
 use Rattle.model.specs.declared.value.Value.{Value}
 use Rattle.model.specs.Tables.{days, Table, Row, empty_table}
 use Rattle.model.specs.Statements.{inserted, insert_overlaps}
-use Rattle.model.specs.Transactions.{State, Schema}
+use Rattle.model.specs.Transactions.{State, Language}
 use Rattle.model.specs.Logs.{state_after}
 use Rattle.rowlaws.specs.Rows.{Has, Apart, Lists, SameRows}
 use Rattle.rowlaws.specs.Changes.{clashes, InsertOnRows, OverlapsOnRows}
@@ -19,11 +19,11 @@ use Rattle.current.specs.declared.current.Current.{Current}
 use Rattle.current.specs.declared.table.TableRows.{TableRows}
 use Rattle.current.specs.Current.{rows_of}
 use Rattle.current.specs.Places.{rows_at}
-use Rattle.current.specs.Stored.{lines_of, in_line}
+use Rattle.current.specs.ByKey.{strands_of, in_strand}
 use Rattle.current.specs.Table.{rows_of_table}
 use Rattle.current.specs.Laws.{OfSomeState}
-use Rattle.current.proofs.InLine.{begins_line, each_in_line}
-use Rattle.current.proofs.Sorted.{in_its_line}
+use Rattle.current.proofs.InStrand.{begins_strand, each_in_strand}
+use Rattle.current.proofs.Sorted.{in_its_strand}
 use Rattle.current.proofs.Statements.{table_apart}
 
 -- ---- rows of which no two have a common day
@@ -37,7 +37,7 @@ clashes_itself : (r : Row) → r.period.start < r.period.end → clashes r.key r
 clashes_itself r some = and_from _ _ (and_from _ _ (same_key-itself r.key) (lt-ltb _ _ some)) (lt-ltb _ _ some)
 
 -- a schema without tables
-plain : Schema
+plain : Language
 plain = record { tables = 0; name = λ n. []; references = []; reads = λ text. Ok [] }
 
 nothing_listed : LogsOnRows → Lists [] empty_table
@@ -62,19 +62,19 @@ module _ (insert : InsertOnRows) (overlaps : OverlapsOnRows) (same : SameRows) (
 
   -- ---- the rows of a table
 
-  -- two rows of a line that have a common day are one
-  one_in_line : (k : List Value) (d : ℕ) (rs : List Row) (r s : Row) → in_line k d rs ≡ true → Has rs r → Has rs s → r.period.start < s.period.end → s.period.start < r.period.end → r ≡ s
-  one_in_line k d [] r s h a b x y = absurd a
-  one_in_line k d (q ∷ rs) r s h (inl e) (inl f) x y = e ∙ sym f
-  one_in_line k d (q ∷ rs) r s h (inl e) (inr b) x y =
-      let i = (each_in_line k q.period.end rs s (begins_line k d q rs h).later b).from in
+  -- two rows of a strand that have a common day are one
+  one_in_strand : (k : List Value) (d : ℕ) (rs : List Row) (r s : Row) → in_strand k d rs ≡ true → Has rs r → Has rs s → r.period.start < s.period.end → s.period.start < r.period.end → r ≡ s
+  one_in_strand k d [] r s h a b x y = absurd a
+  one_in_strand k d (q ∷ rs) r s h (inl e) (inl f) x y = e ∙ sym f
+  one_in_strand k d (q ∷ rs) r s h (inl e) (inr b) x y =
+      let i = (each_in_strand k q.period.end rs s (begins_strand k d q rs h).later b).from in
       let end : r.period.end ≡ q.period.end = ap (λ z. z.period.end) e in
       absurd (omega arith)
-  one_in_line k d (q ∷ rs) r s h (inr a) (inl f) x y =
-      let i = (each_in_line k q.period.end rs r (begins_line k d q rs h).later a).from in
+  one_in_strand k d (q ∷ rs) r s h (inr a) (inl f) x y =
+      let i = (each_in_strand k q.period.end rs r (begins_strand k d q rs h).later a).from in
       let end : s.period.end ≡ q.period.end = ap (λ z. z.period.end) f in
       absurd (omega arith)
-  one_in_line k d (q ∷ rs) r s h (inr a) (inr b) x y = one_in_line k q.period.end rs r s (begins_line k d q rs h).later a b x y
+  one_in_strand k d (q ∷ rs) r s h (inr a) (inr b) x y = one_in_strand k q.period.end rs r s (begins_strand k d q rs h).later a b x y
 
   fits_from : (rows : List Row) → Apart rows → ((r : Row) → Has rows r → (r.period.start < r.period.end) × (r.period.end ≤ days)) → ((r s : Row) → Has rows r → Has rows s → clashes r.key r.period s ≡ true → r ≡ s) → Fits rows
   fits_from [] a each one = tt
@@ -88,13 +88,13 @@ module _ (insert : InsertOnRows) (overlaps : OverlapsOnRows) (same : SameRows) (
 
   table_fits : (t : TableRows) → Fits (rows_of_table t)
   table_fits t = fits_from (rows_of_table t) (table_apart t)
-      (λ r h. let i = each_in_line r.key 0 (lines_of t.index.lines r.key) r (t.in_lines r.key) (in_its_line t.index.lines t.ordered t.in_lines r h) in (i.some, i.short))
+      (λ r h. let i = each_in_strand r.key 0 (strands_of t.index.strands r.key) r (t.in_strands r.key) (in_its_strand t.index.strands t.ordered t.in_strands r h) in (i.some, i.short))
       (λ r s h g c.
       let ps = and_parts _ _ c in
       let qs = and_parts _ _ ps.0 in
       let key = same_key-true s.key r.key qs.0 in
-      let there : Has (lines_of t.index.lines r.key) s = subst (λ k. Has (lines_of t.index.lines k) s) key (in_its_line t.index.lines t.ordered t.in_lines s g) in
-      one_in_line r.key 0 (lines_of t.index.lines r.key) r s (t.in_lines r.key) (in_its_line t.index.lines t.ordered t.in_lines r h) there (ltb-true _ _ ps.1) (ltb-true _ _ qs.1))
+      let there : Has (strands_of t.index.strands r.key) s = subst (λ k. Has (strands_of t.index.strands k) s) key (in_its_strand t.index.strands t.ordered t.in_strands s g) in
+      one_in_strand r.key 0 (strands_of t.index.strands r.key) r s (t.in_strands r.key) (in_its_strand t.index.strands t.ordered t.in_strands r h) there (ltb-true _ _ ps.1) (ltb-true _ _ qs.1))
 
   table_at : (tables : List TableRows) (n : ℕ) → (table : Table) × Lists (rows_at rows_of_table tables n) table
   table_at [] n = (empty_table, none)

@@ -11,7 +11,7 @@ use Rattle.std.specs.declared.cmp.Ordering.TheVariants.{Less, Equal, Greater}
 use Rattle.model.specs.declared.value.Value.{Value}
 use Rattle.model.specs.Values.{key_cmp}
 use Rattle.model.specs.Tables.{Row}
-use Rattle.model.specs.Transactions.{State, Schema, Reference, Place, first_orphan}
+use Rattle.model.specs.Transactions.{State, Language, Reference, Place, first_orphan}
 use Rattle.rowlaws.specs.Rows.{Has}
 use Rattle.rowlaws.specs.Statements.{Rows, AllListed}
 use Rattle.rowlaws.specs.Covering.{AllInOrder, missing_in_rows}
@@ -25,7 +25,7 @@ use Rattle.rowlaws.proofs.Members.{has_cases, has_map, map_has, flat_has}
 use Rattle.rowlaws.proofs.RowFacts.{both}
 use Rattle.schema.specs.Shape.{TableShape, ReferenceShape}
 use Rattle.sqlchecks.specs.Columns.{Tables}
-use Rattle.sqlread.specs.Meaning.{reference_of, references_from, schema_of}
+use Rattle.sqlread.specs.Meaning.{reference_of, references_from, language_of}
 use Rattle.current.specs.declared.row.Row.{Row as Declared}
 use Rattle.current.specs.Rows.{row_of}
 use Rattle.current.specs.Suspects.{IsFirstPicked}
@@ -84,12 +84,6 @@ key_step rows i x keys next l e n h row has = elim (h row has) [
     by : Has (map row_of (x ∷ drop (i + 1) rows)) row → Has next row.key ⊎ Has (map row_of (drop (i + 1) rows)) row
     by (inl s) = inl (subst (λ ks. Has ks row.key) (sym n) (subst (λ (k : List Value). Has (insert_key key_cmp keys x.key) k) (sym (ap (λ (r : Row). r.key) s)) (put_key x.key keys)))
     by (inr g) = inr g
-
-pub all_keys : (rows : List Declared) (i : ℕ) (keys : Keys) → length rows ≤ i → HasKeysTo rows i keys → (row : Row) → Has (map row_of rows) row → Has keys row.key
-all_keys rows i keys l h row has = elim (h row has) [
-  | inl k ↦ k
-  | inr g ↦ absurd (subst (λ ys. Has (map row_of ys) row) (drop_none rows i l) g)
-]
 
 -- ---- the rows of keys in turn
 
@@ -208,46 +202,46 @@ module _ (fs : List Reference) (all picked : Rows) where
   none_found : (end : ℕ) → ((m : ℕ) → m < end → missing_in_rows fs all m (picked m) ≡ None) → first_in_order fs all picked (range_with_len 0 end) ≡ None
   none_found end h = let e : end - end ≡ 0 = omega arith in from_here end end (omega arith) h ∙ ap (λ k. first_in_order fs all picked (range_with_len end k)) e
 
-abbrev Picked : Schema → Rows → Rows → Rows → ℕ → Option Place → Type 0
-Picked schema all removed added n found = IsFirstPicked schema.references all removed added n found
+abbrev Picked : Language → Rows → Rows → Rows → ℕ → Option Place → Type 0
+Picked language all removed added n found = IsFirstPicked language.references all removed added n found
 
-module _ (law : OrderedOrphan) (schema : Schema) (all removed added : Rows) (sorted : AllInOrder all) (whole : ComesFromWhole schema all removed added)
-    (n : ℕ) (before : (m : ℕ) → m < n → Picked schema all removed added m None) (found : Option Place) (here : Picked schema all removed added n found) where
-  choice : (m : ℕ) → (x : Option Place) × Picked schema all removed added m x × (m < n → x ≡ None) × (m ≡ n → x ≡ found)
+module _ (law : OrderedOrphan) (language : Language) (all removed added : Rows) (sorted : AllInOrder all) (whole : ComesFromWhole language all removed added)
+    (n : ℕ) (before : (m : ℕ) → m < n → Picked language all removed added m None) (found : Option Place) (here : Picked language all removed added n found) where
+  choice : (m : ℕ) → (x : Option Place) × Picked language all removed added m x × (m < n → x ≡ None) × (m ≡ n → x ≡ found)
   choice m = elim (cases_lt m n) [
     | inl l ↦ (None, before m l, (λ b. refl), (λ e. absurd (omega (arith, e))))
     | inr g ↦ elim (cases_Bool (m == n)) [
-      | inl y ↦ (found, subst (λ k. Picked schema all removed added k found) (sym (eqb-true m n y)) here, (λ b. absurd (omega arith)), (λ e. refl))
-      | inr x ↦ (missing_in_rows schema.references all m (all m), (all m, record { listed = λ r h. h; each = λ r h g'. g'; in_order = sorted m }, refl), (λ b. absurd (omega arith)), (λ e. absurd (both (eq-eqb m n e) x)))
+      | inl y ↦ (found, subst (λ k. Picked language all removed added k found) (sym (eqb-true m n y)) here, (λ b. absurd (omega arith)), (λ e. refl))
+      | inr x ↦ (missing_in_rows language.references all m (all m), (all m, record { listed = λ r h. h; each = λ r h g'. g'; in_order = sorted m }, refl), (λ b. absurd (omega arith)), (λ e. absurd (both (eq-eqb m n e) x)))
     ]
   ]
 
   abbrev picked : Rows
   picked m = (choice m).1.0
 
-  ordered : (state : State) → AllListed all state → ordered_orphan schema all picked ≡ first_orphan schema state
-  ordered state listed = law schema all removed added picked state whole listed (record { listed = λ m. (choice m).1.1.listed; each = λ m. (choice m).1.1.each }) (λ m. (choice m).1.1.in_order)
+  ordered : (state : State) → AllListed all state → ordered_orphan language all picked ≡ first_orphan language state
+  ordered state listed = law language all removed added picked state whole listed (record { listed = λ m. (choice m).1.1.listed; each = λ m. (choice m).1.1.each }) (λ m. (choice m).1.1.in_order)
 
-  none_yet : (m : ℕ) → m < n → missing_in_rows schema.references all m (picked m) ≡ None
+  none_yet : (m : ℕ) → m < n → missing_in_rows language.references all m (picked m) ≡ None
   none_yet m l = let c = choice m in sym c.1.2 ∙ c.2 l
 
-  first_here : (p : Place) → found ≡ Some p → n < schema.tables → (state : State) → AllListed all state → Some p ≡ first_orphan schema state
+  first_here : (p : Place) → found ≡ Some p → n < language.tables → (state : State) → AllListed all state → Some p ≡ first_orphan language state
   unfolding ordered_orphan
-  first_here p e l state listed = let c = choice n in sym (found_here schema.references all picked n schema.tables p l none_yet (sym c.1.2 ∙ c.3 refl ∙ e)) ∙ ordered state listed
+  first_here p e l state listed = let c = choice n in sym (found_here language.references all picked n language.tables p l none_yet (sym c.1.2 ∙ c.3 refl ∙ e)) ∙ ordered state listed
 
-  nowhere : schema.tables ≤ n → (state : State) → AllListed all state → None ≡ first_orphan schema state
+  nowhere : language.tables ≤ n → (state : State) → AllListed all state → None ≡ first_orphan language state
   unfolding ordered_orphan
-  nowhere b state listed = sym (none_found schema.references all picked schema.tables (λ m l. none_yet m (omega arith))) ∙ ordered state listed
+  nowhere b state listed = sym (none_found language.references all picked language.tables (λ m l. none_yet m (omega arith))) ∙ ordered state listed
 
-module _ (law : OrderedOrphan) (ts : Tables) (all removed added : Rows) (sorted : AllInOrder all) (whole : ComesFromWhole (schema_of ts) all removed added)
+module _ (law : OrderedOrphan) (ts : Tables) (all removed added : Rows) (sorted : AllInOrder all) (whole : ComesFromWhole (language_of ts) all removed added)
     (n : ℕ) (before : (m : ℕ) → m < n → IsFirstPicked (references_from 0 ts) all removed added m None) where
-  pub orphan_here : (p : Place) → IsFirstPicked (references_from 0 ts) all removed added n (Some p) → n < length ts → (state : State) → AllListed all state → Some p ≡ first_orphan (schema_of ts) state
-  unfolding schema_of
-  orphan_here p here l = first_here law (schema_of ts) all removed added sorted whole n before (Some p) here p refl l
+  pub orphan_here : (p : Place) → IsFirstPicked (references_from 0 ts) all removed added n (Some p) → n < length ts → (state : State) → AllListed all state → Some p ≡ first_orphan (language_of ts) state
+  unfolding language_of
+  orphan_here p here l = first_here law (language_of ts) all removed added sorted whole n before (Some p) here p refl l
 
-  pub no_orphan : length ts ≤ n → (state : State) → AllListed all state → None ≡ first_orphan (schema_of ts) state
-  unfolding schema_of
-  no_orphan l = nowhere law (schema_of ts) all removed added sorted whole n before (missing_in_rows (references_from 0 ts) all n (all n)) (all n, record { listed = λ r h. h; each = λ r h g. g; in_order = sorted n }, refl) l
+  pub no_orphan : length ts ≤ n → (state : State) → AllListed all state → None ≡ first_orphan (language_of ts) state
+  unfolding language_of
+  no_orphan l = nowhere law (language_of ts) all removed added sorted whole n before (missing_in_rows (references_from 0 ts) all n (all n)) (all n, record { listed = λ r h. h; each = λ r h g. g; in_order = sorted n }, refl) l
 
 pub one_more : (P : ℕ → Type 0) (n : ℕ) → ((m : ℕ) → m < n → P m) → P n → (m : ℕ) → m < n + 1 → P m
 one_more P n before here m l = elim (cases_lt m n) [

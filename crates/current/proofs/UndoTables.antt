@@ -6,7 +6,7 @@ use Rattle.rowlaws.specs.Rows.{Apart, Lists, SameRows}
 use Rattle.rowlaws.specs.Touching.{rows_without, Undo}
 use Rattle.rowlaws.specs.Statements.{Rows}
 use Rattle.current.specs.declared.table.TableRows.{TableRows}
-use Rattle.current.specs.declared.line.Changes.{Changes}
+use Rattle.current.specs.declared.strand.Changes.{Changes}
 use Rattle.current.specs.Places.{rows_at}
 use Rattle.current.specs.Table.{rows_of_table, HaveSame}
 use Rattle.current.specs.Touched.{removed_of, added_of}

@@ -12,50 +12,50 @@ use Rattle.rowlaws.proofs.Keys.{same_key-true, same_key-itself}
 use Rattle.rowlaws.proofs.Members.{has_filter, filter_has, has_left, has_right, has_cases}
 use Rattle.rowlaws.proofs.RowFacts.{both, one_row}
 use Rattle.rowlaws.proofs.Anys.{any_has, has_any}
-use Rattle.current.specs.Stored.{Lines, Map, lines_of, rows_in, with_line}
+use Rattle.current.specs.ByKey.{Strands, Map, strands_of, rows_in, with_strand}
 use Rattle.current.specs.Table.{IsWithout, IsWith, CanPut, CanUndo, IsJoined, HaveSame}
-use Rattle.current.proofs.InLine.{filter_in_line}
-use Rattle.current.proofs.Moves.{InLines, In, with_in_lines, with_here, with_other}
-use Rattle.current.proofs.Sorted.{in_its_line, in_all, map_sorted, apart_sorted, same_length}
+use Rattle.current.proofs.InStrand.{filter_in_strand}
+use Rattle.current.proofs.Moves.{InStrands, In, with_in_strands, with_here, with_other}
+use Rattle.current.proofs.Sorted.{in_its_strand, in_all, map_sorted, apart_sorted, same_length}
 use Rattle.rowlaws.proofs.SameRow.{same_row-true, same_row-itself, without_has, has_without}
 
 abbrev keep : Row → Row → Bool
 keep row r = not (same_row r row)
 
-module _ (row : Row) (lines more : Lines) (e : more ≡ with_line row.key (filter (keep row) (lines row.key)) lines) where
-  here_is : (r : Row) → same_key row.key r.key ≡ true → more r.key ≡ filter (keep row) (lines r.key)
+module _ (row : Row) (strands more : Strands) (e : more ≡ with_strand row.key (filter (keep row) (strands row.key)) strands) where
+  here_is : (r : Row) → same_key row.key r.key ≡ true → more r.key ≡ filter (keep row) (strands r.key)
   here_is r same =
       let key = same_key-true row.key r.key same in
-      ap (λ l. l r.key) e ∙ subst (λ k. with_line row.key (filter (keep row) (lines row.key)) lines k ≡ filter (keep row) (lines k)) key (with_here row.key (filter (keep row) (lines row.key)) lines)
+      ap (λ l. l r.key) e ∙ subst (λ k. with_strand row.key (filter (keep row) (strands row.key)) strands k ≡ filter (keep row) (strands k)) key (with_here row.key (filter (keep row) (strands row.key)) strands)
 
-  other_is : (r : Row) → same_key row.key r.key ≡ false → more r.key ≡ lines r.key
-  other_is r other = ap (λ l. l r.key) e ∙ with_other row.key (filter (keep row) (lines row.key)) lines r.key other
+  other_is : (r : Row) → same_key row.key r.key ≡ false → more r.key ≡ strands r.key
+  other_is r other = ap (λ l. l r.key) e ∙ with_other row.key (filter (keep row) (strands row.key)) strands r.key other
 
-  pub was_in : (r : Row) → In more r → In lines r × (r ≡ row → ⊥)
+  pub was_in : (r : Row) → In more r → In strands r × (r ≡ row → ⊥)
   was_in r h = elim (cases_Bool (same_key row.key r.key)) [
     | inl same ↦
-        let f = filter_has (keep row) (lines r.key) r (subst (λ rs. Has rs r) (here_is r same) h) in
+        let f = filter_has (keep row) (strands r.key) r (subst (λ rs. Has rs r) (here_is r same) h) in
         (f.0, λ i. both (subst (λ x. same_row r x ≡ true) i (same_row-itself r)) (not-true _ f.1))
     | inr other ↦
         (subst (λ rs. Has rs r) (other_is r other) h, λ i. both (subst (λ x. same_key row.key x.key ≡ true) (sym i) (same_key-itself row.key)) other)
   ]
 
-  pub stays_in : (r : Row) → In lines r → (r ≡ row → ⊥) → In more r
+  pub stays_in : (r : Row) → In strands r → (r ≡ row → ⊥) → In more r
   stays_in r h n = elim (cases_Bool (same_key row.key r.key)) [
     | inl same ↦
         let apart : same_row r row ≡ false = elim (cases_Bool (same_row r row)) [ inl y ↦ absurd (n (same_row-true r row y)) | inr f ↦ f ] in
-        subst (λ rs. Has rs r) (sym (here_is r same)) (has_filter (keep row) (lines r.key) r h (not_from_false _ apart))
+        subst (λ rs. Has rs r) (sym (here_is r same)) (has_filter (keep row) (strands r.key) r h (not_from_false _ apart))
     | inr other ↦ subst (λ rs. Has rs r) (sym (other_is r other)) h
   ]
 
-pub take_in_lines : (row : Row) (lines more : Lines) → more ≡ with_line row.key (filter (λ r. not (same_row r row)) (lines row.key)) lines → InLines lines → InLines more
-take_in_lines row lines more e h = with_in_lines row.key (filter (keep row) (lines row.key)) lines more e h (filter_in_line (keep row) row.key 0 (lines row.key) (h row.key))
+pub take_in_strands : (row : Row) (strands more : Strands) → more ≡ with_strand row.key (filter (λ r. not (same_row r row)) (strands row.key)) strands → InStrands strands → InStrands more
+take_in_strands row strands more e h = with_in_strands row.key (filter (keep row) (strands row.key)) strands more e h (filter_in_strand (keep row) row.key 0 (strands row.key) (h row.key))
 
-module _ (m n : Map) (om : IsOrdered key_cmp m) (on : IsOrdered key_cmp n) (im : InLines (lines_of m)) (in' : InLines (lines_of n)) (row : Row) (e : lines_of n ≡ with_line row.key (filter (λ r. not (same_row r row)) (lines_of m row.key)) (lines_of m)) where
+module _ (m n : Map) (om : IsOrdered key_cmp m) (on : IsOrdered key_cmp n) (im : InStrands (strands_of m)) (in' : InStrands (strands_of n)) (row : Row) (e : strands_of n ≡ with_strand row.key (filter (λ r. not (same_row r row)) (strands_of m row.key)) (strands_of m)) where
   pub row_taken : IsWithout (row ∷ []) (rows_in m.entries) (rows_in n.entries)
   row_taken r = (
-    (λ h. let w = was_in row (lines_of m) (lines_of n) e r (in_its_line n on in' r h) in (in_all m om im r.key r w.0, λ i. elim i [ inl j ↦ w.1 j | inr z ↦ z ])),
-    (λ h. in_all n on in' r.key r (stays_in row (lines_of m) (lines_of n) e r (in_its_line m om im r h.0) (λ i. h.1 (inl i)))),
+    (λ h. let w = was_in row (strands_of m) (strands_of n) e r (in_its_strand n on in' r h) in (in_all m om im r.key r w.0, λ i. elim i [ inl j ↦ w.1 j | inr z ↦ z ])),
+    (λ h. in_all n on in' r.key r (stays_in row (strands_of m) (strands_of n) e r (in_its_strand m om im r h.0) (λ i. h.1 (inl i)))),
   )
 
   pub length_taken : Has (rows_in m.entries) row → length (rows_in m.entries) ≡ length (rows_in n.entries) + 1
@@ -74,13 +74,13 @@ module _ (m n : Map) (om : IsOrdered key_cmp m) (on : IsOrdered key_cmp n) (im :
 pub not_there : (row : Row) (rows : List Row) → (Has rows row → ⊥) → IsWithout (row ∷ []) rows rows
 not_there row rows h r = ((λ g. (g, λ i. elim i [ inl j ↦ h (subst (λ x. Has rows x) j g) | inr z ↦ z ])), (λ g. g.0))
 
-pub in_line_there : (m : Map) (om : IsOrdered key_cmp m) (im : InLines (lines_of m)) (row : Row) (b : Bool) → list_any (same_row row) (lines_of m row.key) ≡ b → b ≡ true → Has (rows_in m.entries) row
-in_line_there m om im row b h y =
-    let x = any_has (same_row row) (lines_of m row.key) (h ∙ y) in
-    in_all m om im row.key row (subst (λ r. Has (lines_of m row.key) r) (sym (same_row-true row x.0 x.2)) x.1)
+pub in_strand_there : (m : Map) (om : IsOrdered key_cmp m) (im : InStrands (strands_of m)) (row : Row) (b : Bool) → list_any (same_row row) (strands_of m row.key) ≡ b → b ≡ true → Has (rows_in m.entries) row
+in_strand_there m om im row b h y =
+    let x = any_has (same_row row) (strands_of m row.key) (h ∙ y) in
+    in_all m om im row.key row (subst (λ r. Has (strands_of m row.key) r) (sym (same_row-true row x.0 x.2)) x.1)
 
-pub not_in_line : (m : Map) (om : IsOrdered key_cmp m) (im : InLines (lines_of m)) (row : Row) → list_any (same_row row) (lines_of m row.key) ≡ false → Has (rows_in m.entries) row → ⊥
-not_in_line m om im row h there = both (has_any (same_row row) (lines_of m row.key) row (in_its_line m om im row there) (same_row-itself row)) h
+pub not_in_strand : (m : Map) (om : IsOrdered key_cmp m) (im : InStrands (strands_of m)) (row : Row) → list_any (same_row row) (strands_of m row.key) ≡ false → Has (rows_in m.entries) row → ⊥
+not_in_strand m om im row h there = both (has_any (same_row row) (strands_of m row.key) row (in_its_strand m om im row there) (same_row-itself row)) h
 
 -- ---- one after another
 

@@ -1,7 +1,7 @@
 pub mod Rows
 pub mod RowOrder
-pub mod Cuts
-pub mod Stored
+pub mod Corrections
+pub mod ByKey
 pub mod Table
 pub mod Plans
 pub mod Touched

@@ -3,18 +3,18 @@ use Rattle.std.specs.Prelude.{◌≡◌, ◌⊎◌, ◌↔◌, ◌<◌, ◌≤�
 use Rattle.std.specs.List.{list_any}
 use Rattle.fault.specs.declared.refusal.Refusal.{Refusal}
 use Rattle.fault.specs.declared.refusal.Refusal.TheVariants.{NoMemory, KeyOverlap, RowLimit, NumberRange}
-use Rattle.model.specs.Transactions.{Change}
+use Rattle.model.specs.Transactions.{Action}
 use Rattle.rowlaws.specs.Changes.{clashes}
-use Rattle.current.specs.Cuts.{is_stuck, kept, removed_at, added_at}
+use Rattle.current.specs.Corrections.{is_stuck, kept, removed_at, added_at}
 use Rattle.model.specs.Tables.{Table, Row, IsRow}
 use Rattle.rowlaws.specs.Rows.{Has, Apart, Lists}
 use Rattle.rowlaws.specs.Touching.{IsTouched}
 use Rattle.current.specs.declared.table.TableRows.{TableRows}
-use Rattle.current.specs.Stored.{rows_in}
+use Rattle.current.specs.ByKey.{rows_in}
 
 -- its rows, in the order of key and start
 abbrev pub rows_of_table : TableRows → List Row
-rows_of_table t = rows_in t.index.lines.entries
+rows_of_table t = rows_in t.index.strands.entries
 
 -- the same rows and one more
 abbrev pub IsWith : Row → List Row → List Row → Type 0
@@ -34,14 +34,14 @@ IsInsertRefused row rows refusal =
     (refusal ≡ NoMemory) ⊎ ((refusal ≡ KeyOverlap) × (list_any (clashes row.key row.period) rows ≡ true)) ⊎ ((refusal ≡ RowLimit) × (list_any (clashes row.key row.period) rows ≡ false) × (20000 ≤ length rows))
 
 -- what was kept are the new rows, at most 20,000, and this is what went and came
-abbrev pub IsCut : Change → ℕ → List Row → List Row → List Row → List Row → Type 0
-IsCut c t rows more removed added =
+abbrev pub IsCorrection : Action → ℕ → List Row → List Row → List Row → List Row → Type 0
+IsCorrection c t rows more removed added =
     (list_any (is_stuck c) rows ≡ false) × (length (flat_map (kept c t) rows) ≤ 20000) × HaveSame (flat_map (kept c t) rows) more
     × (removed ≡ flat_map (removed_at c t) rows) × (added ≡ flat_map (added_at c t) rows)
 
 -- 23, and then 22; or 43
-abbrev pub IsCutRefused : Change → ℕ → List Row → Refusal → Type 0
-IsCutRefused c t rows refusal =
+abbrev pub IsCorrectionRefused : Action → ℕ → List Row → Refusal → Type 0
+IsCorrectionRefused c t rows refusal =
     (refusal ≡ NoMemory) ⊎ ((refusal ≡ NumberRange) × (list_any (is_stuck c) rows ≡ true)) ⊎ ((refusal ≡ RowLimit) × (list_any (is_stuck c) rows ≡ false) × (20000 < length (flat_map (kept c t) rows)))
 
 -- ---- rows taken out, and put back

@@ -1,7 +1,7 @@
 -- What a contract sees of what was touched.
 use Rattle.std.specs.Prelude.{ℕ, List, map}
 use Rattle.model.specs.Tables.{Row}
-use Rattle.current.specs.declared.line.Changes.{Changes}
+use Rattle.current.specs.declared.strand.Changes.{Changes}
 use Rattle.current.specs.declared.touched.Touched.{Touched}
 use Rattle.current.specs.Rows.{row_of}
 use Rattle.current.specs.Places.{rows_at}

@@ -8,8 +8,8 @@ ghost use Rattle.current.specs.RowOrder.{is_same, is_among, AreInOrder};
 ghost use Rattle.current.specs.Touched.{removed_of, added_of};
 ghost use Rattle.current.specs.declared.row.Row.{Row as DeclaredRow};
 
-use crate::line::Changes;
 use crate::row::Row;
+use crate::strand::Changes;
 use std::alloc::{AllocError, Global};
 use std::mem;
 

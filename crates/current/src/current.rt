@@ -4,7 +4,7 @@ ghost use Rattle.std.specs.Option.{option_map};
 ghost use Rattle.fault.specs.declared.refusal.Refusal.TheVariants.{NoMemory, NoParent};
 ghost use Rattle.sqlread.specs.Shapes.{insert_of, update_of, delete_of, statement_of};
 ghost use Rattle.sqlread.specs.Shapes as shapes;
-ghost use Rattle.sqlread.specs.Meaning.{meaning, all_days, name_of, schema_of};
+ghost use Rattle.sqlread.specs.Meaning.{meaning, all_days, name_of, language_of};
 ghost use Rattle.model.specs.Texts.{key_text, day_text};
 ghost use Rattle.model.specs.Transactions.{State, first_orphan, unless_orphan};
 ghost use Rattle.rowlaws.specs.Statements.{AllListed};
@@ -15,15 +15,15 @@ ghost use Rattle.current.specs.Touched.{removed_in, added_in};
 ghost use Rattle.model.specs.Periods.{period_of};
 ghost use Rattle.rowlaws.specs.Rows.{SameRows, RowCount};
 ghost use Rattle.rowlaws.specs.Touching.{Untouched, TouchedBy};
-ghost use Rattle.rowlaws.specs.Changes.{new_row, ChangeOnRows};
+ghost use Rattle.rowlaws.specs.Changes.{new_row, ActionOnRows};
 ghost use Rattle.current.specs.Rows.{row_of};
-ghost use Rattle.current.specs.Cuts.{change_of_cut};
+ghost use Rattle.current.specs.Corrections.{action_of_correction};
 ghost use Rattle.current.specs.Run.{IsRun, IsRefused, AllUndoable, IsUndone};
 
-use crate::cut::Cut;
-use crate::line::Changes;
+use crate::correction::Correction;
 use crate::references::{Place, first_orphan};
 use crate::row::Row;
+use crate::strand::Changes;
 use crate::suspects::first_touched_orphan;
 use crate::table::TableRows;
 use crate::touched::Touched;
@@ -47,15 +47,15 @@ pub struct Current {
     ghost counted: { length tables.items ≡ length schema },
 }
 
-// What a change of one table's rows comes to on days.
-fn change_laws()
-    ensures on_rows { ChangeOnRows }
+// What an action of one table's rows comes to on days.
+fn action_laws()
+    ensures on_rows { ActionOnRows }
     ensures count { RowCount }
     ensures untouched { Untouched }
     ensures touched { TouchedBy }
     ensures same { SameRows }
 {
-    rowlaws::change_on_rows();
+    rowlaws::action_on_rows();
     rowlaws::row_count();
     rowlaws::untouched();
     rowlaws::touched_by();
@@ -94,7 +94,7 @@ impl Current {
         ensures tables { IfOk result (λ touched. length touched.tables.items ≤ table_count self.old) }
         ensures failed { is_failed self.new ≡ is_failed self.old }
     {
-        change_laws();
+        action_laws();
         let row = inserted_row(insert, t)?;
         let mut changes = Changes::none(self.alloc);
         changes.added.push(row.clone()?)?;
@@ -106,18 +106,18 @@ impl Current {
     }
 
     // Runs an UPDATE or a DELETE.
-    fn cut(&mut self, table: usize, cut: &Cut) -> Result<Touched, Refusal>
+    fn correct(&mut self, table: usize, correction: &Correction) -> Result<Touched, Refusal>
         requires { table < table_count self.old }
-        ensures ok { IfOk result (λ touched. IsRun cut.now.system_start (record { table = table; change = change_of_cut cut.now }) (rows_of self.old) (rows_of self.new) (removed_in touched) (added_in touched)) }
-        ensures err { IfErr result (λ refusal. IsRefused cut.now.system_start (record { table = table; change = change_of_cut cut.now }) (rows_of self.old) refusal) }
+        ensures ok { IfOk result (λ touched. IsRun correction.now.system_start (record { table = table; action = action_of_correction correction.now }) (rows_of self.old) (rows_of self.new) (removed_in touched) (added_in touched)) }
+        ensures err { IfErr result (λ refusal. IsRefused correction.now.system_start (record { table = table; action = action_of_correction correction.now }) (rows_of self.old) refusal) }
         ensures unchanged { OnErr result (rows_of self.new ≡ rows_of self.old) }
         ensures schema { schema_in self.new ≡ schema_in self.old }
         ensures tables { IfOk result (λ touched. length touched.tables.items ≤ table_count self.old) }
         ensures failed { is_failed self.new ≡ is_failed self.old }
     {
-        change_laws();
+        action_laws();
         let touched = Touched::none(self.alloc, table)?;
-        match self.tables[table].cut(cut) {
+        match self.tables[table].correct(correction) {
             Ok(changes) => Ok(touched.with(table, changes)),
             Err(refusal) => Err(refusal),
         }
@@ -134,13 +134,13 @@ impl Current {
         ensures failed { is_failed self.new ≡ is_failed self.old }
     {
         let assignments: &[Assignment] = update.assignments.as_slice();
-        let cut = Cut {
+        let correction = Correction {
             conditions: update.conditions.as_slice(),
             portion: portion_or_all(update.portion),
             assignments: Some(assignments),
             system_start: t,
         };
-        self.cut(update.table, &cut)
+        self.correct(update.table, &correction)
     }
 
     // Runs a DELETE.
@@ -154,13 +154,13 @@ impl Current {
         ensures failed { is_failed self.new ≡ is_failed self.old }
     {
         let assignments: Option<&[Assignment]> = None;
-        let cut = Cut {
+        let correction = Correction {
             conditions: delete.conditions.as_slice(),
             portion: portion_or_all(delete.portion),
             assignments,
             system_start: t,
         };
-        self.cut(delete.table, &cut)
+        self.correct(delete.table, &correction)
     }
 
     /// Runs a statement at an instant, and tells what it touched. Each refusal changes nothing.
@@ -227,8 +227,8 @@ impl Current {
     /// `NoParent` with the first table in declared order, then its least key, then its least day without a parent;
     /// `NoMemory`, always once it has failed.
     pub fn check(&self) -> Result<(), Refusal>
-        ensures ok { OnOk result ((state : State) → AllListed (rows_of self.now) state → unless_orphan (schema_of (schema_in self.now)) state (first_orphan (schema_of (schema_in self.now)) state) ≡ Ok state) }
-        ensures err { IfErr result (λ refusal. (refusal ≡ NoMemory) ⊎ ((state : State) → AllListed (rows_of self.now) state → unless_orphan (schema_of (schema_in self.now)) state (first_orphan (schema_of (schema_in self.now)) state) ≡ Err refusal)) }
+        ensures ok { OnOk result ((state : State) → AllListed (rows_of self.now) state → unless_orphan (language_of (schema_in self.now)) state (first_orphan (language_of (schema_in self.now)) state) ≡ Ok state) }
+        ensures err { IfErr result (λ refusal. (refusal ≡ NoMemory) ⊎ ((state : State) → AllListed (rows_of self.now) state → unless_orphan (language_of (schema_in self.now)) state (first_orphan (language_of (schema_in self.now)) state) ≡ Err refusal)) }
         ensures once_failed { is_failed self.now ≡ true → result ≡ Err NoMemory }
     {
         if self.failed {
@@ -248,8 +248,8 @@ impl Current {
     /// `NoParent` with the first table in declared order, then its least key, then its least day without a parent;
     /// `NoMemory`, always once it has failed.
     pub fn check_touched(&self, touched: &Touched) -> Result<(), Refusal>
-        ensures ok { OnOk result (ComesFromWhole (schema_of (schema_in self.now)) (rows_of self.now) (removed_in touched.now) (added_in touched.now) → (state : State) → AllListed (rows_of self.now) state → unless_orphan (schema_of (schema_in self.now)) state (first_orphan (schema_of (schema_in self.now)) state) ≡ Ok state) }
-        ensures err { IfErr result (λ refusal. (refusal ≡ NoMemory) ⊎ (ComesFromWhole (schema_of (schema_in self.now)) (rows_of self.now) (removed_in touched.now) (added_in touched.now) → (state : State) → AllListed (rows_of self.now) state → unless_orphan (schema_of (schema_in self.now)) state (first_orphan (schema_of (schema_in self.now)) state) ≡ Err refusal)) }
+        ensures ok { OnOk result (ComesFromWhole (language_of (schema_in self.now)) (rows_of self.now) (removed_in touched.now) (added_in touched.now) → (state : State) → AllListed (rows_of self.now) state → unless_orphan (language_of (schema_in self.now)) state (first_orphan (language_of (schema_in self.now)) state) ≡ Ok state) }
+        ensures err { IfErr result (λ refusal. (refusal ≡ NoMemory) ⊎ (ComesFromWhole (language_of (schema_in self.now)) (rows_of self.now) (removed_in touched.now) (added_in touched.now) → (state : State) → AllListed (rows_of self.now) state → unless_orphan (language_of (schema_in self.now)) state (first_orphan (language_of (schema_in self.now)) state) ≡ Err refusal)) }
         ensures once_failed { is_failed self.now ≡ true → result ≡ Err NoMemory }
     {
         if self.failed {

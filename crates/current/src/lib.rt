@@ -2,20 +2,20 @@
 #![tactic(auto)]
 
 mod compare;
+mod correction;
 pub mod current;
-mod cut;
 pub mod laws;
-mod line;
-mod lines;
 mod named;
 mod plan;
 mod references;
 pub mod row;
+mod strand;
+mod strands;
 mod suspects;
 mod table;
 pub mod touched;
 
 pub use current::Current;
-pub use line::Changes;
 pub use row::Row;
+pub use strand::Changes;
 pub use touched::Touched;

@@ -7,15 +7,15 @@ ghost use Rattle.rowlaws.specs.Covering as covering;
 ghost use Rattle.rowlaws.specs.Covering.{periods_of, rows_orphan};
 ghost use Rattle.overlaps.specs.Index.{AreApart};
 ghost use Rattle.sqlchecks.specs.Columns.{field_at, kept_at};
-ghost use Rattle.sqlread.specs.Meaning.{values_at, reference_of, references_from, schema_of};
+ghost use Rattle.sqlread.specs.Meaning.{values_at, reference_of, references_from, language_of};
 ghost use Rattle.current.specs.Rows.{row_of};
-ghost use Rattle.current.specs.Stored.{rows_in};
+ghost use Rattle.current.specs.ByKey.{rows_in};
 ghost use Rattle.current.specs.Table.{rows_of_table};
 ghost use Rattle.current.specs.Places.{rows_at};
 ghost use Rattle.current.specs.Orphans.{place_of};
 
-use crate::lines::Lines;
 use crate::row::Row;
+use crate::strands::Strands;
 use crate::table::TableRows;
 use model::value::Value;
 use overlaps::{Count, Key};
@@ -196,20 +196,20 @@ pub(crate) fn missing_in_rows<'a>(
 }
 
 // The first such day of the rows of all keys, which are not looked at where the table has no foreign key.
-fn missing_in_lines<'a>(
+fn missing_in_strands<'a>(
     alloc: Global,
     tables: &[TableRows],
     place: usize,
     table: &Table,
-    lines: &'a Lines,
+    strands: &'a Strands,
 ) -> Result<Option<Place<'a>>, AllocError>
-    ensures { IfOk result (λ found. option_map place_of found ≡ covering.missing_in_rows (map (reference_of place table.now) table.now.references) (rows_at rows_of_table tables.now) place (rows_in lines.now.entries)) }
+    ensures { IfOk result (λ found. option_map place_of found ≡ covering.missing_in_rows (map (reference_of place table.now) table.now.references) (rows_at rows_of_table tables.now) place (rows_in strands.now.entries)) }
 {
     if table.references().is_empty() {
         return Ok(None);
     }
     let mut count = Count::new();
-    for (_, rows) in lines {
+    for (_, rows) in strands {
         let rows = rows.all(&mut count);
         if let Some(found) = missing_in_rows(alloc, tables, place, table, rows)? {
             return Ok(Some(found));
@@ -230,7 +230,7 @@ pub(crate) fn missing_in_table<'a>(
 {
     let (_, table) = schema.table(place);
     match table_at(tables, place) {
-        Some(rows) => missing_in_lines(alloc, tables, place, table, &rows.index.lines),
+        Some(rows) => missing_in_strands(alloc, tables, place, table, &rows.index.strands),
         None => Ok(None),
     }
 }
@@ -242,7 +242,7 @@ pub(crate) fn first_orphan<'a>(
     tables: &'a [TableRows],
     schema: &Schema,
 ) -> Result<Option<Place<'a>>, AllocError>
-    ensures first { IfOk result (λ found. option_map place_of found ≡ rows_orphan (schema_of schema.now) (rows_at rows_of_table tables.now)) }
+    ensures first { IfOk result (λ found. option_map place_of found ≡ rows_orphan (language_of schema.now) (rows_at rows_of_table tables.now)) }
     ensures within { IfOk result (λ found. IfSome found (λ place. place.table < length schema.now)) }
 {
     for place in 0..schema.len() {

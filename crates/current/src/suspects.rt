@@ -15,7 +15,7 @@ ghost use Rattle.rowlaws.specs.Losing as losing;
 ghost use Rattle.rowlaws.specs.Whole.{ComesFromWhole};
 ghost use Rattle.rowlaws.specs.Suspects.{OrderedOrphan};
 ghost use Rattle.rowlaws.specs.Indexes.{rows_of_key, KeysPicked};
-ghost use Rattle.sqlread.specs.Meaning.{reference_of, references_from, schema_of};
+ghost use Rattle.sqlread.specs.Meaning.{reference_of, references_from, language_of};
 ghost use Rattle.current.specs.Rows.{row_of};
 ghost use Rattle.current.specs.Table.{rows_of_table};
 ghost use Rattle.current.specs.Places.{rows_at};
@@ -23,9 +23,9 @@ ghost use Rattle.current.specs.Orphans.{place_of};
 ghost use Rattle.current.specs.Touched.{removed_in, added_in};
 ghost use Rattle.current.specs.Suspects.{IsFirstPicked};
 
-use crate::lines::line;
 use crate::references::{Place, first_free_day, missing_in_rows, missing_in_table, table_at};
 use crate::row::Row;
+use crate::strands::strand;
 use crate::table::TableRows;
 use crate::touched::Touched;
 use overlaps::Key;
@@ -96,11 +96,11 @@ fn keys_of(alloc: Global, rows: &[Row]) -> Result<BTreeSet<Key>, AllocError>
 }
 
 // The rows of a key, of a table that may not be there.
-fn line_of<'a>(tables: &'a [TableRows], table: usize, key: &Key) -> &'a [Row]
+fn strand_of<'a>(tables: &'a [TableRows], table: usize, key: &Key) -> &'a [Row]
     ensures { map row_of result.now ≡ rows_of_key (rows_at rows_of_table tables.now table) key.now }
 {
     match table_at(tables, table) {
-        Some(rows) => line(&rows.index.lines, key),
+        Some(rows) => strand(&rows.index.strands, key),
         None => &[],
     }
 }
@@ -116,7 +116,7 @@ fn missing_of_keys<'a>(
     ensures { IfOk result (λ found. option_map place_of found ≡ covering.missing_in_rows (map (reference_of place table.now) table.now.references) (rows_at rows_of_table tables.now) place (flat_map (rows_of_key (rows_at rows_of_table tables.now place)) keys.now.keys)) }
 {
     for key in keys {
-        let rows = line_of(tables, place, key);
+        let rows = strand_of(tables, place, key);
         if let Some(found) = missing_in_rows(alloc, tables, place, table, rows)? {
             return Ok(Some(found));
         }
@@ -156,7 +156,7 @@ pub(crate) fn first_touched_orphan<'a>(
     schema: &Schema,
     touched: &Touched,
 ) -> Result<Option<Place<'a>>, AllocError>
-    ensures first { IfOk result (λ found. ComesFromWhole (schema_of schema.now) (rows_at rows_of_table tables.now) (removed_in touched.now) (added_in touched.now) → (state : State) → AllListed (rows_at rows_of_table tables.now) state → option_map place_of found ≡ model.first_orphan (schema_of schema.now) state) }
+    ensures first { IfOk result (λ found. ComesFromWhole (language_of schema.now) (rows_at rows_of_table tables.now) (removed_in touched.now) (added_in touched.now) → (state : State) → AllListed (rows_at rows_of_table tables.now) state → option_map place_of found ≡ model.first_orphan (language_of schema.now) state) }
     ensures within { IfOk result (λ found. IfSome found (λ place. place.table < length schema.now)) }
 {
     rowlaws::ordered_orphan();

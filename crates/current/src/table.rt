@@ -6,14 +6,14 @@ ghost use Rattle.std.specs.BTreeMap.{IsOrdered};
 ghost use Rattle.std.specs.List.Sorted.{IsStrictlySortedBy-prop};
 ghost use Rattle.model.specs.declared.value.Value.{Value};
 ghost use Rattle.model.specs.Values.{key_cmp};
-ghost use Rattle.current.specs.Stored.{lines_of, rows_in, in_line};
+ghost use Rattle.current.specs.ByKey.{strands_of, rows_in, in_strand};
 
-use crate::cut::Cut;
-use crate::line::{Changes, cut_line};
-use crate::lines::{keys_in_order, line, put_row, take_row};
+use crate::correction::Correction;
 use crate::named::named_key;
-use crate::plan::{Plan, plan_cut, replace_lines};
+use crate::plan::{Plan, plan_correction, replace_strands};
 use crate::row::Row;
+use crate::strand::{Changes, correct_strand};
+use crate::strands::{keys_in_order, put_row, strand, take_row};
 use fault::Refusal;
 use overlaps::{Count, Key, KeyIndex};
 use std::alloc::{AllocError, Global};
@@ -29,10 +29,10 @@ pub(crate) struct TableRows {
     /// No row's key has more columns.
     pub columns: usize,
     pub alloc: Global,
-    pub ghost ordered: { IsOrdered key_cmp index.lines } by { IsStrictlySortedBy-prop _ _ },
-    pub ghost in_lines: { (key : List Value) → IsTrue (in_line key 0 (lines_of index.lines key)) },
-    pub ghost short: { (row : TableRow) → Has (rows_in index.lines.entries) row → length row.key ≤ columns },
-    pub ghost counted: { count ≡ length (rows_in index.lines.entries) },
+    pub ghost ordered: { IsOrdered key_cmp index.strands } by { IsStrictlySortedBy-prop _ _ },
+    pub ghost in_strands: { (key : List Value) → IsTrue (in_strand key 0 (strands_of index.strands key)) },
+    pub ghost short: { (row : TableRow) → Has (rows_in index.strands.entries) row → length row.key ≤ columns },
+    pub ghost counted: { count ≡ length (rows_in index.strands.entries) },
 }
 
 impl TableRows {
@@ -41,10 +41,10 @@ impl TableRows {
     ghost use Rattle.fault.specs.declared.refusal.Refusal.TheVariants.{NoMemory, KeyOverlap, RowLimit, NumberRange};
     ghost use Rattle.rowlaws.specs.Changes.{clashes};
     ghost use Rattle.current.specs.Rows.{row_of};
-    ghost use Rattle.current.specs.Table.{rows_of_table, IsWith, IsInserted, IsInsertRefused, IsCut, IsCutRefused, IsWithout, IsJoined, CanPut, CanUndo, HaveSame};
+    ghost use Rattle.current.specs.Table.{rows_of_table, IsWith, IsInserted, IsInsertRefused, IsCorrection, IsCorrectionRefused, IsWithout, IsJoined, CanPut, CanUndo, HaveSame};
     ghost use Rattle.rowlaws.specs.Touching.{rows_without, same_row};
-    ghost use Rattle.current.specs.Cuts.{change_of_cut, is_met};
-    ghost use Rattle.current.specs.Stored.{lines_of, line_in};
+    ghost use Rattle.current.specs.Corrections.{action_of_correction, is_met};
+    ghost use Rattle.current.specs.ByKey.{strands_of, strand_in};
     ghost use Rattle.model.specs.Periods.{period_of, StartInOrder};
     ghost use Rattle.rowlaws.specs.Covering.{periods_of};
 
@@ -65,9 +65,9 @@ impl TableRows {
     /// Whether a row of the key has a day of the period. It is searched for by halves, as `KeyIndex::find` does. Takes
     /// no memory.
     pub(crate) fn has_clash(&self, row: &Row, count: &mut Count) -> bool
-        ensures line { result ≡ list_any (clashes row.now.key (period_of row.now.period)) (lines_of self.now.index.lines row.now.key) }
+        ensures strand { result ≡ list_any (clashes row.now.key (period_of row.now.period)) (strands_of self.now.index.strands row.now.key) }
         ensures rows { result ≡ list_any (clashes row.now.key (period_of row.now.period)) (rows_of_table self.now) }
-        ensures few { (digits : ℕ) → length (lines_of self.now.index.lines row.now.key) < 2 ^ digits → count.new ≤ count.old + digits + 1 }
+        ensures few { (digits : ℕ) → length (strands_of self.now.index.strands row.now.key) < 2 ^ digits → count.new ≤ count.old + digits + 1 }
     {
         overlaps::laws::sharing_is_overlap();
         self.index.find(&row.key, row.period, count).is_some()
@@ -79,12 +79,12 @@ impl TableRows {
         ensures in_order { StartInOrder (map (λ r. r.period) (map row_of result.now)) }
     {
         rowlaws::periods_in_order();
-        line(&self.index.lines, key)
+        strand(&self.index.strands, key)
     }
 
     /// Adds a row. Want of memory changes nothing.
     pub(crate) fn put(&mut self, row: Row) -> Result<(), AllocError>
-        requires { list_any (clashes row.key (period_of row.period)) (lines_of self.old.index.lines row.key) ≡ false }
+        requires { list_any (clashes row.key (period_of row.period)) (strands_of self.old.index.strands row.key) ≡ false }
         ensures ok { OnOk result (IsWith (row_of row) (rows_of_table self.old) (rows_of_table self.new)) }
         ensures err { OnErr result (rows_of_table self.new ≡ rows_of_table self.old) }
     {
@@ -120,16 +120,18 @@ impl TableRows {
 
     // Cuts the rows of the one key that has rows that are met. Of its rows those that have a day in the portion are
     // looked at, and no others.
-    fn cut_key(&mut self, cut: &Cut, key: &Key) -> Result<Changes, Refusal>
-        requires { (r : TableRow) → Has (rows_of_table self.old) r → is_met (change_of_cut cut.now) r ≡ true → r.key ≡ key.now }
-        ensures ok { IfOk result (λ changes. IsCut (change_of_cut cut.now) cut.now.system_start (rows_of_table self.old) (rows_of_table self.new) (map row_of changes.removed.items) (map row_of changes.added.items)) }
-        ensures err { IfErr result (λ refusal. (rows_of_table self.new ≡ rows_of_table self.old) × IsCutRefused (change_of_cut cut.now) cut.now.system_start (rows_of_table self.old) refusal) }
+    fn correct_key(&mut self, correction: &Correction, key: &Key) -> Result<Changes, Refusal>
+        requires { (r : TableRow) → Has (rows_of_table self.old) r → is_met (action_of_correction correction.now) r ≡ true → r.key ≡ key.now }
+        ensures ok { IfOk result (λ changes. IsCorrection (action_of_correction correction.now) correction.now.system_start (rows_of_table self.old) (rows_of_table self.new) (map row_of changes.removed.items) (map row_of changes.added.items)) }
+        ensures err { IfErr result (λ refusal. (rows_of_table self.new ≡ rows_of_table self.old) × IsCorrectionRefused (action_of_correction correction.now) correction.now.system_start (rows_of_table self.old) refusal) }
     {
         overlaps::laws::sharing_is_overlap();
-        let (start, found) = self.index.sharing(key, cut.portion, &mut Count::new());
+        let (start, found) = self
+            .index
+            .sharing(key, correction.portion, &mut Count::new());
         let many = found.len();
         let mut changes = Changes::none(self.alloc);
-        let rows = cut_line(self.alloc, cut, found, &mut changes)?;
+        let rows = correct_strand(self.alloc, correction, found, &mut changes)?;
         let count = (self.count - many).saturating_add(rows.len());
         if count > ROWS_MOST {
             return Err(Refusal::RowLimit);
@@ -145,20 +147,20 @@ impl TableRows {
     }
 
     // Cuts the rows of all keys.
-    fn cut_all(&mut self, cut: &Cut) -> Result<Changes, Refusal>
-        ensures ok { IfOk result (λ changes. IsCut (change_of_cut cut.now) cut.now.system_start (rows_of_table self.old) (rows_of_table self.new) (map row_of changes.removed.items) (map row_of changes.added.items)) }
-        ensures err { IfErr result (λ refusal. (rows_of_table self.new ≡ rows_of_table self.old) × IsCutRefused (change_of_cut cut.now) cut.now.system_start (rows_of_table self.old) refusal) }
+    fn correct_all(&mut self, correction: &Correction) -> Result<Changes, Refusal>
+        ensures ok { IfOk result (λ changes. IsCorrection (action_of_correction correction.now) correction.now.system_start (rows_of_table self.old) (rows_of_table self.new) (map row_of changes.removed.items) (map row_of changes.added.items)) }
+        ensures err { IfErr result (λ refusal. (rows_of_table self.new ≡ rows_of_table self.old) × IsCorrectionRefused (action_of_correction correction.now) correction.now.system_start (rows_of_table self.old) refusal) }
     {
-        let plan = plan_cut(self.alloc, cut, &self.index.lines)?;
+        let plan = plan_correction(self.alloc, correction, &self.index.strands)?;
         if plan.count > ROWS_MOST {
             return Err(Refusal::RowLimit);
         }
         let Plan {
-            lines,
+            strands,
             count,
             changes,
         } = plan;
-        replace_lines(&mut self.index.lines, lines);
+        replace_strands(&mut self.index.strands, strands);
         keys_in_order(&self.index);
         self.count = count;
         Ok(changes)
@@ -169,20 +171,20 @@ impl TableRows {
     ///
     /// `NumberRange` where a new value of a row that is met is out of range; then `RowLimit` where
     /// more than 20,000 rows would be left; `NoMemory`.
-    pub(crate) fn cut(&mut self, cut: &Cut) -> Result<Changes, Refusal>
-        ensures ok { IfOk result (λ changes. IsCut (change_of_cut cut.now) cut.now.system_start (rows_of_table self.old) (rows_of_table self.new) (map row_of changes.removed.items) (map row_of changes.added.items)) }
-        ensures err { IfErr result (λ refusal. (rows_of_table self.new ≡ rows_of_table self.old) × IsCutRefused (change_of_cut cut.now) cut.now.system_start (rows_of_table self.old) refusal) }
+    pub(crate) fn correct(&mut self, correction: &Correction) -> Result<Changes, Refusal>
+        ensures ok { IfOk result (λ changes. IsCorrection (action_of_correction correction.now) correction.now.system_start (rows_of_table self.old) (rows_of_table self.new) (map row_of changes.removed.items) (map row_of changes.added.items)) }
+        ensures err { IfErr result (λ refusal. (rows_of_table self.new ≡ rows_of_table self.old) × IsCorrectionRefused (action_of_correction correction.now) correction.now.system_start (rows_of_table self.old) refusal) }
     {
-        match named_key(self.alloc, cut.conditions, self.columns)? {
-            Some(key) => self.cut_key(cut, &key),
-            None => self.cut_all(cut),
+        match named_key(self.alloc, correction.conditions, self.columns)? {
+            Some(key) => self.correct_key(correction, &key),
+            None => self.correct_all(correction),
         }
     }
 
     // Whether the row is there. It is searched for by halves, as `KeyIndex::find` does.
     fn has(&self, row: &Row, count: &mut Count) -> bool
-        ensures there { result ≡ list_any (same_row (row_of row.now)) (lines_of self.now.index.lines row.now.key) }
-        ensures few { (digits : ℕ) → length (lines_of self.now.index.lines row.now.key) < 2 ^ digits → count.new ≤ count.old + digits + 1 }
+        ensures there { result ≡ list_any (same_row (row_of row.now)) (strands_of self.now.index.strands row.now.key) }
+        ensures few { (digits : ℕ) → length (strands_of self.now.index.strands row.now.key) < 2 ^ digits → count.new ≤ count.old + digits + 1 }
     {
         overlaps::laws::sharing_is_overlap();
         match self.index.find(&row.key, row.period, count) {

@@ -8,8 +8,8 @@ ghost use Rattle.current.specs.Places.{rows_at};
 ghost use Rattle.current.specs.Touched.{removed_of, added_of, removed_in, added_in};
 
 use crate::compare::{append, changes_both, clone_rows};
-use crate::line::Changes;
 use crate::row::Row;
+use crate::strand::Changes;
 use std::alloc::{AllocError, Global};
 use std::vec::IntoIter;
 

@@ -1,19 +1,20 @@
 -- What each call leaves stored.
-use Rattle.std.proofs.Common.{◌≡◌, ℕ, ◌+◌, ◌≤◌, ◌++◌, length, length-append, take, sym, ap, subst, ◌∙◌}
+use Rattle.std.proofs.Common.{◌≡◌, ℕ, ◌+◌, ◌≤◌, ◌++◌, Option, Some, None, length, length-append, take, sym, ap, subst, ◌∙◌}
 use Rattle.std.proofs.lemmas.List.{take-map, map-append, length-map, length-take-le}
 use Rattle.std.proofs.lemmas.Grind.{merely}
 use Rattle.sqlite.specs.State.{State, HasCleanDisk, IsUnchanged, KeepsCommit}
 use Rattle.keep.specs.declared.change.Change.{Change}
+use Rattle.keep.specs.declared.hard_state.HardState.{HardState}
 use Rattle.keep.specs.Durable.{Durable, after}
 use Rattle.keep.specs.Log.{IsLog}
-use Rattle.model.specs.Transactions.{Schema as Tables}
-use Rattle.storetables.specs.Contents.{number_of_vote, item_of, items_of, contents_of, changed, entry_in, durable_in}
+use Rattle.model.specs.Transactions.{Language}
+use Rattle.storetables.specs.Contents.{Contents, number_of_vote, item_of, items_of, contents_of, changed, entry_in, durable_in}
 use Rattle.storetables.specs.Rows.{Holds}
-use Rattle.storetables.specs.Stored.{contents_in, stored_in, AreTexts, IsSettled, IsSound, IsStored, Offers}
-use Rattle.storetables.specs.Found.{read_back, is_stored, texts_had}
+use Rattle.storetables.specs.Stored.{contents_in, stored_in, AreTexts, IsSettled, IsSound, IsStored}
+use Rattle.storetables.specs.Found.{read_back, texts_had}
 use Rattle.storetables.proofs.Texts.{texts_append, texts_take}
-use Rattle.storetables.specs.Steps.{IsKept}
-use Rattle.durable.specs.Saving.{IsSaved}
+use Rattle.storetables.specs.Steps.{IsKept, IsKnown, IsMeta, IsFloor}
+use Rattle.durable.specs.Saving.{IsSaved, IsHard}
 
 -- a change of the tables is the change of what is stored
 pub changed_is : (c : Change) (d : Durable) → contents_of (after c d) ≡ changed c (contents_of d)
@@ -38,7 +39,7 @@ saved_is old new c set =
     subst (λ db. durable_in (contents_of (after c (stored_in db))) ≡ after c (stored_in db) → IsSaved old new (changed c) → IsSettled new × (stored_in new.committed ≡ after c (stored_in db))) (sym set.committed)
     (λ back it. let all = saved_settles old new c set back it in (all.0, ap stored_in all.0.committed ∙ all.1))
 
-pub settled_forms : {members : ℕ} {tables : Tables} (s : State) → IsSettled s → IsLog members tables (stored_in s.now) → IsLog members tables (stored_in s.committed)
+pub settled_forms : {members : ℕ} {tables : Language} (s : State) → IsSettled s → IsLog members tables (stored_in s.now) → IsLog members tables (stored_in s.committed)
 settled_forms {members} {tables} s set = subst (λ db. IsLog members tables (stored_in db)) (sym set.committed)
 
 -- tables that are settled are committed
@@ -70,11 +71,6 @@ kept_same old new kept sound = ap stored_in (kept.committed sound.is_open)
 pub kept_stored : (old new : State) → IsKept old new → IsSound new → IsStored old.committed → IsStored new.committed
 kept_stored old new kept sound held = subst IsStored (sym (kept.committed sound.is_open)) held
 
-pub kept_offers : (old new : State) (d : Durable) → IsSettled old → IsKept old new → Offers new d → d ≡ stored_in old.now
-kept_offers old new d set it offer =
-    let same = it.committed offer.is_open ∙ set.committed in
-    is_stored new.committed (contents_in old.now) d (subst (λ db. Holds db (contents_in old.now)) (sym same) set.holds) offer.found ∙ ap stored_in same
-
 -- ---- reading
 
 pub same_settles : (old new : State) → IsSettled old → IsUnchanged old new → IsSettled new × (stored_in new.now ≡ stored_in old.now)
@@ -97,3 +93,23 @@ pub after_length : (c : Change) (d : Durable) → c.kept ≤ length d.log → le
 after_length c d low =
     let kept = length-take-le c.kept d.log low in
     length-append (take c.kept d.log) c.entries.items ∙ ap (λ n. n + length c.entries.items) kept
+
+-- ---- which hard state is stored
+
+hard_known : (known : Option HardState) (d : Durable) (c : Contents) → contents_of d ≡ c → IsHard known d → IsMeta known c.term c.vote × IsFloor known c.floor
+hard_known None d c same told = (tt, tt)
+hard_known (Some h) d c same told =
+    let term = ap (λ (x : HardState). x.term) told ∙ ap (λ (x : Contents). x.term) same in
+    let vote = ap (λ (x : HardState). number_of_vote x.vote) told ∙ ap (λ (x : Contents). x.vote) same in
+    let floor = ap (λ (x : HardState). x.floor) told ∙ ap (λ (x : Contents). x.floor) same in
+    ((term, vote), floor)
+
+pub is_known : (s : State) (known : Option HardState) (count : ℕ) (d : Contents) → IsSettled s → IsHard known (stored_in s.committed) → count ≡ length (contents_in s.now).log → Holds s.now d
+    → IsKnown known count d
+is_known s known count d set told counted has =
+    let now = subst (λ db. IsHard known (stored_in db)) set.committed told in
+    let hard = hard_known known (stored_in s.now) (contents_in s.now) set.plain now in
+    subst (IsKnown known count) (read_back s.now d has) (record { meta = hard.0; floor = hard.1; counted = counted })
+
+pub keeps_hard : (old new : State) (known : Option HardState) → KeepsCommit old new → IsSound new → IsHard known (stored_in old.committed) → IsHard known (stored_in new.committed)
+keeps_hard old new known keeps sound = subst (IsHard known) (sym (keeps_same old new keeps sound))

@@ -1,6 +1,6 @@
 -- That the tables are settled has one proof.
-use Rattle.std.specs.Prelude.{ℕ, Option, List}
-use Rattle.std.specs.Coded.{Coded, Coded-set, code_by, coded×, coded_ℕ, coded_list, coded_option}
+use Rattle.std.specs.Prelude.{ℕ, Option, Some, None, List}
+use Rattle.std.specs.Coded.{Coded, Coded-set, code_by, coded×, coded_ℕ, coded_list, coded_option, Unit-prop}
 use Rattle.std.proofs.Common.{ap, refl}
 use Rattle.std.proofs.Props.{props}
 use mathlib.Core.Bool.{Bool-set}
@@ -9,9 +9,12 @@ use Rattle.sqlite.specs.Schema.{Schema}
 use Rattle.sqlite_trees.specs.Props.{Trees-set, rows_set}
 use Rattle.sqlite.specs.Effect.{Database}
 use Rattle.sqlite.specs.State.{State}
+use Rattle.keep.specs.declared.hard_state.HardState.{HardState}
+use Rattle.keep.specs.Durable.{Durable}
 use Rattle.storetables.specs.Contents.{Item, Contents}
 use Rattle.storetables.specs.Rows.{Holds}
 use Rattle.storetables.specs.Stored.{IsSettled, IsStored, contents_in}
+use Rattle.durable.specs.Saving.{IsHard}
 
 pub Schema-set : IsSet Schema
 Schema-set = Coded-set schema_row.the_row.coded
@@ -64,3 +67,17 @@ IsStored-prop db x y = λ i. record {
   plain = Contents-set _ _ x.plain y.plain i;
   texts = truncated_once x.texts y.texts i;
 }
+
+abbrev coded_hard : Coded HardState
+coded_hard =
+    code_by (ℕ × (Option ℕ × Option ℕ)) (coded× coded_ℕ (coded× (coded_option coded_ℕ) (coded_option coded_ℕ)))
+    (λ h. (h.term, (h.vote, h.floor)))
+    (λ p. record { term = p.0; vote = p.1.0; floor = p.1.1 })
+    (λ _. refl)
+
+pub HardState-set : IsSet HardState
+HardState-set = Coded-set coded_hard
+
+pub IsHard-prop : (known : Option HardState) (d : Durable) → IsProp (IsHard known d)
+IsHard-prop None d = Unit-prop
+IsHard-prop (Some h) d = HardState-set h d.hard

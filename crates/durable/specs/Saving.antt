@@ -1,7 +1,9 @@
 -- A save.
-use Rattle.std.specs.Prelude.{◌≡◌, IsTrue}
+use Rattle.std.specs.Prelude.{◌≡◌, Option, Some, None, IsTrue}
 use Rattle.sqlite.specs.State.{State}
 use Rattle.sqlite.specs.Tree.{Trees}
+use Rattle.keep.specs.declared.hard_state.HardState.{HardState}
+use Rattle.keep.specs.Durable.{Durable}
 use Rattle.storetables.specs.Contents.{Contents}
 use Rattle.storetables.specs.Tables.{schema}
 use Rattle.storetables.specs.Rows.{Holds}
@@ -16,3 +18,8 @@ pub record IsSaved (old new : State) (made : Contents → Contents) : Type 0 whe
 -- what a commit in between leaves on the disk
 abbrev pub Leaves : State → (Contents → Contents) → Trees → Type 0
 Leaves old made trees = (d : Contents) → Holds old.now d → Holds (record { schema = schema; trees = trees }) (made d)
+
+-- the hard state, if there is one, is the stored one
+abbrev pub IsHard : Option HardState → Durable → Type 0
+IsHard None d = Unit {0}
+IsHard (Some h) d = h ≡ d.hard

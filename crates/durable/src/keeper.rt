@@ -6,10 +6,11 @@ ghost use Rattle.std.specs.Coded.{Π_prop};
 ghost use Rattle.keep.specs.Log.{IsLog, log_prop};
 ghost use Rattle.storetables.specs.Stored.{contents_in, stored_in, IsBad, IsSettled, IsSound, IsStored, Offers};
 ghost use Rattle.storetables.specs.Found.{offers_held, stored_offers, is_one};
-ghost use Rattle.durable.specs.Props.{IsSettled-prop, IsStored-prop};
+ghost use Rattle.durable.specs.Saving.{IsHard};
+ghost use Rattle.durable.specs.Props.{IsSettled-prop, IsStored-prop, IsHard-prop};
 
 use crate::saving::commit_change;
-use keep::{Change, Keeper, Shelf, State, StoreError};
+use keep::{Change, HardState, Keeper, LogReader, State, StoreError};
 use model::entry::Entry;
 use schema::Schema;
 use sqlite::{Alter, Connection, Error, ErrorCode};
@@ -27,12 +28,15 @@ use storetables::whole::Whole;
 /// no floor: an open of it makes the table floor with its row in one commit. An open reads all rows, and
 /// answers `BadStore` where the schema is not the three tables alone or the rows are not those of a log of
 /// the member. Each `save` is one commit: a crash within it, or an
-/// error of it, leaves the state before or after. `state` and `entry` read single rows by their number.
+/// error of it, leaves the state before or after. It states only what changed since the save before it, and the first
+/// one states all. `state` and `entry` read single rows by their number.
 #[derive(Drop)]
 pub struct SqlKeeper<S: Alter + Drop> {
     conn: Connection<S>,
     /// How many entries the log has.
     count: usize,
+    /// The hard state of the last save: none before the first, and none after one that failed.
+    known: Option<HardState>,
     failures: u64,
     asked: u64,
     saved: u64,
@@ -43,6 +47,7 @@ pub struct SqlKeeper<S: Alter + Drop> {
     ghost settled: { is_up ≡ true → HasCleanDisk (state S.Store conn) → IsSettled (state S.Store conn) } by { Π_prop (λ _. Π_prop (λ _. IsSettled-prop (state S.Store conn))) },
     ghost held: { IsSound (state S.Store conn) → IsStored (state S.Store conn).committed } by { Π_prop (λ _. IsStored-prop (state S.Store conn).committed) },
     ghost counted: { is_up ≡ true → HasCleanDisk (state S.Store conn) → count ≡ length (contents_in (state S.Store conn).now).log },
+    ghost remembered: { IsSound (state S.Store conn) → IsHard known (stored_in (state S.Store conn).committed) } by { Π_prop (λ _. IsHard-prop known (stored_in (state S.Store conn).committed)) },
 }
 
 /// What an error of the database is told as: `NoMemory` where it is want of memory or of room on the
@@ -78,7 +83,7 @@ impl<S: Alter + Drop> SqlKeeper<S> {
     }
 }
 
-impl<S: Alter + Drop> Shelf for SqlKeeper<S> {
+impl<S: Alter + Drop> LogReader for SqlKeeper<S> {
     ghost stored = { λ k. stored_in (state S.Store k.conn).committed };
 
     ghost is_honest = { λ k. IsSound (state S.Store k.conn) };
@@ -175,6 +180,7 @@ impl<S: Alter + Drop> Keeper for SqlKeeper<S> {
             Ok(Some(count)) => Ok(SqlKeeper {
                 conn: image,
                 count,
+                known: None,
                 failures: 0,
                 asked: 0,
                 saved: 0,
@@ -209,9 +215,11 @@ impl<S: Alter + Drop> Keeper for SqlKeeper<S> {
             return Err(StoreError::NodeDown);
         }
         self.is_up = false;
-        match commit_change(&mut self.conn, change) {
+        let known = self.known.take();
+        match commit_change(&mut self.conn, change, &known, self.count) {
             Ok(()) => {
                 self.count = change.kept + change.entries.len();
+                self.known = Some(change.hard);
                 self.is_up = true;
                 Ok(())
             }
@@ -223,6 +231,7 @@ impl<S: Alter + Drop> Keeper for SqlKeeper<S> {
         let SqlKeeper {
             conn,
             count: _,
+            known: _,
             failures: _,
             asked: _,
             saved: _,

@@ -6,7 +6,7 @@
 #![tactic(auto)]
 
 ghost use Rattle.std.specs.Prelude.{◌≡◌, ℕ, All, IfOk, vec_len};
-ghost use Rattle.model.specs.Transactions.{Schema as Tables};
+ghost use Rattle.model.specs.Transactions.{Language};
 ghost use Rattle.keep.specs.Durable.{stored_in};
 ghost use Rattle.keep.specs.Log.{IsLog};
 
@@ -40,7 +40,7 @@ impl Gate for Open {
 // A store without anything, for each of three nodes.
 fn images(alloc: Global) -> Result<Vec<MemImage>, AllocError>
     ensures three { IfOk result (λ images. vec_len images ≡ 3) }
-    ensures logs { IfOk result (λ images. (members : ℕ) (tables : Tables) → All (λ image. IsLog members tables (stored_in image)) images.items) }
+    ensures logs { IfOk result (λ images. (members : ℕ) (language : Language) → All (λ image. IsLog members language (stored_in image)) images.items) }
 {
     let images = vec![in alloc;
         MemImage::new(alloc),

@@ -26,12 +26,6 @@ module _ {V W : Type 0} (word : List ℕ) (into : V → W) (IsV : V → Type 0) 
         none f.0 other f.2 f.3,
   )
 
--- a word that spells a value
-pub word_only : {W : Type 0} (word : List ℕ) (x : W) (IsW : W → Type 0) (spellW : W → List ℕ → List ℕ)
-    → ((w : W) (rest other : List ℕ) → IsW w → word ++ rest ≡ spellW w other → (w ≡ x) × (other ≡ rest))
-    → (text rest : List ℕ) → text ≡ word ++ rest → SpellsOnly IsW spellW text x rest
-word_only word x IsW spellW of text rest begun = λ w other is e. of w rest other is (sym begun ∙ e)
-
 -- ---- what an entry bears
 
 pub asked_closed : (text rest : List ℕ) → IsAfter (codes "close\n") text rest → SpellsOnly IsAsked asked_text text None rest

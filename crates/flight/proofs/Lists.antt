@@ -1,7 +1,7 @@
 -- Lists that are read element by element.
 use Rattle.std.proofs.Common.{◌≡◌, ◌≢◌, ◌∙◌, ℕ, ◌<◌, ◌≤◌, List, [], ◌∷◌, ◌++◌, length, refl, sym, ap, subst, arith, append_assoc, append-nil, inl, inr, length-append}
 use Rattle.std.specs.Prelude.{All, ⊤}
-use Rattle.std.proofs.lemmas.List.Elements.{All-nil, All-push, All-head, All-tail, All-same}
+use Rattle.std.proofs.lemmas.List.Elements.{All-push, All-head, All-tail, All-same}
 use Rattle.fault.specs.declared.refusal.Refusal.{Refusal}
 use Rattle.flight.specs.Spelling.{each_text}
 use Rattle.flight.specs.Reading.{Spells, SpellsOnly, SpellsOnlyTo, IsUnread, IsUnreadTo, IsNotBegun}
@@ -24,9 +24,6 @@ each_push spell [] x rest = refl
 each_push spell (y ∷ ys) x rest = ap (spell y) (each_push spell ys x rest)
 
 module _ {A : Type 0} (Is : A → Type 0) (spell : A → List ℕ → List ℕ) (Fits : List A → List ℕ → Type 0) (text : List ℕ) where
-  pub taken_none : Taken A Is spell Fits text [] text
-  taken_none = record { whole = refl; range = All-nil Is; goes_on = λ xs other is fits e. (xs, refl, e) }
-
   module _ (taken : List A) (left : List ℕ) where
     -- a list that fits, and goes on, goes on with this element
     abbrev pub IsNext : A → List ℕ → Type 0

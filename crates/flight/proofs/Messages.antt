@@ -1,8 +1,7 @@
 -- Messages by their first word.
-use Rattle.std.proofs.Common.{◌≡◌, ◌∙◌, ℕ, ℤ, Bool, true, false, Option, List, ◌++◌, refl, sym, ap, arith, inl, inr, get_or, drop}
+use Rattle.std.proofs.Common.{◌≡◌, ◌∙◌, ℕ, ℤ, Bool, Option, List, ◌++◌, refl, sym, ap, arith, inl, inr, get_or, drop}
 use Rattle.std.specs.Prelude.{codes}
 use Rattle.fault.specs.declared.refusal.Refusal.{Refusal}
-use Rattle.fault.specs.declared.refusal.Refusal.TheVariants.{BadFlight}
 use Rattle.model.specs.declared.message.Body.{Body}
 use Rattle.model.specs.declared.message.Body.TheVariants.{RequestVote, Vote, Append, Reply, Seek, Stored, Seal}
 use Rattle.model.specs.declared.message.Input.TheVariants as input
@@ -16,7 +15,7 @@ use Rattle.flight.specs.declared.flight.Version.{Version}
 use Rattle.flight.specs.declared.life.Packet.{Packet}
 use Rattle.flight.specs.declared.life.Packet.TheVariants.{Local, Delivered}
 use Rattle.flight.specs.Spelling.{number_text, spaced, body_text, packet_text}
-use Rattle.flight.specs.Ranges.{has_floors, IsNumber, IsMark, IsPacket}
+use Rattle.flight.specs.Ranges.{IsNumber, IsMark, IsPacket}
 use Rattle.flight.specs.Bodies.{candidacy_text, given_text, voted_text, appended_text, replied_text, sealing_text, said_text, IsCandidacy, IsGiven, IsVoted, IsAppended, IsReplied, IsSealing, IsSaid, IsSaidOfSealing}
 use Rattle.flight.specs.Packets.{delivery_text, IsDelivery}
 use Rattle.flight.specs.Reading.{SpellsOnly, IsUnread, IsNotBegun}
@@ -113,22 +112,6 @@ seal_of version (t, Reply ok m) rest other is e = absurd is.1
 seal_of version (t, Seek i f) rest other is e = absurd (omega (arith, ap (at 2) e))
 seal_of version (t, Stored i f) rest other is e = absurd (omega (arith, ap (at 1) e))
 seal_of version (t, Seal i f) rest other is e = (record { term = t; index = i; floor = f }, refl, (is.0.0, is.0.1.1, is.0.1.2), ap (drop 5) e)
-
--- such a message is of a version that knows of floors
-floors_of : (version : Version) (w : ℕ × Body) → IsSaidOfSealing version w → has_floors version ≡ true
-floors_of version (t, RequestVote i u) is = absurd is.1
-floors_of version (t, Vote g f) is = absurd is.1
-floors_of version (t, Append i u es k) is = absurd is.1
-floors_of version (t, Reply ok m) is = absurd is.1
-floors_of version (t, Seek i f) is = is.0.1.0
-floors_of version (t, Stored i f) is = is.0.1.0
-floors_of version (t, Seal i f) is = is.0.1.0
-
-contrary : (b : Bool) → b ≡ true → b ≡ false → ⊥
-contrary b holds fails = let h : true ≡ false = sym holds ∙ fails in absurd (cc h)
-
-pub no_sealing : (version : Version) (text : List ℕ) (r : Refusal) → r ≡ BadFlight → has_floors version ≡ false → IsUnread (IsSaidOfSealing version) (said_text version) text r
-no_sealing version text r bad none = inr (bad, λ w other is e. contrary (has_floors version) (floors_of version w is) none)
 
 -- a message that begins with none of the other words
 module _ (version : Version) (text : List ℕ) (no_candidacy : IsNotBegun (codes "votereq ") text) (no_vote : IsNotBegun (codes "vote ") text) (no_append : IsNotBegun (codes "append ") text)

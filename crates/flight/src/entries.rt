@@ -12,8 +12,8 @@ use fault::Refusal;
 use model::entry::{Entry, Request};
 use std::alloc::Global;
 
-// A request: its client, its number and its text.
-pub(crate) fn read_request(alloc: Global, text: &str) -> Result<(Request, &str), Refusal>
+/// A request: its client, its number and its text. 50 where none stands here, and `NoMemory`.
+pub fn read_request(alloc: Global, text: &str) -> Result<(Request, &str), Refusal>
     ensures ok { IfOk result (λ p. Spells IsRequest request_text text.now p.0 p.1.now) }
     ensures only { IfOk result (λ p. SpellsOnly IsRequest request_text text.now p.0 p.1.now) }
     ensures err { IfErr result (IsUnread IsRequest request_text text.now) }

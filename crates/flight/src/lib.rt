@@ -16,4 +16,4 @@ mod writing;
 
 pub use file::write_flight;
 pub use flight::{Flight, Recorded, Version};
-pub use writing::text_of_flight;
+pub use writing::{put_answers, text_of_flight};

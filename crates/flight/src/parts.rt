@@ -15,8 +15,8 @@ use model::request::{Client, RequestNumber};
 use model::stamp::{LAST_MICROS, Stamp};
 use std::alloc::Global;
 
-// What follows this word, if the text begins with it.
-pub(crate) fn after<'a>(text: &'a str, word: &str) -> Option<&'a str>
+/// What follows this word, if the text begins with it.
+pub fn after<'a>(text: &'a str, word: &str) -> Option<&'a str>
     ensures some { IfSome result (λ rest. IsAfter word.now text.now rest.now) }
     ensures none { IfNone result (IsNotBegun word.now text.now) }
 {
@@ -150,8 +150,8 @@ pub(crate) fn read_stamp(text: &str, end: char) -> Result<(Stamp, &str), Refusal
     Ok((Stamp::new(number), rest))
 }
 
-// A client, up to a space.
-pub(crate) fn read_client(text: &str) -> Result<(Client, &str), Refusal>
+/// A client, up to a space. Else it is refused 50.
+pub fn read_client(text: &str) -> Result<(Client, &str), Refusal>
     ensures ok { IfOk result (λ p. Spells IsClient (number_text 32) text.now p.0 p.1.now) }
     ensures only { IfOk result (λ p. SpellsOnly IsClient (number_text 32) text.now p.0 p.1.now) }
     ensures err { IfErr result (IsUnread IsClient (number_text 32) text.now) }
@@ -167,8 +167,8 @@ pub(crate) fn read_client(text: &str) -> Result<(Client, &str), Refusal>
     Ok((client, rest))
 }
 
-// The number of a request, up to the character that ends it.
-pub(crate) fn read_request_number(text: &str, end: char) -> Result<(RequestNumber, &str), Refusal>
+/// The number of a request, up to the character that ends it, which is before the digits. Else it is refused 50.
+pub fn read_request_number(text: &str, end: char) -> Result<(RequestNumber, &str), Refusal>
     requires { end < 48 }
     ensures ok { IfOk result (λ p. Spells IsRequestNumber (number_text end) text.now p.0 p.1.now) }
     ensures only { IfOk result (λ p. SpellsOnly IsRequestNumber (number_text end) text.now p.0 p.1.now) }

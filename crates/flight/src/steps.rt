@@ -36,8 +36,8 @@ fn read_outcome(alloc: Global, text: &str) -> Result<(Outcome, &str), Refusal>
     Ok((outcome, rest))
 }
 
-// The outcomes that stand here, all of them.
-fn read_each_outcome(alloc: Global, text: &str) -> Result<(Vec<Outcome>, &str), Refusal>
+/// The outcomes that stand here, all of them. 50 where one is begun that is none, and `NoMemory`.
+pub fn read_each_outcome(alloc: Global, text: &str) -> Result<(Vec<Outcome>, &str), Refusal>
     ensures ok { IfOk result (λ p. Spells (All IsOutcome) (each_text outcome_text) text.now p.0.items p.1.now) }
     ensures only { IfOk result (λ p. SpellsOnlyTo (All IsOutcome) (each_text outcome_text) IsNoOutcome text.now p.0.items p.1.now) }
     ensures err { IfErr result (IsUnreadTo (All IsOutcome) (each_text outcome_text) IsNoOutcome text.now) }

@@ -287,7 +287,8 @@ fn put_answer(recorded: &Recorded, text: &mut String) -> Result<(), AllocError>
     write!(text, "text {answer_length}\n{answer}\n")
 }
 
-fn put_answers(answers: &[Recorded], text: &mut String) -> Result<(), AllocError>
+/// Puts answers behind a text. Want of memory leaves a part of them there.
+pub fn put_answers(answers: &[Recorded], text: &mut String) -> Result<(), AllocError>
     ensures { OnOk result (Adds (string_bytes text.old) (string_bytes text.new) (each_text answer_text answers.now)) }
 {
     for answer in answers {

@@ -10,7 +10,7 @@ use Rattle.flight.specs.declared.outcome.Outcome.{Outcome}
 use Rattle.flight.specs.Spelling.{spaced, ended, signed_text, vote_text, vote_number, floor_text, floor_number, block_text, request_text, outcome_text, each_text}
 use Rattle.flight.specs.Reading.{Spells, SpellsOnlyTo, IsUnreadTo}
 use Rattle.flight.specs.Courses.{IsNoOutcome}
-use Rattle.flight.proofs.Lists.{Taken, taken_none, taken_more, taken_all, all_later}
+use Rattle.flight.proofs.Lists.{Taken, taken_more, taken_all, all_later}
 use Rattle.flight.proofs.Lengths.{after_number, after_block, after_outcome}
 use Rattle.model.specs.declared.entry.Request.{Request}
 use Rattle.journal.specs.declared.stored.Summary.{Summary}
@@ -102,9 +102,6 @@ lines_no_outcome (l ∷ ls) = line_no_outcome l (each_text line_text ls [])
 
 abbrev pub LinesTaken : List ℕ → List Line → List ℕ → Type 0
 LinesTaken text taken left = Taken Line IsLine line_text (λ xs other. IsOver other) text taken left
-
-pub lines_begin : (text : List ℕ) → LinesTaken text [] text
-lines_begin text = taken_none IsLine line_text (λ xs other. IsOver other) text
 
 nothing_left : (left : List ℕ) → 0 < length left → (other : List ℕ) → IsOver other → left ≢ other
 nothing_left left some other over = λ e. absurd (omega (arith, some, ap length (e ∙ over)))

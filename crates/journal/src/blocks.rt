@@ -5,9 +5,8 @@ ghost use Rattle.flight.specs.Additions.{Adds};
 ghost use Rattle.flight.specs.Ranges.{IsNumber};
 ghost use Rattle.journal.specs.Blocks.{sum_after, IsBody, framed_text, block_text, IsFirst, AreWholeBlocks};
 
-use crate::parts::after;
 use crate::reading::read_opens;
-use flight::parts::read_number;
+use flight::parts::{after, read_number};
 use std::alloc::AllocError;
 
 /// The sum of nothing.

@@ -10,14 +10,17 @@ ghost use Rattle.journal.specs.Parts.{opens_text, held_text, takes_text, made_te
 ghost use Rattle.journal.specs.Ranges.{IsDigest, IsSummary, IsTaken, IsLine};
 
 use crate::line::{Line, Taken};
-use crate::parts::{
-    after, read_client, read_outcomes, read_request, read_request_number, read_signed,
-};
+use crate::parts::read_signed;
 use crate::stored::Summary;
 use fault::{Refusal, Text};
+use flight::entries::read_request;
 use flight::flight::Version;
 use flight::outcome::Outcomes;
-use flight::parts::{past, read_block, read_number, read_opening_floor, read_vote};
+use flight::parts::{
+    after, past, read_block, read_client, read_number, read_opening_floor, read_request_number,
+    read_vote,
+};
+use flight::steps::read_each_outcome;
 use hex::FromHex;
 use keep::hard_state::HardState;
 use model::member::Member;
@@ -147,7 +150,7 @@ fn read_made(alloc: Global, text: &str) -> Result<((Member, Outcomes), &str), Re
     ensures err { IfErr result (IsUnreadTo IsMade made_text IsNoOutcome text.now) }
 {
     let (member, rest) = read_number(text, '\n')?;
-    let (outcomes, rest) = read_outcomes(alloc, rest)?;
+    let (outcomes, rest) = read_each_outcome(alloc, rest)?;
     Ok(((member as usize, Outcomes::new(outcomes)), rest))
 }
 

@@ -5,7 +5,7 @@ use Rattle.std.proofs.Props.{props}
 use Rattle.model.specs.declared.entry.Entry.{Entry}
 use Rattle.model.specs.declared.entry.Request.{Request}
 use Rattle.model.specs.Stamps.{TIME_LAST}
-use Rattle.model.specs.Transactions.{Schema}
+use Rattle.model.specs.Transactions.{Language}
 use Rattle.model.specs.Steps.{TERM_LAST, LOG_LIMIT, go_on, is_floor, spells}
 use Rattle.keep.specs.declared.change.Change.{Change}
 use Rattle.keep.specs.Durable.{Durable}
@@ -25,11 +25,11 @@ is_numbered None = true
 is_numbered (Some r) = nat_lt 0 r.client && (nat_le r.client 65535 && (nat_lt 0 r.number && nat_le r.number NUMBER_LAST))
 
 -- an entry by itself: its stamp is an instant, and it is a Close, or a request in range whose text spells a transaction
-abbrev pub is_entry : Schema → Entry → Bool
-is_entry schema e = nat_le e.stamp TIME_LAST && (is_numbered e.request && spells schema e.request)
+abbrev pub is_entry : Language → Entry → Bool
+is_entry language e = nat_le e.stamp TIME_LAST && (is_numbered e.request && spells language e.request)
 
 -- a member of a group of so many with these tables may have this hard state and this log
-pub record IsLog (members : ℕ) (schema : Schema) (d : Durable) : Type 0 where
+pub record IsLog (members : ℕ) (language : Language) (d : Durable) : Type 0 where
   pub term : d.hard.term ≤ TERM_LAST
   pub vote : is_vote members d.hard.vote ≡ true
   -- none, or an instant
@@ -37,11 +37,11 @@ pub record IsLog (members : ℕ) (schema : Schema) (d : Durable) : Type 0 where
   pub room : length d.log ≤ LOG_LIMIT
   -- terms are at least 1, do not fall, and are not above the member's; stamps rise
   pub rises : go_on None d.hard.term d.log ≡ true
-  pub entries : list_all (is_entry schema) d.log ≡ true
+  pub entries : list_all (is_entry language) d.log ≡ true
 
 -- a fact with one proof at most
-pub log_prop : (members : ℕ) (schema : Schema) (d : Durable) → IsProp (IsLog members schema d)
-log_prop members schema d = hlevel props
+pub log_prop : (members : ℕ) (language : Language) (d : Durable) → IsProp (IsLog members language d)
+log_prop members language d = hlevel props
 
 -- its numbers fit the store, whatever is stored
 pub record IsSmall (c : Change) : Type 0 where

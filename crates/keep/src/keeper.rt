@@ -1,7 +1,7 @@
 //! What each keeper promises.
 ghost use Rattle.std.specs.Prelude.{◌≡◌, ◌≤◌, ℕ, Bool, true, false, Option, length, slice_get, IfOk, IfErr, OnOk, OnErr};
-ghost use Rattle.model.specs.Transactions.{Schema as Tables};
-ghost use Rattle.sqlread.specs.Meaning.{schema_of};
+ghost use Rattle.model.specs.Transactions.{Language};
+ghost use Rattle.sqlread.specs.Meaning.{language_of};
 ghost use Rattle.keep.specs.Durable.{Durable, after, tail_of, one_more, IsBeforeOrAfter};
 ghost use Rattle.keep.specs.Errors.{IsAnswered};
 ghost use Rattle.keep.specs.Log.{IsLog, IsSmall};
@@ -13,18 +13,18 @@ use model::entry::Entry;
 use schema::Schema;
 use std::alloc::Global;
 
-/// Where single entries of a member's log are fetched from.
+/// What fetches single entries of a member's log.
 ///
-/// Once a call has answered an error the shelf is down: each later call answers `NodeDown`, and only
+/// Once a call has answered an error the reader is down: each later call answers `NodeDown`, and only
 /// `failures` and `asked` go on.
 ///
-/// What a clause says of the stored state holds while the shelf is honest, that is while nothing
+/// What a clause says of the stored state holds while the reader is honest, that is while nothing
 /// wrong was taken as true and its store has not shut: a file may give back other bytes than it took, and
 /// a store that failed may answer nothing more till it is opened anew. One that is honest after a
-/// call was so before it. What an open finds once an honest shelf is closed is what is stored, neither
-/// more nor less, whether the shelf is up or down.
-pub trait Shelf: Drop {
-    /// What is stored. It says something of a shelf that is honest.
+/// call was so before it. What an open finds once an honest reader is closed is what is stored, neither
+/// more nor less, whether the reader is up or down.
+pub trait LogReader: Drop {
+    /// What is stored. It says something of a reader that is honest.
     ghost stored: { Self → Durable };
 
     /// Nothing wrong was taken as true so far, and the store has not shut.
@@ -49,10 +49,10 @@ pub trait Shelf: Drop {
     ghost may_hold: { Self → Durable → Type 0 };
 
     /// It was opened for a member of a group of so many, over these tables.
-    ghost serves: { Self → ℕ → Tables → Type 0 };
+    ghost serves: { Self → ℕ → Language → Type 0 };
 
     /// Reads the entry that has `i` others before it, none past the end of the log, and changes
-    /// nothing. `NodeDown` where the shelf is down, `StoreFault` where the store fails, `NoMemory`
+    /// nothing. `NodeDown` where the reader is down, `StoreFault` where the store fails, `NoMemory`
     /// where memory is refused.
     fn entry(&mut self, alloc: Global, i: usize) -> Result<Option<Entry>, StoreError>
         ensures ok { IfOk result (λ e. is_honest self.new → e ≡ slice_get (stored self.old).log i) }
@@ -60,7 +60,7 @@ pub trait Shelf: Drop {
         ensures answered { IsAnswered (is_up self.old) (is_up self.new) (failed self.old) (failed self.new) result }
         ensures honest { is_honest self.new → is_honest self.old }
         ensures left { (d : Durable) → may_hold self.new d → may_hold self.old d }
-        ensures serves { (members : ℕ) (tables : Tables) → serves self.old members tables → serves self.new members tables }
+        ensures serves { (members : ℕ) (language : Language) → serves self.old members language → serves self.new members language }
         ensures asks { asks self.new ≡ one_more (asks self.old) }
         ensures saves { saves self.new ≡ saves self.old }
         ensures limit { limit self.new ≡ limit self.old };
@@ -87,10 +87,10 @@ pub trait Shelf: Drop {
     ghost holds_stored: { (k : Self) → is_honest k → may_hold k (stored k) };
 
     /// That it was opened for such a group is a fact with one proof at most, so that a struct can keep it.
-    ghost served_once: { (k : Self) (members : ℕ) (tables : Tables) → IsProp (serves k members tables) };
+    ghost served_once: { (k : Self) (members : ℕ) (language : Language) → IsProp (serves k members language) };
 
     /// While it is honest, what is stored forms a log.
-    ghost only_logs: { (k : Self) (members : ℕ) (tables : Tables) → serves k members tables → is_honest k → IsLog members tables (stored k) };
+    ghost only_logs: { (k : Self) (members : ℕ) (language : Language) → serves k members language → is_honest k → IsLog members language (stored k) };
 }
 
 /// Keeps a member's hard state and log over a restart.
@@ -98,7 +98,7 @@ pub trait Shelf: Drop {
 /// Once `state`, `entry` or `save` has answered an error the keeper is down: each later call of them
 /// answers `NodeDown`, and only `failures`, `asked` and `close` go on. Its image, opened again, holds
 /// what was stored before that call, or after it where it was a `save`, and never anything else.
-pub trait Keeper: Shelf {
+pub trait Keeper: LogReader {
     /// What is left of a keeper that is closed, and what the next one opens.
     type Image;
 
@@ -106,11 +106,11 @@ pub trait Keeper: Shelf {
     ghost holds: { Self.Image → Durable → Type 0 };
 
     /// What the opener owes of an image, where the keeper does not judge what it finds.
-    ghost suits: { Self.Image → ℕ → Tables → Type 0 };
+    ghost suits: { Self.Image → ℕ → Language → Type 0 };
 
     /// The image holds no state of a member of a group of so many with these tables. Of others no open
     /// answers `BadStore`.
-    ghost is_bad: { Self.Image → ℕ → Tables → Type 0 };
+    ghost is_bad: { Self.Image → ℕ → Language → Type 0 };
 
     /// Nothing wrong was taken as true so far, and the store has not shut.
     ghost is_sound: { Self.Image → Type 0 };
@@ -128,65 +128,65 @@ pub trait Keeper: Shelf {
         members: usize,
         schema: &Schema,
     ) -> Result<Self, (StoreError, Self::Image)>
-        requires { suits image members (schema_of schema.now) }
-        ensures up { IfOk result (λ k. Self.Shelf.is_up k ≡ true) }
-        ensures found { IfOk result (λ k. Self.Shelf.is_honest k → holds image (Self.Shelf.stored k)) }
-        ensures log { IfOk result (λ k. Self.Shelf.is_honest k → IsLog members (schema_of schema.now) (Self.Shelf.stored k)) }
-        ensures serves { IfOk result (λ k. Self.Shelf.serves k members (schema_of schema.now)) }
-        ensures fresh { IfOk result (λ k. (Self.Shelf.failed k ≡ 0) × (Self.Shelf.asks k ≡ 0) × (Self.Shelf.saves k ≡ 0)) }
-        ensures limit { IfOk result (λ k. Self.Shelf.limit k ≡ limit_of image) }
+        requires { suits image members (language_of schema.now) }
+        ensures up { IfOk result (λ k. Self.LogReader.is_up k ≡ true) }
+        ensures found { IfOk result (λ k. Self.LogReader.is_honest k → holds image (Self.LogReader.stored k)) }
+        ensures log { IfOk result (λ k. Self.LogReader.is_honest k → IsLog members (language_of schema.now) (Self.LogReader.stored k)) }
+        ensures serves { IfOk result (λ k. Self.LogReader.serves k members (language_of schema.now)) }
+        ensures fresh { IfOk result (λ k. (Self.LogReader.failed k ≡ 0) × (Self.LogReader.asks k ≡ 0) × (Self.LogReader.saves k ≡ 0)) }
+        ensures limit { IfOk result (λ k. Self.LogReader.limit k ≡ limit_of image) }
         ensures back { IfErr result (λ e. (d : Durable) → holds e.1 d → holds image d) }
         ensures kept { IfErr result (λ e. is_sound e.1 → (d : Durable) → holds image d → holds e.1 d) }
         ensures limited { IfErr result (λ e. limit_of e.1 ≡ limit_of image) }
-        ensures suits { IfErr result (λ e. suits e.1 members (schema_of schema.now)) }
-        ensures bad { IfErr result (λ e. e.0 ≡ StoreError.BadStore → is_bad e.1 members (schema_of schema.now)) }
-        ensures was_bad { IfErr result (λ e. e.0 ≡ StoreError.BadStore → is_sound e.1 → is_bad image members (schema_of schema.now)) }
+        ensures suits { IfErr result (λ e. suits e.1 members (language_of schema.now)) }
+        ensures bad { IfErr result (λ e. e.0 ≡ StoreError.BadStore → is_bad e.1 members (language_of schema.now)) }
+        ensures was_bad { IfErr result (λ e. e.0 ≡ StoreError.BadStore → is_sound e.1 → is_bad image members (language_of schema.now)) }
         ensures not_down { IfErr result (λ e. e.0 ≡ StoreError.NodeDown → ⊥) };
 
     /// Reads the hard state, the length of the log and its last 1,024 entries, or all where there are
     /// fewer, and changes nothing. `NodeDown` where the keeper is down, `StoreFault` where the store
     /// fails, `NoMemory` where memory is refused.
     fn state(&mut self, alloc: Global) -> Result<State, StoreError>
-        ensures ok { IfOk result (λ s. Self.Shelf.is_honest self.new → (s.hard ≡ (Self.Shelf.stored self.old).hard) × (s.length ≡ length (Self.Shelf.stored self.old).log) × (s.tail.items ≡ tail_of (Self.Shelf.stored self.old).log)) }
-        ensures log { OnOk result (Self.Shelf.is_honest self.new → (members : ℕ) (tables : Tables) → Self.Shelf.serves self.old members tables → IsLog members tables (Self.Shelf.stored self.old)) }
-        ensures same { Self.Shelf.is_honest self.new → Self.Shelf.stored self.new ≡ Self.Shelf.stored self.old }
-        ensures answered { IsAnswered (Self.Shelf.is_up self.old) (Self.Shelf.is_up self.new) (Self.Shelf.failed self.old) (Self.Shelf.failed self.new) result }
-        ensures honest { Self.Shelf.is_honest self.new → Self.Shelf.is_honest self.old }
-        ensures left { (d : Durable) → Self.Shelf.may_hold self.new d → Self.Shelf.may_hold self.old d }
-        ensures serves { (members : ℕ) (tables : Tables) → Self.Shelf.serves self.old members tables → Self.Shelf.serves self.new members tables }
-        ensures asks { Self.Shelf.asks self.new ≡ Self.Shelf.asks self.old }
-        ensures saves { Self.Shelf.saves self.new ≡ Self.Shelf.saves self.old }
-        ensures limit { Self.Shelf.limit self.new ≡ Self.Shelf.limit self.old };
+        ensures ok { IfOk result (λ s. Self.LogReader.is_honest self.new → (s.hard ≡ (Self.LogReader.stored self.old).hard) × (s.length ≡ length (Self.LogReader.stored self.old).log) × (s.tail.items ≡ tail_of (Self.LogReader.stored self.old).log)) }
+        ensures log { OnOk result (Self.LogReader.is_honest self.new → (members : ℕ) (language : Language) → Self.LogReader.serves self.old members language → IsLog members language (Self.LogReader.stored self.old)) }
+        ensures same { Self.LogReader.is_honest self.new → Self.LogReader.stored self.new ≡ Self.LogReader.stored self.old }
+        ensures answered { IsAnswered (Self.LogReader.is_up self.old) (Self.LogReader.is_up self.new) (Self.LogReader.failed self.old) (Self.LogReader.failed self.new) result }
+        ensures honest { Self.LogReader.is_honest self.new → Self.LogReader.is_honest self.old }
+        ensures left { (d : Durable) → Self.LogReader.may_hold self.new d → Self.LogReader.may_hold self.old d }
+        ensures serves { (members : ℕ) (language : Language) → Self.LogReader.serves self.old members language → Self.LogReader.serves self.new members language }
+        ensures asks { Self.LogReader.asks self.new ≡ Self.LogReader.asks self.old }
+        ensures saves { Self.LogReader.saves self.new ≡ Self.LogReader.saves self.old }
+        ensures limit { Self.LogReader.limit self.new ≡ Self.LogReader.limit self.old };
 
     /// Stores a change, all of it at once. Its errors are those of `state`. After an error what is
     /// stored is what was so before, or what the change makes of it. Owed: the change keeps no more of
     /// the log than there is, its numbers are in range, and what it makes of what is stored forms a log
     /// of a member that the keeper was opened for.
     fn save(&mut self, alloc: Global, change: &Change) -> Result<(), StoreError>
-        requires kept { Self.Shelf.is_honest self.old → Self.Shelf.is_up self.old ≡ true → change.now.kept ≤ length (Self.Shelf.stored self.old).log }
+        requires kept { Self.LogReader.is_honest self.old → Self.LogReader.is_up self.old ≡ true → change.now.kept ≤ length (Self.LogReader.stored self.old).log }
         requires small { IsSmall change.now }
-        requires log { (members : ℕ) × ((tables : Tables) × (Self.Shelf.serves self.old members tables × (Self.Shelf.is_honest self.old → Self.Shelf.is_up self.old ≡ true → IsLog members tables (after change.now (Self.Shelf.stored self.old))))) }
-        ensures ok { OnOk result (Self.Shelf.is_honest self.new → Self.Shelf.stored self.new ≡ after change.now (Self.Shelf.stored self.old)) }
-        ensures answered { IsAnswered (Self.Shelf.is_up self.old) (Self.Shelf.is_up self.new) (Self.Shelf.failed self.old) (Self.Shelf.failed self.new) result }
-        ensures honest { Self.Shelf.is_honest self.new → Self.Shelf.is_honest self.old }
-        ensures left { Self.Shelf.is_up self.old ≡ true → (d : Durable) → Self.Shelf.may_hold self.new d → IsBeforeOrAfter (Self.Shelf.stored self.old) (after change.now (Self.Shelf.stored self.old)) d }
-        ensures torn { OnErr result (Self.Shelf.is_up self.old ≡ true → Self.Shelf.is_honest self.new → IsBeforeOrAfter (Self.Shelf.stored self.old) (after change.now (Self.Shelf.stored self.old)) (Self.Shelf.stored self.new)) }
-        ensures still { Self.Shelf.is_up self.old ≡ false → Self.Shelf.is_honest self.new → Self.Shelf.stored self.new ≡ Self.Shelf.stored self.old }
-        ensures late { Self.Shelf.is_up self.old ≡ false → (d : Durable) → Self.Shelf.may_hold self.new d → Self.Shelf.may_hold self.old d }
-        ensures serves { (members : ℕ) (tables : Tables) → Self.Shelf.serves self.old members tables → (Self.Shelf.is_honest self.old → Self.Shelf.is_up self.old ≡ true → IsLog members tables (after change.now (Self.Shelf.stored self.old))) → Self.Shelf.serves self.new members tables }
-        ensures asks { Self.Shelf.asks self.new ≡ Self.Shelf.asks self.old }
-        ensures saves { Self.Shelf.saves self.new ≡ one_more (Self.Shelf.saves self.old) }
-        ensures limit { Self.Shelf.limit self.new ≡ Self.Shelf.limit self.old };
+        requires log { (members : ℕ) × ((language : Language) × (Self.LogReader.serves self.old members language × (Self.LogReader.is_honest self.old → Self.LogReader.is_up self.old ≡ true → IsLog members language (after change.now (Self.LogReader.stored self.old))))) }
+        ensures ok { OnOk result (Self.LogReader.is_honest self.new → Self.LogReader.stored self.new ≡ after change.now (Self.LogReader.stored self.old)) }
+        ensures answered { IsAnswered (Self.LogReader.is_up self.old) (Self.LogReader.is_up self.new) (Self.LogReader.failed self.old) (Self.LogReader.failed self.new) result }
+        ensures honest { Self.LogReader.is_honest self.new → Self.LogReader.is_honest self.old }
+        ensures left { Self.LogReader.is_up self.old ≡ true → (d : Durable) → Self.LogReader.may_hold self.new d → IsBeforeOrAfter (Self.LogReader.stored self.old) (after change.now (Self.LogReader.stored self.old)) d }
+        ensures torn { OnErr result (Self.LogReader.is_up self.old ≡ true → Self.LogReader.is_honest self.new → IsBeforeOrAfter (Self.LogReader.stored self.old) (after change.now (Self.LogReader.stored self.old)) (Self.LogReader.stored self.new)) }
+        ensures still { Self.LogReader.is_up self.old ≡ false → Self.LogReader.is_honest self.new → Self.LogReader.stored self.new ≡ Self.LogReader.stored self.old }
+        ensures late { Self.LogReader.is_up self.old ≡ false → (d : Durable) → Self.LogReader.may_hold self.new d → Self.LogReader.may_hold self.old d }
+        ensures serves { (members : ℕ) (language : Language) → Self.LogReader.serves self.old members language → (Self.LogReader.is_honest self.old → Self.LogReader.is_up self.old ≡ true → IsLog members language (after change.now (Self.LogReader.stored self.old))) → Self.LogReader.serves self.new members language }
+        ensures asks { Self.LogReader.asks self.new ≡ Self.LogReader.asks self.old }
+        ensures saves { Self.LogReader.saves self.new ≡ one_more (Self.LogReader.saves self.old) }
+        ensures limit { Self.LogReader.limit self.new ≡ Self.LogReader.limit self.old };
 
     /// Gives the image up, which holds what the keeper stored, neither more nor less. It answers also after
     /// an error.
     fn close(self) -> Self::Image
-        ensures holds { (d : Durable) → holds result d → Self.Shelf.may_hold self d }
-        ensures kept { (d : Durable) → Self.Shelf.may_hold self d → holds result d }
-        ensures good { (members : ℕ) (tables : Tables) → Self.Shelf.serves self members tables → Self.Shelf.is_honest self → is_bad result members tables → ⊥ }
-        ensures sound { is_sound result → Self.Shelf.is_honest self }
-        ensures limit { limit_of result ≡ Self.Shelf.limit self }
-        ensures suits { (members : ℕ) (tables : Tables) → Self.Shelf.serves self members tables → suits result members tables };
+        ensures holds { (d : Durable) → holds result d → Self.LogReader.may_hold self d }
+        ensures kept { (d : Durable) → Self.LogReader.may_hold self d → holds result d }
+        ensures good { (members : ℕ) (language : Language) → Self.LogReader.serves self members language → Self.LogReader.is_honest self → is_bad result members language → ⊥ }
+        ensures sound { is_sound result → Self.LogReader.is_honest self }
+        ensures limit { limit_of result ≡ Self.LogReader.limit self }
+        ensures suits { (members : ℕ) (language : Language) → Self.LogReader.serves self members language → suits result members language };
 
     /// Only a sound image holds anything.
     ghost only_sound: { (i : Self.Image) (d : Durable) → holds i d → is_sound i };
@@ -195,5 +195,5 @@ pub trait Keeper: Shelf {
     ghost holds_one: { (i : Self.Image) (d : Durable) (e : Durable) → holds i d → holds i e → d ≡ e };
 
     /// One that holds a log of a member is not bad for that member.
-    ghost never_bad: { (i : Self.Image) (members : ℕ) (tables : Tables) (d : Durable) → holds i d → IsLog members tables d → is_bad i members tables → ⊥ };
+    ghost never_bad: { (i : Self.Image) (members : ℕ) (language : Language) (d : Durable) → holds i d → IsLog members language d → is_bad i members language → ⊥ };
 }

@@ -12,6 +12,6 @@ pub mod state;
 pub use change::Change;
 pub use error::StoreError;
 pub use hard_state::HardState;
-pub use keeper::{Keeper, Shelf};
+pub use keeper::{Keeper, LogReader};
 pub use memory::{MemImage, MemKeeper};
 pub use state::{State, TAIL_MOST};

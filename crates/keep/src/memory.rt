@@ -4,7 +4,7 @@ ghost use Rattle.std.specs.Prelude.{◌≡◌, ◌≢◌, ◌↔◌, ℕ, ◌-�
 use crate::change::Change;
 use crate::error::StoreError;
 use crate::hard_state::HardState;
-use crate::keeper::{Keeper, Shelf};
+use crate::keeper::{Keeper, LogReader};
 use crate::state::{State, TAIL_MOST};
 use model::entry::Entry;
 use schema::Schema;
@@ -22,7 +22,7 @@ pub struct MemImage {
 
 impl MemImage {
     ghost use Rattle.model.specs.Steps.{TERM_LAST};
-    ghost use Rattle.model.specs.Transactions.{Schema as Tables};
+    ghost use Rattle.model.specs.Transactions.{Language};
     ghost use Rattle.keep.specs.Durable.{after, blank, failing_call, beginning, stored_in};
     ghost use Rattle.keep.specs.Log.{IsLog, is_vote};
 
@@ -30,7 +30,7 @@ impl MemImage {
     /// to fail.
     pub fn new(alloc: Global) -> MemImage
         ensures stored { stored_in result ≡ blank }
-        ensures log { (members : ℕ) (tables : Tables) → IsLog members tables (stored_in result) }
+        ensures log { (members : ℕ) (language : Language) → IsLog members language (stored_in result) }
         ensures failing { failing_call result ≡ 0 }
     {
         let hard = HardState {
@@ -45,7 +45,7 @@ impl MemImage {
     /// to fail.
     pub fn with_hard_state(alloc: Global, hard: HardState) -> MemImage
         ensures stored { stored_in result ≡ beginning hard }
-        ensures log { (members : ℕ) (tables : Tables) → hard.term ≤ TERM_LAST → is_vote members hard.vote ≡ true → IsLog members tables (stored_in result) }
+        ensures log { (members : ℕ) (language : Language) → hard.term ≤ TERM_LAST → is_vote members hard.vote ≡ true → IsLog members language (stored_in result) }
         ensures failing { failing_call result ≡ 0 }
     {
         MemImage {
@@ -160,7 +160,7 @@ impl MemKeeper {
     }
 }
 
-impl Shelf for MemKeeper {
+impl LogReader for MemKeeper {
     ghost use Rattle.std.proofs.Common.{refl};
     ghost use Rattle.keep.specs.Durable.{stored_in, one_more};
     ghost use Rattle.keep.specs.Log.{IsLog, log_prop};
@@ -183,7 +183,7 @@ impl Shelf for MemKeeper {
 
     ghost may_hold = { λ k d. d ≡ stored_in k.image };
 
-    ghost serves = { λ k members tables. IsLog members tables (stored_in k.image) };
+    ghost serves = { λ k members language. IsLog members language (stored_in k.image) };
 
     ghost only_honest = { λ _ _ _. tt };
 
@@ -191,7 +191,7 @@ impl Shelf for MemKeeper {
 
     ghost holds_stored = { λ _ _. refl };
 
-    ghost served_once = { λ k members tables. log_prop members tables (stored_in k.image) };
+    ghost served_once = { λ k members language. log_prop members language (stored_in k.image) };
 
     ghost only_logs = { λ _ _ _ forms _. forms };
 
@@ -241,7 +241,7 @@ impl Keeper for MemKeeper {
 
     ghost holds = { λ i d. d ≡ stored_in i };
 
-    ghost suits = { λ i members tables. IsLog members tables (stored_in i) };
+    ghost suits = { λ i members language. IsLog members language (stored_in i) };
 
     ghost is_bad = { λ _ _ _. ⊥ };
 

@@ -8,7 +8,7 @@ use Rattle.std.proofs.lemmas.List.Sums.{fold-append}
 use Rattle.std.proofs.lemmas.List.Elements.{All-contains}
 use Rattle.model.specs.Lists.{nth}
 use Rattle.model.specs.Members.{Node, applied}
-use Rattle.model.specs.Transactions.{Schema}
+use Rattle.model.specs.Transactions.{Language}
 use Rattle.model.specs.Worlds.{Event, fresh, new_world}
 use Rattle.safety.specs.Floors.{WasAt}
 use Rattle.node.specs.View.{started_from}
@@ -18,7 +18,7 @@ use Rattle.flight.specs.declared.life.Opening.{Opening}
 use Rattle.flight.specs.declared.life.Step.{Step}
 use Rattle.flight.specs.declared.life.Life.{Life}
 use Rattle.flight.specs.declared.life.Ending.{Ending}
-use Rattle.sqlread.specs.Meaning.{schema_of}
+use Rattle.sqlread.specs.Meaning.{language_of}
 use Rattle.cells.specs.Lives.{opened_with, replay, stepped}
 use Rattle.cells.specs.Publishing.{items_by, items_from}
 use Rattle.cells.specs.Runs.{RunsRise}
@@ -70,8 +70,8 @@ followed r events rise explains me k life at =
     lives_followed r events me own.0.items (λ i. ap (option_and_then (λ (y : Vec Life Global). slice_get y.items i)) own.1) fresh_first k life own.2
 
 -- after the first steps
-was_through : (r : Records) (events : List Event) (me : ℕ) (x : Node) (steps : List Step) → WasAt (schema_of r.tables) (length r.lives) (new_world (length r.lives)) events me x → GoesThrough r events me x steps →
-    (j : ℕ) → WasAt (schema_of r.tables) (length r.lives) (new_world (length r.lives)) events me (gone r me x (take j steps))
+was_through : (r : Records) (events : List Event) (me : ℕ) (x : Node) (steps : List Step) → WasAt (language_of r.tables) (length r.lives) (new_world (length r.lives)) events me x → GoesThrough r events me x steps →
+    (j : ℕ) → WasAt (language_of r.tables) (length r.lives) (new_world (length r.lives)) events me (gone r me x (take j steps))
 was_through r events me x [] was goes zero = was
 was_through r events me x [] was goes (suc j) = was
 was_through r events me x (s ∷ steps) was goes zero = was
@@ -88,12 +88,12 @@ abbrev seat : Records → ℕ → Node → Seated
 seat r me x = record { schema = r.tables; members = length r.lives; me = me; member = x }
 
 -- stamps rise with what a move makes applied and sealed
-with_move : (r : Records) (me mark : ℕ) (x y : Node) (before : List Item) → Runs (schema_of r.tables) (length r.lives) → RunsRise (schema_of r.tables) (length r.lives) (new_world (length r.lives)) → IsMove (schema_of r.tables) (length r.lives) me x y →
+with_move : (r : Records) (me mark : ℕ) (x y : Node) (before : List Item) → Runs (language_of r.tables) (length r.lives) → RunsRise (language_of r.tables) (length r.lives) (new_world (length r.lives)) → IsMove (language_of r.tables) (length r.lives) me x y →
     Rises before → entries_in before ≡ applied x → sealed_in before ≡ x.sealed → Rises (before ++ items_by mark x y)
 with_move r me mark x y before runs law move rises entries sealed =
-    let schema : Schema = schema_of r.tables in
+    let language : Language = language_of r.tables in
     let n : ℕ = length r.lives in
-    law (move.early ++ move.event ∷ []) me mark x y before (was_before schema n me x y move) (was_after schema n me x y move) (grows schema n me x y runs move) rises entries sealed
+    law (move.early ++ move.event ∷ []) me mark x y before (was_before language n me x y move) (was_after language n me x y move) (grows language n me x y runs move) rises entries sealed
 
 -- what a life makes in these steps, and what it is then
 record IsMade (r : Records) (me : ℕ) (o : Opening) (steps : List Step) : Type 0 where
@@ -102,7 +102,7 @@ record IsMade (r : Records) (me : ℕ) (o : Opening) (steps : List Step) : Type 
   listed : IsListed (seat r me member) o steps
   rises : Rises (items_in (seat r me member) o steps)
 
-makes : (r : Records) (events : List Event) (me : ℕ) (o : Opening) (before steps : List Step) → Runs (schema_of r.tables) (length r.lives) → RunsRise (schema_of r.tables) (length r.lives) (new_world (length r.lives)) → (m : IsMade r me o before) →
+makes : (r : Records) (events : List Event) (me : ℕ) (o : Opening) (before steps : List Step) → Runs (language_of r.tables) (length r.lives) → RunsRise (language_of r.tables) (length r.lives) (new_world (length r.lives)) → (m : IsMade r me o before) →
     GoesThrough r events me m.member steps → IsMade r me o (before ++ steps)
 makes r events me o before [] runs law m goes = subst (λ (xs : List Step). IsMade r me o xs) (sym (append-nil before)) m
 makes r events me o before (s ∷ steps) runs law m goes =
@@ -110,7 +110,7 @@ makes r events me o before (s ∷ steps) runs law m goes =
     let x : Node = m.member in
     let y : Node = stepped r.tables n me x s in
     let move = goes.0 in
-    let more = one_more (seat r me x) (seat r me y) o before (before ++ s ∷ []) s refl refl refl refl m.is refl (grows (schema_of r.tables) n me x y runs move) m.listed in
+    let more = one_more (seat r me x) (seat r me y) o before (before ++ s ∷ []) s refl refl refl refl m.is refl (grows (language_of r.tables) n me x y runs move) m.listed in
     let entries : entries_in (items_in (seat r me x) o before) ≡ applied x = m.listed.entries ∙ ap applied (sym m.is) in
     let sealed : sealed_in (items_in (seat r me x) o before) ≡ x.sealed = m.listed.sealed ∙ ap (λ (v : Node). v.sealed) (sym m.is) in
     let rises = with_move r me s.mark x y (items_in (seat r me x) o before) runs law move m.rises entries sealed in
@@ -123,7 +123,7 @@ none_made : (r : Records) (me : ℕ) (o : Opening) → IsMade r me o []
 unfolding items_from
 none_made r me o = record { member = started_from (opened_with o); is = refl; listed = listed_none (seat r me (started_from (opened_with o))) o [] refl; rises = tt }
 
-life_rises : (r : Records) (events : List Event) (me : ℕ) (life : Life) → Runs (schema_of r.tables) (length r.lives) → RunsRise (schema_of r.tables) (length r.lives) (new_world (length r.lives)) → IsFollowed r events me life → IsRising r.tables (length r.lives) me life
+life_rises : (r : Records) (events : List Event) (me : ℕ) (life : Life) → Runs (language_of r.tables) (length r.lives) → RunsRise (language_of r.tables) (length r.lives) (new_world (length r.lives)) → IsFollowed r events me life → IsRising r.tables (length r.lives) me life
 unfolding none_made
 life_rises r events me life runs law f =
     let n : ℕ = length r.lives in
@@ -134,9 +134,9 @@ life_rises r events me life runs law f =
     record {
       whole = m.rises;
       cut = λ s e.
-          let move : IsMove (schema_of r.tables) n me x (stepped r.tables n me x s) = subst (λ (end : Ending). WasCut r me x end) e f.cut in
+          let move : IsMove (language_of r.tables) n me x (stepped r.tables n me x s) = subst (λ (end : Ending). WasCut r me x end) e f.cut in
           with_move r me s.mark x (stepped r.tables n me x s) (made r.tables n me life) runs law move m.rises entries sealed;
     }
 
-pub lives_rise_so : (r : Records) (events : List Event) → Runs (schema_of r.tables) (length r.lives) → RunsRise (schema_of r.tables) (length r.lives) (new_world (length r.lives)) → Rise r.lives → Explains r events → LivesRise r
+pub lives_rise_so : (r : Records) (events : List Event) → Runs (language_of r.tables) (length r.lives) → RunsRise (language_of r.tables) (length r.lives) (new_world (length r.lives)) → Rise r.lives → Explains r events → LivesRise r
 lives_rise_so r events runs law rise explains me k life at = life_rises r events me life runs law (followed r events rise explains me k life at)

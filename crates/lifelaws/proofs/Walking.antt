@@ -5,7 +5,7 @@ use Rattle.std.specs.Option.{option_map_or}
 use Rattle.std.proofs.lemmas.Bool.{cond-true, cond-false, cases_Bool, cond_both, eqb-false}
 use Rattle.std.proofs.lemmas.Option.{same_Some}
 use Rattle.model.specs.Lists.{nth}
-use Rattle.model.specs.Transactions.{Schema}
+use Rattle.model.specs.Transactions.{Language}
 use Rattle.model.specs.Members.{Node}
 use Rattle.model.specs.Steps.{Effect, Moves, Refuses, Nothing, on_message}
 use Rattle.model.specs.Kept.{node_after}
@@ -32,7 +32,7 @@ use Rattle.flight.specs.declared.life.Life.{Life}
 use Rattle.flight.specs.declared.life.Ending.{Ending}
 use Rattle.flight.specs.declared.life.Ending.TheVariants as ending
 use Rattle.sqlchecks.specs.Columns.{Tables}
-use Rattle.sqlread.specs.Meaning.{schema_of, select_of}
+use Rattle.sqlread.specs.Meaning.{language_of, select_of}
 use Rattle.cells.specs.Lives.{opened_with, stepped, work_of}
 use Rattle.world.specs.View.{if_up}
 use Rattle.moments.specs.declared.moment.Deed.{Deed}
@@ -49,7 +49,7 @@ use Rattle.lifelaws.proofs.Ordering.{and_true, is_done, is_deed, in_order}
 
 -- ---- what is done at other nodes
 
-module _ (schema : Schema) (n : ℕ) (w : World) (me m : ℕ) (other : m ≡ me → ⊥) where
+module _ (language : Language) (n : ℕ) (w : World) (me m : ℕ) (other : m ≡ me → ⊥) where
   abbrev IsSame : World → Type 0
   IsSame v = nth v.nodes me ≡ nth w.nodes me
 
@@ -61,8 +61,8 @@ module _ (schema : Schema) (n : ℕ) (w : World) (me m : ℕ) (other : m ≡ me 
   done_apart (Refuses refusal) = refl
   done_apart Nothing = refl
 
-  does_apart : (job : Job) → IsSame (does schema n w m job (nth w.nodes m))
-  does_apart job = if_there (nth w.nodes m) _ w IsSame (λ x l. cond_both x.up _ w IsSame (λ p. done_apart (effect schema n w m job x)) (λ p. refl)) refl
+  does_apart : (job : Job) → IsSame (does language n w m job (nth w.nodes m))
+  does_apart job = if_there (nth w.nodes m) _ w IsSame (λ x l. cond_both x.up _ w IsSame (λ p. done_apart (effect language n w m job x)) (λ p. refl)) refl
 
   starts_apart : IsSame (starts w m (nth w.nodes m))
   starts_apart = if_there (nth w.nodes m) _ w IsSame (λ x l. cond_both x.up w _ IsSame (λ p. refl) (λ p. put_apart (started x) [])) refl
@@ -70,69 +70,69 @@ module _ (schema : Schema) (n : ℕ) (w : World) (me m : ℕ) (other : m ≡ me 
   stops_apart : IsSame (stops w m (nth w.nodes m))
   stops_apart = if_there (nth w.nodes m) _ w IsSame (λ x l. cond_both x.up _ w IsSame (λ p. put_apart (stopped x) []) (λ p. refl)) refl
 
-  tears_apart : (job : Job) (left : Left) → IsSame (tears schema n w m job left (nth w.nodes m))
-  tears_apart job left = if_there (nth w.nodes m) _ w IsSame (λ x l. cond_both (x.up && is_for w m job) _ w IsSame (λ p. put_apart (stopped (node_left left x (effect schema n w m job x))) []) (λ p. refl)) refl
+  tears_apart : (job : Job) (left : Left) → IsSame (tears language n w m job left (nth w.nodes m))
+  tears_apart job left = if_there (nth w.nodes m) _ w IsSame (λ x l. cond_both (x.up && is_for w m job) _ w IsSame (λ p. put_apart (stopped (node_left left x (effect language n w m job x))) []) (λ p. refl)) refl
 
 -- a delivery is one at its addressee
-delivers_at : (schema : Schema) (n : ℕ) (p : Past) (at node : ℕ) (reading : ℤ) (message : Message) (k : ℕ) → IsSent p at node message k →
-    happens schema n p.world (Deliver k reading) ≡ does schema n p.world node (Delivery k reading) (nth p.world.nodes node)
-delivers_at schema n p at node reading message k sent =
-    ap (delivers schema n p.world (Delivery k reading)) sent.is ∙ ap (λ (m : ℕ). does schema n p.world m (Delivery k reading) (nth p.world.nodes m)) sent.addressed
+delivers_at : (language : Language) (n : ℕ) (p : Past) (at node : ℕ) (reading : ℤ) (message : Message) (k : ℕ) → IsSent p at node message k →
+    happens language n p.world (Deliver k reading) ≡ does language n p.world node (Delivery k reading) (nth p.world.nodes node)
+delivers_at language n p at node reading message k sent =
+    ap (delivers language n p.world (Delivery k reading)) sent.is ∙ ap (λ (m : ℕ). does language n p.world m (Delivery k reading) (nth p.world.nodes m)) sent.addressed
 
-job_at : (schema : Schema) (n : ℕ) (p : Past) (node : ℕ) (t : Packet) (job : Job) → IsJob p node t job → happens schema n p.world (job_event node job) ≡ does schema n p.world node job (nth p.world.nodes node)
-job_at schema n p node (packet.Local input) job is =
-    let P : Job → Type 0 = λ j. happens schema n p.world (job_event node j) ≡ does schema n p.world node j (nth p.world.nodes node) in
+job_at : (language : Language) (n : ℕ) (p : Past) (node : ℕ) (t : Packet) (job : Job) → IsJob p node t job → happens language n p.world (job_event node job) ≡ does language n p.world node job (nth p.world.nodes node)
+job_at language n p node (packet.Local input) job is =
+    let P : Job → Type 0 = λ j. happens language n p.world (job_event node j) ≡ does language n p.world node j (nth p.world.nodes node) in
     subst P (sym is) refl
-job_at schema n p node (packet.Delivered at reading message) job is =
-    let P : Job → Type 0 = λ j. happens schema n p.world (job_event node j) ≡ does schema n p.world node j (nth p.world.nodes node) in
-    subst P (sym is.2) (delivers_at schema n p at node reading message is.0 is.1)
+job_at language n p node (packet.Delivered at reading message) job is =
+    let P : Job → Type 0 = λ j. happens language n p.world (job_event node j) ≡ does language n p.world node j (nth p.world.nodes node) in
+    subst P (sym is.2) (delivers_at language n p at node reading message is.0 is.1)
 
-job_apart : (schema : Schema) (n : ℕ) (p : Past) (me node : ℕ) (t : Packet) (job : Job) → (node ≡ me → ⊥) → IsJob p node t job → nth (happens schema n p.world (job_event node job)).nodes me ≡ nth p.world.nodes me
-job_apart schema n p me node t job other is =
-    ap (λ (w : World). nth w.nodes me) (job_at schema n p node t job is) ∙ does_apart schema n p.world me node other job
+job_apart : (language : Language) (n : ℕ) (p : Past) (me node : ℕ) (t : Packet) (job : Job) → (node ≡ me → ⊥) → IsJob p node t job → nth (happens language n p.world (job_event node job)).nodes me ≡ nth p.world.nodes me
+job_apart language n p me node t job other is =
+    ap (λ (w : World). nth w.nodes me) (job_at language n p node t job is) ∙ does_apart language n p.world me node other job
 
 -- what these events leave of member me
-abbrev left_of : Schema → ℕ → Past → ℕ → List Event → Option Node
-left_of schema n p me events = nth (run schema n p.world events).nodes me
+abbrev left_of : Language → ℕ → Past → ℕ → List Event → Option Node
+left_of language n p me events = nth (run language n p.world events).nodes me
 
-abbrev IsSameMember : Schema → ℕ → Past → ℕ → List Event → Type 0
-IsSameMember schema n p me events = left_of schema n p me events ≡ nth p.world.nodes me
+abbrev IsSameMember : Language → ℕ → Past → ℕ → List Event → Type 0
+IsSameMember language n p me events = left_of language n p me events ≡ nth p.world.nodes me
 
-by_event : (schema : Schema) (n : ℕ) (p : Past) (me : ℕ) (e : Event) (events : List Event) → events ≡ e ∷ [] → nth (happens schema n p.world e).nodes me ≡ nth p.world.nodes me → IsSameMember schema n p me events
-by_event schema n p me e events is same = ap (left_of schema n p me) is ∙ same
+by_event : (language : Language) (n : ℕ) (p : Past) (me : ℕ) (e : Event) (events : List Event) → events ≡ e ∷ [] → nth (happens language n p.world e).nodes me ≡ nth p.world.nodes me → IsSameMember language n p me events
+by_event language n p me e events is same = ap (left_of language n p me) is ∙ same
 
-begun_apart : (r : Records) (n : ℕ) (p : Past) (me node k : ℕ) (o : Option Life) (events : List Event) → (node ≡ me → ⊥) → IsLifeBegun r n p node k o events → IsSameMember (schema_of r.tables) n p me events
+begun_apart : (r : Records) (n : ℕ) (p : Past) (me node k : ℕ) (o : Option Life) (events : List Event) → (node ≡ me → ⊥) → IsLifeBegun r n p node k o events → IsSameMember (language_of r.tables) n p me events
 begun_apart r n p me node k None events other h = absurd h
-begun_apart r n p me node zero (Some l) events other h = ap (left_of (schema_of r.tables) n p me) h.1
-begun_apart r n p me node (suc k) (Some l) events other h = by_event (schema_of r.tables) n p me (Start node) events h.2 (starts_apart (schema_of r.tables) n p.world me node other)
+begun_apart r n p me node zero (Some l) events other h = ap (left_of (language_of r.tables) n p me) h.1
+begun_apart r n p me node (suc k) (Some l) events other h = by_event (language_of r.tables) n p me (Start node) events h.2 (starts_apart (language_of r.tables) n p.world me node other)
 
-taken_apart : (r : Records) (n : ℕ) (p : Past) (me node : ℕ) (o : Option Step) (events : List Event) → (node ≡ me → ⊥) → IsTaken r.version r.tables n p node o events → IsSameMember (schema_of r.tables) n p me events
+taken_apart : (r : Records) (n : ℕ) (p : Past) (me node : ℕ) (o : Option Step) (events : List Event) → (node ≡ me → ⊥) → IsTaken r.version r.tables n p node o events → IsSameMember (language_of r.tables) n p me events
 taken_apart r n p me node None events other h = absurd h
-taken_apart r n p me node (Some s) events other h = by_event (schema_of r.tables) n p me (job_event node h.0) events h.3 (job_apart (schema_of r.tables) n p me node s.packet h.0 other h.1)
+taken_apart r n p me node (Some s) events other h = by_event (language_of r.tables) n p me (job_event node h.0) events h.3 (job_apart (language_of r.tables) n p me node s.packet h.0 other h.1)
 
-cut_apart : (schema : Schema) (n : ℕ) (p : Past) (me node : ℕ) (next : Option Life) (e : Ending) (events : List Event) → (node ≡ me → ⊥) → IsCut p node next e events → IsSameMember schema n p me events
-cut_apart schema n p me node next ending.Up events other h = absurd h
-cut_apart schema n p me node next ending.Stopped events other h = absurd h
-cut_apart schema n p me node next (ending.Torn s) events other h = by_event schema n p me (Torn node h.0 h.1) events h.4 (tears_apart schema n p.world me node other h.0 h.1)
+cut_apart : (language : Language) (n : ℕ) (p : Past) (me node : ℕ) (next : Option Life) (e : Ending) (events : List Event) → (node ≡ me → ⊥) → IsCut p node next e events → IsSameMember language n p me events
+cut_apart language n p me node next ending.Up events other h = absurd h
+cut_apart language n p me node next ending.Stopped events other h = absurd h
+cut_apart language n p me node next (ending.Torn s) events other h = by_event language n p me (Torn node h.0 h.1) events h.4 (tears_apart language n p.world me node other h.0 h.1)
 
-life_cut_apart : (r : Records) (n : ℕ) (p : Past) (me node k : ℕ) (o : Option Life) (events : List Event) → (node ≡ me → ⊥) → IsLifeCut r p node k o events → IsSameMember (schema_of r.tables) n p me events
+life_cut_apart : (r : Records) (n : ℕ) (p : Past) (me node k : ℕ) (o : Option Life) (events : List Event) → (node ≡ me → ⊥) → IsLifeCut r p node k o events → IsSameMember (language_of r.tables) n p me events
 life_cut_apart r n p me node k None events other h = absurd h
-life_cut_apart r n p me node k (Some l) events other h = cut_apart (schema_of r.tables) n p me node (life_at r.lives node (k + 1)) l.ending events other h
+life_cut_apart r n p me node k (Some l) events other h = cut_apart (language_of r.tables) n p me node (life_at r.lives node (k + 1)) l.ending events other h
 
-asked_same : (r : Records) (n : ℕ) (p : Past) (me node : ℕ) (o : Option Recorded) (events : List Event) → IsAnsweredBy r n p node o events → IsSameMember (schema_of r.tables) n p me events
+asked_same : (r : Records) (n : ℕ) (p : Past) (me node : ℕ) (o : Option Recorded) (events : List Event) → IsAnsweredBy r n p node o events → IsSameMember (language_of r.tables) n p me events
 asked_same r n p me node None events h = absurd h
-asked_same r n p me node (Some a) events h = by_event (schema_of r.tables) n p me (Ask node (select_of h.1.0)) events h.1.5 refl
+asked_same r n p me node (Some a) events h = by_event (language_of r.tables) n p me (Ask node (select_of h.1.0)) events h.1.5 refl
 
 apart : (node me : ℕ) → ((node == me) && true) ≡ false → node ≡ me → ⊥
 apart node me h = eqb-false node me (sym (and_true (node == me)) ∙ h)
 
 -- what is no deed of member me leaves it as it was
-same_member : (r : Records) (n : ℕ) (p : Past) (me node : ℕ) (d : Deed) (events : List Event) → IsBehindDeed r n p node d events → ((node == me) && is_done d) ≡ false → IsSameMember (schema_of r.tables) n p me events
+same_member : (r : Records) (n : ℕ) (p : Past) (me node : ℕ) (d : Deed) (events : List Event) → IsBehindDeed r n p node d events → ((node == me) && is_done d) ≡ false → IsSameMember (language_of r.tables) n p me events
 same_member r n p me node (Opens k) events h passed = begun_apart r n p me node k (life_at r.lives node k) events (apart node me passed) h
 same_member r n p me node (Takes k step) events h passed = taken_apart r n p me node (step_at r.lives node k step) events (apart node me passed) h
 same_member r n p me node (Tears k) events h passed = life_cut_apart r n p me node k (life_at r.lives node k) events (apart node me passed) h
 same_member r n p me node (Answers k) events h passed = asked_same r n p me node (slice_get r.answers k) events h
-same_member r n p me node (Stops k) events h passed = by_event (schema_of r.tables) n p me (Stop node) events h (stops_apart (schema_of r.tables) n p.world me node (apart node me passed))
+same_member r n p me node (Stops k) events h passed = by_event (language_of r.tables) n p me (Stop node) events h (stops_apart (language_of r.tables) n p.world me node (apart node me passed))
 
 -- ---- the deeds of one node, one by one
 
@@ -143,28 +143,28 @@ pub record IsStep (r : Records) (events : List Event) (me : ℕ) (x : Option Nod
   pub late : List Event
   pub past : Past
   pub is : early ++ (now ++ late) ≡ events
-  pub world : past.world ≡ run (schema_of r.tables) (length r.lives) (new_world (length r.lives)) early
+  pub world : past.world ≡ run (language_of r.tables) (length r.lives) (new_world (length r.lives)) early
   pub at : nth past.world.nodes me ≡ x
   pub behind : IsBehind r (length r.lives) past m now
 
 -- what the moment leaves
 abbrev pub next_of : (r : Records) (events : List Event) (me : ℕ) (x : Option Node) (m : Moment) → IsStep r events me x m → Option Node
-next_of r events me x m s = left_of (schema_of r.tables) (length r.lives) s.past me s.now
+next_of r events me x m s = left_of (language_of r.tables) (length r.lives) s.past me s.now
 
 abbrev pub Walks : Records → List Event → ℕ → Option Node → List Moment → Type 0
 Walks r events me x [] = Unit {0}
 Walks r events me x (m ∷ ms) = (s : IsStep r events me x m) × Walks r events me (next_of r events me x m s) ms
 
-pub walks : (r : Records) (events : List Event) (me : ℕ) (p q : Past) (early late : List Event) (ms : List Moment) → early ++ late ≡ events → p.world ≡ run (schema_of r.tables) (length r.lives) (new_world (length r.lives)) early →
+pub walks : (r : Records) (events : List Event) (me : ℕ) (p q : Past) (early late : List Event) (ms : List Moment) → early ++ late ≡ events → p.world ≡ run (language_of r.tables) (length r.lives) (new_world (length r.lives)) early →
     Leads r (length r.lives) p ms late q → Walks r events me (nth p.world.nodes me) (filter (is_deed me) ms)
 walks r events me p q early late [] is world led = tt
 walks r events me p q early late (m ∷ ms) is world led =
-    let schema : Schema = schema_of r.tables in
+    let language : Language = language_of r.tables in
     let n : ℕ = length r.lives in
     let now : List Event = led.0 in
     let joined : early ++ (now ++ led.1) ≡ events = ap (λ (es : List Event). early ++ es) (sym led.2) ∙ is in
-    let then_ : (after schema n p m.mark now).world ≡ run schema n (new_world n) (early ++ now) = ap (λ (w : World). run schema n w now) world ∙ sym (run_append schema n early now (new_world n)) in
-    let rest = walks r events me (after schema n p m.mark now) q (early ++ now) led.1 ms (append_assoc early now led.1 ∙ joined) then_ led.4 in
+    let then_ : (after language n p m.mark now).world ≡ run language n (new_world n) (early ++ now) = ap (λ (w : World). run language n w now) world ∙ sym (run_append language n early now (new_world n)) in
+    let rest = walks r events me (after language n p m.mark now) q (early ++ now) led.1 ms (append_assoc early now led.1 ∙ joined) then_ led.4 in
     elim (cases_Bool (is_deed me m)) [
       | inl held ↦ subst (λ (xs : List Moment). Walks r events me (nth p.world.nodes me) xs) (sym (cond-true (is_deed me m) (m ∷ filter (is_deed me) ms) (filter (is_deed me) ms) held))
           (record { early = early; now = now; late = led.1; past = p; is = joined; world = world; at = refl; behind = led.3 }, rest)
@@ -174,29 +174,29 @@ walks r events me p q early late (m ∷ ms) is world led =
 
 -- ---- one step
 
-module _ (schema : Schema) (n : ℕ) (w : World) (me : ℕ) (x : Node) (at : nth w.nodes me ≡ Some x) (up : x.up ≡ true) where
+module _ (language : Language) (n : ℕ) (w : World) (me : ℕ) (x : Node) (at : nth w.nodes me ≡ Some x) (up : x.up ≡ true) where
   done_here : (e : Effect) → nth (done w me e).nodes me ≡ Some (node_after x e)
   done_here (Moves a) = nth_same w.nodes me x a.node at
   done_here (Refuses refusal) = at
   done_here Nothing = at
 
-  does_here : (job : Job) → nth (does schema n w me job (nth w.nodes me)).nodes me ≡ Some (node_after x (effect schema n w me job x))
+  does_here : (job : Job) → nth (does language n w me job (nth w.nodes me)).nodes me ≡ Some (node_after x (effect language n w me job x))
   does_here job =
-      ap (λ (o : Option Node). nth (does schema n w me job o).nodes me) at
-      ∙ ap (λ (b : Bool). nth (if b then done w me (effect schema n w me job x) else w).nodes me) up
-      ∙ done_here (effect schema n w me job x)
+      ap (λ (o : Option Node). nth (does language n w me job o).nodes me) at
+      ∙ ap (λ (b : Bool). nth (if b then done w me (effect language n w me job x) else w).nodes me) up
+      ∙ done_here (effect language n w me job x)
 
 -- a packet that was there to be taken is what the life replays
-steps_by : (t : Tables) (n : ℕ) (p : Past) (me : ℕ) (x : Node) (s : Step) (k : Packet) (job : Job) → s.packet ≡ k → IsJob p me k job → node_after x (effect (schema_of t) n p.world me job x) ≡ stepped t n me x s
+steps_by : (t : Tables) (n : ℕ) (p : Past) (me : ℕ) (x : Node) (s : Step) (k : Packet) (job : Job) → s.packet ≡ k → IsJob p me k job → node_after x (effect (language_of t) n p.world me job x) ≡ stepped t n me x s
 unfolding stepped
 steps_by t n p me x s (packet.Local input) job e is =
-    ap (λ (j : Job). node_after x (effect (schema_of t) n p.world me j x)) is ∙ ap (λ (k : Packet). node_after x (works t n me (work_of k) x)) (sym e)
+    ap (λ (j : Job). node_after x (effect (language_of t) n p.world me j x)) is ∙ ap (λ (k : Packet). node_after x (works t n me (work_of k) x)) (sym e)
 steps_by t n p me x s (packet.Delivered mark reading message) job e is =
-    ap (λ (j : Job). node_after x (effect (schema_of t) n p.world me j x)) is.2
-    ∙ ap (λ (o : Option Message). node_after x (option_map_or (λ (m : Message). on_message (schema_of t) n me reading m x) o Nothing)) is.1.is
+    ap (λ (j : Job). node_after x (effect (language_of t) n p.world me j x)) is.2
+    ∙ ap (λ (o : Option Message). node_after x (option_map_or (λ (m : Message). on_message (language_of t) n me reading m x) o Nothing)) is.1.is
     ∙ ap (λ (k : Packet). node_after x (works t n me (work_of k) x)) (sym e)
 
-steps_so : (t : Tables) (n : ℕ) (p : Past) (me : ℕ) (x : Node) (s : Step) (job : Job) → IsJob p me s.packet job → node_after x (effect (schema_of t) n p.world me job x) ≡ stepped t n me x s
+steps_so : (t : Tables) (n : ℕ) (p : Past) (me : ℕ) (x : Node) (s : Step) (job : Job) → IsJob p me s.packet job → node_after x (effect (language_of t) n p.world me job x) ≡ stepped t n me x s
 steps_so t n p me x s job is = steps_by t n p me x s s.packet job refl is
 
 no_stop : (me : ℕ) (job : Job) → IsStopOf me (job_event me job) → ⊥
@@ -205,30 +205,30 @@ no_stop me (Delivery k reading) h = elim h [ ]
 
 -- member me takes the packet of a step
 record IsTakenSo (t : Tables) (n : ℕ) (p : Past) (me : ℕ) (y : Node) (job : Job) : Type 0 where
-  next : nth (happens (schema_of t) n p.world (job_event me job)).nodes me ≡ Some y
+  next : nth (happens (language_of t) n p.world (job_event me job)).nodes me ≡ Some y
   still : y.up ≡ true
 
 takes_so : (t : Tables) (n : ℕ) (p : Past) (me : ℕ) (x : Node) (s : Step) (job : Job) → nth p.world.nodes me ≡ Some x → x.up ≡ true → IsJob p me s.packet job → IsTakenSo t n p me (stepped t n me x s) job
 takes_so t n p me x s job at up is =
-    let w : World = happens (schema_of t) n p.world (job_event me job) in
+    let w : World = happens (language_of t) n p.world (job_event me job) in
     let y : Node = stepped t n me x s in
     let next : nth w.nodes me ≡ Some y =
-    ap (λ (v : World). nth v.nodes me) (job_at (schema_of t) n p me s.packet job is) ∙ does_here (schema_of t) n p.world me x at up job ∙ ap Some (steps_so t n p me x s job is) in
-    let found = (upkeep.onward (schema_of t) n p.world (job_event me job)).up me x at up (no_stop me job) in
+    ap (λ (v : World). nth v.nodes me) (job_at (language_of t) n p me s.packet job is) ∙ does_here (language_of t) n p.world me x at up job ∙ ap Some (steps_so t n p me x s job is) in
+    let found = (upkeep.onward (language_of t) n p.world (job_event me job)).up me x at up (no_stop me job) in
     let same : found.0 ≡ y = same_some (nth w.nodes me) found.0 y found.1 next in
     record { next = next; still = subst (λ (z : Node). z.up ≡ true) same found.2 }
 
 -- in the run
-next_so : (r : Records) (early : List Event) (p : Past) (me : ℕ) (y : Node) (job : Job) → p.world ≡ run (schema_of r.tables) (length r.lives) (new_world (length r.lives)) early → IsTakenSo r.tables (length r.lives) p me y job →
-    nth (run (schema_of r.tables) (length r.lives) (new_world (length r.lives)) (early ++ job_event me job ∷ [])).nodes me ≡ Some y
+next_so : (r : Records) (early : List Event) (p : Past) (me : ℕ) (y : Node) (job : Job) → p.world ≡ run (language_of r.tables) (length r.lives) (new_world (length r.lives)) early → IsTakenSo r.tables (length r.lives) p me y job →
+    nth (run (language_of r.tables) (length r.lives) (new_world (length r.lives)) (early ++ job_event me job ∷ [])).nodes me ≡ Some y
 next_so r early p me y job world so =
-    let schema : Schema = schema_of r.tables in
+    let language : Language = language_of r.tables in
     let n : ℕ = length r.lives in
     let e : Event = job_event me job in
-    ap (λ (w : World). nth w.nodes me) (run_append schema n early (e ∷ []) (new_world n) ∙ ap (λ (w : World). happens schema n w e) (sym world)) ∙ so.next
+    ap (λ (w : World). nth w.nodes me) (run_append language n early (e ∷ []) (new_world n) ∙ ap (λ (w : World). happens language n w e) (sym world)) ∙ so.next
 
-moves_so : (r : Records) (early : List Event) (p : Past) (me : ℕ) (x y : Node) (job : Job) → p.world ≡ run (schema_of r.tables) (length r.lives) (new_world (length r.lives)) early → nth p.world.nodes me ≡ Some x → x.up ≡ true →
-    IsTakenSo r.tables (length r.lives) p me y job → IsMove (schema_of r.tables) (length r.lives) me x y
+moves_so : (r : Records) (early : List Event) (p : Past) (me : ℕ) (x y : Node) (job : Job) → p.world ≡ run (language_of r.tables) (length r.lives) (new_world (length r.lives)) early → nth p.world.nodes me ≡ Some x → x.up ≡ true →
+    IsTakenSo r.tables (length r.lives) p me y job → IsMove (language_of r.tables) (length r.lives) me x y
 moves_so r early p me x y job world at up so = record {
   early = early;
   event = job_event me job;
@@ -244,20 +244,20 @@ moves_so r early p me x y job world at up so = record {
 abbrev pub GoesThrough : Records → List Event → ℕ → Node → List Step → Type 0
 GoesThrough r events me x [] = Unit {0}
 GoesThrough r events me x (s ∷ steps) =
-    IsMove (schema_of r.tables) (length r.lives) me x (stepped r.tables (length r.lives) me x s) × WasAt (schema_of r.tables) (length r.lives) (new_world (length r.lives)) events me (stepped r.tables (length r.lives) me x s)
+    IsMove (language_of r.tables) (length r.lives) me x (stepped r.tables (length r.lives) me x s) × WasAt (language_of r.tables) (length r.lives) (new_world (length r.lives)) events me (stepped r.tables (length r.lives) me x s)
     × GoesThrough r events me (stepped r.tables (length r.lives) me x s) steps
 
 -- the step that was cut short is one of a run, had it been made whole
 abbrev pub WasCut : Records → ℕ → Node → Ending → Type 0
 WasCut r me x ending.Up = Unit {0}
 WasCut r me x ending.Stopped = Unit {0}
-WasCut r me x (ending.Torn s) = IsMove (schema_of r.tables) (length r.lives) me x (stepped r.tables (length r.lives) me x s)
+WasCut r me x (ending.Torn s) = IsMove (language_of r.tables) (length r.lives) me x (stepped r.tables (length r.lives) me x s)
 
 abbrev pub gone : Records → ℕ → Node → List Step → Node
 gone r me x steps = fold (stepped r.tables (length r.lives) me) x steps
 
 pub record IsFollowed (r : Records) (events : List Event) (me : ℕ) (life : Life) : Type 0 where
-  pub begins : WasAt (schema_of r.tables) (length r.lives) (new_world (length r.lives)) events me (begun life)
+  pub begins : WasAt (language_of r.tables) (length r.lives) (new_world (length r.lives)) events me (begun life)
   pub goes : GoesThrough r events me (begun life) life.steps.items
   pub cut : WasCut r me (gone r me (begun life) life.steps.items) life.ending
 
@@ -269,15 +269,15 @@ record AreTaken (r : Records) (events : List Event) (me : ℕ) (x : Node) (steps
 
 -- what is left once one step is taken
 record IsTakenOnce (r : Records) (events : List Event) (me : ℕ) (x y : Node) (left : Option Node) : Type 0 where
-  move : IsMove (schema_of r.tables) (length r.lives) me x y
-  was : WasAt (schema_of r.tables) (length r.lives) (new_world (length r.lives)) events me y
+  move : IsMove (language_of r.tables) (length r.lives) me x y
+  was : WasAt (language_of r.tables) (length r.lives) (new_world (length r.lives)) events me y
   up : y.up ≡ true
   next : left ≡ Some y
 
 follow_step : (r : Records) (events : List Event) (me : ℕ) (x : Node) (s : Step) (m : Moment) (w : IsStep r events me (Some x) m) → x.up ≡ true → IsTaken r.version r.tables (length r.lives) w.past me (Some s) w.now →
     IsTakenOnce r events me x (stepped r.tables (length r.lives) me x s) (next_of r events me (Some x) m w)
 follow_step r events me x s m w up (job, is, tells, one) =
-    let schema : Schema = schema_of r.tables in
+    let language : Language = language_of r.tables in
     let n : ℕ = length r.lives in
     let y : Node = stepped r.tables n me x s in
     let so = takes_so r.tables n w.past me x s job w.at up is in
@@ -287,7 +287,7 @@ follow_step r events me x s m w up (job, is, tells, one) =
       move = moves_so r w.early w.past me x y job w.world w.at up so;
       was = record { early = w.early ++ e ∷ []; late = w.late; moment = moment; at = next_so r w.early w.past me y job w.world so };
       up = so.still;
-      next = ap (left_of schema n w.past me) one ∙ so.next;
+      next = ap (left_of language n w.past me) one ∙ so.next;
     }
 
 follow_steps : (r : Records) (events : List Event) (me k j : ℕ) (x : Node) (steps : List Step) (tail : List Moment) → x.up ≡ true → ((i : ℕ) → step_at r.lives me k (j + i) ≡ slice_get steps i) →
@@ -320,9 +320,9 @@ starts_here w me (Some z) opening at down stored =
     let has = subst (λ (o : Option Node). HasStored o opening) next stored in
     next ∙ ap Some (started_same z ∙ ap started_from has.1)
 
-opens_so : (t : Tables) (n : ℕ) (p : Past) (me k : ℕ) (o : Opening) (events : List Event) → IsOpened t n p me k o events → (k ≡ 0 → nth p.world.nodes me ≡ Some (fresh 0 None)) → left_of (schema_of t) n p me events ≡ Some (started_from (opened_with o))
-opens_so t n p me zero o events h first = ap (left_of (schema_of t) n p me) h.1 ∙ first refl ∙ ap (λ (d : Durable). Some (started_from d)) (sym h.0)
-opens_so t n p me (suc k) o events h first = ap (left_of (schema_of t) n p me) h.2 ∙ starts_here p.world me (nth p.world.nodes me) o refl h.0 h.1
+opens_so : (t : Tables) (n : ℕ) (p : Past) (me k : ℕ) (o : Opening) (events : List Event) → IsOpened t n p me k o events → (k ≡ 0 → nth p.world.nodes me ≡ Some (fresh 0 None)) → left_of (language_of t) n p me events ≡ Some (started_from (opened_with o))
+opens_so t n p me zero o events h first = ap (left_of (language_of t) n p me) h.1 ∙ first refl ∙ ap (λ (d : Durable). Some (started_from d)) (sym h.0)
+opens_so t n p me (suc k) o events h first = ap (left_of (language_of t) n p me) h.2 ∙ starts_here p.world me (nth p.world.nodes me) o refl h.0 h.1
 
 -- ---- how a life ends
 
@@ -351,14 +351,14 @@ follow_lives : (r : Records) (events : List Event) (me k : ℕ) (lives : List Li
     (i : ℕ) (life : Life) → slice_get lives i ≡ Some life → IsFollowed r events me life
 follow_lives r events me k [] x first at walked i life found = absurd (cc found)
 follow_lives r events me k (l ∷ lives) x first at walked i life found =
-    let schema : Schema = schema_of r.tables in
+    let language : Language = language_of r.tables in
     let n : ℕ = length r.lives in
     let w = walked.0 in
     let here : life_at r.lives me k ≡ Some l = ap (life_at r.lives me) (let e : k ≡ k + 0 = omega arith in e) ∙ at 0 in
     let opened = subst (λ (o : Option Life). IsLifeBegun r n w.past me k o w.now) here w.behind in
-    let next : left_of schema n w.past me w.now ≡ Some (begun l) = opens_so r.tables n w.past me k l.opening w.now opened (λ e. w.at ∙ first e) in
-    let ran : run schema n (new_world n) (w.early ++ w.now) ≡ run schema n w.past.world w.now = run_append schema n w.early w.now (new_world n) ∙ ap (λ (v : World). run schema n v w.now) (sym w.world) in
-    let begins : WasAt schema n (new_world n) events me (begun l) = record { early = w.early ++ w.now; late = w.late; moment = append_assoc w.early w.now w.late ∙ w.is; at = ap (λ (v : World). nth v.nodes me) ran ∙ next } in
+    let next : left_of language n w.past me w.now ≡ Some (begun l) = opens_so r.tables n w.past me k l.opening w.now opened (λ e. w.at ∙ first e) in
+    let ran : run language n (new_world n) (w.early ++ w.now) ≡ run language n w.past.world w.now = run_append language n w.early w.now (new_world n) ∙ ap (λ (v : World). run language n v w.now) (sym w.world) in
+    let begins : WasAt language n (new_world n) events me (begun l) = record { early = w.early ++ w.now; late = w.late; moment = append_assoc w.early w.now w.late ∙ w.is; at = ap (λ (v : World). nth v.nodes me) ran ∙ next } in
     let ending : List Moment = torn_moments me k l.ending ++ (end_moments me k (last_mark l) l.ending ++ in_order me (k + 1) lives) in
     let rest : Walks r events me (Some (begun l)) (step_moments me k 0 l.steps.items ++ ending) = subst (λ (o : Option Node). Walks r events me o (step_moments me k 0 l.steps.items ++ ending)) next walked.1 in
     let steps = follow_steps r events me k 0 (begun l) l.steps.items ending refl (λ j. ap (step_at r.lives me k) (let e : 0 + j ≡ j = omega arith in e) ∙ ap (option_and_then (λ (y : Life). slice_get y.steps.items j)) here) rest in

@@ -10,7 +10,7 @@ use Rattle.flight.specs.declared.life.Step.{Step}
 use Rattle.flight.specs.declared.life.Life.{Life}
 use Rattle.flight.specs.declared.life.Ending.TheVariants.{Torn}
 use Rattle.sqlchecks.specs.Columns.{Tables}
-use Rattle.sqlread.specs.Meaning.{schema_of}
+use Rattle.sqlread.specs.Meaning.{language_of}
 use Rattle.cells.specs.Lives.{opened_with, replay, stepped}
 use Rattle.cells.specs.Publishing.{items_by, items_from}
 use Rattle.moments.specs.Behind.{Records, life_at}
@@ -25,7 +25,7 @@ replayed schema n me j life = fold (stepped schema n me) (begun life) (take j li
 
 -- each life follows the run: after each of its steps, what it replays to is what its member was at a moment
 abbrev pub LivesFollow : Records → List Event → Type 0
-LivesFollow r events = (me k j : ℕ) (life : Life) → life_at r.lives me k ≡ Some life → WasAt (schema_of r.tables) (length r.lives) (new_world (length r.lives)) events me (replayed r.tables (length r.lives) me j life)
+LivesFollow r events = (me k j : ℕ) (life : Life) → life_at r.lives me k ≡ Some life → WasAt (language_of r.tables) (length r.lives) (new_world (length r.lives)) events me (replayed r.tables (length r.lives) me j life)
 
 -- what node me makes applied and sealed in the steps of the life
 abbrev pub made : Tables → ℕ → ℕ → Life → List Item

@@ -170,9 +170,6 @@ module _ (members : ℕ) (rest : List ℕ) where
   pub ask_unspaced : HasNoSpace rest → IsNoLine members (codes "ask " ++ rest)
   ask_unspaced h line range e = let s = ask_of line range e in not_spaced rest (decimal s.0) _ h s.3
 
-  pub torn_none : IsNoTorn members rest → IsNoLine members (codes "torn " ++ rest)
-  torn_none none line range e = let s = torn_of line range e in none s.0 s.1 (job_text s.2) s.3 s.5
-
 module _ (members : ℕ) (few : members < 2 ^ 64) (rest word after : List ℕ) (is : rest ≡ word ++ 32 ∷ after) (first : HasNoSpace word) where
   pub submit_node : IsNoNode members word → IsNoLine members (codes "submit " ++ rest)
   submit_node none line range e =

@@ -52,9 +52,6 @@ module _ (before number : ℕ) (text rest : List ℕ) (lines : List (List ℕ)) 
     is ∙ ap BadScript (omega (arith, taken.1, length-append lines more)),
   )
 
-  cut_here : (line : List ℕ) (refusal : Refusal) → pieces rest ≡ line ∷ [] → refusal ≡ BadScript (number + 1) → IsCutAfter before text lines refusal
-  cut_here line refusal last is = (line, taken.0 ∙ ap (λ ls. lines ++ ls) last, is ∙ ap BadScript (omega (arith, taken.1)))
-
 -- ---- lines that are skipped
 
 pub counted_append : (xs ys : List (List ℕ)) → counted (xs ++ ys) ≡ counted xs ++ counted ys
@@ -76,9 +73,6 @@ counted_none_more xs ys zs some none = counted_append xs ys ∙ (λ i. some i ++
 abbrev pub SkipsTo : ℕ → List ℕ → ℕ → List ℕ → Type 0
 SkipsTo before text number rest = (skipped : List (List ℕ)) × IsTaken before text skipped number rest × (counted skipped ≡ [])
 
-pub skips_none : (before : ℕ) (text : List ℕ) → SkipsTo before text before text
-skips_none before text = ([], taken_none before text, refl)
-
 module _ (before number number' : ℕ) (text rest after line : List ℕ) (next : pieces rest ≡ line ∷ pieces after) (is : number' ≡ number + 1) where
   pub skips_more : SkipsTo before text number rest → is_skipped line ≡ true → SkipsTo before text number' after
   skips_more (skipped, taken, none) skips = (
@@ -86,12 +80,6 @@ module _ (before number number' : ℕ) (text rest after line : List ℕ) (next :
     taken_more before number text rest skipped taken number' after line next is,
     counted_none_more skipped (line ∷ []) [] none (counted_skipped line [] skips),
   )
-
-  pub counted_next : SkipsTo before text number rest → is_skipped line ≡ false → IsCounted before text line number' after
-  counted_next (skipped, taken, none) counts = (skipped, taken_more before number text rest skipped taken number' after line next is, none, counts)
-
-pub none_counted : (before number : ℕ) (text rest : List ℕ) (refusal : Refusal) → SkipsTo before text number rest → pieces rest ≡ rest ∷ [] → refusal ≡ BadScript (number + 1) → IsNoneCounted before text refusal
-none_counted before number text rest refusal (skipped, taken, none) last is = (skipped, cut_here before number text rest skipped taken rest refusal last is, none)
 
 -- ---- bad lines
 
@@ -128,9 +116,6 @@ bad_end stage text before refusal (line, whole, is) begun missing = (
 -- ---- the opening
 
 module _ (text first rest : List ℕ) (number : ℕ) (opens : IsCounted 0 text first number rest) where
-  pub first_wrong : ((n : ℕ) → IsMemberCount n → first ≢ members_text n) → IsBadAt text number
-  first_wrong none = bad_line Opening number text rest first opens.0 opens.1 opens.2 opens.3 none
-
   module _ (members : ℕ) (group : IsMemberCount members) (names : first ≡ members_text members) where
     named : (between : List (List ℕ)) → counted between ≡ [] → IsBegun (Named members) ((opens.0 ++ first ∷ []) ++ between)
     named between none = (counted_none_more (opens.0 ++ first ∷ []) between (first ∷ []) (counted_one opens.0 first opens.2 opens.3) none ∙ ap (λ l. l ∷ []) names, group)
@@ -156,9 +141,6 @@ module _ (text first rest : List ℕ) (number : ℕ) (opens : IsCounted 0 text f
           let n = named next.0 next.2 in
           (before, (t.0 ∙ ap (λ l. (before ++ l ∷ []) ++ pieces after) is, t.1 ∙ ap (λ l. 0 + length (before ++ l ∷ [])) is), n.0, n.1)
 
-pub first_missing : (text : List ℕ) (refusal : Refusal) → IsNoneCounted 0 text refusal → (k : ℕ) × (refusal ≡ BadScript k) × IsBadAt text k
-first_missing text refusal (skipped, cut, none) = bad_end Opening text skipped refusal cut none (λ line. tt)
-
 -- ---- the schema
 
 -- these lines, none of which is `end`, were taken off a text, which leaves the rest
@@ -182,9 +164,6 @@ module _ (before number number' : ℕ) (text block rest after line : List ℕ) (
       let t = taken_more before number text rest so_far.0 so_far.1 number' after line next is in
       (so_far.0, (t.0 ∙ ap (λ l. (so_far.0 ++ l ∷ []) ++ pieces after) names, t.1 ∙ ap (λ l. before + length (so_far.0 ++ l ∷ [])) names), so_far.2, so_far.3)
 
-pub block_endless : (before number : ℕ) (text block rest : List ℕ) (refusal : Refusal) → BlockTo before text block number rest → pieces rest ≡ rest ∷ [] → refusal ≡ BadScript (number + 1) → IsEndless before text refusal
-block_endless before number text block rest refusal (lines, taken, no_end, text_is) last is = (lines, cut_here before number text rest lines taken rest refusal last is, no_end)
-
 -- ---- the lines after it
 
 append_nil : (xs : List (List ℕ)) → xs ++ [] ≡ xs
@@ -194,12 +173,6 @@ append_nil (x ∷ xs) = ap (λ l. x ∷ l) (append_nil xs)
 -- the lines that were taken off say these in range
 abbrev pub SaidTo : ℕ → ℕ → List ℕ → ℕ → List ℕ → List Line → Type 0
 SaidTo before members text number rest lines = (taken : List (List ℕ)) × IsTaken before text taken number rest × (counted taken ≡ map line_text lines) × All (IsInRange members) lines
-
-pub said_none : (before members : ℕ) (text : List ℕ) (lines : List Line) → lines ≡ [] → SaidTo before members text before text lines
-said_none before members text lines none = ([], taken_none before text, ap (map line_text) (sym none), rw none (λ k d lt. absurd (omega (arith, lt))))
-
-pub said_all : (before members number : ℕ) (text rest : List ℕ) (lines : List Line) → SaidTo before members text number rest lines → rest ≡ [] → IsSaid members text lines
-said_all before members number text rest lines (taken, is, counts, range) empty = (taken, is.0 ∙ ap (λ r. taken ++ pieces r) empty, counts, range)
 
 module _ (before members number number' : ℕ) (text rest after line : List ℕ) (lines : List Line) (so_far : SaidTo before members text number rest lines) (next : pieces rest ≡ line ∷ pieces after) (is : number' ≡ number + 1) where
   pub said_skip : is_skipped line ≡ true → SaidTo before members text number' after lines
@@ -217,32 +190,6 @@ module _ (before members number number' : ℕ) (text rest after line : List ℕ)
     counted_append so_far.0 (line ∷ []) ∙ (λ i. so_far.2 i ++ (counted_first line [] counts ∙ ap (λ l. l ∷ []) reads) i) ∙ sym (map-append line_text lines (read ∷ [])),
     All-push (IsInRange members) lines read so_far.3 range,
   )
-
-  pub line_unsaid : is_skipped line ≡ false → IsNoLine members line → IsUnsaid before members text (BadScript number')
-  line_unsaid counts none = record {
-    taken = so_far.0;
-    line = line;
-    after = pieces after;
-    lines = lines;
-    whole = so_far.1.0 ∙ ap (λ ls. so_far.0 ++ ls) next;
-    number = ap BadScript (omega (arith, is, so_far.1.1));
-    counts = so_far.2;
-    range = so_far.3;
-    bad = inl (counts, none);
-  }
-
-pub line_unended : (before members number : ℕ) (text rest : List ℕ) (lines : List Line) (refusal : Refusal) → SaidTo before members text number rest lines → pieces rest ≡ rest ∷ [] → refusal ≡ BadScript (number + 1) → rest ≢ [] → IsUnsaid before members text refusal
-line_unended before members number text rest lines refusal (taken, is, counts, range) last number_is some = record {
-  taken = taken;
-  line = rest;
-  after = [];
-  lines = lines;
-  whole = is.0 ∙ ap (λ ls. taken ++ ls) last;
-  number = number_is ∙ ap BadScript (omega (arith, is.1));
-  counts = counts;
-  range = range;
-  bad = inr (refl, some);
-}
 
 -- ---- whole scripts
 
@@ -265,16 +212,6 @@ module _ (members number number' : ℕ) (text rest after block : List ℕ) (open
     group = opening.3;
     first_end = between.2;
     schema_text = between.3;
-  }
-
-  pub lines_of : (schema : Tables) (lines : List Line) → SchemaSays block (Ok schema) → IsSaid members after lines → HasLines text members schema lines
-  lines_of schema lines says (taken, whole, counts, range) = record {
-    block = block;
-    rest = taken;
-    parts = rw (through_taken.0 ∙ ap (λ ls. through ++ ls) whole) (parts_of (taken ++ [] ∷ []));
-    says = says;
-    counts = counts;
-    range = range;
   }
 
   bad_schema_of : (refusal : Refusal) → SchemaSays block (Err refusal) → HasBadSchema text refusal

@@ -1,7 +1,5 @@
 -- What a request on its way hears, and where it goes next.
-use Rattle.std.specs.Prelude.{ℕ, Bool, true, false, ◌≡◌, ◌<◌, ◌+◌, nat_lt, if◌then◌else◌}
-use Rattle.fault.specs.declared.refusal.Refusal.{Refusal}
-use Rattle.fault.specs.declared.refusal.Refusal.TheVariants.{NotLeader, NodeDown, LifeFull, NoMemory}
+use Rattle.std.specs.Prelude.{ℕ, ◌≡◌, ◌<◌, ◌+◌, nat_lt, if◌then◌else◌}
 use Rattle.model.specs.declared.entry.Told.{Told}
 use Rattle.live.specs.declared.errand.Errand.{Errand}
 

@@ -1,6 +1,9 @@
 //! What drives a cluster through a script.
-ghost use Rattle.std.specs.Prelude.{IfOk};
-ghost use Rattle.live.specs.Saying.{IsOutcomeOf, IsSaidOf, IsStarted};
+ghost use Rattle.std.specs.Prelude.{◌≡◌, ◌⊎◌, IfOk, None, length};
+ghost use Rattle.std.specs.List.{All};
+ghost use Rattle.live.specs.Saying.{IsOutcomeOf, IsRefusalOf, IsSaidOf};
+ghost use Rattle.live.specs.Stations.{IsNew, stations_of};
+ghost use Rattle.live.specs.declared.said.Said.TheVariants.{Nothing};
 
 use crate::errand::Errand;
 use crate::mail::Mail;
@@ -42,7 +45,9 @@ pub struct Driver {
 }
 
 /// What a driver keeps of each of so many nodes: the words of a node are those of the seed and its number.
-pub fn stations(alloc: Global, nodes: u8, seed: u64) -> Result<Vec<Station>, AllocError> {
+pub fn stations(alloc: Global, nodes: u8, seed: u64) -> Result<Vec<Station>, AllocError>
+    ensures { IfOk result (λ stations. (length stations.items ≡ nodes) × All IsNew stations.items) }
+{
     let mut stations = Vec::new(alloc);
     for at in 0..nodes {
         stations.push(Station::new(alloc, seed.wrapping_add(u64::from(at) + 1)))?;
@@ -58,7 +63,10 @@ impl Driver {
         cluster: Cluster,
         stations: Vec<Station>,
         weather: Weather,
-    ) -> Driver {
+    ) -> Driver
+        ensures parts { (result.cluster ≡ cluster) × (stations_of result ≡ stations.items) }
+        ensures fresh { (result.schema ≡ schema) × (result.rounds ≡ 0) × (result.errand ≡ None) × (result.told ≡ 0) }
+    {
         Driver {
             alloc,
             schema,
@@ -72,7 +80,9 @@ impl Driver {
     }
 
     /// The cluster, which the caller stops, and what each node's views answered.
-    pub fn into_parts(self) -> (Cluster, Vec<Station>) {
+    pub fn into_parts(self) -> (Cluster, Vec<Station>)
+        ensures { (result.0 ≡ self.cluster) × (result.1.items ≡ stations_of self) }
+    {
         let Driver {
             alloc: _,
             schema: _,
@@ -157,7 +167,7 @@ impl Driver {
     }
 
     fn start<R: Wait>(&mut self, rt: &R, node: Member) -> Result<Said, Refusal>
-        ensures { IfOk result (IsStarted node) }
+        ensures { IfOk result (λ said. (said ≡ Nothing) ⊎ IsRefusalOf node said) }
     {
         let Some(station) = self.stations.get_mut(node.saturating_sub(1)) else {
             return Ok(Said::Nothing);

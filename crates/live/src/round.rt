@@ -7,7 +7,7 @@ use fault::Refusal;
 use flight::life::Packet;
 use model::member::Member;
 use model::message::{Body, Input, Message};
-use nodes::seat::Report;
+use nodes::berth::Report;
 use nodes::{Fault, Given};
 use std::sync::Wait;
 

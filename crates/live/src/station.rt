@@ -2,6 +2,7 @@
 ghost use Rattle.std.specs.Prelude.{◌≡◌, ◌++◌, ◌∷◌, [], ℕ, true, false, None, IfOk, OnOk, pos, ◌+ℤ◌};
 ghost use Rattle.std.specs.Int.{w64, saturate_signed};
 ghost use Rattle.answertext.specs.Answers.{answer_text};
+ghost use Rattle.live.specs.Stations.{IsNew};
 
 use crate::pulse::Pulse;
 use answer::Answer;
@@ -33,7 +34,9 @@ pub struct Station {
 
 impl Station {
     /// A node that runs, whose clock is 0 and whose words are those of this seed.
-    pub fn new(alloc: Global, seed: u64) -> Station {
+    pub fn new(alloc: Global, seed: u64) -> Station
+        ensures { IsNew result }
+    {
         Station {
             alloc,
             pulse: Pulse::new(seed),

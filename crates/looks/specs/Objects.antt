@@ -26,20 +26,20 @@ abbrev pub optional_token : Option RowValue → Token
 optional_token None = null
 optional_token (Some value) = value_token value
 
-abbrev pub cell_token : Shown → Shows → Token
-cell_token row (Key i) = optional_token (slice_get row.key.items i)
-cell_token row (Value i) = optional_token (slice_get row.values.items i)
-cell_token row Start = string (bare_text row Start)
-cell_token row End = string (bare_text row End)
-cell_token row SystemStart = string (bare_text row SystemStart)
-cell_token row SystemEnd = string (bare_text row SystemEnd)
+abbrev pub slot_token : Shown → Shows → Token
+slot_token row (Key i) = optional_token (slice_get row.key.items i)
+slot_token row (Value i) = optional_token (slice_get row.values.items i)
+slot_token row Start = string (bare_text row Start)
+slot_token row End = string (bare_text row End)
+slot_token row SystemStart = string (bare_text row SystemStart)
+slot_token row SystemEnd = string (bare_text row SystemEnd)
 
 -- these between brackets
 abbrev pub array : List Token → List Token
 array tokens = begin_array ∷ (tokens ++ end_array ∷ [])
 
 abbrev pub row_tokens : List Column → Shown → List Token
-row_tokens columns row = array (map (λ c. cell_token row c.shows) columns)
+row_tokens columns row = array (map (λ c. slot_token row c.shows) columns)
 
 -- which node answers, as of which instant, the names of the columns, and the rows
 unfoldable pub answer_tokens : ℕ → Answer → List Token

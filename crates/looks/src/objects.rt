@@ -4,7 +4,7 @@ ghost use Rattle.std.specs.List.{flat_map};
 ghost use Rattle.std.specs.Option.{option_copied};
 ghost use Rattle.period.specs.Instant.{instant_text};
 ghost use Rattle.json.specs.Token.{key, number, string, begin_array, end_array, begin_object, end_object};
-ghost use Rattle.looks.specs.Objects.{Adds, answer_tokens, array, cell_token, line_of, optional_token, row_tokens, value_token};
+ghost use Rattle.looks.specs.Objects.{Adds, answer_tokens, array, slot_token, line_of, optional_token, row_tokens, value_token};
 
 use crate::bare::Bare;
 use answer::{Answer, Column, Shown, Shows};
@@ -134,14 +134,14 @@ fn put_row(
 {
     writer.begin_array()?;
     for column in columns {
-        put_cell(alloc, row, column.shows, writer)?;
+        put_slot(alloc, row, column.shows, writer)?;
     }
     writer.end_array()
 }
 
 // What a column shows of the row.
-fn put_cell(alloc: Global, row: &Shown, shows: Shows, writer: &mut Writer) -> Result<(), AllocError>
-    ensures { Adds result writer.old writer.new (cell_token row.now shows ∷ []) }
+fn put_slot(alloc: Global, row: &Shown, shows: Shows, writer: &mut Writer) -> Result<(), AllocError>
+    ensures { Adds result writer.old writer.new (slot_token row.now shows ∷ []) }
 {
     match shows {
         Shows::Key(place) => put_optional(alloc, row.key.as_slice().get(place), writer),

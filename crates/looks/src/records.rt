@@ -1,5 +1,5 @@
 //! Answers with a line for each value, where rows are too wide.
-use crate::cell::Cell;
+use crate::slot::Slot;
 use crate::table::{between, put_many};
 use answer::Answer;
 use std::alloc::AllocError;
@@ -12,7 +12,7 @@ const ROOM_LEAST: usize = 8;
 
 pub(crate) fn put_records(
     answer: &Answer,
-    rows: &[Vec<Cell>],
+    rows: &[Vec<Slot>],
     width: usize,
     text: &mut Vec<u8>,
 ) -> Result<(), AllocError> {
@@ -39,16 +39,16 @@ fn put_head(at: usize, count: usize, width: usize, text: &mut Vec<u8>) -> Result
 
 fn put_values(
     answer: &Answer,
-    row: &[Cell],
+    row: &[Slot],
     name_wide: usize,
     width: usize,
     text: &mut Vec<u8>,
 ) -> Result<(), AllocError> {
-    for (column, cell) in answer.columns.iter().zip(row) {
+    for (column, slot) in answer.columns.iter().zip(row) {
         let name = column.name.as_str().as_bytes();
         put_many(b' ', name_wide.saturating_sub(name.len()), text)?;
         text.extend_from_slice(name)?;
-        put_value(cell.text.as_bytes(), name_wide, width, text)?;
+        put_value(slot.text.as_bytes(), name_wide, width, text)?;
     }
     Ok(())
 }

@@ -1,8 +1,8 @@
 //! Answers as tables, for people.
 ghost use Rattle.std.specs.Prelude.{◌≡◌};
 
-use crate::cell::{Cell, Kind, cell_of};
 use crate::records::put_records;
+use crate::slot::{Kind, Slot, slot_of};
 use answer::Answer;
 use model::member::Member;
 use std::alloc::{AllocError, Global};
@@ -56,8 +56,8 @@ pub fn answer_as_table(
     asked: Asked,
     width: Option<usize>,
 ) -> Result<Vec<u8>, AllocError> {
-    let cells = cells_of(alloc, answer)?;
-    let rows = cells.as_slice();
+    let slots = slots_of(alloc, answer)?;
+    let rows = slots.as_slice();
     let mut text = Vec::new(alloc);
     match form_of(alloc, answer, rows, width)? {
         Some(form) => put_table(alloc, answer, rows, form, &mut text)?,
@@ -68,14 +68,14 @@ pub fn answer_as_table(
 }
 
 // The cells of each row.
-fn cells_of(alloc: Global, answer: &Answer) -> Result<Vec<Vec<Cell>>, AllocError> {
+fn slots_of(alloc: Global, answer: &Answer) -> Result<Vec<Vec<Slot>>, AllocError> {
     let mut rows = Vec::new(alloc);
     for row in &answer.rows {
-        let mut cells = Vec::new(alloc);
+        let mut slots = Vec::new(alloc);
         for column in &answer.columns {
-            cells.push(cell_of(alloc, row, column.shows)?)?;
+            slots.push(slot_of(alloc, row, column.shows)?)?;
         }
-        rows.push(cells)?;
+        rows.push(slots)?;
     }
     Ok(rows)
 }
@@ -84,7 +84,7 @@ fn cells_of(alloc: Global, answer: &Answer) -> Result<Vec<Vec<Cell>>, AllocError
 fn form_of(
     alloc: Global,
     answer: &Answer,
-    rows: &[Vec<Cell>],
+    rows: &[Vec<Slot>],
     width: Option<usize>,
 ) -> Result<Option<Form>, AllocError> {
     let Some(width) = width else {
@@ -109,7 +109,7 @@ fn table_width(lanes: &[Lane]) -> usize {
 fn lanes_of<'a>(
     alloc: Global,
     answer: &'a Answer,
-    rows: &[Vec<Cell>],
+    rows: &[Vec<Slot>],
     form: Form,
 ) -> Result<Vec<Lane<'a>>, AllocError> {
     let mut lanes = Vec::new(alloc);
@@ -120,25 +120,25 @@ fn lanes_of<'a>(
     Ok(lanes)
 }
 
-fn lane_of<'a>(name: &'a [u8], at: usize, rows: &[Vec<Cell>], form: Form) -> Lane<'a> {
+fn lane_of<'a>(name: &'a [u8], at: usize, rows: &[Vec<Slot>], form: Form) -> Lane<'a> {
     let mut lane = Lane {
         name,
         wide: name.len(),
         is_right: false,
     };
     for row in rows {
-        if let Some(cell) = row.get(at) {
-            lane.wide = lane.wide.max(cell_width(cell, form));
-            lane.is_right = lane.is_right || cell.kind == Kind::Number;
+        if let Some(slot) = row.get(at) {
+            lane.wide = lane.wide.max(slot_width(slot, form));
+            lane.is_right = lane.is_right || slot.kind == Kind::Number;
         }
     }
     lane
 }
 
 // How many lines a cell has.
-fn part_count(cell: &Cell, form: Form) -> usize {
-    let length = cell.text.len();
-    match (form, cell.kind) {
+fn part_count(slot: &Slot, form: Form) -> usize {
+    let length = slot.text.len();
+    match (form, slot.kind) {
         (Form::Wide, _) => 1,
         (Form::Narrow, Kind::Instant) => { if length > DAY_LENGTH { 2 } else { 1 } }
         (Form::Narrow, _) => length.div_ceil(TEXT_ROOM).max(1),
@@ -146,9 +146,9 @@ fn part_count(cell: &Cell, form: Form) -> usize {
 }
 
 // A line of a cell; none past its last.
-fn part<'a>(cell: &'a Cell, form: Form, at: usize) -> &'a [u8] {
-    let text = cell.text.as_bytes();
-    let (start, end) = match (form, cell.kind) {
+fn part<'a>(slot: &'a Slot, form: Form, at: usize) -> &'a [u8] {
+    let text = slot.text.as_bytes();
+    let (start, end) = match (form, slot.kind) {
         (Form::Wide, _) => (0, text.len()),
         (Form::Narrow, Kind::Instant) if at == 0 => (0, DAY_LENGTH),
         (Form::Narrow, Kind::Instant) => (DAY_LENGTH + 1, text.len()),
@@ -157,7 +157,7 @@ fn part<'a>(cell: &'a Cell, form: Form, at: usize) -> &'a [u8] {
             (start, start.saturating_add(TEXT_ROOM))
         }
     };
-    if at >= part_count(cell, form) {
+    if at >= part_count(slot, form) {
         return &[];
     }
     between(text, start, end)
@@ -169,10 +169,10 @@ pub(crate) fn between(text: &[u8], start: usize, end: usize) -> &[u8] {
     if start >= end { &[] } else { &text[start..end] }
 }
 
-fn cell_width(cell: &Cell, form: Form) -> usize {
+fn slot_width(slot: &Slot, form: Form) -> usize {
     let mut wide = 0;
-    for at in 0..part_count(cell, form) {
-        wide = part(cell, form, at).len().max(wide);
+    for at in 0..part_count(slot, form) {
+        wide = part(slot, form, at).len().max(wide);
     }
     wide
 }
@@ -181,7 +181,7 @@ fn cell_width(cell: &Cell, form: Form) -> usize {
 fn put_table(
     alloc: Global,
     answer: &Answer,
-    rows: &[Vec<Cell>],
+    rows: &[Vec<Slot>],
     form: Form,
     text: &mut Vec<u8>,
 ) -> Result<(), AllocError> {
@@ -214,10 +214,10 @@ fn put_rule(lanes: &[Lane], text: &mut Vec<u8>) -> Result<(), AllocError> {
     Ok(())
 }
 
-fn put_row(lanes: &[Lane], row: &[Cell], form: Form, text: &mut Vec<u8>) -> Result<(), AllocError> {
+fn put_row(lanes: &[Lane], row: &[Slot], form: Form, text: &mut Vec<u8>) -> Result<(), AllocError> {
     let mut lines = 0;
-    for cell in row {
-        lines = part_count(cell, form).max(lines);
+    for slot in row {
+        lines = part_count(slot, form).max(lines);
     }
     for at in 0..lines {
         put_line(lanes, row, form, at, text)?;
@@ -227,14 +227,14 @@ fn put_row(lanes: &[Lane], row: &[Cell], form: Form, text: &mut Vec<u8>) -> Resu
 
 fn put_line(
     lanes: &[Lane],
-    row: &[Cell],
+    row: &[Slot],
     form: Form,
     at: usize,
     text: &mut Vec<u8>,
 ) -> Result<(), AllocError> {
     let mut pending = 0;
-    for (lane, cell) in lanes.iter().zip(row) {
-        pending = put_word(lane, part(cell, form, at), pending, text)?;
+    for (lane, slot) in lanes.iter().zip(row) {
+        pending = put_word(lane, part(slot, form, at), pending, text)?;
     }
     text.push(b'\n')?;
     Ok(())

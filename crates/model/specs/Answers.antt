@@ -7,7 +7,7 @@ use Rattle.std.specs.Ordering.{ordering_then, nat_cmp}
 use Rattle.std.specs.declared.cmp.Ordering.{Ordering}
 use Rattle.model.specs.Values.{key_cmp}
 use Rattle.model.specs.Tables.{Table, Row, IsRow}
-use Rattle.model.specs.Transactions.{Schema}
+use Rattle.model.specs.Transactions.{Language}
 use Rattle.model.specs.declared.entry.Entry.{Entry}
 use Rattle.model.specs.Logs.{state_at}
 
@@ -74,8 +74,8 @@ pub record IsAnswerOver (history : ℕ → Table) (q : Query) (a : Answer) : Typ
   pub ends : All (λ s. IsShownEnd history q.time.last s.row s.end) a.rows
 
 -- the answer to a query in a list of entries
-abbrev pub IsAnswer : Schema → Query → List Entry → Answer → Type 0
-IsAnswer schema q list = IsAnswerOver (λ u. state_at schema list u q.table) q
+abbrev pub IsAnswer : Language → Query → List Entry → Answer → Type 0
+IsAnswer language q list = IsAnswerOver (λ u. state_at language list u q.table) q
 
 -- at this closed time no later entry can have an instant that the query asks about
 abbrev pub IsClosed : Select → Option ℕ → Type 0

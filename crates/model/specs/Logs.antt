@@ -8,7 +8,7 @@ use Rattle.model.specs.Lists.{nth}
 use Rattle.model.specs.Tables.{empty_table}
 use Rattle.fault.specs.declared.refusal.Refusal.{Refusal}
 use Rattle.fault.specs.declared.refusal.Refusal.TheVariants.{Old, Gap}
-use Rattle.model.specs.Transactions.{State, Schema, executed_text}
+use Rattle.model.specs.Transactions.{State, Language, executed_text}
 use Rattle.model.specs.declared.entry.Request.{Request}
 use Rattle.model.specs.declared.entry.Entry.{Entry}
 use Rattle.model.specs.declared.entry.Told.{Told}
@@ -60,45 +60,45 @@ outcome_at t (Ok next) = Ok t
 outcome_at t (Err refusal) = Err refusal
 
 -- what the first requests leave, one at a time, each once; a refused transaction changes nothing
-unfoldable pub state_after : Schema → List Entry → State
-state_after schema [] = λ n. empty_table
-state_after schema (e ∷ before) =
-    let state = state_after schema before in
-    option_map_or (λ r. if is_first r before then result_unwrap_or (executed_text schema e.stamp r.text state) state else state) e.request state
+unfoldable pub state_after : Language → List Entry → State
+state_after language [] = λ n. empty_table
+state_after language (e ∷ before) =
+    let state = state_after language before in
+    option_map_or (λ r. if is_first r before then result_unwrap_or (executed_text language e.stamp r.text state) state else state) e.request state
 
 -- what a first request comes to
-abbrev pub first_outcome : Schema → ℕ → Request → List Entry → Outcome
-first_outcome schema t r before = outcome_at t (executed_text schema t r.text (state_after schema before))
+abbrev pub first_outcome : Language → ℕ → Request → List Entry → Outcome
+first_outcome language t r before = outcome_at t (executed_text language t r.text (state_after language before))
 
 -- the outcomes of the client's first requests, from the newest back
-unfoldable pub first_outcomes : Schema → ℕ → List Entry → List Outcome
-first_outcomes schema client [] = []
-first_outcomes schema client (e ∷ before) =
-    let earlier = first_outcomes schema client before in
-    option_map_or (λ r. if r.client == client && is_first r before then first_outcome schema e.stamp r before ∷ earlier else earlier) e.request earlier
+unfoldable pub first_outcomes : Language → ℕ → List Entry → List Outcome
+first_outcomes language client [] = []
+first_outcomes language client (e ∷ before) =
+    let earlier = first_outcomes language client before in
+    option_map_or (λ r. if r.client == client && is_first r before then first_outcome language e.stamp r before ∷ earlier else earlier) e.request earlier
 
 -- those of its latest eight firsts, or of all, if they are fewer: the newest has the number `executed`, the one before it 1 less, and so on
-abbrev pub kept : Schema → ℕ → List Entry → List Outcome
-kept schema client before = take 8 (first_outcomes schema client before)
+abbrev pub kept : Language → ℕ → List Entry → List Outcome
+kept language client before = take 8 (first_outcomes language client before)
 
 -- a first is executed; a greater number leaves a gap; that of one of the latest eight firsts has its outcome; a smaller one is old
-unfoldable pub outcome : Schema → ℕ → Request → List Entry → Outcome
-outcome schema t r before =
+unfoldable pub outcome : Language → ℕ → Request → List Entry → Outcome
+outcome language t r before =
     let n = executed r.client before in
-    if r.number == n + 1 then first_outcome schema t r before
+    if r.number == n + 1 then first_outcome language t r before
     else if nat_lt n r.number then Err Gap
-    else unwrap_or (slice_get (kept schema r.client before) (n - r.number)) (Err Old)
+    else unwrap_or (slice_get (kept language r.client before) (n - r.number)) (Err Old)
 
 -- the entries before an index of a list, from the newest back
 abbrev pub before_index : List Entry → ℕ → List Entry
 before_index list i = reverse (take (i - 1) list)
 
 -- what is told of the entry at an index, if it is a request
-abbrev pub told_at : Schema → List Entry → ℕ → Option Told
-told_at schema list i = option_and_then (λ e. option_map (λ r. record { index = i; client = r.client; number = r.number; outcome = outcome schema e.stamp r (before_index list i) }) e.request) (nth list i)
+abbrev pub told_at : Language → List Entry → ℕ → Option Told
+told_at language list i = option_and_then (λ e. option_map (λ r. record { index = i; client = r.client; number = r.number; outcome = outcome language e.stamp r (before_index list i) }) e.request) (nth list i)
 
 -- ---- the state at an instant
 
 -- what the entries of the list leave that are stamped at most t
-unfoldable pub state_at : Schema → List Entry → ℕ → State
-state_at schema list t = state_after schema (reverse (filter (λ e. nat_le e.stamp t) list))
+unfoldable pub state_at : Language → List Entry → ℕ → State
+state_at language list t = state_after language (reverse (filter (λ e. nat_le e.stamp t) list))

@@ -3,7 +3,7 @@ use Rattle.std.specs.Prelude.{◌≡◌, ℕ, pos, negsuc, zero, suc, ◌+◌, B
 use Rattle.model.specs.declared.value.Value.TheVariants.{Number, Text}
 use Rattle.fault.specs.declared.refusal.Refusal.TheVariants.{Syntax, Gap, Old as OldRequest, NotLeader, NotClosed, TimeFull, TermFull, NodeDown}
 use Rattle.fault.specs.declared.refusal.Refusal.{Refusal}
-use Rattle.model.specs.Transactions.{Schema, Statement, Insert}
+use Rattle.model.specs.Transactions.{Language, Statement, Insert}
 use Rattle.model.specs.declared.entry.Entry.{Entry}
 use Rattle.model.specs.declared.entry.Request.{Request}
 use Rattle.model.specs.declared.entry.Told.{Told}
@@ -28,10 +28,10 @@ use Rattle.model.specs.Agreement.{decided}
 -- Dept, where a text of one byte is an INSERT of key 3 with that byte for its name, over the days 5 and 6, and no other text spells
 abbrev pub reads_byte : List ℕ → Result (List Statement) Refusal
 reads_byte [] = Err (Syntax 0)
-reads_byte (b ∷ []) = Ok (record { table = 0; change = Insert (Number (pos 3) ∷ []) (Text (b ∷ []) ∷ []) (record { start = 5; end = 7 }) } ∷ [])
+reads_byte (b ∷ []) = Ok (record { table = 0; action = Insert (Number (pos 3) ∷ []) (Text (b ∷ []) ∷ []) (record { start = 5; end = 7 }) } ∷ [])
 reads_byte (b ∷ c ∷ more) = Err (Syntax 1)
 
-abbrev pub dept : Schema
+abbrev pub dept : Language
 dept = record { tables = 1; name = λ n. codes "Dept"; references = []; reads = reads_byte }
 
 abbrev pub request : ℕ → ℕ → Request
@@ -122,7 +122,7 @@ RefusedSubmit =
     × Gives dept 3 (after (torn_vote New)) (Hand 3 (Submit (pos 100) (request 7 1))) (Refused 3 (NotLeader None) ∷ [])
 
 -- no text has a statement, so that each first is accepted at its instant
-abbrev pub idle : Schema
+abbrev pub idle : Language
 idle = record dept { reads = λ text. Ok [] }
 
 -- client 9 asks under numbers 1 to k, at the instants 101 to 100 + k; from the newest back

@@ -8,7 +8,7 @@ use Rattle.std.specs.Option.{option_map_or}
 use Rattle.model.specs.Lists.{nth, nth_or, with_nth}
 use Rattle.fault.specs.declared.refusal.Refusal.{Refusal}
 use Rattle.fault.specs.declared.refusal.Refusal.TheVariants.{NotLeader, TimeFull, LogFull, TermFull}
-use Rattle.model.specs.Transactions.{Schema}
+use Rattle.model.specs.Transactions.{Language}
 use Rattle.model.specs.declared.entry.Entry.{Entry}
 use Rattle.model.specs.declared.entry.Request.{Request}
 use Rattle.model.specs.declared.member.AskedFloor.{AskedFloor}
@@ -55,8 +55,8 @@ abbrev pub append_to_all : ℕ → Node → ℕ → List Message
 append_to_all n x me = map (append_to x me) (others n me)
 
 -- one message, back to the sender
-abbrev pub answer : Node → ℕ → ℕ → Body → List Message
-answer x me to body = record { sender = me; addressee = to; term = x.term; body = body } ∷ []
+abbrev pub respond : Node → ℕ → ℕ → Body → List Message
+respond x me to body = record { sender = me; addressee = to; term = x.term; body = body } ∷ []
 
 -- the same to each other member
 abbrev pub tell_all : ℕ → Node → ℕ → Body → List Message
@@ -139,8 +139,8 @@ grants sender term last_index last_term_of x = (term == x.term) && option_map_or
 unfoldable pub on_request_vote : ℕ → ℕ → ℕ → ℕ → ℕ → Node → After
 on_request_vote me sender term last_index last_term_of x =
     if grants sender term last_index last_term_of x
-    then record { node = record x { vote = Some sender }; sent = answer x me sender (Vote true x.floor) }
-    else record { node = x; sent = answer x me sender (Vote false x.floor) }
+    then record { node = record x { vote = Some sender }; sent = respond x me sender (Vote true x.floor) }
+    else record { node = x; sent = respond x me sender (Vote false x.floor) }
 
 -- ---- Vote
 
@@ -230,11 +230,11 @@ takes_entries prev es commit x = record x { log = accepted x.log prev es; commit
 -- Nothing: no honest member can send it
 unfoldable pub on_append : ℕ → ℕ → ℕ → ℕ → ℕ → List Entry → ℕ → Node → Effect
 on_append me sender term prev prev_term es commit x =
-    if nat_lt term x.term then Moves (record { node = x; sent = answer x me sender (Reply false 0) })
+    if nat_lt term x.term then Moves (record { node = x; sent = respond x me sender (Reply false 0) })
     else if is_leader x.role then Nothing
-    else if not (stands x.log prev prev_term) then Moves (record { node = follows sender x; sent = answer x me sender (Reply false 0) })
+    else if not (stands x.log prev prev_term) then Moves (record { node = follows sender x; sent = respond x me sender (Reply false 0) })
     else if not (continues x.log prev term es) || cuts_below x.commit x.log prev es || nat_lt LOG_LIMIT (length (accepted x.log prev es)) then Nothing
-    else Moves (record { node = settled (takes_entries prev es commit (follows sender x)); sent = answer x me sender (Reply true (prev + length es)) })
+    else Moves (record { node = settled (takes_entries prev es commit (follows sender x)); sent = respond x me sender (Reply true (prev + length es)) })
 
 -- ---- Reply
 
@@ -296,7 +296,7 @@ unfoldable pub on_seek : ℕ → ℕ → ℕ → ℕ → ℕ → Node → Effect
 on_seek me sender term index floor x =
     if nat_lt term x.term then Moves (record { node = x; sent = [] })
     else if is_leader x.role then Nothing
-    else Moves (record { node = stores sender floor x; sent = answer x me sender (Stored index floor) })
+    else Moves (record { node = stores sender floor x; sent = respond x me sender (Stored index floor) })
 
 -- ---- Stored
 
@@ -348,17 +348,17 @@ floor_fits (Seal index floor) = can_be_asked index floor
 floor_fits body = true
 
 -- the entry's text spells a transaction
-abbrev pub spells : Schema → Option Request → Bool
-spells schema request = option_map_or (λ r. is_ok (schema.reads r.text)) request true
+abbrev pub spells : Language → Option Request → Bool
+spells language request = option_map_or (λ r. is_ok (language.reads r.text)) request true
 
 -- what an honest member can send to this one, save where the table comes to more
-abbrev pub is_honest : Schema → ℕ → ℕ → Message → Bool
-is_honest schema n me m =
+abbrev pub is_honest : Language → ℕ → ℕ → Message → Bool
+is_honest language n me m =
     (m.addressee == me) && nat_lt 0 m.sender && nat_le m.sender n && not (m.sender == me) && nat_lt 0 m.term && nat_le m.term TERM_LAST
-    && nat_le (length (entries_of m.body)) 64 && go_on None m.term (entries_of m.body) && list_all (λ e. spells schema e.request) (entries_of m.body) && floor_fits m.body
+    && nat_le (length (entries_of m.body)) 64 && go_on None m.term (entries_of m.body) && list_all (λ e. spells language e.request) (entries_of m.body) && floor_fits m.body
 
-abbrev pub on_message : Schema → ℕ → ℕ → ℤ → Message → Node → Effect
-on_message schema n me reading m x =
-    if is_honest schema n me m
+abbrev pub on_message : Language → ℕ → ℕ → ℤ → Message → Node → Effect
+on_message language n me reading m x =
+    if is_honest language n me m
     then on_body n me reading m.sender m.term m.body (hears m.term x)
     else Nothing

@@ -1,11 +1,8 @@
 //! What is brought to a member in one step, and what a step leaves that is cut short.
-ghost use Rattle.std.specs.Prelude.{◌≡◌};
-
 use crate::message::Input;
-use std::alloc::AllocError;
 
 /// What is brought to a member in a step that is cut short.
-#[derive(Debug, Drop)]
+#[derive(Clone, Debug, Drop)]
 pub enum Job {
     Local(Input),
     /// A message that was sent to it.
@@ -25,18 +22,4 @@ pub enum Left {
     /// What is stored once the step is made. Of a step that is refused, or has no effect, that is
     /// what was stored before.
     New,
-}
-
-impl Clone for Job {
-    ghost is_clone = { λ j copy. copy ≡ j };
-
-    fn clone(&self) -> Result<Job, AllocError> {
-        match self {
-            Job::Local(input) => Ok(Job::Local(input.clone()?)),
-            Job::Delivery { message, reading } => Ok(Job::Delivery {
-                message: *message,
-                reading: *reading,
-            }),
-        }
-    }
 }

@@ -1,11 +1,8 @@
 //! The messages between members, and what else is brought to one: the remote calls and timers of
 //! Figure 2 of "In search of an understandable consensus algorithm".
-ghost use Rattle.std.specs.Prelude.{◌≡◌};
-
 use crate::entry::{Entries, Request};
 use crate::member::Member;
 use crate::stamp::Stamp;
-use std::alloc::AllocError;
 
 /// The last term. The first one is 1, and 0 is before it.
 pub const LAST_TERM: u64 = 9223372036854775807;
@@ -25,7 +22,7 @@ pub enum Role {
 }
 
 /// What a message says. Indices of the log count from 1, and 0 is before the first entry.
-#[derive(Debug, Drop)]
+#[derive(Clone, Debug, Drop)]
 pub enum Body {
     /// A candidate asks for a vote, and tells the index and the term of its last entry.
     RequestVote {
@@ -69,55 +66,8 @@ pub enum Body {
     },
 }
 
-impl Clone for Body {
-    ghost is_clone = { λ b copy. copy ≡ b };
-
-    fn clone(&self) -> Result<Body, AllocError> {
-        match self {
-            Body::RequestVote {
-                last_index,
-                last_term,
-            } => Ok(Body::RequestVote {
-                last_index: *last_index,
-                last_term: *last_term,
-            }),
-            Body::Vote { given, floor } => Ok(Body::Vote {
-                given: *given,
-                floor: *floor,
-            }),
-            Body::Append {
-                prev_index,
-                prev_term,
-                entries,
-                commit,
-            } => Ok(Body::Append {
-                prev_index: *prev_index,
-                prev_term: *prev_term,
-                entries: entries.clone()?,
-                commit: *commit,
-            }),
-            Body::Reply { ok, matched } => Ok(Body::Reply {
-                ok: *ok,
-                matched: *matched,
-            }),
-            Body::Seek { index, floor } => Ok(Body::Seek {
-                index: *index,
-                floor: *floor,
-            }),
-            Body::Stored { index, floor } => Ok(Body::Stored {
-                index: *index,
-                floor: *floor,
-            }),
-            Body::Seal { index, floor } => Ok(Body::Seal {
-                index: *index,
-                floor: *floor,
-            }),
-        }
-    }
-}
-
 /// A message from one member to another.
-#[derive(Debug, Drop)]
+#[derive(Clone, Debug, Drop)]
 pub struct Message {
     pub sender: Member,
     pub addressee: Member,
@@ -128,7 +78,7 @@ pub struct Message {
 
 /// A local input. A reading is what the clock shows, in microseconds since 1970; one that is no
 /// instant counts as none.
-#[derive(Debug, Drop)]
+#[derive(Clone, Debug, Drop)]
 pub enum Input {
     /// No leader was heard of for some time.
     Timeout,
@@ -140,34 +90,4 @@ pub enum Input {
     Floor { reading: i64 },
     /// A leader is to append an entry with this request.
     Submit { reading: i64, request: Request },
-}
-
-impl Clone for Message {
-    ghost is_clone = { λ m copy. copy ≡ m };
-
-    fn clone(&self) -> Result<Message, AllocError> {
-        Ok(Message {
-            sender: self.sender,
-            addressee: self.addressee,
-            term: self.term,
-            body: self.body.clone()?,
-        })
-    }
-}
-
-impl Clone for Input {
-    ghost is_clone = { λ i copy. copy ≡ i };
-
-    fn clone(&self) -> Result<Input, AllocError> {
-        match self {
-            Input::Timeout => Ok(Input::Timeout),
-            Input::Beat => Ok(Input::Beat),
-            Input::Close { reading } => Ok(Input::Close { reading: *reading }),
-            Input::Floor { reading } => Ok(Input::Floor { reading: *reading }),
-            Input::Submit { reading, request } => Ok(Input::Submit {
-                reading: *reading,
-                request: request.clone()?,
-            }),
-        }
-    }
 }

@@ -21,13 +21,6 @@ use Rattle.moments.specs.View.{Follows}
 pub step_found : (o : Option Life) (l : Life) (k : ℕ) (items : List Step) (s : Option Step) → o ≡ Some l → items ≡ l.steps.items → slice_get items k ≡ s → option_and_then (λ (life : Life). slice_get life.steps.items k) o ≡ s
 step_found o l k items s is same at = ap (option_and_then (λ (life : Life). slice_get life.steps.items k)) is ∙ ap (λ (xs : List Step). slice_get xs k) (sym same) ∙ at
 
-pub taken_so : {T : Type 0} (r : Records) (n : ℕ) (p : Past) (m : Moment) (life step : ℕ) (s : Step) (res : Result T AuditFault) (old new : Replay) → m.deed ≡ Takes life step → step_at r.lives m.node life step ≡ Some s →
-    OnOk res (Follows (IsTaken r.version r.tables n p m.node (Some s)) old new m.mark) → OnOk res (Follows (IsBehind r n p m) old new m.mark)
-taken_so {T} r n p m life step s res old new is found h =
-    let Q : Deed → Type 0 = λ d. OnOk res (Follows (IsBehindDeed r n p m.node d) old new m.mark) in
-    let W : Option Step → Type 0 = λ o. OnOk res (Follows (IsTaken r.version r.tables n p m.node o) old new m.mark) in
-    subst Q (sym is) (subst W (sym found) h)
-
 pub taken_fault : {T : Type 0} (r : Records) (n : ℕ) (p : Past) (m : Moment) (life step : ℕ) (s : Step) (res : Result T AuditFault) → m.deed ≡ Takes life step → step_at r.lives m.node life step ≡ Some s →
     IfErr res (IsNo (Lacks (IsStepFault p m.node m.mark (Some s)) (IsTaken r.version r.tables n p m.node (Some s)))) → IfErr res (IsNo (Lacks (IsFaultAt r.lives p m) (IsBehind r n p m)))
 taken_fault {T} r n p m life step s res is found h =

@@ -8,3 +8,4 @@ pub mod Storing
 pub mod Taking
 pub mod Telling
 pub mod Texts
+pub mod Collecting

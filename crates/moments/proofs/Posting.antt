@@ -1,22 +1,21 @@
 -- Messages that are posted with the mark at which they were sent.
-use Rattle.std.proofs.Common.{◌≡◌, ◌∙◌, ℕ, zero, suc, ◌+◌, ◌<◌, false, List, [], ◌∷◌, ◌++◌, map, take, drop, length, refl, sym, ap, append-nil, append_assoc, Option, Some, None, ℤ, subst, inl, inr}
-use Rattle.std.specs.Prelude.{slice_index_or, option_map, slice_get}
-use Rattle.std.proofs.Math.Seq.{drop-length}
+use Rattle.std.proofs.Common.{◌≡◌, ◌∙◌, ℕ, zero, suc, ◌+◌, ◌<◌, false, List, [], ◌∷◌, ◌++◌, map, take, drop, length, refl, sym, ap, append_assoc, Option, Some, None, ℤ, subst, inl, inr}
+use Rattle.std.specs.Prelude.{slice_index_or, option_map}
 use Rattle.std.proofs.lemmas.List.{take_more, map-append}
 use Rattle.std.proofs.lemmas.Option.{same_Some, slice_get-map}
 use Rattle.std.proofs.lemmas.Simd.{map-map}
 use Rattle.model.specs.Lists.{nth}
 use Rattle.model.specs.declared.message.Message.{Message}
 use Rattle.model.specs.Worlds.{World, Event, happens, run, new_world, Gives}
-use Rattle.sqlread.specs.Meaning.{schema_of}
+use Rattle.sqlread.specs.Meaning.{language_of}
 use Rattle.world.specs.declared.history.World.{World as Whole}
 use Rattle.world.specs.declared.output.Output.{Output as Out}
-use Rattle.world.specs.Run.{schema_in, tables_in, members_in, events_of, now_of, member_of}
+use Rattle.world.specs.Run.{language_in, tables_in, members_in, events_of, now_of, member_of}
 use Rattle.world.specs.View.{event_of, outputs_of}
 use Rattle.moments.specs.declared.posts.Post.{Post}
 use Rattle.moments.specs.declared.replay.Replay.{Replay}
 use Rattle.moments.specs.Posts.{messages_in, posted, IsPosted}
-use Rattle.moments.specs.Past.{Past, grown, after, IsSent}
+use Rattle.moments.specs.Past.{Past, IsSent}
 use Rattle.model.specs.declared.event.Job.{Job as ModelJob}
 use Rattle.flight.specs.declared.life.Packet.{Packet}
 use Rattle.flight.specs.declared.life.Packet.TheVariants.{Delivered}
@@ -48,14 +47,6 @@ nth_map : {A B : Type 0} (f : A → B) (xs : List A) (k : ℕ) → nth (map f xs
 nth_map f xs zero = refl
 nth_map f xs (suc k) = slice_get-map f xs k
 
--- a message that is posted was sent
-pub was_sent : (x : Replay) (mark node : ℕ) (message : Message) (k : ℕ) → IsLive x → IsPosted x.posts.items mark node message k → IsSent (past_of x) mark node message k
-was_sent x mark node message k live h = record {
-  is = ap (λ xs. nth xs k) (sym live.posted) ∙ nth_map (λ (p : Post). p.message) x.posts.items k ∙ ap (option_map (λ (p : Post). p.message)) h.0;
-  marked = nth_map (λ (p : Post). p.mark) x.posts.items k ∙ ap (option_map (λ (p : Post). p.mark)) h.0;
-  addressed = h.1;
-}
-
 some_of : (o : Option Post) (mark : ℕ) (message : Message) → option_map (λ (p : Post). p.message) o ≡ Some message → option_map (λ (p : Post). p.mark) o ≡ Some mark → o ≡ Some (posted mark message)
 some_of None mark message h m = absurd (cc h)
 some_of (Some p) mark message h m = λ i. Some (posted ((same_Some _ _ m) i) ((same_Some _ _ h) i))
@@ -68,13 +59,6 @@ is_posted x mark node message k live h = (
       (sym (nth_map (λ (p : Post). p.mark) x.posts.items k) ∙ h.marked),
   h.addressed,
 )
-
-none_from : (posts : List Post) (mark : ℕ) (message : Message) → ((k : ℕ) → slice_get posts k ≡ Some (posted mark message) → ⊥) → (k : ℕ) → nth posts k ≡ Some (posted mark message) → ⊥
-none_from posts mark message h zero is = absurd (cc is)
-none_from posts mark message h (suc k) is = h k is
-
-pub none_posted : (posts : List Post) (mark node : ℕ) (message : Message) → ((k : ℕ) → slice_get posts k ≡ Some (posted mark message) → ⊥) → (k : ℕ) → IsPosted posts mark node message k → ⊥
-none_posted posts mark node message h k is = none_from posts mark message h k is.0
 
 -- ---- jobs
 
@@ -104,12 +88,12 @@ cut_told p node mark next ending s job is there told =
 
 -- one event happened, and its messages are posted
 pub one_happened : (old new : Replay) (mark : ℕ) (e : Event) (outs : List Out) → IsLive old →
-    Gives (schema_in old.world) (members_in old.world) (now_of old.world) e (outputs_of outs) →
-    now_of new.world ≡ happens (schema_in old.world) (members_in old.world) (now_of old.world) e →
+    Gives (language_in old.world) (members_in old.world) (now_of old.world) e (outputs_of outs) →
+    now_of new.world ≡ happens (language_in old.world) (members_in old.world) (now_of old.world) e →
     events_of new.world ≡ events_of old.world ++ e ∷ [] → tables_in new.world ≡ tables_in old.world → members_in new.world ≡ members_in old.world →
     new.world.is_spent ≡ false → new.posts.items ≡ old.posts.items ++ map (posted mark) (messages_in outs) → Happened old new mark (e ∷ [])
 one_happened old new mark e outs live gives now kept tables members spent posts =
-    let s = schema_in old.world in
+    let s = language_in old.world in
     let n = members_in old.world in
     let w = now_of old.world in
     let ms = messages_in outs in
@@ -130,68 +114,16 @@ one_happened old new mark e outs live gives now kept tables members spent posts 
       live = record { live = spent; posted = sent };
     }
 
-grown_none : (p : Past) (mark : ℕ) → p ≡ grown p mark p.world
-grown_none p mark = λ i. record { world = p.world; marks = (sym (ap (λ xs. p.marks ++ map (λ (m : Message). mark) xs) (drop-length p.world.sent) ∙ append-nil p.marks)) i }
-
--- nothing happened at a mark
-pub none_happened : (x : Replay) (mark : ℕ) → IsLive x → Happened x x mark []
-none_happened x mark live = record {
-  kept = sym (append-nil (events_of x.world));
-  past = grown_none (past_of x) mark;
-  tables = refl;
-  members = refl;
-  live = live;
-}
-
 -- ---- what stays the same
 
 now_same : (old new : Whole) → new.kept.items ≡ old.kept.items → tables_in new ≡ tables_in old → members_in new ≡ members_in old → now_of new ≡ now_of old
-now_same old new kept tables members = λ i. run (schema_of (tables i)) (members i) (new_world (members i)) (map event_of (kept i))
-
--- the world was looked at
-pub looked_at : (old new : Replay) → IsLive old → new.posts.items ≡ old.posts.items → new.world.kept.items ≡ old.world.kept.items → tables_in new.world ≡ tables_in old.world → members_in new.world ≡ members_in old.world →
-    new.world.is_spent ≡ false → IsSameRun old new
-looked_at old new live posts kept tables members spent =
-    let now = now_same old.world new.world kept tables members in
-    record {
-      kept = ap (map event_of) kept;
-      past = λ i. record { world = now i; marks = map (λ (p : Post). p.mark) (posts i) };
-      tables = tables;
-      members = members;
-      live = record { live = spent; posted = ap (map (λ (p : Post). p.message)) posts ∙ live.posted ∙ ap (λ (v : World). v.sent) (sym now) };
-    }
-
-pub same_start : (x : Replay) → IsLive x → IsSameRun x x
-same_start x live = record { kept = refl; past = refl; tables = refl; members = refl; live = live }
-
-pub looked_same : (old new : Replay) → IsLive old → new.posts.items ≡ old.posts.items → new.world ≡ old.world → IsSameRun old new
-looked_same old new live posts world = looked_at old new live posts (ap (λ (w : Whole). w.kept.items) world) (ap tables_in world) (ap members_in world) (ap (λ (w : Whole). w.is_spent) world ∙ live.live)
+now_same old new kept tables members = λ i. run (language_of (tables i)) (members i) (new_world (members i)) (map event_of (kept i))
 
 pub member_same : (a b : Replay) (node : ℕ) → IsSameRun a b → member_of b.world node ≡ member_of a.world node
 member_same a b node same = ap (λ (p : Past). nth p.world.nodes node) same.past
 
 pub same_again : (a b c : Replay) → IsSameRun a b → IsSameRun b c → IsSameRun a c
 same_again a b c p q = record {
-  kept = q.kept ∙ p.kept;
-  past = q.past ∙ p.past;
-  tables = q.tables ∙ p.tables;
-  members = q.members ∙ p.members;
-  live = q.live;
-}
-
--- an event after the world was looked at
-pub happened_after : (a b c : Replay) (mark : ℕ) (events : List Event) → IsSameRun a b → Happened b c mark events → Happened a c mark events
-happened_after a b c mark events p q = record {
-  kept = q.kept ∙ ap (λ xs. xs ++ events) p.kept;
-  past = q.past ∙ (λ i. after (schema_of (p.tables i)) (p.members i) (p.past i) mark events);
-  tables = q.tables ∙ p.tables;
-  members = q.members ∙ p.members;
-  live = q.live;
-}
-
--- the world was looked at after an event
-pub looked_after : (a b c : Replay) (mark : ℕ) (events : List Event) → Happened a b mark events → IsSameRun b c → Happened a c mark events
-looked_after a b c mark events p q = record {
   kept = q.kept ∙ p.kept;
   past = q.past ∙ p.past;
   tables = q.tables ∙ p.tables;

@@ -1,13 +1,10 @@
 -- What an event sends, and the run with one event more.
-use Rattle.std.proofs.Common.{◌≡◌, ◌∙◌, ℕ, suc, ◌+◌, ◌-◌, Bool, true, false, List, [], ◌∷◌, ◌++◌, map, drop, length, Option, Some, None, refl, sym, ap, append-nil, arith}
-use Rattle.std.specs.Prelude.{slice_get, if◌then◌else◌, ◌&&◌}
+use Rattle.std.proofs.Common.{◌≡◌, ◌∙◌, ℕ, ◌+◌, ◌-◌, Bool, true, false, List, [], ◌∷◌, ◌++◌, map, drop, length, Option, Some, None, refl, sym, ap, append-nil}
+use Rattle.std.specs.Prelude.{if◌then◌else◌, ◌&&◌}
 use Rattle.std.specs.List.{filter_map, range_with_len}
-use Rattle.std.specs.declared.vec.Vec.{Vec}
-use Rattle.std.specs.declared.alloc.Global.{Global}
 use Rattle.std.proofs.Math.Seq.{drop-append_seam}
-use Rattle.std.proofs.lemmas.List.{length-map, length-append}
 use Rattle.model.specs.Lists.{nth}
-use Rattle.model.specs.Transactions.{Schema}
+use Rattle.model.specs.Transactions.{Language}
 use Rattle.model.specs.Steps.{Effect, Moves, Refuses, Nothing}
 use Rattle.model.specs.Members.{Node, closed_time}
 use Rattle.model.specs.declared.message.Message.{Message}
@@ -19,39 +16,24 @@ use Rattle.model.specs.declared.event.Job.{Job}
 use Rattle.model.specs.declared.event.Job.TheVariants.{Delivery, Local}
 use Rattle.model.specs.declared.event.Left.{Left}
 use Rattle.model.specs.Worlds as model
-use Rattle.model.specs.Worlds.{World, Event, Output, happens, run, new_world, Gives, GivesAll, numbered, done, effect_gives, tells, effect, IsGivenIn, does, step_gives, delivers, delivery_gives, tears, stops, starts, IsGivenAt, IsGivenBy}
-use Rattle.sqlchecks.specs.Columns.{Tables}
+use Rattle.model.specs.Worlds.{World, Event, Output, happens, run, new_world, Gives, numbered, done, effect_gives, tells, effect, IsGivenIn, does, step_gives, delivers, delivery_gives, tears, stops, starts, IsGivenAt, IsGivenBy}
 use Rattle.world.specs.declared.history.World.{World as Whole}
-use Rattle.world.specs.declared.event.Event.{Event as Given}
 use Rattle.world.specs.declared.output.Output.{Output as Out}
 use Rattle.world.specs.declared.output.Output.TheVariants.{Sent as SentOut, Applied as AppliedOut, Refused as RefusedOut, Answered as AnsweredOut}
-use Rattle.world.specs.Run.{schema_in, members_in, events_of, now_of}
-use Rattle.world.specs.View.{event_of, outputs_of, ShowsColumns, EachShowsColumns}
+use Rattle.world.specs.Run.{language_in, members_in, events_of, now_of}
+use Rattle.world.specs.View.{outputs_of}
 use Rattle.moments.specs.Posts.{messages_in}
 
 -- ---- runs
 
-run_next : (s : Schema) (n : ℕ) (w : World) (es : List Event) (e : Event) → run s n w (es ++ e ∷ []) ≡ happens s n (run s n w es) e
+run_next : (s : Language) (n : ℕ) (w : World) (es : List Event) (e : Event) → run s n w (es ++ e ∷ []) ≡ happens s n (run s n w es) e
 run_next s n w [] e = refl
 run_next s n w (f ∷ es) e = run_next s n (happens s n w f) es e
 
 -- the world after one more event
-pub now_next : (old new : Whole) (e : Event) → schema_in new ≡ schema_in old → members_in new ≡ members_in old → events_of new ≡ events_of old ++ e ∷ [] → now_of new ≡ happens (schema_in old) (members_in old) (now_of old) e
+pub now_next : (old new : Whole) (e : Event) → language_in new ≡ language_in old → members_in new ≡ members_in old → events_of new ≡ events_of old ++ e ∷ [] → now_of new ≡ happens (language_in old) (members_in old) (now_of old) e
 now_next old new e schema members events =
-    (λ i. run (schema i) (members i) (new_world (members i)) (events i)) ∙ run_next (schema_in old) (members_in old) (new_world (members_in old)) (events_of old) e
-
--- ---- what one event gives
-
-pub given_one : (s : Schema) (n : ℕ) (w : World) (e : Event) (outs : List (Vec Out Global)) → GivesAll s n w (e ∷ []) (map (λ o. outputs_of o.items) outs) → length outs ≡ 1
-given_one s n w e outs (out, rest, is, gives, none) = sym (length-map outs (λ (o : Vec Out Global). outputs_of o.items)) ∙ ap length is ∙ ap (λ (l : List (List Output)). suc (length l)) none
-
-one_item : {A : Type 0} (xs before : List A) (x : A) → length xs ≡ 1 → xs ≡ before ++ x ∷ [] → slice_get xs 0 ≡ Some x
-one_item xs [] x one is = ap (λ l. slice_get l 0) is
-one_item xs (y ∷ ys) x one is = absurd (omega (arith, sym one ∙ ap length is ∙ ap suc (length-append ys (x ∷ []))))
-
-pub columns_of_one : (tables : Tables) (s : Schema) (n : ℕ) (w : World) (e : Given) (outs before : List (Vec Out Global)) (o : Vec Out Global) →
-    GivesAll s n w (event_of e ∷ []) (map (λ o. outputs_of o.items) outs) → EachShowsColumns tables (e ∷ []) outs → outs ≡ before ++ o ∷ [] → ShowsColumns tables e o.items
-columns_of_one tables s n w e outs before o gives columns is = columns 0 e o refl (one_item outs before o (given_one s n w (event_of e) outs gives) is)
+    (λ i. run (schema i) (members i) (new_world (members i)) (events i)) ∙ run_next (language_in old) (members_in old) (new_world (members_in old)) (events_of old) e
 
 -- ---- messages among outputs
 
@@ -88,21 +70,21 @@ none_applied m (x ∷ xs) = none_applied m xs
 same_sent : (w : World) (outs : List Output) → sent_in outs ≡ [] → w.sent ≡ w.sent ++ sent_in outs
 same_sent w outs none = sym (append-nil w.sent) ∙ ap (λ ms. w.sent ++ ms) (sym none)
 
-done_sent : (s : Schema) (w : World) (m : ℕ) (x : Node) (e : Effect) → (done w m e).sent ≡ w.sent ++ sent_in (effect_gives s w m x e)
+done_sent : (s : Language) (w : World) (m : ℕ) (x : Node) (e : Effect) → (done w m e).sent ≡ w.sent ++ sent_in (effect_gives s w m x e)
 done_sent s w m x (Moves a) = ap (λ ms. w.sent ++ ms) (sym (sent_numbered (length w.sent) a.sent (tells s m x a.node) (none_applied m (filter_map (told_at s a.node.log) (range_with_len (x.commit + 1) (a.node.commit - x.commit))))))
 done_sent s w m x (Refuses r) = same_sent w (model.Refused m r ∷ []) refl
 done_sent s w m x Nothing = same_sent w [] refl
 
-done_sent_if : (s : Schema) (w : World) (m : ℕ) (x : Node) (e : Effect) (up : Bool) →
+done_sent_if : (s : Language) (w : World) (m : ℕ) (x : Node) (e : Effect) (up : Bool) →
     (if up then done w m e else w).sent ≡ w.sent ++ sent_in (if up then effect_gives s w m x e else (model.Refused m NodeDown ∷ []))
 done_sent_if s w m x e true = done_sent s w m x e
 done_sent_if s w m x e false = same_sent w (model.Refused m NodeDown ∷ []) refl
 
-does_sent : (s : Schema) (n : ℕ) (w : World) (m : ℕ) (job : Job) (o : Option Node) → (does s n w m job o).sent ≡ w.sent ++ sent_in (step_gives s n w m job o)
+does_sent : (s : Language) (n : ℕ) (w : World) (m : ℕ) (job : Job) (o : Option Node) → (does s n w m job o).sent ≡ w.sent ++ sent_in (step_gives s n w m job o)
 does_sent s n w m job None = same_sent w [] refl
 does_sent s n w m job (Some x) = done_sent_if s w m x (effect s n w m job x) x.up
 
-delivers_sent : (s : Schema) (n : ℕ) (w : World) (job : Job) (o : Option Message) → (delivers s n w job o).sent ≡ w.sent ++ sent_in (delivery_gives s n w job o)
+delivers_sent : (s : Language) (n : ℕ) (w : World) (job : Job) (o : Option Message) → (delivers s n w job o).sent ≡ w.sent ++ sent_in (delivery_gives s n w job o)
 delivers_sent s n w job None = same_sent w [] refl
 delivers_sent s n w job (Some message) = does_sent s n w message.addressee job (nth w.nodes message.addressee)
 
@@ -122,24 +104,24 @@ starts_sent : (w : World) (m : ℕ) (o : Option Node) → (starts w m o).sent �
 starts_sent w m None = refl
 starts_sent w m (Some x) = started_if w m (model.started x) x.up
 
-tears_sent : (s : Schema) (n : ℕ) (w : World) (m : ℕ) (job : Job) (left : Left) (o : Option Node) → (tears s n w m job left o).sent ≡ w.sent
+tears_sent : (s : Language) (n : ℕ) (w : World) (m : ℕ) (job : Job) (left : Left) (o : Option Node) → (tears s n w m job left o).sent ≡ w.sent
 tears_sent s n w m job left None = refl
 tears_sent s n w m job left (Some x) = kept_if w m (model.stopped (model.node_left left x (effect s n w m job x))) (x.up && model.is_for w m job)
 
-given_in : (s : Schema) (m : ℕ) (x : Node) (q : Option Query) (out : List Output) → IsGivenIn s m x q out → sent_in out ≡ []
+given_in : (s : Language) (m : ℕ) (x : Node) (q : Option Query) (out : List Output) → IsGivenIn s m x q out → sent_in out ≡ []
 given_in s m x None out h = ap sent_in h
 given_in s m x (Some q) out h = ap sent_in h.2
 
-given_by : (s : Schema) (m : ℕ) (q : Select) (x : Node) (up : Bool) (out : List Output) → IsGivenBy s m q x up out → sent_in out ≡ []
+given_by : (s : Language) (m : ℕ) (q : Select) (x : Node) (up : Bool) (out : List Output) → IsGivenBy s m q x up out → sent_in out ≡ []
 given_by s m q x false out h = ap sent_in h
 given_by s m q x true out h = given_in s m x (closed_query q (closed_time x)) out h
 
-given_at : (s : Schema) (m : ℕ) (q : Select) (o : Option Node) (out : List Output) → IsGivenAt s m q o out → sent_in out ≡ []
+given_at : (s : Language) (m : ℕ) (q : Select) (o : Option Node) (out : List Output) → IsGivenAt s m q o out → sent_in out ≡ []
 given_at s m q None out h = ap sent_in h
 given_at s m q (Some x) out h = given_by s m q x x.up out h
 
 -- the messages that an event gives are those that it sent
-pub sent_by : (s : Schema) (n : ℕ) (w : World) (e : Event) (out : List Output) → Gives s n w e out → (happens s n w e).sent ≡ w.sent ++ sent_in out
+pub sent_by : (s : Language) (n : ℕ) (w : World) (e : Event) (out : List Output) → Gives s n w e out → (happens s n w e).sent ≡ w.sent ++ sent_in out
 sent_by s n w (model.Hand m input) out h = does_sent s n w m (Local input) (nth w.nodes m) ∙ ap (λ o. w.sent ++ sent_in o) (sym h)
 sent_by s n w (model.Deliver k reading) out h = delivers_sent s n w (Delivery k reading) (nth w.sent k) ∙ ap (λ o. w.sent ++ sent_in o) (sym h)
 sent_by s n w (model.Stop m) out h = stops_sent w m (nth w.nodes m) ∙ same_sent w out (ap sent_in h)
@@ -147,5 +129,5 @@ sent_by s n w (model.Start m) out h = starts_sent w m (nth w.nodes m) ∙ same_s
 sent_by s n w (model.Torn m job left) out h = tears_sent s n w m job left (nth w.nodes m) ∙ same_sent w out (ap sent_in h)
 sent_by s n w (model.Ask m q) out h = same_sent w out (given_at s m q (nth w.nodes m) out h)
 
-pub sent_after : (s : Schema) (n : ℕ) (w : World) (e : Event) (outs : List Out) → Gives s n w e (outputs_of outs) → drop (length w.sent) (happens s n w e).sent ≡ messages_in outs
+pub sent_after : (s : Language) (n : ℕ) (w : World) (e : Event) (outs : List Out) → Gives s n w e (outputs_of outs) → drop (length w.sent) (happens s n w e).sent ≡ messages_in outs
 sent_after s n w e outs h = ap (drop (length w.sent)) (sent_by s n w e (outputs_of outs) h) ∙ drop-append_seam w.sent (sent_in (outputs_of outs)) ∙ sym (messages_are outs)

@@ -12,7 +12,7 @@ use Rattle.answer.specs.declared.Column.{Column}
 use Rattle.answer.specs.declared.Shown.{Shown}
 use Rattle.answer.specs.declared.Answer.{Answer}
 use Rattle.answer.specs.Answers.{answer_of, shown_of}
-use Rattle.answertext.specs.Answers.{answer_text, cell_text, count_text, end_text, heading_text, joined, line, optional_text, row_text}
+use Rattle.answertext.specs.Answers.{answer_text, slot_text, count_text, end_text, heading_text, joined, line, optional_text, row_text}
 
 abbrev cell_of : ModelShown → Shows → List ℕ
 cell_of s (Key i) = optional_text (slice_get s.row.key i)
@@ -22,7 +22,7 @@ cell_of s End = day_text s.row.period.end
 cell_of s SystemStart = instant_text s.row.system_start
 cell_of s SystemEnd = end_text s.end
 
-same_cell : (s : Shown) (c : Shows) → cell_text s c ≡ cell_of (shown_of s) c
+same_cell : (s : Shown) (c : Shows) → slot_text s c ≡ cell_of (shown_of s) c
 same_cell s (Key i) = refl
 same_cell s (Value i) = refl
 same_cell s Start = refl
@@ -30,7 +30,7 @@ same_cell s End = refl
 same_cell s SystemStart = refl
 same_cell s SystemEnd = refl
 
-same_cells : (s : Shown) (columns : List Column) → map (λ (c : Column). cell_text s c.shows) columns ≡ map (λ (c : Column). cell_of (shown_of s) c.shows) columns
+same_cells : (s : Shown) (columns : List Column) → map (λ (c : Column). slot_text s c.shows) columns ≡ map (λ (c : Column). cell_of (shown_of s) c.shows) columns
 same_cells s [] = refl
 same_cells s (c ∷ columns) = λ i. same_cell s c.shows i ∷ same_cells s columns i
 

@@ -8,7 +8,7 @@ use Rattle.fault.specs.declared.refusal.Refusal.TheVariants.{NotClosed}
 use Rattle.model.specs.Lists.{nth}
 use Rattle.model.specs.declared.entry.Entry.{Entry}
 use Rattle.model.specs.Members.{Node}
-use Rattle.model.specs.Transactions.{Schema}
+use Rattle.model.specs.Transactions.{Language}
 use Rattle.model.specs.Worlds.{World, Event, Output, Gives, happens}
 use Rattle.model.specs.declared.event.Job.{Job}
 use Rattle.model.specs.declared.event.Left.{Left}
@@ -32,7 +32,7 @@ use Rattle.answer.specs.declared.Answer.{Answer}
 use Rattle.answer.specs.Answers.{answer_of, columns_in}
 use Rattle.answertext.specs.Answers.{answer_text}
 use Rattle.sqlchecks.specs.Columns.{Tables}
-use Rattle.sqlread.specs.Meaning.{schema_of, select_of}
+use Rattle.sqlread.specs.Meaning.{language_of, select_of}
 use Rattle.sqlread.specs.Shapes.{QueryShape}
 use Rattle.sqlread.specs.Texts.{query_in}
 use Rattle.world.specs.View.{durable_of, if_up}
@@ -81,7 +81,7 @@ IsDown x = if_up x ≡ None
 -- stored what the run has there
 abbrev pub IsOpened : Tables → ℕ → Past → ℕ → ℕ → Opening → List Event → Type 0
 IsOpened t n p node zero o events = (opened_with o ≡ blank) × (events ≡ [])
-IsOpened t n p node (suc k) o events = IsDown (nth p.world.nodes node) × HasStored (nth (happens (schema_of t) n p.world (Start node)).nodes node) o × (events ≡ Start node ∷ [])
+IsOpened t n p node (suc k) o events = IsDown (nth p.world.nodes node) × HasStored (nth (happens (language_of t) n p.world (Start node)).nodes node) o × (events ≡ Start node ∷ [])
 
 -- ---- what is taken
 
@@ -109,13 +109,13 @@ AreTold Two outs outcomes = outcomes_in outs ≡ outcomes
 AreTold Three outs outcomes = outcomes_in outs ≡ outcomes
 
 -- what the event gives tells these outcomes
-abbrev pub TellsSo : Version → Schema → ℕ → World → Event → List Outcome → Type 0
+abbrev pub TellsSo : Version → Language → ℕ → World → Event → List Outcome → Type 0
 TellsSo v schema n w event outcomes = (outs : List Output) × Gives schema n w event outs × AreTold v outs outcomes
 
 -- the packet is one that was there to be taken, and the run tells of the step what was recorded
 abbrev pub IsTaken : Version → Tables → ℕ → Past → ℕ → Option Step → List Event → Type 0
 IsTaken v t n p node None events = ⊥
-IsTaken v t n p node (Some s) events = (job : Job) × IsJob p node s.packet job × TellsSo v (schema_of t) n p.world (job_event node job) s.outcomes × (events ≡ job_event node job ∷ [])
+IsTaken v t n p node (Some s) events = (job : Job) × IsJob p node s.packet job × TellsSo v (language_of t) n p.world (job_event node job) s.outcomes × (events ≡ job_event node job ∷ [])
 
 -- old exactly where the node's next life begins with what it had stored before
 abbrev pub IsLeftBy : Option Life → Option Node → Left → Type 0
@@ -143,7 +143,7 @@ IsText tables table _ text = ⊥
 
 -- the query is asked, and the run answers so
 abbrev pub IsAnswered : Tables → ℕ → Past → ℕ → Recorded → List Event → Type 0
-IsAnswered t n p node a events = (q : QueryShape) × (out : List Output) × (query_in t a.query ≡ Ok q) × Gives (schema_of t) n p.world (Ask node (select_of q)) out × IsText t q.table out a.answer × (events ≡ Ask node (select_of q) ∷ [])
+IsAnswered t n p node a events = (q : QueryShape) × (out : List Output) × (query_in t a.query ≡ Ok q) × Gives (language_of t) n p.world (Ask node (select_of q)) out × IsText t q.table out a.answer × (events ≡ Ask node (select_of q) ∷ [])
 
 -- ---- each moment
 

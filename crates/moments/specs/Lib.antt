@@ -6,3 +6,4 @@ pub mod Behind
 pub mod Faults
 pub mod View
 pub mod Texts
+pub mod Judged

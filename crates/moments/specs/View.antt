@@ -1,7 +1,7 @@
 -- The replay as the definitions see it.
 use Rattle.std.specs.Prelude.{◌≡◌, ℕ, false, List, ◌++◌, map}
 use Rattle.model.specs.Worlds.{Event}
-use Rattle.world.specs.Run.{tables_in, schema_in, members_in, events_of, now_of}
+use Rattle.world.specs.Run.{tables_in, language_in, members_in, events_of, now_of}
 use Rattle.moments.specs.declared.replay.Replay.{Replay}
 use Rattle.moments.specs.Past.{Past, after}
 
@@ -16,7 +16,7 @@ pub record IsLive (x : Replay) : Type 0 where
 -- these events happened at a mark, and nothing else
 pub record Happened (old new : Replay) (mark : ℕ) (events : List Event) : Type 0 where
   pub kept : events_of new.world ≡ events_of old.world ++ events
-  pub past : past_of new ≡ after (schema_in old.world) (members_in old.world) (past_of old) mark events
+  pub past : past_of new ≡ after (language_in old.world) (members_in old.world) (past_of old) mark events
   pub tables : tables_in new.world ≡ tables_in old.world
   pub members : members_in new.world ≡ members_in old.world
   pub live : IsLive new

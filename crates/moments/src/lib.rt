@@ -1,6 +1,7 @@
 //! The moments of what nodes recorded: their order, and each of them played again on a `World`.
 #![tactic(auto)]
 
+mod judged;
 pub mod laws;
 mod listing;
 mod moment;
@@ -12,7 +13,8 @@ mod running;
 mod same;
 mod told;
 
-pub use listing::timeline;
+pub use judged::all_answers;
+pub use listing::{list_deeds, timeline};
 pub use moment::{Deed, Moment};
 pub use order::check_order;
 pub use recorded::{AuditFault, Recorded};

@@ -39,7 +39,8 @@ fn list_life(
     Ok(())
 }
 
-fn list_deeds(moments: &mut Vec<Moment>, node: Member, lives: &[Life]) -> Result<(), AllocError>
+/// Adds what a node does in its lives, in their order. Want of memory leaves a part of it there.
+pub fn list_deeds(moments: &mut Vec<Moment>, node: Member, lives: &[Life]) -> Result<(), AllocError>
     ensures { OnOk result (moments.new.items ≡ moments.old.items ++ deed_moments node 0 lives.now) }
 {
     for (place, life) in lives.iter().enumerate() {

@@ -6,7 +6,7 @@ ghost use Rattle.model.specs.Worlds.{Gives};
 ghost use Rattle.model.specs.declared.event.Job.{Job as ModelJob};
 ghost use Rattle.model.specs.Worlds.Event.{Stop};
 ghost use Rattle.sqlchecks.specs.Columns.{Tables};
-ghost use Rattle.world.specs.Run.{tables_in, schema_in, members_in, events_of, now_of, member_of};
+ghost use Rattle.world.specs.Run.{tables_in, language_in, members_in, events_of, now_of, member_of};
 ghost use Rattle.world.specs.View.{durable_in, event_of, output_of, outputs_of, HasColumns, ShowsColumns};
 ghost use Rattle.moments.specs.Past.{beginning};
 ghost use Rattle.keep.specs.Durable.{blank};
@@ -19,7 +19,6 @@ use crate::moment::{Deed, Moment};
 use crate::order::{is_marked, lives_of};
 use crate::posts::{Post, number_of, post_all};
 use crate::recorded::{AuditFault, Recorded};
-use crate::running::happens;
 use crate::same::is_same_entry;
 use crate::told::are_told;
 use answertext::Lines;
@@ -32,7 +31,7 @@ use model::member::Member;
 use schema::Schema;
 use sqlread::query::read_query;
 use std::alloc::{AllocError, Global};
-use world::Stored;
+use world::StoredState;
 use world::event::{Event, Job, Left};
 use world::history::World;
 use world::output::Output;
@@ -125,11 +124,11 @@ impl Replay {
     // Lets an event happen at a mark.
     fn happen(&mut self, mark: Mark, event: Event) -> Result<Vec<Output>, AllocError>
         requires live { IsLive self.old }
-        ensures gives { IfOk result (λ outs. Gives (schema_in self.old.world) (members_in self.old.world) (now_of self.old.world) (event_of event) (outputs_of outs.items)) }
+        ensures gives { IfOk result (λ outs. Gives (language_in self.old.world) (members_in self.old.world) (now_of self.old.world) (event_of event) (outputs_of outs.items)) }
         ensures columns { IfOk result (λ outs. ShowsColumns (tables_in self.old.world) event outs.items) }
         ensures happened { OnOk result (Happened self.old self.new mark (event_of event ∷ [])) }
     {
-        let outs = happens(self.alloc, &mut self.world, event)?;
+        let outs = self.world.step(&event)?;
         post_all(&mut self.posts, mark, &outs)?;
         Ok(outs)
     }
@@ -156,7 +155,7 @@ impl Replay {
     }
 
     // What a node has stored, none where it is down or not there.
-    fn stored_at(&mut self, node: Member) -> Result<Option<Stored>, AllocError>
+    fn stored_at(&mut self, node: Member) -> Result<Option<StoredState>, AllocError>
         requires live { IsLive self.old }
         ensures found { IfOk result (λ found. found ≡ durable_in (member_of self.old.world node)) }
         ensures same { OnOk result (IsSameRun self.old self.new) }

@@ -5,13 +5,13 @@ use Rattle.std.specs.List.{list_all}
 use Rattle.std.specs.Str.{IsAscii}
 use Rattle.std.proofs.lemmas.Bool.Decides.{nat_tests}
 use Rattle.sqltokens.specs.declared.token.Sign.TheVariants.{Comma}
-use Rattle.sqltokens.specs.What.{What, is_mark, sign}
+use Rattle.sqltokens.specs.What.{What, is_symbol, sign}
 use Rattle.sqltokens.specs.Classes.{name_in}
 use Rattle.sqltokens.specs.Lexing.{is_word_byte}
 use Rattle.phrase.specs.Grammar.{Phrase, one, ◌▸◌}
 use Rattle.phrase.proofs.Laws.{chosen, IsClass, IsLawful, Begins, Parts, Repeats, after_fixed, in_turn, one_token, in_row}
 use Rattle.sqltokens.proofs.Texts.{and_parts}
-use Rattle.sqltokens.proofs.Marks.{a_sign, name_only, stops_nothing}
+use Rattle.sqltokens.proofs.Symbols.{a_sign, name_only, stops_nothing}
 use Rattle.namesyntax.specs.Words.{begins_with_letter, is_name_text}
 use Rattle.namesyntax.specs.Names.{Bytes, if_name, names, another_name, name_list}
 
@@ -48,7 +48,7 @@ pub another_name_lawful : IsLawful another_name
 unfolding another_name
 another_name_lawful = after_fixed (sign Comma) _ (a_sign Comma) names_lawful
 
-pub another_name_begins : Begins (is_mark Comma) another_name true
+pub another_name_begins : Begins (is_symbol Comma) another_name true
 unfolding another_name
 another_name_begins a rest f = refl
 
@@ -61,7 +61,7 @@ name_list_repeat b rest f = refl
 
 pub name_list_lawful : IsLawful name_list
 unfolding name_list
-name_list_lawful = in_row (one names) (is_mark Comma) another_name another_name_begins name_list_part name_list_repeat names_lawful another_name_lawful
+name_list_lawful = in_row (one names) (is_symbol Comma) another_name another_name_begins name_list_part name_list_repeat names_lawful another_name_lawful
 
 -- ---- ASCII
 

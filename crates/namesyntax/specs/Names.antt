@@ -2,7 +2,7 @@
 use Rattle.std.specs.Prelude.{◌≡◌, ℕ, true, if◌then◌else◌, List, Option, Some, None, map, codes}
 use Rattle.sqltokens.specs.declared.token.Sign.TheVariants.{Comma}
 use Rattle.namesyntax.specs.declared.forms.Name.{Name as Given}
-use Rattle.sqltokens.specs.What.{What, Name, is_mark, sign}
+use Rattle.sqltokens.specs.What.{What, Name, is_symbol, sign}
 use Rattle.sqltokens.specs.Classes.{name_in}
 use Rattle.phrase.specs.Grammar.{Phrase, Class, one, ◌▹◌, row}
 use Rattle.namesyntax.specs.Words.{is_name_text}
@@ -23,7 +23,7 @@ another_name = sign Comma ▹ one names
 
 -- name { "," name }
 unfoldable pub name_list : Phrase What (List Bytes)
-name_list = row (one names) (is_mark Comma) another_name
+name_list = row (one names) (is_symbol Comma) another_name
 
 -- ---- the parts of what the code reads
 

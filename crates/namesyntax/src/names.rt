@@ -2,7 +2,7 @@
 
 ghost use Rattle.std.specs.Prelude.{◌≡◌, true, Ok};
 ghost use Rattle.std.specs.List.{list_all};
-ghost use Rattle.sqltokens.specs.What.{What, whats, is_mark};
+ghost use Rattle.sqltokens.specs.What.{What, whats, is_symbol};
 ghost use Rattle.sqltokens.specs.Classes.{is_name};
 ghost use Rattle.sqltokens.specs.Lexing.{is_word_byte};
 ghost use Rattle.phrase.specs.Grammar.{next, one, many};
@@ -86,7 +86,7 @@ impl<'a> Repeated<'a> for AnotherName {
 
     ghost form = { name_of };
 
-    ghost begins = { is_mark Comma };
+    ghost begins = { is_symbol Comma };
 
     ghost reads = { another_name.read };
 

@@ -9,12 +9,12 @@ use Rattle.model.specs.Lists.{nth}
 use Rattle.model.specs.declared.entry.Entry.{Entry}
 use Rattle.model.specs.declared.entry.Request.{Request}
 use Rattle.model.specs.declared.entry.Told.{Told}
-use Rattle.model.specs.Transactions.{Schema}
+use Rattle.model.specs.Transactions.{Language}
 use Rattle.model.specs.Logs.{Outcome, outcome, before_index, told_at}
 use Rattle.sqlchecks.specs.Columns as columns
 use Rattle.apply.specs.declared.tables.Tables.{Tables}
 use Rattle.apply.specs.View.{AreTables}
-use Rattle.sqlread.specs.Meaning.{schema_of}
+use Rattle.sqlread.specs.Meaning.{language_of}
 use Rattle.std.specs.List.{cons_option}
 use Rattle.node.specs.Applying.{AreApplied, AreMade, IsNext}
 use Rattle.node.specs.View.{told_between}
@@ -52,20 +52,20 @@ pub made_more : (schema : columns.Tables) (e : Entry) (old new : Tables) → ((s
 made_more schema e old new kept made = ∥∥₁_elim made (hlevel props) (λ some. merely (some.0 ++ e ∷ [], kept schema some.0 some.1))
 
 -- what is told of an entry, by its request
-abbrev told_of : Schema → List Entry → ℕ → ℕ → Option Request → Option Told
+abbrev told_of : Language → List Entry → ℕ → ℕ → Option Request → Option Told
 told_of schema log i t o = option_map (λ (r : Request). record { index = i; client = r.client; number = r.number; outcome = outcome schema t r (before_index log i) }) o
 
-abbrev told_entry : Schema → List Entry → ℕ → Option Entry → Option Told
+abbrev told_entry : Language → List Entry → ℕ → Option Entry → Option Told
 told_entry schema log i o = option_and_then (λ (e : Entry). told_of schema log i e.stamp e.request) o
 
 -- nothing is told of a Close
-pub close_is : (schema : Schema) (log : List Entry) (before : ℕ) (e : Entry) → slice_get log before ≡ Some e → e.request ≡ None → None ≡ told_at schema log (before + 1)
+pub close_is : (schema : Language) (log : List Entry) (before : ℕ) (e : Entry) → slice_get log before ≡ Some e → e.request ≡ None → None ≡ told_at schema log (before + 1)
 close_is schema log before e got asks =
     let next : suc before ≡ before + 1 = omega arith in
     let there : nth log (before + 1) ≡ Some e = subst (λ n. nth log n ≡ Some e) next got in
     sym (ap (told_entry schema log (before + 1)) there ∙ ap (told_of schema log (before + 1) e.stamp) asks)
 
-pub told_is : (schema : Schema) (log : List Entry) (before : ℕ) (e : Entry) (r : Request) (o : Outcome) → slice_get log before ≡ Some e → e.request ≡ Some r
+pub told_is : (schema : Language) (log : List Entry) (before : ℕ) (e : Entry) (r : Request) (o : Outcome) → slice_get log before ≡ Some e → e.request ≡ Some r
     → Some o ≡ option_map (λ q. outcome schema e.stamp q (reverse (take before log))) e.request
     → Some (record { index = before + 1; client = r.client; number = r.number; outcome = o }) ≡ told_at schema log (before + 1)
 told_is schema log before e r o got asks given =
@@ -86,7 +86,7 @@ not_none f o a is h = let e : None ≡ Some (f a) = h ∙ ap (option_map f) is i
 pub applied_none : (schema : columns.Tables) (log : List Entry) (before : ℕ) (es : List Entry) (ts : List Told) (tables : Tables) → es ≡ [] → ts ≡ [] → AreTables schema (take before log) tables → AreApplied schema log before before es ts tables
 applied_none schema log before es ts tables none silent are = record {
   entries = none ∙ sym (range_none log before before (omega arith));
-  told = silent ∙ sym (told_none (schema_of schema) log before before (omega arith));
+  told = silent ∙ sym (told_none (language_of schema) log before before (omega arith));
   current = are;
 }
 
@@ -94,6 +94,6 @@ pub applied_next : (schema : columns.Tables) (log : List Entry) (before i : ℕ)
     → before ≤ i → AreApplied schema log before i es ts old → IsNext schema log i e t new → es' ≡ es ++ e ∷ [] → ts' ≡ ts ++ cons_option t [] → AreApplied schema log before (i + 1) es' ts' new
 applied_next schema log before i es es' ts ts' e t old new low was next more told = record {
   entries = more ∙ ap (λ (xs : List Entry). xs ++ e ∷ []) was.entries ∙ sym (range_next log before i e low next.entry);
-  told = told ∙ ap (λ (xs : List Told). xs ++ cons_option t []) was.told ∙ ap (λ (o : Option Told). told_between (schema_of schema) log before i ++ cons_option o []) next.told ∙ sym (between (schema_of schema) log before i low);
+  told = told ∙ ap (λ (xs : List Told). xs ++ cons_option t []) was.told ∙ ap (λ (o : Option Told). told_between (language_of schema) log before i ++ cons_option o []) next.told ∙ sym (between (language_of schema) log before i low);
   current = next.current;
 }

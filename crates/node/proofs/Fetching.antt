@@ -20,16 +20,16 @@ sum_of : (n s t k : ℕ) → n ≡ k + t → k ≡ min s n → (1 ≤ s → 1 �
 sum_of n zero t k e m h = omega (arith, e, m)
 sum_of n (suc s) t k e m h = omega (arith, e, m, h (omega arith))
 
-pub length_in_step : (c : Core) (d : Durable) → IsInStep c d → length d.log ≡ c.log.shelved + vec_len c.log.tail
+pub length_in_step : (c : Core) (d : Durable) → IsInStep c d → length d.log ≡ c.log.elsewhere + vec_len c.log.tail
 length_in_step c d step =
-    let len : length d.log ≡ length (take c.log.shelved d.log) + length c.log.tail.items = ap length step.log ∙ length-append (take c.log.shelved d.log) c.log.tail.items in
+    let len : length d.log ≡ length (take c.log.elsewhere d.log) + length c.log.tail.items = ap length step.log ∙ length-append (take c.log.elsewhere d.log) c.log.tail.items in
     let tail : length c.log.tail.items ≡ vec_len c.log.tail = search rules in
-    sum_of (length d.log) c.log.shelved (vec_len c.log.tail) (length (take c.log.shelved d.log)) (omega (arith, len, tail)) (length-take c.log.shelved d.log) c.log.ends
+    sum_of (length d.log) c.log.elsewhere (vec_len c.log.tail) (length (take c.log.elsewhere d.log)) (omega (arith, len, tail)) (length-take c.log.elsewhere d.log) c.log.ends
 
-pub length_of_log : (c : Core) (d : Durable) → IsInStep c d → length (log_of c d.log) ≡ c.log.shelved + vec_len c.log.tail
+pub length_of_log : (c : Core) (d : Durable) → IsInStep c d → length (log_of c d.log) ≡ c.log.elsewhere + vec_len c.log.tail
 length_of_log c d step = ap (λ (log : List Entry). length log) (sym step.log) ∙ length_in_step c d step
 
--- the entries on the shelf are there
+-- the entries that the reader has are there
 pub reached : (c : Core) (d : Durable) → IsInStep c d → Reaches c d.log
 reached c d step = omega (arith, length_in_step c d step)
 
@@ -38,8 +38,3 @@ past : (xs : List Entry) (i : ℕ) → slice_get xs i ≡ None → i + 1 ≤ len
 past [] i gone low = absurd (omega (arith, low))
 past (x ∷ xs) zero gone low = cc gone
 past (x ∷ xs) (suc i) gone low = past xs i gone (omega (arith, low))
-
-pub is_there : (log : List Entry) (before : ℕ) (found : Option Entry) → before + 1 ≤ length log → found ≡ nth log (before + 1) → found ≡ None → ⊥
-is_there log before found low is none =
-    let next : before + 1 ≡ suc before = omega arith in
-    past log before (subst (λ n. nth log n ≡ None) next (sym is ∙ none)) (omega (arith, low))

@@ -6,7 +6,7 @@ use Rattle.model.specs.declared.entry.Entry.{Entry}
 use Rattle.model.specs.Lists.{nth}
 use Rattle.model.specs.Logs.{IsStamped}
 use Rattle.model.specs.Stamps.{TIME_LAST, above}
-use Rattle.model.specs.Transactions.{Schema}
+use Rattle.model.specs.Transactions.{Language}
 use Rattle.model.specs.Members.{applied, term_of}
 use Rattle.model.specs.Steps.{go_on, spells}
 use Rattle.keep.specs.Log.{is_entry, is_numbered}
@@ -45,13 +45,13 @@ rises prev bound (x ∷ es) zero (suc j) d e h lt is at =
     subst (λ (y : Entry). y.stamp < e.stamp) same (omega (arith, after))
 rises prev bound (x ∷ es) (suc i) (suc j) d e h lt is at = rises (Some x) bound es i j d e (rest prev bound x es h) (omega (arith, lt)) is at
 
-instants : (schema : Schema) (es : List Entry) (i : ℕ) (e : Entry) → list_all (is_entry schema) es ≡ true → slice_get es i ≡ Some e → e.stamp ≤ TIME_LAST
-instants schema [] i e h is = absurd (cc is)
-instants schema (x ∷ es) zero e h is =
+instants : (language : Language) (es : List Entry) (i : ℕ) (e : Entry) → list_all (is_entry language) es ≡ true → slice_get es i ≡ Some e → e.stamp ≤ TIME_LAST
+instants language [] i e h is = absurd (cc is)
+instants language (x ∷ es) zero e h is =
     let same : x ≡ e = cc is in
-    let one = (parts (is_entry schema x) (list_all (is_entry schema) es) h).0 in
-    subst (λ (y : Entry). y.stamp ≤ TIME_LAST) same (leb-true x.stamp TIME_LAST (parts (nat_le x.stamp TIME_LAST) (is_numbered x.request && spells schema x.request) one).0)
-instants schema (x ∷ es) (suc i) e h is = instants schema es i e (parts (is_entry schema x) (list_all (is_entry schema) es) h).1 is
+    let one = (parts (is_entry language x) (list_all (is_entry language) es) h).0 in
+    subst (λ (y : Entry). y.stamp ≤ TIME_LAST) same (leb-true x.stamp TIME_LAST (parts (nat_le x.stamp TIME_LAST) (is_numbered x.request && spells language x.request) one).0)
+instants language (x ∷ es) (suc i) e h is = instants language es i e (parts (is_entry language x) (list_all (is_entry language) es) h).1 is
 
 -- the first entries go on too
 first_rise : (prev : Option Entry) (bound k : ℕ) (es : List Entry) → go_on prev bound es ≡ true → go_on prev bound (take k es) ≡ true
@@ -62,30 +62,30 @@ first_rise prev bound (suc k) (e ∷ es) h =
     let both = parts fits (go_on (Some e) bound es) h in
     rw (both.0, first_rise (Some e) bound k es both.1) refl
 
-first_all : (schema : Schema) (k : ℕ) (es : List Entry) → list_all (is_entry schema) es ≡ true → list_all (is_entry schema) (take k es) ≡ true
-first_all schema zero es h = refl
-first_all schema (suc k) [] h = refl
-first_all schema (suc k) (e ∷ es) h =
-    let both = parts (is_entry schema e) (list_all (is_entry schema) es) h in
-    rw (both.0, first_all schema k es both.1) refl
+first_all : (language : Language) (k : ℕ) (es : List Entry) → list_all (is_entry language) es ≡ true → list_all (is_entry language) (take k es) ≡ true
+first_all language zero es h = refl
+first_all language (suc k) [] h = refl
+first_all language (suc k) (e ∷ es) h =
+    let both = parts (is_entry language e) (list_all (is_entry language) es) h in
+    rw (both.0, first_all language k es both.1) refl
 
-stamped : (schema : Schema) (bound : ℕ) (es : List Entry) → go_on None bound es ≡ true → list_all (is_entry schema) es ≡ true → IsStamped es
-stamped schema bound es h all = record {
+stamped : (language : Language) (bound : ℕ) (es : List Entry) → go_on None bound es ≡ true → list_all (is_entry language) es ≡ true → IsStamped es
+stamped language bound es h all = record {
   instants = instants_of;
   rising = rising_of;
 }
   where
     instants_of : (i : ℕ) (e : Entry) → nth es i ≡ Some e → e.stamp ≤ TIME_LAST
     instants_of zero e is = absurd (cc is)
-    instants_of (suc i) e is = instants schema es i e all is
+    instants_of (suc i) e is = instants language es i e all is
 
     rising_of : (i j : ℕ) (d e : Entry) → i < j → nth es i ≡ Some d → nth es j ≡ Some e → d.stamp < e.stamp
     rising_of zero j d e lt is at = absurd (cc is)
     rising_of (suc i) zero d e lt is at = absurd (omega (arith, lt))
     rising_of (suc i) (suc j) d e lt is at = rises None bound es i j d e h (omega (arith, lt)) is at
 
-first_stamped : (schema : Schema) (bound k : ℕ) (es : List Entry) → go_on None bound es ≡ true → list_all (is_entry schema) es ≡ true → IsStamped (take k es)
-first_stamped schema bound k es h all = stamped schema bound (take k es) (first_rise None bound k es h) (first_all schema k es all)
+first_stamped : (language : Language) (bound k : ℕ) (es : List Entry) → go_on None bound es ≡ true → list_all (is_entry language) es ≡ true → IsStamped (take k es)
+first_stamped language bound k es h all = stamped language bound (take k es) (first_rise None bound k es h) (first_all language k es all)
 
-pub applied_stamped : (c : Core) (members : ℕ) (schema : Schema) (d : Durable) → IsInStep c d → IsLog members schema d → IsStamped (applied (node_of c d.log))
-applied_stamped c members schema d step log = subst (λ (es : List Entry). IsStamped (take c.commit es)) step.log (first_stamped schema d.hard.term c.commit d.log log.rises log.entries)
+pub applied_stamped : (c : Core) (members : ℕ) (language : Language) (d : Durable) → IsInStep c d → IsLog members language d → IsStamped (applied (node_of c d.log))
+applied_stamped c members language d step log = subst (λ (es : List Entry). IsStamped (take c.commit es)) step.log (first_stamped language d.hard.term c.commit d.log log.rises log.entries)

@@ -6,8 +6,8 @@ use Rattle.std.specs.Prelude.{vec_len}
 use Rattle.std.specs.List.{list_all}
 use Rattle.model.specs.declared.entry.Entry.{Entry}
 use Rattle.model.specs.Stamps.{above}
-use Rattle.model.specs.Transactions.{Schema}
-use Rattle.model.specs.Members.{Node, term_of}
+use Rattle.model.specs.Transactions.{Language}
+use Rattle.model.specs.Members.{term_of}
 use Rattle.model.specs.Steps.{TERM_LAST, go_on}
 use Rattle.keep.specs.Durable.{Durable, tail_of}
 use Rattle.keep.specs.Log.{IsLog}
@@ -15,9 +15,9 @@ use Rattle.keep.specs.declared.hard_state.HardState.{HardState}
 use Rattle.keep.specs.declared.state.State.{State}
 use Rattle.raft.specs.declared.state.Core.{Core}
 use Rattle.raft.specs.Start.{IsStart}
-use Rattle.raft.specs.View.{IsInStep, IsStateOf, node_of, opening}
+use Rattle.raft.specs.View.{IsInStep, IsStateOf, node_of}
 use Rattle.node.proofs.Tests.{parts, joint}
-use Rattle.node.specs.View.{durable_of, started_from}
+use Rattle.node.specs.View.{durable_of}
 
 terms_in : (prev : Option Entry) (bound : ℕ) (es : List Entry) → bound ≤ TERM_LAST → go_on prev bound es ≡ true → list_all (λ e. nat_le e.term TERM_LAST) es ≡ true
 terms_in prev bound [] low h = refl
@@ -37,7 +37,7 @@ tail_length : (log : List Entry) → length (tail_of log) ≡ min (length log) 1
 tail_length log = omega (arith, length-drop (length log - 1024) log)
 
 -- what is read of a log of such a member may be started with
-pub start_is : (members : ℕ) (tables : Schema) (s : State) (d : Durable) → IsStateOf s d → IsLog members tables d → IsStart members s
+pub start_is : (members : ℕ) (tables : Language) (s : State) (d : Durable) → IsStateOf s d → IsLog members tables d → IsStart members s
 start_is members tables s d is log =
     let tail : vec_len s.tail ≡ length s.tail.items = search rules in
     record {
@@ -47,9 +47,6 @@ start_is members tables s d is log =
       last = tail ∙ ap length is.tail ∙ tail_length d.log ∙ ap (λ n. min n 1024) (sym is.length);
       terms = rw is.tail (all_rest (λ e. nat_le e.term TERM_LAST) (length d.log - 1024) d.log (terms_in None d.hard.term d.log log.term log.rises));
     }
-
-pub opened_is : (x : Node) (hard : HardState) → x ≡ opening hard x.log → x ≡ started_from (durable_of x)
-opened_is x hard h = let P : Node → Type 0 = λ y. y ≡ started_from (durable_of y) in subst P (sym h) refl
 
 joined : (d : Durable) (hard : HardState) (log : List Entry) → d.hard ≡ hard → d.log ≡ log → d ≡ record { hard = hard; log = log }
 joined d hard log e f = subst (λ (h : HardState). d ≡ record { hard = h; log = log }) e (subst (λ (l : List Entry). d ≡ record { hard = d.hard; log = l }) f refl)

@@ -3,13 +3,13 @@ use Rattle.std.proofs.Common.{◌≡◌, ◌∙◌, ℕ, zero, suc, ◌+◌, ◌
 use Rattle.std.specs.List.{filter_map, range_with_len, cons_option}
 use Rattle.model.specs.declared.entry.Entry.{Entry}
 use Rattle.model.specs.declared.entry.Told.{Told}
-use Rattle.model.specs.Transactions.{Schema}
+use Rattle.model.specs.Transactions.{Language}
 use Rattle.model.specs.Logs.{told_at}
 use Rattle.node.specs.View.{told_between}
 
-pub told_none : (schema : Schema) (log : List Entry) (before commit : ℕ) → commit ≤ before → told_between schema log before commit ≡ []
+pub told_none : (language : Language) (log : List Entry) (before commit : ℕ) → commit ≤ before → told_between language log before commit ≡ []
 unfolding told_between
-told_none schema log before commit h = let e : commit - before ≡ 0 = omega (arith, h) in rw e refl
+told_none language log before commit h = let e : commit - before ≡ 0 = omega (arith, h) in rw e refl
 
 onto : (o : Option Told) (xs ys : List Told) → cons_option o (xs ++ ys) ≡ cons_option o xs ++ ys
 onto None xs ys = refl
@@ -19,11 +19,11 @@ more : (f : ℕ → Option Told) (a k j : ℕ) → a + k ≡ j → filter_map f 
 more f a zero j e = let same : a ≡ j = omega (arith, e) in ap (λ n. cons_option (f n) []) same
 more f a (suc k) j e = ap (cons_option (f a)) (more f (a + 1) k j (omega (arith, e))) ∙ onto (f a) (filter_map f (range_with_len (a + 1) k)) (cons_option (f j) [])
 
-pub between : (schema : Schema) (log : List Entry) (before i : ℕ) → before ≤ i → told_between schema log before (i + 1) ≡ told_between schema log before i ++ cons_option (told_at schema log (i + 1)) []
+pub between : (language : Language) (log : List Entry) (before i : ℕ) → before ≤ i → told_between language log before (i + 1) ≡ told_between language log before i ++ cons_option (told_at language log (i + 1)) []
 unfolding told_between
-between schema log before i h =
+between language log before i h =
     let e : (i + 1) - before ≡ suc (i - before) = omega (arith, h) in
-    rw e (more (told_at schema log) (before + 1) (i - before) (i + 1) (omega (arith, h)))
+    rw e (more (told_at language log) (before + 1) (i - before) (i + 1) (omega (arith, h)))
 
 -- no entry is between
 pub range_none : (log : List Entry) (before commit : ℕ) → commit ≤ before → slice_range log before commit ≡ []

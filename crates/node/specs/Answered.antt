@@ -6,9 +6,9 @@ use Rattle.keep.specs.declared.error.StoreError.{StoreError}
 use Rattle.keep.specs.declared.error.StoreError.TheVariants as error
 use Rattle.node.specs.declared.node.Fault.{Fault}
 use Rattle.node.specs.declared.node.Fault.TheVariants.{Kept, Down}
-use Rattle.node.specs.declared.durable.Stored.{Stored}
+use Rattle.node.specs.declared.durable.StoredState.{StoredState}
 
-abbrev pub stored_of : Durable → Stored
+abbrev pub stored_of : Durable → StoredState
 stored_of d = record { hard = d.hard; length = length d.log }
 
 -- the store failed, or there was no memory

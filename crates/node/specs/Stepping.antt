@@ -1,7 +1,7 @@
 -- What a step of the parts of a node comes to, once it is stored and applied.
 use Rattle.std.specs.Prelude.{◌≡◌, ℕ, Option, length, slice_range}
 use Rattle.sqlchecks.specs.Columns.{Tables}
-use Rattle.sqlread.specs.Meaning.{schema_of}
+use Rattle.sqlread.specs.Meaning.{language_of}
 use Rattle.model.specs.Members.{Node}
 use Rattle.model.specs.Steps.{Effect, Moves, Refuses}
 use Rattle.model.specs.Steps as steps
@@ -15,7 +15,7 @@ abbrev pub IsStep : Tables → Node → Node → Effect → Given Out → Type 0
 IsStep schema old new effect (Done out) =
     (Moves (record { node = new; sent = out.messages.items }) ≡ effect)
     × (out.applied.items ≡ slice_range new.log old.commit new.commit)
-    × (out.told.items ≡ told_between (schema_of schema) new.log old.commit new.commit)
+    × (out.told.items ≡ told_between (language_of schema) new.log old.commit new.commit)
 IsStep schema old new effect Ignored = (steps.Nothing ≡ effect) × (new ≡ old)
 IsStep schema old new effect (Refused refusal) = (Refuses refusal ≡ effect) × (new ≡ old)
 

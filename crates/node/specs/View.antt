@@ -3,7 +3,7 @@ use Rattle.std.specs.Prelude.{◌≡◌, ℕ, ◌+◌, ◌-◌, ◌≤◌, Bool,
 use Rattle.std.specs.List.{filter_map, range_with_len}
 use Rattle.model.specs.declared.entry.Entry.{Entry}
 use Rattle.model.specs.declared.entry.Told.{Told}
-use Rattle.model.specs.Transactions.{Schema}
+use Rattle.model.specs.Transactions.{Language}
 use Rattle.model.specs.Logs.{told_at}
 use Rattle.model.specs.Members.{Node}
 use Rattle.model.specs.Steps.{Effect, Moves, Refuses, Nothing}
@@ -43,7 +43,7 @@ Fits None d = Unit {0}
 Fits (Some c) d = c.kept ≤ length d.log
 
 -- what is told of the entries after one index, up to another
-unfoldable pub told_between : Schema → List Entry → ℕ → ℕ → List Told
+unfoldable pub told_between : Language → List Entry → ℕ → ℕ → List Told
 told_between schema log before commit = filter_map (told_at schema log) (range_with_len (before + 1) (commit - before))
 
 -- a member that is started with this stored

@@ -13,7 +13,7 @@ use model::entry::Entry;
 
 /// What a node has stored: its hard state, and the length of its log.
 #[derive(Clone, Copy, PartialEq, Eq, Debug)]
-pub struct Stored {
+pub struct StoredState {
     pub hard: HardState,
     pub length: usize,
 }
@@ -22,7 +22,7 @@ impl<K: Keeper> Node<K> {
     ghost use Rattle.node.specs.Member.{member_of, IsSameSeat};
 
     /// What is stored, which takes no memory and asks no store: 41 where the node is down.
-    pub fn durable(&self) -> Result<Stored, Fault>
+    pub fn durable(&self) -> Result<StoredState, Fault>
         ensures ok { IfOk result (λ stored. (self.now.is_up ≡ true) × (K.is_honest self.now.keeper → stored ≡ stored_of (durable_of (member_of self.now)))) }
         ensures kept { IfOk result (λ stored. K.is_honest self.now.keeper → stored ≡ stored_of (K.stored self.now.keeper)) }
         ensures down { IfErr result (λ fault. (self.now.is_up ≡ false) × (fault ≡ Fault.Kept Refusal.NodeDown)) }
@@ -30,7 +30,7 @@ impl<K: Keeper> Node<K> {
         if !self.is_up {
             return Err(Fault::Kept(Refusal::NodeDown));
         }
-        Ok(Stored {
+        Ok(StoredState {
             hard: self.core.hard_state(),
             length: self.core.length(),
         })

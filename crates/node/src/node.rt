@@ -2,7 +2,7 @@
 ghost use Rattle.std.specs.Prelude.{◌≡◌, ◌≤◌, ◌+◌, ◌*◌, ◌⊎◌, true, false, length, take, slice_range, if◌then◌else◌, Some, None, Err, IfOk, IfErr, IsOk, OnOk, OnErr, MatchOption};
 ghost use Rattle.std.specs.Coded.{→_prop};
 ghost use Rattle.keep.specs.Log.{IsSmall};
-ghost use Rattle.sqlread.specs.Meaning.{schema_of};
+ghost use Rattle.sqlread.specs.Meaning.{language_of};
 ghost use Rattle.sqlread.specs.Shapes.{query_of};
 ghost use Rattle.answer.specs.Answers.{columns_in};
 ghost use Rattle.apply.specs.View.{AreTables, IsAskedOf};
@@ -77,7 +77,7 @@ pub struct Node<K: Keeper> {
     ghost fresh: { is_up ≡ true → core.is_spent ≡ false },
     ghost kept_up: { is_up ≡ true → K.is_up keeper ≡ true },
     ghost synced: { is_up ≡ true → K.is_honest keeper → IsInStep core (K.stored keeper) } by { →_prop (→_prop (step_prop _ _)) },
-    ghost serves: { ∥ K.serves keeper core.members (schema_of core.schema) ∥₁ },
+    ghost serves: { ∥ K.serves keeper core.members (language_of core.schema) ∥₁ },
     ghost made: { is_up ≡ true → AreMade core.schema tables },
     ghost current: { is_up ≡ true → K.is_honest keeper → AreTables core.schema (applied (node_of core (K.stored keeper).log)) tables } by { →_prop (→_prop (tables_prop _ _ _)) },
 }
@@ -91,9 +91,9 @@ fn store<K: Keeper>(
 ) -> Result<(), StoreError>
     requires due { K.is_honest keeper.old → IsDue core.now change.now (K.stored keeper.old) }
     requires small { MatchOption change.now (Unit {0}) IsSmall }
-    requires serves { K.serves keeper.old core.now.members (schema_of core.now.schema) }
+    requires serves { K.serves keeper.old core.now.members (language_of core.now.schema) }
     requires up { K.is_up keeper.old ≡ true }
-    ensures serves { K.serves keeper.new core.now.members (schema_of core.now.schema) }
+    ensures serves { K.serves keeper.new core.now.members (language_of core.now.schema) }
     ensures ok { OnOk result (K.is_honest keeper.new → K.stored keeper.new ≡ after_change change.now (K.stored keeper.old)) }
     ensures up { OnOk result (K.is_up keeper.new ≡ true) }
     ensures honest { K.is_honest keeper.new → K.is_honest keeper.old }
@@ -133,9 +133,9 @@ fn finish<K: Keeper>(
     requires current { K.is_honest keeper.old → AreTables core.now.schema (take taken.committed_before (after_change taken.change (K.stored keeper.old)).log) tables.old }
     requires rises { K.is_honest keeper.old → taken.committed_before ≤ core.now.commit }
     requires small { MatchOption taken.change (Unit {0}) IsSmall }
-    requires serves { K.serves keeper.old core.now.members (schema_of core.now.schema) }
+    requires serves { K.serves keeper.old core.now.members (language_of core.now.schema) }
     requires up { K.is_up keeper.old ≡ true }
-    ensures serves { K.serves keeper.new core.now.members (schema_of core.now.schema) }
+    ensures serves { K.serves keeper.new core.now.members (language_of core.now.schema) }
     ensures messages { IfOk result (λ out. out.messages.items ≡ taken.messages.items) }
     ensures applied { IfOk result (λ out. K.is_honest keeper.new → AreApplied core.now.schema (after_change taken.change (K.stored keeper.old)).log taken.committed_before core.now.commit out.applied.items out.told.items tables.new) }
     ensures sealed { IfOk result (λ out. out.sealed ≡ risen sealed_before core.now.sealed) }
@@ -175,7 +175,7 @@ fn take_step<K: Keeper>(
     requires up { K.is_up keeper.old ≡ true }
     requires fresh { core.old.is_spent ≡ false }
     requires stored { K.is_honest keeper.old → IsInStep core.old (K.stored keeper.old) }
-    requires serves { K.serves keeper.old core.old.members (schema_of core.old.schema) }
+    requires serves { K.serves keeper.old core.old.members (language_of core.old.schema) }
     requires current { K.is_honest keeper.old → AreTables core.old.schema (applied (node_of core.old (K.stored keeper.old).log)) tables.old }
     ensures step { IfOk result (λ e. K.is_honest keeper.new → IsStep core.old.schema (node_of core.old (K.stored keeper.old).log) (node_of core.new (K.stored keeper.new).log) (works core.old.schema core.old.members core.old.me work (node_of core.old (K.stored keeper.old).log)) e) }
     ensures sealed { IfOk result (TellsSealed core.old.sealed core.new.sealed) }
@@ -185,7 +185,7 @@ fn take_step<K: Keeper>(
     ensures made { OnOk result (AreMade core.old.schema tables.old → AreMade core.new.schema tables.new) }
     ensures fresh { OnOk result (core.new.is_spent ≡ false) }
     ensures up { OnOk result (K.is_up keeper.new ≡ true) }
-    ensures serves { K.serves keeper.new core.new.members (schema_of core.new.schema) }
+    ensures serves { K.serves keeper.new core.new.members (language_of core.new.schema) }
     ensures group { (core.new.members ≡ core.old.members) × (core.new.me ≡ core.old.me) × (core.new.schema ≡ core.old.schema) }
     ensures spares { K.is_honest keeper.new → spares_memory core.old.members core.old.me work (node_of core.old (K.stored keeper.old).log) ≡ true → IsOk result }
     ensures torn { OnErr result ((d : Durable) → K.may_hold keeper.new d → IsBeforeOrAfter (durable_of (node_of core.old (K.stored keeper.old).log)) (durable_of (node_after (node_of core.old (K.stored keeper.old).log) (works core.old.schema core.old.members core.old.me work (node_of core.old (K.stored keeper.old).log)))) d) }
@@ -225,7 +225,7 @@ impl<K: Keeper> Node<K> {
     ) -> Result<Node<K>, (StoreError, K::Image)>
         requires few { members ≤ 7 }
         requires member { (1 ≤ me) × (me ≤ members) }
-        requires suits { K.suits image members (schema_of schema) }
+        requires suits { K.suits image members (language_of schema) }
         ensures opened { IfOk result (λ n. K.is_honest n.keeper → member_of n ≡ started_from (durable_of (member_of n))) }
         ensures found { IfOk result (λ n. K.is_honest n.keeper → K.holds image (durable_of (member_of n))) }
         ensures group { IfOk result (λ n. (n.is_up ≡ true) × (tables_of n ≡ schema) × (members_of n ≡ members) × (me_of n ≡ me)) }
@@ -234,8 +234,8 @@ impl<K: Keeper> Node<K> {
         ensures back { IfErr result (λ e. (d : Durable) → K.holds e.1 d → K.holds image d) }
         ensures kept { IfErr result (λ e. K.is_sound e.1 → (d : Durable) → K.holds image d → K.holds e.1 d) }
         ensures limited { IfErr result (λ e. K.limit_of e.1 ≡ K.limit_of image) }
-        ensures suits { IfErr result (λ e. K.suits e.1 members (schema_of schema)) }
-        ensures bad { IfErr result (λ e. e.0 ≡ StoreError.BadStore → K.is_bad e.1 members (schema_of schema) ⊎ ((d : Durable) → K.holds e.1 d → ⊥)) }
+        ensures suits { IfErr result (λ e. K.suits e.1 members (language_of schema)) }
+        ensures bad { IfErr result (λ e. e.0 ≡ StoreError.BadStore → K.is_bad e.1 members (language_of schema) ⊎ ((d : Durable) → K.holds e.1 d → ⊥)) }
         ensures not_down { IfErr result (λ e. e.0 ≡ StoreError.NodeDown → ⊥) }
     {
         let Ok(tables) = Tables::new(alloc, &schema) else {
@@ -270,7 +270,7 @@ impl<K: Keeper> Node<K> {
         ensures done { self.old.is_up ≡ true → K.is_honest self.new.keeper → Gave (member_of self.old) (member_of self.new) (effect_at self.old work) result }
         ensures grows { OnOk result (K.is_honest self.new.keeper → Grows (member_of self.old) (member_of self.new)) }
         ensures applied { IfOk result (λ out. K.is_honest self.new.keeper → out.applied.items ≡ slice_range (member_of self.new).log (member_of self.old).commit (member_of self.new).commit) }
-        ensures told { IfOk result (λ out. K.is_honest self.new.keeper → out.told.items ≡ told_between (schema_of (tables_of self.old)) (member_of self.new).log (member_of self.old).commit (member_of self.new).commit) }
+        ensures told { IfOk result (λ out. K.is_honest self.new.keeper → out.told.items ≡ told_between (language_of (tables_of self.old)) (member_of self.new).log (member_of self.old).commit (member_of self.new).commit) }
         ensures sealed { IfOk result (λ out. K.is_honest self.new.keeper → out.sealed ≡ risen (member_of self.old).sealed (member_of self.new).sealed) }
         ensures spares { K.is_honest self.new.keeper → spares_memory (members_of self.old) (me_of self.old) work (member_of self.old) ≡ true → IfErr result IsKept }
         ensures same { IfErr result (λ fault. K.is_honest self.new.keeper → IsSame (member_of self.old) (member_of self.new) fault) }
@@ -316,7 +316,7 @@ impl<K: Keeper> Node<K> {
     /// time. `NodeDown` where the node is down, `NotClosed` with the closed time where the question's last instant is later
     /// than it, or where nothing is closed, `NoMemory` where memory is refused.
     pub fn ask(&self, query: &Query) -> Result<Answer, Refusal>
-        ensures asked { self.now.is_up ≡ true → K.is_honest self.now.keeper → IsAskedOf (schema_of (tables_of self.now)) (query_of query.now) (applied (member_of self.now)) (closed_time (member_of self.now)) result }
+        ensures asked { self.now.is_up ≡ true → K.is_honest self.now.keeper → IsAskedOf (language_of (tables_of self.now)) (query_of query.now) (applied (member_of self.now)) (closed_time (member_of self.now)) result }
         ensures columns { IfOk result (λ a. a.columns.items ≡ columns_in (tables_of self.now) query.now.table) }
         ensures down { self.now.is_up ≡ false → result ≡ Err Refusal.NodeDown }
     {
@@ -426,10 +426,10 @@ impl<K: Keeper> Node<K> {
         ensures held { (d : Durable) → K.holds result d → K.may_hold self.keeper d }
         ensures kept { (d : Durable) → K.may_hold self.keeper d → K.holds result d }
         ensures whole { self.is_up ≡ true → K.is_honest self.keeper → K.holds result (durable_of (member_of self)) }
-        ensures good { K.is_honest self.keeper → K.is_bad result (members_of self) (schema_of (tables_of self)) → ⊥ }
+        ensures good { K.is_honest self.keeper → K.is_bad result (members_of self) (language_of (tables_of self)) → ⊥ }
         ensures sound { K.is_sound result → K.is_honest self.keeper }
         ensures limit { K.limit_of result ≡ K.limit self.keeper }
-        ensures suits { K.suits result (members_of self) (schema_of (tables_of self)) }
+        ensures suits { K.suits result (members_of self) (language_of (tables_of self)) }
         ensures last { self.is_up ≡ true → (d : Durable) → K.holds result d → d ≡ durable_of (member_of self) }
     {
         self.keeper.close()

@@ -1,6 +1,6 @@
 //! What a keeper has stored, read as a node starts, and its log.
 ghost use Rattle.std.specs.Prelude.{◌≡◌, ◌+◌, ◌≤◌, ◌<◌, ℕ, true, length, vec_len, IfOk, IfErr, OnOk};
-ghost use Rattle.model.specs.Transactions.{Schema as Tables};
+ghost use Rattle.model.specs.Transactions.{Language};
 ghost use Rattle.keep.specs.Durable.{Durable};
 ghost use Rattle.raft.specs.Start.{IsStart};
 ghost use Rattle.raft.specs.Reading.{IsRead};
@@ -8,7 +8,7 @@ ghost use Rattle.raft.specs.View.{IsInStep, IsStateOf};
 ghost use Rattle.node.specs.View.{IsCauseOrBad};
 
 use keep::error::StoreError;
-use keep::keeper::{Keeper, Shelf};
+use keep::keeper::{Keeper, LogReader};
 use keep::state::State;
 use model::entry::Entry;
 use raft::is_start;
@@ -32,9 +32,9 @@ pub(crate) fn read_state<K: Keeper>(
     ensures up { OnOk result (K.is_up keeper.new ≡ true) }
     ensures honest { K.is_honest keeper.new → K.is_honest keeper.old }
     ensures left { (d : Durable) → K.may_hold keeper.new d → K.may_hold keeper.old d }
-    ensures serves { (members : ℕ) (tables : Tables) → K.serves keeper.old members tables → K.serves keeper.new members tables }
+    ensures serves { (members : ℕ) (language : Language) → K.serves keeper.old members language → K.serves keeper.new members language }
     ensures not_down { IfErr result (λ e. e ≡ StoreError.NodeDown → ⊥) }
-    ensures bad { IfErr result (λ e. e ≡ StoreError.BadStore → (tables : Tables) → K.serves keeper.old members tables → K.is_honest keeper.new → ⊥) }
+    ensures bad { IfErr result (λ e. e ≡ StoreError.BadStore → (language : Language) → K.serves keeper.old members language → K.is_honest keeper.new → ⊥) }
 {
     let state = keeper.state(alloc)?;
     if !is_start(members, &state) {
@@ -45,24 +45,24 @@ pub(crate) fn read_state<K: Keeper>(
 
 /// The whole log, for which no more entries are asked for than the member knows of. `BadStore` where it has fewer, as may be
 /// with a store that is not honest.
-pub(crate) fn all_entries<S: Shelf>(
+pub(crate) fn all_entries<S: LogReader>(
     alloc: Global,
     core: &Core,
-    shelf: &mut S,
+    reader: &mut S,
 ) -> Result<Vec<Entry>, StoreError>
-    requires up { S.is_up shelf.old ≡ true }
-    requires stored { S.is_honest shelf.old → IsInStep core.now (S.stored shelf.old) }
-    ensures ok { IfOk result (λ log. S.is_honest shelf.new → log.items ≡ (S.stored shelf.old).log) }
-    ensures shelf { IsRead (S.is_honest shelf.old) (S.is_honest shelf.new) (S.stored shelf.old) (S.stored shelf.new) (S.may_hold shelf.old) (S.may_hold shelf.new) (S.serves shelf.old) (S.serves shelf.new) (S.failed shelf.old) (S.failed shelf.new) (S.saves shelf.old) (S.saves shelf.new) }
-    ensures up { OnOk result (S.is_up shelf.new ≡ true) }
+    requires up { S.is_up reader.old ≡ true }
+    requires stored { S.is_honest reader.old → IsInStep core.now (S.stored reader.old) }
+    ensures ok { IfOk result (λ log. S.is_honest reader.new → log.items ≡ (S.stored reader.old).log) }
+    ensures reader { IsRead (S.is_honest reader.old) (S.is_honest reader.new) (S.stored reader.old) (S.stored reader.new) (S.may_hold reader.old) (S.may_hold reader.new) (S.serves reader.old) (S.serves reader.new) (S.failed reader.old) (S.failed reader.new) (S.saves reader.old) (S.saves reader.new) }
+    ensures up { OnOk result (S.is_up reader.new ≡ true) }
     ensures not_down { IfErr result (λ e. e ≡ StoreError.NodeDown → ⊥) }
-    ensures bad { IfErr result (λ e. e ≡ StoreError.BadStore → S.is_honest shelf.new → ⊥) }
-    ensures cause { IfErr result (IsCauseOrBad (S.is_honest shelf.new) (S.failed shelf.old) (S.failed shelf.new)) }
-    ensures asks { S.asks shelf.new ≤ S.asks shelf.old + (core.now.log.shelved + vec_len core.now.log.tail) }
+    ensures bad { IfErr result (λ e. e ≡ StoreError.BadStore → S.is_honest reader.new → ⊥) }
+    ensures cause { IfErr result (IsCauseOrBad (S.is_honest reader.new) (S.failed reader.old) (S.failed reader.new)) }
+    ensures asks { S.asks reader.new ≤ S.asks reader.old + (core.now.log.elsewhere + vec_len core.now.log.tail) }
 {
     let mut log = Vec::new(alloc);
     for before in 0..core.length() {
-        let Some(entry) = core.entry(shelf, before + 1)? else {
+        let Some(entry) = core.entry(reader, before + 1)? else {
             return Err(StoreError::BadStore);
         };
         log.push(entry)?;

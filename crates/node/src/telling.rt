@@ -2,7 +2,7 @@
 ghost use Rattle.std.specs.Prelude.{◌≡◌, ◌+◌, ◌≤◌, ◌<◌, ◌++◌, ◌∷◌, [], ℕ, List, true, Some, length, take, slice_get, IfOk, IfErr, OnOk};
 ghost use Rattle.std.specs.List.{cons_option};
 ghost use Rattle.sqlchecks.specs.Columns as columns;
-ghost use Rattle.sqlread.specs.Meaning.{schema_of};
+ghost use Rattle.sqlread.specs.Meaning.{language_of};
 ghost use Rattle.model.specs.declared.entry.Entry as entries;
 ghost use Rattle.model.specs.Logs.{told_at};
 ghost use Rattle.apply.specs.View.{AreTables};
@@ -13,7 +13,7 @@ ghost use Rattle.node.specs.Applying.{AreApplied, AreMade, IsNext};
 
 use apply::Tables;
 use keep::error::StoreError;
-use keep::keeper::Shelf;
+use keep::keeper::LogReader;
 use model::entry::{Entry, Told};
 use raft::state::Core;
 use std::alloc::{AllocError, Global};
@@ -50,7 +50,7 @@ impl Applied {
 /// Applies the entry that has so many others before it, and gives what is told of it: none of a Close.
 fn apply_one(tables: &mut Tables, entry: &Entry, before: usize) -> Result<Option<Told>, AllocError>
     requires room { before < 18446744073709551615 }
-    ensures told { IfOk result (λ told. (schema : columns.Tables) (log : List entries.Entry) → slice_get log before ≡ Some entry.now → AreTables schema (take before log) tables.old → told ≡ told_at (schema_of schema) log (before + 1)) }
+    ensures told { IfOk result (λ told. (schema : columns.Tables) (log : List entries.Entry) → slice_get log before ≡ Some entry.now → AreTables schema (take before log) tables.old → told ≡ told_at (language_of schema) log (before + 1)) }
     ensures kept { OnOk result ((schema : columns.Tables) (list : List entries.Entry) → AreTables schema list tables.old → AreTables schema (list ++ entry.now ∷ []) tables.new) }
 {
     let outcome = tables.apply(entry)?;
@@ -70,24 +70,24 @@ fn apply_one(tables: &mut Tables, entry: &Entry, before: usize) -> Result<Option
 
 /// Fetches the entry that has so many others before it, and applies it. Where there is none the store has lied, and that
 /// is its fault.
-fn apply_next<S: Shelf>(
+fn apply_next<S: LogReader>(
     core: &Core,
-    shelf: &mut S,
+    reader: &mut S,
     tables: &mut Tables,
     before: usize,
 ) -> Result<One, StoreError>
     requires there { before < core.now.commit }
-    requires up { S.is_up shelf.old ≡ true }
-    requires stored { S.is_honest shelf.old → IsInStep core.now (S.stored shelf.old) }
-    requires current { S.is_honest shelf.old → AreTables core.now.schema (take before (S.stored shelf.old).log) tables.old }
-    ensures next { IfOk result (λ one. S.is_honest shelf.new → IsNext core.now.schema (S.stored shelf.old).log before one.entry one.told tables.new) }
+    requires up { S.is_up reader.old ≡ true }
+    requires stored { S.is_honest reader.old → IsInStep core.now (S.stored reader.old) }
+    requires current { S.is_honest reader.old → AreTables core.now.schema (take before (S.stored reader.old).log) tables.old }
+    ensures next { IfOk result (λ one. S.is_honest reader.new → IsNext core.now.schema (S.stored reader.old).log before one.entry one.told tables.new) }
     ensures made { OnOk result ((schema : columns.Tables) → AreMade schema tables.old → AreMade schema tables.new) }
-    ensures shelf { IsRead (S.is_honest shelf.old) (S.is_honest shelf.new) (S.stored shelf.old) (S.stored shelf.new) (S.may_hold shelf.old) (S.may_hold shelf.new) (S.serves shelf.old) (S.serves shelf.new) (S.failed shelf.old) (S.failed shelf.new) (S.saves shelf.old) (S.saves shelf.new) }
-    ensures up { OnOk result (S.is_up shelf.new ≡ true) }
-    ensures cause { IfErr result (IsCauseOr (S.is_honest shelf.new) (S.failed shelf.old) (S.failed shelf.new)) }
-    ensures asks { S.asks shelf.new ≤ S.asks shelf.old + 1 }
+    ensures reader { IsRead (S.is_honest reader.old) (S.is_honest reader.new) (S.stored reader.old) (S.stored reader.new) (S.may_hold reader.old) (S.may_hold reader.new) (S.serves reader.old) (S.serves reader.new) (S.failed reader.old) (S.failed reader.new) (S.saves reader.old) (S.saves reader.new) }
+    ensures up { OnOk result (S.is_up reader.new ≡ true) }
+    ensures cause { IfErr result (IsCauseOr (S.is_honest reader.new) (S.failed reader.old) (S.failed reader.new)) }
+    ensures asks { S.asks reader.new ≤ S.asks reader.old + 1 }
 {
-    let Some(entry) = core.entry(shelf, before + 1)? else {
+    let Some(entry) = core.entry(reader, before + 1)? else {
         return Err(StoreError::StoreFault);
     };
     let told = apply_one(tables, &entry, before)?;
@@ -95,30 +95,30 @@ fn apply_next<S: Shelf>(
 }
 
 /// Applies the entries after one index, up to the commit index.
-pub(crate) fn apply_after<S: Shelf>(
+pub(crate) fn apply_after<S: LogReader>(
     alloc: Global,
     core: &Core,
-    shelf: &mut S,
+    reader: &mut S,
     tables: &mut Tables,
     before: usize,
 ) -> Result<Applied, StoreError>
-    requires rises { S.is_honest shelf.old → before ≤ core.now.commit }
-    requires up { S.is_up shelf.old ≡ true }
-    requires stored { S.is_honest shelf.old → IsInStep core.now (S.stored shelf.old) }
-    requires current { S.is_honest shelf.old → AreTables core.now.schema (take before (S.stored shelf.old).log) tables.old }
-    ensures applied { IfOk result (λ a. S.is_honest shelf.new → AreApplied core.now.schema (S.stored shelf.old).log before core.now.commit a.entries.items a.told.items tables.new) }
+    requires rises { S.is_honest reader.old → before ≤ core.now.commit }
+    requires up { S.is_up reader.old ≡ true }
+    requires stored { S.is_honest reader.old → IsInStep core.now (S.stored reader.old) }
+    requires current { S.is_honest reader.old → AreTables core.now.schema (take before (S.stored reader.old).log) tables.old }
+    ensures applied { IfOk result (λ a. S.is_honest reader.new → AreApplied core.now.schema (S.stored reader.old).log before core.now.commit a.entries.items a.told.items tables.new) }
     ensures made { OnOk result ((schema : columns.Tables) → AreMade schema tables.old → AreMade schema tables.new) }
-    ensures shelf { IsRead (S.is_honest shelf.old) (S.is_honest shelf.new) (S.stored shelf.old) (S.stored shelf.new) (S.may_hold shelf.old) (S.may_hold shelf.new) (S.serves shelf.old) (S.serves shelf.new) (S.failed shelf.old) (S.failed shelf.new) (S.saves shelf.old) (S.saves shelf.new) }
-    ensures up { OnOk result (S.is_up shelf.new ≡ true) }
-    ensures cause { IfErr result (IsCauseOr (S.is_honest shelf.new) (S.failed shelf.old) (S.failed shelf.new)) }
-    ensures asks { IfOk result (λ a. S.asks shelf.new ≤ S.asks shelf.old + length a.entries.items) }
+    ensures reader { IsRead (S.is_honest reader.old) (S.is_honest reader.new) (S.stored reader.old) (S.stored reader.new) (S.may_hold reader.old) (S.may_hold reader.new) (S.serves reader.old) (S.serves reader.new) (S.failed reader.old) (S.failed reader.new) (S.saves reader.old) (S.saves reader.new) }
+    ensures up { OnOk result (S.is_up reader.new ≡ true) }
+    ensures cause { IfErr result (IsCauseOr (S.is_honest reader.new) (S.failed reader.old) (S.failed reader.new)) }
+    ensures asks { IfOk result (λ a. S.asks reader.new ≤ S.asks reader.old + length a.entries.items) }
 {
     let mut applied = Applied {
         entries: Vec::new(alloc),
         told: Vec::new(alloc),
     };
     for place in before..core.commit {
-        let one = apply_next(core, shelf, tables, place)?;
+        let one = apply_next(core, reader, tables, place)?;
         applied.add(one)?;
     }
     Ok(applied)

@@ -1,10 +1,6 @@
 -- What holds of the same seat, of the elements of a list that are left, and of a result without an error.
-use Rattle.std.proofs.Common.{◌≡◌, ℕ, false, All, List, ◌∷◌, Result, Ok, Err, is_err, OnOk}
+use Rattle.std.proofs.Common.{◌≡◌, false, All, List, ◌∷◌, Result, Ok, Err, is_err, OnOk}
 use Rattle.std.proofs.lemmas.List.Elements.{All-head, All-rest, All-same}
-use Rattle.sqlchecks.specs.Columns.{Tables}
-
-pub carried : (P : ℕ → Tables → Type 0) (n m : ℕ) (s t : Tables) → m ≡ n → t ≡ s → P m t → P n s
-carried P n m s t a b h = rw (← a, ← b) h
 
 pub all_first : {X : Type 0} (P : X → Type 0) (x : X) (xs ys : List X) → ys ≡ x ∷ xs → All P ys → P x
 all_first P x xs ys e h = let all : All P (x ∷ xs) = rw e at h in All-head P x xs all

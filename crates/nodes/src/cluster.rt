@@ -1,12 +1,12 @@
 //! Nodes on threads of their own.
 ghost use Rattle.std.specs.Prelude.{◌≡◌, ◌≤◌, All, IfOk, IfErr, vec_len};
-ghost use Rattle.sqlread.specs.Meaning.{schema_of};
+ghost use Rattle.sqlread.specs.Meaning.{language_of};
 ghost use Rattle.nodes.specs.Sending.{IsUnsentRefusal};
 
+use crate::berth::{Control, Post, Report, tend};
 use crate::desk::{Desk, NotSent, Stopped};
 use crate::gate::Gate;
 use crate::handle::ClusterHandle;
-use crate::seat::{Control, Post, Report, tend};
 use fault::Refusal;
 use flight::life::{Life, Packet};
 use keep::keeper::Keeper;
@@ -36,7 +36,7 @@ pub struct Ended {
 
 // A node's thread, and the desk by which it is told what to do.
 #[derive(Drop)]
-struct Seat {
+struct Berth {
     desk: Desk,
     thread: JoinHandle<Vec<Life>>,
 }
@@ -50,27 +50,27 @@ struct Crew {
 }
 
 // A thread for a node, on which nothing runs. The error is want of memory, or that no thread can be made.
-fn open_seat<K, G, R>(
+fn open_berth<K, G, R>(
     rt: &R,
     alloc: Global,
     post: Post,
     image: K::Image,
     gate: Arc<G>,
-) -> Result<Seat, AllocError>
+) -> Result<Berth, AllocError>
 where
     K: Keeper + Send + 'static,
     K::Image: Send + Drop + 'static,
     G: Gate + Send + Sync + Drop + 'static,
     R: Wait + Threads + Copy + Send + Drop + 'static,
-    requires { K.suits image post.members (schema_of post.schema) }
+    requires { K.suits image post.members (language_of post.schema) }
 {
     let (control, told) = open_inbox_of_one::<Control>(alloc)?;
     let own = *rt;
     let work = move || -> Vec<Life>
-        requires { K.suits image post.members (schema_of post.schema) }
+        requires { K.suits image post.members (language_of post.schema) }
     { tend::<K, G, R>(&own, alloc, &post, image, &told, &*gate) };
     let thread = thread::spawn(rt, work)?;
-    Ok(Seat {
+    Ok(Berth {
         desk: Desk::new(control),
         thread,
     })
@@ -117,13 +117,13 @@ impl Crew {
         K::Image: Send + Drop + 'static,
         G: Gate + Send + Sync + Drop + 'static,
         R: Wait + Threads + Copy + Send + Drop + 'static,
-        requires { K.suits image post.members (schema_of post.schema) }
+        requires { K.suits image post.members (language_of post.schema) }
     {
         self.ended.lives.push(Vec::new(alloc))?;
         self.ended.stopped.push(None)?;
         self.threads.reserve(1)?;
         self.desks.reserve(1)?;
-        let Seat { mut desk, thread } = open_seat::<K, G, R>(rt, alloc, post, image, gate)?;
+        let Berth { mut desk, thread } = open_berth::<K, G, R>(rt, alloc, post, image, gate)?;
         self.threads.push_reserved(thread);
         let started = desk.start(rt, alloc);
         self.desks.push_reserved(Mutex::new(desk));
@@ -146,7 +146,7 @@ impl Crew {
         G: Gate + Send + Sync + Drop + 'static,
         R: Wait + Threads + Copy + Send + Drop + 'static,
         requires few { vec_len images ≤ 7 }
-        requires suits { All (λ image. K.suits image (vec_len images) (schema_of schema.now)) images.items }
+        requires suits { All (λ image. K.suits image (vec_len images) (language_of schema.now)) images.items }
     {
         let members = images.len();
         let mut me = 0;
@@ -201,7 +201,7 @@ impl Cluster {
         G: Gate + Send + Sync + Drop + 'static,
         R: Wait + Threads + Copy + Send + Drop + 'static,
         requires few { vec_len config.images ≤ 7 }
-        requires suits { All (λ image. K.suits image (vec_len config.images) (schema_of config.schema)) config.images.items }
+        requires suits { All (λ image. K.suits image (vec_len config.images) (language_of config.schema)) config.images.items }
     {
         let mut crew = Crew::new(alloc);
         let Config { schema, images } = config;

@@ -2,7 +2,7 @@
 ghost use Rattle.std.specs.Prelude.{◌≡◌, ◌+◌, ◌≤◌, ◌⊎◌, IfOk, IfErr, MatchResult, vec_len};
 ghost use Rattle.nodes.specs.Sending.{IsUnsentRefusal};
 
-use crate::seat::{Control, Ends, Order, Report, Rest, Sent, Start};
+use crate::berth::{Control, Ends, Order, Report, Rest, Sent, Start};
 use fault::Refusal;
 use flight::life::Packet;
 use network::inboxes::{open_inbox, open_inbox_of_one};

@@ -2,8 +2,8 @@
 ghost use Rattle.std.specs.Prelude.{◌≡◌, ◌≤◌, IfOk, IfErr};
 ghost use Rattle.nodes.specs.Sending.{IsUnsentRefusal};
 
+use crate::berth::Report;
 use crate::desk::{Desk, NotSent, Stopped};
-use crate::seat::Report;
 use fault::Refusal;
 use flight::life::{Life, Packet};
 use model::member::Member;

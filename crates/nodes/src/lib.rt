@@ -2,14 +2,15 @@
 //! user needs no other crate.
 #![tactic(auto)]
 
+pub mod berth;
 pub mod cluster;
 pub mod desk;
 pub mod gate;
 pub mod handle;
-pub mod seat;
 
 pub use answer::Answer;
 pub use answertext::Lines;
+pub use berth::{Report, Sent};
 pub use cells::cell::{Cell, Out};
 pub use cells::locked::{LockedNode, Naming};
 pub use cluster::{Cluster, Config, Ended};
@@ -28,6 +29,5 @@ pub use model::stamp::Stamp;
 pub use node::{Fault, Out as Given};
 pub use schema::Schema;
 pub use schemaread::schemas::read_schema;
-pub use seat::{Report, Sent};
 pub use sqlread::query::{Query, read_query};
-pub use view::{Marked, Name, Told, View};
+pub use view::{Marked, Name, Notice, View};

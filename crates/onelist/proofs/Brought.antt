@@ -5,7 +5,7 @@ use Rattle.std.proofs.lemmas.Bool.{cases_Bool, cond_both, eqb-false}
 use Rattle.std.specs.Option.{option_map_or}
 use Rattle.model.specs.Lists.{nth, with_nth}
 use Rattle.fault.specs.declared.refusal.Refusal.{Refusal}
-use Rattle.model.specs.Transactions.{Schema, Statement}
+use Rattle.model.specs.Transactions.{Language, Statement}
 use Rattle.model.specs.declared.entry.Entry.{Entry}
 use Rattle.model.specs.declared.entry.Request.{Request}
 use Rattle.model.specs.declared.message.Message.{Message}
@@ -36,7 +36,7 @@ pub record Onward (P Q : ℕ → Entry → Request → Type 0) (w v : World) (e 
   pub sent : ((k : ℕ) (y : Node) → nth v.nodes k ≡ Some y → (i : ℕ) (d : Entry) → nth y.log i ≡ Some d → (r : Request) → Q i d r) → AllHeld Q w.sent → AllHeld Q v.sent
   pub rises : (k : ℕ) (x : Node) → nth w.nodes k ≡ Some x → (y : Node) × (nth v.nodes k ≡ Some y) × (x.up ≡ true → y.up ≡ true → x.commit ≤ y.commit)
 
-module _ (P : ℕ → Entry → Request → Type 0) (New : Request → Type 0) (schema : Schema) (n : ℕ) (w : World) (sent : AllHeld P w.sent) where
+module _ (P : ℕ → Entry → Request → Type 0) (New : Request → Type 0) (language : Language) (n : ℕ) (w : World) (sent : AllHeld P w.sent) where
   unless_takes : (c : ℕ) (r : Result (List Statement) Refusal) (e : Effect) → EffectTakes P New c e → EffectTakes P New c (elim (r) [ Ok ss ↦ e | Err refusal ↦ Refuses refusal ])
   unless_takes c (Ok ss) e h = h
   unless_takes c (Err refusal) e h = tt
@@ -44,22 +44,22 @@ module _ (P : ℕ → Entry → Request → Type 0) (New : Request → Type 0) (
   abbrev Stands : Node → Type 0
   Stands x = (i : ℕ) (e : Entry) (r : Request) → nth x.log i ≡ Some e → e.request ≡ Some r → P i e r
 
-  handed : (m : ℕ) (i : Input) (x : Node) → Stands x → ((reading : ℤ) (r : Request) → i ≡ Submit reading r → New r) → EffectTakes P New x.commit (hand schema n m i x)
+  handed : (m : ℕ) (i : Input) (x : Node) → Stands x → ((reading : ℤ) (r : Request) → i ≡ Submit reading r → New r) → EffectTakes P New x.commit (hand language n m i x)
   handed m Timeout x X new = input_takes P New n m x.commit x X (omega arith) Timeout new
   handed m Beat x X new = input_takes P New n m x.commit x X (omega arith) Beat new
   handed m (Close reading) x X new = input_takes P New n m x.commit x X (omega arith) (Close reading) new
   handed m (Floor reading) x X new = input_takes P New n m x.commit x X (omega arith) (Floor reading) new
-  handed m (Submit reading request) x X new = unless_takes x.commit (schema.reads request.text) (on_input n m (Submit reading request) x) (input_takes P New n m x.commit x X (omega arith) (Submit reading request) new)
+  handed m (Submit reading request) x X new = unless_takes x.commit (language.reads request.text) (on_input n m (Submit reading request) x) (input_takes P New n m x.commit x X (omega arith) (Submit reading request) new)
 
-  effect_takes : (m : ℕ) (j : Job) (x : Node) → Stands x → ((reading : ℤ) (r : Request) → j ≡ Local (Submit reading r) → New r) → EffectTakes P New x.commit (effect schema n w m j x)
+  effect_takes : (m : ℕ) (j : Job) (x : Node) → Stands x → ((reading : ℤ) (r : Request) → j ≡ Local (Submit reading r) → New r) → EffectTakes P New x.commit (effect language n w m j x)
   effect_takes m (Local i) x X new = handed m i x X (λ reading r q. new reading r (ap Local q))
   effect_takes m (Delivery k reading) x X new = go (nth w.sent k) refl
     where
-      go : (o : Option Message) → nth w.sent k ≡ o → EffectTakes P New x.commit (option_map_or (λ (p : Message). on_message schema n m reading p x) o Nothing)
+      go : (o : Option Message) → nth w.sent k ≡ o → EffectTakes P New x.commit (option_map_or (λ (p : Message). on_message language n m reading p x) o Nothing)
       go None e = tt
-      go (Some p) e = message_takes P New schema n m reading p x X (all_nth P w.sent k p sent e)
+      go (Some p) e = message_takes P New language n m reading p x X (all_nth P w.sent k p sent e)
 
-module _ (P Q : ℕ → Entry → Request → Type 0) (schema : Schema) (n : ℕ) (w : World) (nodes : (k : ℕ) (x : Node) → nth w.nodes k ≡ Some x → (i : ℕ) (d : Entry) (r : Request) → nth x.log i ≡ Some d → d.request ≡ Some r → P i d r) (sent : AllHeld P w.sent) where
+module _ (P Q : ℕ → Entry → Request → Type 0) (language : Language) (n : ℕ) (w : World) (nodes : (k : ℕ) (x : Node) → nth w.nodes k ≡ Some x → (i : ℕ) (d : Entry) (r : Request) → nth x.log i ≡ Some d → d.request ≡ Some r → P i d r) (sent : AllHeld P w.sent) where
   abbrev By : ℕ → Event → Request → Type 0
   By m e r = Brings r m e
 
@@ -95,17 +95,17 @@ module _ (P Q : ℕ → Entry → Request → Type 0) (schema : Schema) (n : ℕ
   new_onward e m x (Refuses refusal) l S = stops_with e m x x l (old_in e m x l)
   new_onward e m x (Moves a) l S = stops_with e m x a.node l S.node
 
-  takes : (e : Event) (m : ℕ) (j : Job) (x : Node) → nth w.nodes m ≡ Some x → ((reading : ℤ) (r : Request) → j ≡ Local (Submit reading r) → Brings r m e) → EffectTakes P (By m e) x.commit (effect schema n w m j x)
-  takes e m j x l new = effect_takes P (By m e) schema n w sent m j x (nodes m x l) new
+  takes : (e : Event) (m : ℕ) (j : Job) (x : Node) → nth w.nodes m ≡ Some x → ((reading : ℤ) (r : Request) → j ≡ Local (Submit reading r) → Brings r m e) → EffectTakes P (By m e) x.commit (effect language n w m j x)
+  takes e m j x l new = effect_takes P (By m e) language n w sent m j x (nodes m x l) new
 
-  torn_onward : (m : ℕ) (j : Job) (left : Left) (x : Node) → nth w.nodes m ≡ Some x → Onward P Q w (with_node w m (stopped (node_left left x (effect schema n w m j x))) []) (Torn m j left)
+  torn_onward : (m : ℕ) (j : Job) (left : Left) (x : Node) → nth w.nodes m ≡ Some x → Onward P Q w (with_node w m (stopped (node_left left x (effect language n w m j x))) []) (Torn m j left)
   torn_onward m j Old x l = stops_with (Torn m j Old) m x x l (old_in (Torn m j Old) m x l)
-  torn_onward m j New x l = new_onward (Torn m j New) m x (effect schema n w m j x) l (takes (Torn m j New) m j x l (λ reading r q. subst (λ i. Brings r m (Torn m i New)) (sym q) (CutShort reading)))
+  torn_onward m j New x l = new_onward (Torn m j New) m x (effect language n w m j x) l (takes (Torn m j New) m j x l (λ reading r q. subst (λ i. Brings r m (Torn m i New)) (sym q) (CutShort reading)))
 
-  does_onward : (e : Event) (m : ℕ) (j : Job) → ((reading : ℤ) (r : Request) → j ≡ Local (Submit reading r) → Brings r m e) → Onward P Q w (does schema n w m j (nth w.nodes m)) e
-  does_onward e m j new = if_there (nth w.nodes m) _ w (λ v. Onward P Q w v e) (λ x l. cond_both x.up _ w (λ v. Onward P Q w v e) (λ p. done_onward e m x (effect schema n w m j x) l (takes e m j x l new)) (λ p. stays e)) (stays e)
+  does_onward : (e : Event) (m : ℕ) (j : Job) → ((reading : ℤ) (r : Request) → j ≡ Local (Submit reading r) → Brings r m e) → Onward P Q w (does language n w m j (nth w.nodes m)) e
+  does_onward e m j new = if_there (nth w.nodes m) _ w (λ v. Onward P Q w v e) (λ x l. cond_both x.up _ w (λ v. Onward P Q w v e) (λ p. done_onward e m x (effect language n w m j x) l (takes e m j x l new)) (λ p. stays e)) (stays e)
 
-  pub onward : (e : Event) → Onward P Q w (happens schema n w e) e
+  pub onward : (e : Event) → Onward P Q w (happens language n w e) e
   onward (Hand m i) = does_onward (Hand m i) m (Local i) (λ reading r q. let s : i ≡ Submit reading r = (cc) in subst (λ h. Brings r m (Hand m h)) (sym s) (Whole reading))
   onward (Deliver k reading) = if_there (nth w.sent k) _ w (λ v. Onward P Q w v (Deliver k reading)) (λ p e. does_onward (Deliver k reading) p.addressee (Delivery k reading) (λ t r q. absurd (cc))) (stays (Deliver k reading))
   onward (Stop m) = if_there (nth w.nodes m) _ w (λ v. Onward P Q w v (Stop m)) (λ x l. cond_both x.up _ w (λ v. Onward P Q w v (Stop m)) (λ p. stops_with (Stop m) m x x l (old_in (Stop m) m x l)) (λ p. stays (Stop m))) (stays (Stop m))
@@ -209,72 +209,72 @@ in_world D decide w = cases (some_or_not D decide w.nodes) (λ (k, x, l, i). inl
 
 -- ---- the first moment
 
-record First (schema : Schema) (n : ℕ) (D : List Entry → Type 0) (w : World) (es : List Event) : Type 0 where
+record First (language : Language) (n : ℕ) (D : List Entry → Type 0) (w : World) (es : List Event) : Type 0 where
   pub early : List Event
   pub event : Event
   pub late : List Event
   pub moment : early ++ event ∷ late ≡ es
-  pub never : (p q : List Event) → p ++ q ≡ early → InWorld D (run schema n w p) → ⊥
-  pub now : InWorld D (run schema n w (early ++ event ∷ []))
+  pub never : (p q : List Event) → p ++ q ≡ early → InWorld D (run language n w p) → ⊥
+  pub now : InWorld D (run language n w (early ++ event ∷ []))
 
-module _ (schema : Schema) (n : ℕ) (D : List Entry → Type 0) (decide : Decides D) where
-  none_before : (w : World) → (InWorld D w → ⊥) → (p q : List Event) → p ++ q ≡ [] → InWorld D (run schema n w p) → ⊥
+module _ (language : Language) (n : ℕ) (D : List Entry → Type 0) (decide : Decides D) where
+  none_before : (w : World) → (InWorld D w → ⊥) → (p q : List Event) → p ++ q ≡ [] → InWorld D (run language n w p) → ⊥
   none_before w absent [] q s i = absent i
   none_before w absent (a ∷ p) q s i = absurd (cc)
 
-  none_longer : (w : World) (e : Event) (early : List Event) → (InWorld D w → ⊥) → ((p q : List Event) → p ++ q ≡ early → InWorld D (run schema n (happens schema n w e) p) → ⊥)
-      → (p q : List Event) → p ++ q ≡ e ∷ early → InWorld D (run schema n w p) → ⊥
+  none_longer : (w : World) (e : Event) (early : List Event) → (InWorld D w → ⊥) → ((p q : List Event) → p ++ q ≡ early → InWorld D (run language n (happens language n w e) p) → ⊥)
+      → (p q : List Event) → p ++ q ≡ e ∷ early → InWorld D (run language n w p) → ⊥
   none_longer w e early absent later [] q s i = absent i
   none_longer w e early absent later (a ∷ p) q s i =
       let h : a ≡ e = (cc) in
       let t : p ++ q ≡ early = (cc) in
-      later p q t (subst (λ v. InWorld D (run schema n (happens schema n w v) p)) h i)
+      later p q t (subst (λ v. InWorld D (run language n (happens language n w v) p)) h i)
 
-  first : (es : List Event) (w : World) → (InWorld D w → ⊥) → InWorld D (run schema n w es) → First schema n D w es
+  first : (es : List Event) (w : World) → (InWorld D w → ⊥) → InWorld D (run language n w es) → First language n D w es
   first [] w absent i = absurd (absent i)
-  first (e ∷ es) w absent i = cases (in_world D decide (happens schema n w e))
+  first (e ∷ es) w absent i = cases (in_world D decide (happens language n w e))
       (λ now. record { early = []; event = e; late = es; moment = refl; never = none_before w absent; now = now })
-      (λ not_yet. let F = first es (happens schema n w e) not_yet i in
+      (λ not_yet. let F = first es (happens language n w e) not_yet i in
       record { early = e ∷ F.early; event = F.event; late = F.late; moment = ap (λ z. e ∷ z) F.moment; never = none_longer w e F.early absent F.never; now = F.now })
 
 -- ---- runs
 
 -- at a moment of the run the entry stood at this index of some member's log
-pub record Logged (schema : Schema) (n : ℕ) (opening : World) (events : List Event) (i : ℕ) (e : Entry) : Type 0 where
+pub record Logged (language : Language) (n : ℕ) (outset : World) (events : List Event) (i : ℕ) (e : Entry) : Type 0 where
   pub member : ℕ
   pub node : Node
-  pub was : WasAt schema n opening events member node
+  pub was : WasAt language n outset events member node
   pub stands : nth node.log i ≡ Some e
 
 pub record Empty (w : World) : Type 0 where
   pub nodes : (m : ℕ) (x : Node) → nth w.nodes m ≡ Some x → x.log ≡ []
   pub sent : w.sent ≡ []
 
-module _ (schema : Schema) (n : ℕ) (opening : World) (E : Empty opening) where
+module _ (language : Language) (n : ℕ) (outset : World) (E : Empty outset) where
   abbrev logged : List Event → ℕ → Entry → Request → Type 0
-  logged events i e r = Logged schema n opening events i e
+  logged events i e r = Logged language n outset events i e
 
-  pub logged_now : (events : List Event) (m : ℕ) (x : Node) → nth (run schema n opening events).nodes m ≡ Some x → (i : ℕ) (e : Entry) → nth x.log i ≡ Some e → Logged schema n opening events i e
+  pub logged_now : (events : List Event) (m : ℕ) (x : Node) → nth (run language n outset events).nodes m ≡ Some x → (i : ℕ) (e : Entry) → nth x.log i ≡ Some e → Logged language n outset events i e
   logged_now events m x l i e p = record { member = m; node = x; was = record { early = events; late = []; moment = append-nil events; at = l }; stands = p }
 
-  logged_later : (before more : List Event) (i : ℕ) (e : Entry) → Logged schema n opening before i e → Logged schema n opening (before ++ more) i e
+  logged_later : (before more : List Event) (i : ℕ) (e : Entry) → Logged language n outset before i e → Logged language n outset (before ++ more) i e
   logged_later before more i e L = let W = L.was in
       record { member = L.member; node = L.node; was = record { early = W.early; late = W.late ++ more; moment = sym (append_assoc W.early W.late more) ∙ ap (λ z. z ++ more) W.moment; at = W.at }; stands = L.stands }
 
   abbrev Sends : List Event → Type 0
-  Sends events = AllHeld (logged events) (run schema n opening events).sent
+  Sends events = AllHeld (logged events) (run language n outset events).sent
 
-  one_event : (before : List Event) (e : Event) → run schema n opening (before ++ e ∷ []) ≡ happens schema n (run schema n opening before) e
-  one_event before e = run_append schema n before (e ∷ []) opening
+  one_event : (before : List Event) (e : Event) → run language n outset (before ++ e ∷ []) ≡ happens language n (run language n outset before) e
+  one_event before e = run_append language n before (e ∷ []) outset
 
-  onward_from : (before : List Event) (e : Event) → Sends before → Onward (logged before) (logged (before ++ e ∷ [])) (run schema n opening before) (happens schema n (run schema n opening before) e) e
-  onward_from before e S = onward (logged before) (logged (before ++ e ∷ [])) schema n (run schema n opening before) (λ k x l i d r p q. logged_now before k x l i d p) S e
+  onward_from : (before : List Event) (e : Event) → Sends before → Onward (logged before) (logged (before ++ e ∷ [])) (run language n outset before) (happens language n (run language n outset before) e) e
+  onward_from before e S = onward (logged before) (logged (before ++ e ∷ [])) language n (run language n outset before) (λ k x l i d r p q. logged_now before k x l i d p) S e
 
   one_more : (before : List Event) (e : Event) → Sends before → Sends (before ++ e ∷ [])
   one_more before e S = subst (λ v. AllHeld (logged (before ++ e ∷ [])) v.sent) (sym (one_event before e))
       ((onward_from before e S).sent
       (λ k y l i d p r. logged_now (before ++ e ∷ []) k y (subst (λ v. nth v.nodes k ≡ Some y) (sym (one_event before e)) l) i d p)
-      (all_weaker (logged before) (logged (before ++ e ∷ [])) (λ i d r q h. logged_later before (e ∷ []) i d h) (run schema n opening before).sent S))
+      (all_weaker (logged before) (logged (before ++ e ∷ [])) (λ i d r q h. logged_later before (e ∷ []) i d h) (run language n outset before).sent S))
 
   all_events : (es before : List Event) → Sends before → Sends (before ++ es)
   all_events [] before S = subst Sends (sym (append-nil before)) S
@@ -287,19 +287,19 @@ module _ (schema : Schema) (n : ℕ) (opening : World) (E : Empty opening) where
 
   module _ (D : List Entry → Type 0) (decide : Decides D) (nothing : D [] → ⊥) where
     -- the first moment of a log of which this is so
-    first_of : (events : List Event) (m : ℕ) (x : Node) → WasAt schema n opening events m x → D x.log → First schema n D opening events
+    first_of : (events : List Event) (m : ℕ) (x : Node) → WasAt language n outset events m x → D x.log → First language n D outset events
     first_of events m x W d =
-        let F = first schema n D decide W.early opening (λ V. nothing (subst D (E.nodes V.member V.node V.at) V.stands)) (record { member = m; node = x; at = W.at; stands = d }) in
+        let F = first language n D decide W.early outset (λ V. nothing (subst D (E.nodes V.member V.node V.at) V.stands)) (record { member = m; node = x; at = W.at; stands = d }) in
         record { early = F.early; event = F.event; late = F.late ++ W.late; moment = sym (append_assoc F.early (F.event ∷ F.late) W.late) ∙ ap (λ z. z ++ W.late) F.moment ∙ W.moment; never = F.never; now = F.now }
 
-    never_at : (events : List Event) (F : First schema n D opening events) (m : ℕ) (x : Node) → WasAt schema n opening F.early m x → D x.log → ⊥
+    never_at : (events : List Event) (F : First language n D outset events) (m : ℕ) (x : Node) → WasAt language n outset F.early m x → D x.log → ⊥
     never_at events F m x W d = F.never W.early W.late W.moment (record { member = m; node = x; at = W.at; stands = d })
 
     -- what stands there stood there before, or was brought
-    grown : (events : List Event) (F : First schema n D opening events) → Grown (logged F.early) (λ r. Brings r F.now.member F.event) F.now.node.log
+    grown : (events : List Event) (F : First language n D outset events) → Grown (logged F.early) (λ r. Brings r F.now.member F.event) F.now.node.log
     grown events F = (onward_from F.early F.event (sends F.early)).node F.now.member F.now.node (subst (λ z. nth z.nodes F.now.member ≡ Some F.now.node) (one_event F.early F.event) F.now.at)
 
-  pub was_brought : (events : List Event) (m : ℕ) (x : Node) (r : Request) → WasAt schema n opening events m x → HasRequest x.log r → WasBrought schema n opening events r
+  pub was_brought : (events : List Event) (m : ℕ) (x : Node) (r : Request) → WasAt language n outset events m x → HasRequest x.log r → WasBrought language n outset events r
   was_brought events m x r W H =
       let F = first_of (λ L. HasRequest L r) (has_or_not r) (has_none r) events m x W H in
       let never = never_at (λ L. HasRequest L r) (has_or_not r) (has_none r) events F in
@@ -322,7 +322,7 @@ module _ (schema : Schema) (n : ℕ) (opening : World) (E : Empty opening) where
   at_none : (i : ℕ) (e : Entry) → nth [] i ≡ Some e → ⊥
   at_none i e p = let w = nth_within [] i e p in omega (arith, w.0, w.1)
 
-  pub was_made : (events : List Event) (m : ℕ) (x : Node) (i : ℕ) (e : Entry) (r : Request) → WasAt schema n opening events m x → nth x.log i ≡ Some e → e.request ≡ Some r → WasMade schema n opening events i e r
+  pub was_made : (events : List Event) (m : ℕ) (x : Node) (i : ℕ) (e : Entry) (r : Request) → WasAt language n outset events m x → nth x.log i ≡ Some e → e.request ≡ Some r → WasMade language n outset events i e r
   was_made events m x i e r W p q =
       let F = first_of (λ L. nth L i ≡ Some e) (at_or_not i e) (at_none i e) events m x W p in
       let never = never_at (λ L. nth L i ≡ Some e) (at_or_not i e) (at_none i e) events F in
@@ -351,31 +351,31 @@ module _ (schema : Schema) (n : ℕ) (opening : World) (E : Empty opening) where
         (cond_both (nat_lt (length best) (length (applied x))) (applied x) best (λ z. nth z i ≡ Some e → Q) (λ c q. h 0 x refl (nth_take x.commit x.log i e q)) (λ c. b))
         (λ k y l. h (suc k) y l) p
 
-    decided_in : (es : List Event) (w : World) (best : List Entry) → (nth best i ≡ Some e → Q) → ((mid rest : List Event) (m : ℕ) (x : Node) → mid ++ rest ≡ es → nth (run schema n w mid).nodes m ≡ Some x → nth x.log i ≡ Some e → Q)
-        → nth (decided_from schema n best w es) i ≡ Some e → Q
+    decided_in : (es : List Event) (w : World) (best : List Entry) → (nth best i ≡ Some e → Q) → ((mid rest : List Event) (m : ℕ) (x : Node) → mid ++ rest ≡ es → nth (run language n w mid).nodes m ≡ Some x → nth x.log i ≡ Some e → Q)
+        → nth (decided_from language n best w es) i ≡ Some e → Q
     decided_in [] w best b h p = longest_from w.nodes best b (λ k x l. h [] [] (suc k) x refl l) p
-    decided_in (v ∷ es) w best b h p = decided_in es (happens schema n w v) (longest best w.nodes)
+    decided_in (v ∷ es) w best b h p = decided_in es (happens language n w v) (longest best w.nodes)
         (longest_from w.nodes best b (λ k x l. h [] (v ∷ es) (suc k) x refl l))
         (λ mid rest m x s l. h (v ∷ mid) rest m x (ap (λ z. v ∷ z) s) l) p
 
-  decided_logged : (events : List Event) (i : ℕ) (e : Entry) → nth (decided schema n opening events) i ≡ Some e → Logged schema n opening events i e
-  decided_logged events i e p = decided_in i e (Logged schema n opening events i e) events opening [] (λ q. absurd (at_none i e q))
+  decided_logged : (events : List Event) (i : ℕ) (e : Entry) → nth (decided language n outset events) i ≡ Some e → Logged language n outset events i e
+  decided_logged events i e p = decided_in i e (Logged language n outset events i e) events outset [] (λ q. absurd (at_none i e q))
       (λ mid rest m x s l q. record { member = m; node = x; was = record { early = mid; late = rest; moment = s; at = l }; stands = q }) p
 
-  pub logged_brought : (events : List Event) (i : ℕ) (e : Entry) (r : Request) → Logged schema n opening events i e → e.request ≡ Some r → WasBrought schema n opening events r
+  pub logged_brought : (events : List Event) (i : ℕ) (e : Entry) (r : Request) → Logged language n outset events i e → e.request ≡ Some r → WasBrought language n outset events r
   logged_brought events i e r L q = was_brought events L.member L.node r L.was (record { index = i; entry = e; at = L.stands; asks = q })
 
-  pub nothing_invented : NothingInvented schema n opening
+  pub nothing_invented : NothingInvented language n outset
   nothing_invented events r H = logged_brought events H.index H.entry r (decided_logged events H.index H.entry H.at) H.asks
 
-  pub no_log_invented : NoLogInvented schema n opening
+  pub no_log_invented : NoLogInvented language n outset
   no_log_invented events m x r l H = logged_brought events H.index H.entry r (logged_now events m x l H.index H.entry H.at) H.asks
 
-  pub nothing_sent_invented : NothingSentInvented schema n opening
+  pub nothing_sent_invented : NothingSentInvented language n outset
   nothing_sent_invented events k p r l H =
-      logged_brought events (prev_of p.body + H.index) H.entry r ((all_nth (logged events) (run schema n opening events).sent k p (sends events) l).carried H.index H.entry r H.at H.asks) H.asks
+      logged_brought events (prev_of p.body + H.index) H.entry r ((all_nth (logged events) (run language n outset events).sent k p (sends events) l).carried H.index H.entry r H.at H.asks) H.asks
 
-  pub each_was_made : EachWasMade schema n opening
+  pub each_was_made : EachWasMade language n outset
   each_was_made events i e r p q = let L = decided_logged events i e p in was_made events L.member L.node i e r L.was L.stands q
 
   -- ---- one event makes one entry
@@ -396,16 +396,16 @@ module _ (schema : Schema) (n : ℕ) (opening : World) (E : Empty opening) where
   to_one r s m k _ _ (CutShort t) (Whole u) p = absurd (cc)
   to_one r s m k _ _ (CutShort t) (CutShort u) p = cc
 
-  pub none_made_two : NoneMadeTwo schema n opening
+  pub none_made_two : NoneMadeTwo language n outset
   none_made_two events i j d e r s M N l =
       let S = same_split M.early N.early M.late N.late M.event N.event (M.moment ∙ sym N.moment) l in
       let who = to_one r s M.member N.member M.event N.event M.brings N.brings S.1 in
       let when : M.early ++ M.event ∷ [] ≡ N.early ++ N.event ∷ [] = ap (λ z. z ++ M.event ∷ []) S.0 ∙ ap (λ v. N.early ++ v ∷ []) S.1 in
-      let at : nth (run schema n opening (N.early ++ N.event ∷ [])).nodes N.member ≡ Some M.node = subst (λ z. nth (run schema n opening z).nodes N.member ≡ Some M.node) when (subst (λ k. nth (run schema n opening (M.early ++ M.event ∷ [])).nodes k ≡ Some M.node) who M.at) in
-      let same : M.node ≡ N.node = same_some (nth (run schema n opening (N.early ++ N.event ∷ [])).nodes N.member) M.node N.node at N.at in
+      let at : nth (run language n outset (N.early ++ N.event ∷ [])).nodes N.member ≡ Some M.node = subst (λ z. nth (run language n outset z).nodes N.member ≡ Some M.node) when (subst (λ k. nth (run language n outset (M.early ++ M.event ∷ [])).nodes k ≡ Some M.node) who M.at) in
+      let same : M.node ≡ N.node = same_some (nth (run language n outset (N.early ++ N.event ∷ [])).nodes N.member) M.node N.node at N.at in
       sym M.last ∙ ap (λ (x : Node). length x.log) same ∙ N.last
 
--- ---- the openings
+-- ---- the outsets
 
 pub new_empty : (n : ℕ) → Empty (new_world n)
 new_empty n = record { nodes = λ m. get_replicate (λ (x : Node). x.log ≡ []) n (fresh 0 None) refl m; sent = refl }

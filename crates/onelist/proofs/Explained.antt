@@ -5,7 +5,7 @@ use Rattle.std.proofs.lemmas.Option.{slice_get_within}
 use Rattle.model.specs.Lists.{nth, IsBeginning}
 use Rattle.model.specs.Stamps.{above}
 use Rattle.fault.specs.declared.refusal.Refusal.TheVariants.{NodeDown}
-use Rattle.model.specs.Transactions.{Schema}
+use Rattle.model.specs.Transactions.{Language}
 use Rattle.model.specs.declared.entry.Entry.{Entry}
 use Rattle.model.specs.declared.entry.Request.{Request}
 use Rattle.model.specs.declared.entry.Told.{Told}
@@ -18,7 +18,7 @@ use Rattle.safety.specs.Floors.{StaysUp, SealedRises}
 use Rattle.onelist.specs.Order.{HasRequest, WasMade, IsNewAfter, IsToldAfter}
 use Rattle.onelist.specs.Explained.{Gave, IsAnswered, IsSubmitted, IsNew, IsUnstopped, WereSubmitted, Explains, IsInOrder, IsExplainedBy, OneListExplains, IsExplained, IsDecidedInOrder}
 use Rattle.safety.proofs.Lists.{cases, none_some, same_some}
-use Rattle.safety.proofs.World.{Opening}
+use Rattle.safety.proofs.World.{Outset}
 use Rattle.safety.proofs.Agreeing.{agrees}
 use Rattle.safety.proofs.Runs.{run_append, reached, decided_rises, stamped_rising, past_closed_time}
 use Rattle.safety.proofs.Given.{WasAnswered, was_answered}
@@ -62,30 +62,30 @@ only x y h = let e : h.0 ≡ 0 = omega (arith, h.1) in sym (subst (λ k. slice_i
 -- ---- events and what they gave
 
 -- the k-th event gave these
-record Turn (schema : Schema) (n : ℕ) (w : World) (events : List Event) (k : ℕ) (out : List Output) : Type 0 where
+record Turn (language : Language) (n : ℕ) (w : World) (events : List Event) (k : ℕ) (out : List Output) : Type 0 where
   pub early : List Event
   pub event : Event
   pub late : List Event
   pub moment : early ++ event ∷ late ≡ events
   pub place : suc (length early) ≡ k
-  pub gives : Gives schema n (run schema n w early) event out
+  pub gives : Gives language n (run language n w early) event out
 
-module _ (schema : Schema) (n : ℕ) where
+module _ (language : Language) (n : ℕ) where
   -- what a run gives in two pieces
-  pub gives_append : (es fs : List Event) (w : World) (outs more : List (List Output)) → GivesAll schema n w es outs → GivesAll schema n (run schema n w es) fs more → GivesAll schema n w (es ++ fs) (outs ++ more)
-  gives_append [] fs w outs more p h = subst (GivesAll schema n w fs) (ap (λ z. z ++ more) (sym p)) h
-  gives_append (e ∷ es) fs w outs more (out, rest, p, g, t) h = (out, rest ++ more, ap (λ z. z ++ more) p, g, gives_append es fs (happens schema n w e) rest more t h)
+  pub gives_append : (es fs : List Event) (w : World) (outs more : List (List Output)) → GivesAll language n w es outs → GivesAll language n (run language n w es) fs more → GivesAll language n w (es ++ fs) (outs ++ more)
+  gives_append [] fs w outs more p h = subst (GivesAll language n w fs) (ap (λ z. z ++ more) (sym p)) h
+  gives_append (e ∷ es) fs w outs more (out, rest, p, g, t) h = (out, rest ++ more, ap (λ z. z ++ more) p, g, gives_append es fs (happens language n w e) rest more t h)
 
-  turn : (events : List Event) (w : World) (outs : List (List Output)) (k : ℕ) (out : List Output) → GivesAll schema n w events outs → slice_get outs k ≡ Some out → Turn schema n w events (suc k) out
+  turn : (events : List Event) (w : World) (outs : List (List Output)) (k : ℕ) (out : List Output) → GivesAll language n w events outs → slice_get outs k ≡ Some out → Turn language n w events (suc k) out
   turn [] w outs k out g p = absurd (none_some (slice_get outs k) out (ap (λ z. slice_get z k) g) p)
   turn (e ∷ es) w outs zero out (o, rest, q, g, more) p =
       let s : o ≡ out = same_some (slice_get outs 0) o out (ap (λ z. slice_get z 0) q) p in
-      record { early = []; event = e; late = es; moment = refl; place = refl; gives = subst (λ z. Gives schema n w e z) s g }
+      record { early = []; event = e; late = es; moment = refl; place = refl; gives = subst (λ z. Gives language n w e z) s g }
   turn (e ∷ es) w outs (suc k) out (o, rest, q, g, more) p =
-      let T = turn es (happens schema n w e) rest k out more (sym (ap (λ z. slice_get z (suc k)) q) ∙ p) in
+      let T = turn es (happens language n w e) rest k out more (sym (ap (λ z. slice_get z (suc k)) q) ∙ p) in
       record { early = e ∷ T.early; event = T.event; late = T.late; moment = ap (λ z. e ∷ z) T.moment; place = ap suc T.place; gives = T.gives }
 
-  turn_at : (events : List Event) (w : World) (outs : List (List Output)) (k : ℕ) (out : List Output) → GivesAll schema n w events outs → nth outs k ≡ Some out → Turn schema n w events k out
+  turn_at : (events : List Event) (w : World) (outs : List (List Output)) (k : ℕ) (out : List Output) → GivesAll language n w events outs → nth outs k ≡ Some out → Turn language n w events k out
   turn_at events w outs zero out g p = absurd (none_some (nth outs 0) out refl p)
   turn_at events w outs (suc k) out g p = turn events w outs k out g p
 
@@ -98,57 +98,57 @@ new_after early late events event k r s p new m e (j, l, q) b =
     new (suc j) (omega arith) (m, e, subst (λ z. nth z (suc j) ≡ Some e) s (at_index early (event ∷ late) j e l q), b)
 
 -- who answers is up
-answers_up : (schema : Schema) (n : ℕ) (w : World) (m : ℕ) (q : Select) (out : List Output) (a : Answer) (x : Node) → nth w.nodes m ≡ Some x → Gives schema n w (Ask m q) out → Contains out (Answered m a) → x.up ≡ true
-answers_up schema n w m q out a x l g c = go x.up refl (subst (λ o. IsGivenAt schema m q o out) l g)
+answers_up : (language : Language) (n : ℕ) (w : World) (m : ℕ) (q : Select) (out : List Output) (a : Answer) (x : Node) → nth w.nodes m ≡ Some x → Gives language n w (Ask m q) out → Contains out (Answered m a) → x.up ≡ true
+answers_up language n w m q out a x l g c = go x.up refl (subst (λ o. IsGivenAt language m q o out) l g)
   where
-    go : (b : Bool) → x.up ≡ b → IsGivenBy schema m q x b out → x.up ≡ true
+    go : (b : Bool) → x.up ≡ b → IsGivenBy language m q x b out → x.up ≡ true
     go true u h = u
     go false u h = let e : Answered m a ≡ Refused m NodeDown = only _ _ (subst (λ z. Contains z (Answered m a)) h c) in absurd (cc)
 
-module _ (schema : Schema) (n : ℕ) (opening : World) (E : Empty opening) (events : List Event) where
-  made : (r : Request) (R : HasRequest (decided schema n opening events) r) → WasMade schema n opening events R.index R.entry r
-  made r R = each_was_made schema n opening E events R.index R.entry r R.at R.asks
+module _ (language : Language) (n : ℕ) (outset : World) (E : Empty outset) (events : List Event) where
+  made : (r : Request) (R : HasRequest (decided language n outset events) r) → WasMade language n outset events R.index R.entry r
+  made r R = each_was_made language n outset E events R.index R.entry r R.at R.asks
 
-  is_submitted : (r : Request) → HasRequest (decided schema n opening events) r → (k : ℕ) × IsSubmitted events k r
+  is_submitted : (r : Request) → HasRequest (decided language n outset events) r → (k : ℕ) × IsSubmitted events k r
   is_submitted r R = let M = made r R in (suc (length M.early), (M.member, M.event, there M.early M.late events M.event M.moment, M.brings))
 
-  are_apart : (r s : Request) (R : HasRequest (decided schema n opening events) r) (S : HasRequest (decided schema n opening events) s) → (is_submitted r R).0 ≡ (is_submitted s S).0 → R.index ≡ S.index
+  are_apart : (r s : Request) (R : HasRequest (decided language n outset events) r) (S : HasRequest (decided language n outset events) s) → (is_submitted r R).0 ≡ (is_submitted s S).0 → R.index ≡ S.index
   unfolding is_submitted
   are_apart r s R S q =
       let h : suc (length (made r R).early) ≡ suc (length (made s S).early) = q in
-      none_made_two schema n opening E events R.index S.index R.entry S.entry r s (made r R) (made s S) (omega arith)
+      none_made_two language n outset E events R.index S.index R.entry S.entry r s (made r R) (made s S) (omega arith)
 
-  pub were_submitted : WereSubmitted events (decided schema n opening events)
+  pub were_submitted : WereSubmitted events (decided language n outset events)
   were_submitted = record { submitted = is_submitted; apart = are_apart }
 
-module _ (schema : Schema) (n : ℕ) (opening : World) (O : Opening n opening) (E : Empty opening) (events : List Event) (outs : List (List Output)) (G : GivesAll schema n opening events outs) where
+module _ (language : Language) (n : ℕ) (outset : World) (O : Outset n outset) (E : Empty outset) (events : List Event) (outs : List (List Output)) (G : GivesAll language n outset events outs) where
   abbrev list : List Entry
-  list = decided schema n opening events
+  list = decided language n outset events
 
-  is_told : (k m : ℕ) (told : Told) → Gave outs k (Applied m told) → IsTold schema list told
+  is_told : (k m : ℕ) (told : Told) → Gave outs k (Applied m told) → IsTold language list told
   is_told k m told (out, p, c) =
-      let T = turn_at schema n events opening outs k out G p in
-      (agrees schema n opening O events).outcomes_agree T.early T.late T.event out m told T.moment T.gives c
+      let T = turn_at language n events outset outs k out G p in
+      (agrees language n outset O events).outcomes_agree T.early T.late T.event out m told T.moment T.gives c
 
   -- the event that asked gave this answer
-  gives_asked : (k m : ℕ) (q : Select) (out : List Output) (T : Turn schema n opening events k out) → nth events k ≡ Some (Ask m q) → (T.early ++ Ask m q ∷ T.late ≡ events) × Gives schema n (run schema n opening T.early) (Ask m q) out
+  gives_asked : (k m : ℕ) (q : Select) (out : List Output) (T : Turn language n outset events k out) → nth events k ≡ Some (Ask m q) → (T.early ++ Ask m q ∷ T.late ≡ events) × Gives language n (run language n outset T.early) (Ask m q) out
   gives_asked k m q out T s =
       let same : T.event ≡ Ask m q = same_some (nth events k) T.event (Ask m q) (subst (λ z. nth events z ≡ Some T.event) T.place (there T.early T.late events T.event T.moment)) s in
-      (subst (λ z. T.early ++ z ∷ T.late ≡ events) same T.moment, subst (λ z. Gives schema n (run schema n opening T.early) z out) same T.gives)
+      (subst (λ z. T.early ++ z ∷ T.late ≡ events) same T.moment, subst (λ z. Gives language n (run language n outset T.early) z out) same T.gives)
 
-  is_answer : (k m : ℕ) (q : Select) (a : Answer) → IsAnswered events outs k m q a → IsAnswer schema (read_at a.last q) list a
+  is_answer : (k m : ℕ) (q : Select) (a : Answer) → IsAnswered events outs k m q a → IsAnswer language (read_at a.last q) list a
   is_answer k m q a (s, (out, p, c)) =
-      let T = turn_at schema n events opening outs k out G p in
+      let T = turn_at language n events outset outs k out G p in
       let g = gives_asked k m q out T s in
-      (agrees schema n opening O events).answers_agree T.early T.late m q out a g.0 g.1 c
+      (agrees language n outset O events).answers_agree T.early T.late m q out a g.0 g.1 c
 
   is_after_told : (k m : ℕ) (told : Told) (r : Request) (R : HasRequest list r) → Gave outs k (Applied m told) → IsNew events k r → told.index < R.index
   is_after_told k m told r R (out, p, c) new =
-      let T = turn_at schema n events opening outs k out G p in
+      let T = turn_at language n events outset outs k out G p in
       let I = is_told k m told (out, p, c) in
-      let A : IsToldAfter schema n opening T.early (T.event ∷ T.late) told = record { event = T.event; rest = T.late; next = refl; out = out; gives = T.gives; member = m; tells = c } in
-      (in_real_order schema n opening O E T.early (T.event ∷ T.late) told r R.index I.entry R.entry A (new_after T.early T.late events T.event k r T.moment T.place new)
-      (subst (λ z. nth (decided schema n opening z) told.index ≡ Some I.entry) (sym T.moment) I.at) (subst (λ z. nth (decided schema n opening z) R.index ≡ Some R.entry) (sym T.moment) R.at) R.asks).0
+      let A : IsToldAfter language n outset T.early (T.event ∷ T.late) told = record { event = T.event; rest = T.late; next = refl; out = out; gives = T.gives; member = m; tells = c } in
+      (in_real_order language n outset O E T.early (T.event ∷ T.late) told r R.index I.entry R.entry A (new_after T.early T.late events T.event k r T.moment T.place new)
+      (subst (λ z. nth (decided language n outset z) told.index ≡ Some I.entry) (sym T.moment) I.at) (subst (λ z. nth (decided language n outset z) R.index ≡ Some R.entry) (sym T.moment) R.at) R.asks).0
 
   -- an answer was given at this moment
   record AnsweredAt (k m : ℕ) (q : Select) (a : Answer) : Type 0 where
@@ -156,70 +156,70 @@ module _ (schema : Schema) (n : ℕ) (opening : World) (O : Opening n opening) (
     pub late : List Event
     pub moment : early ++ Ask m q ∷ late ≡ events
     pub place : suc (length early) ≡ k
-    pub was : WasAnswered schema q (run schema n opening early) m a
+    pub was : WasAnswered language q (run language n outset early) m a
     pub up : was.node.up ≡ true
 
   answered_at : (k m : ℕ) (q : Select) (a : Answer) → IsAnswered events outs k m q a → AnsweredAt k m q a
   answered_at k m q a (s, (out, p, c)) =
-      let T = turn_at schema n events opening outs k out G p in
+      let T = turn_at language n events outset outs k out G p in
       let g = gives_asked k m q out T s in
-      let A = was_answered schema n (run schema n opening T.early) m q out a g.1 c in
-      record { early = T.early; late = T.late; moment = g.0; place = T.place; was = A; up = answers_up schema n (run schema n opening T.early) m q out a A.node A.at g.1 c }
+      let A = was_answered language n (run language n outset T.early) m q out a g.1 c in
+      record { early = T.early; late = T.late; moment = g.0; place = T.place; was = A; up = answers_up language n (run language n outset T.early) m q out a A.node A.at g.1 c }
 
   is_after_answer : (k m : ℕ) (q : Select) (a : Answer) (r : Request) (R : HasRequest list r) → IsAnswered events outs k m q a → IsNew events k r → a.last < R.entry.stamp
   is_after_answer k m q a r R h new =
       let T = answered_at k m q a h in
       let A = T.was in
-      let at : nth (decided schema n opening (T.early ++ Ask m q ∷ T.late)) R.index ≡ Some R.entry = subst (λ z. nth (decided schema n opening z) R.index ≡ Some R.entry) (sym T.moment) R.at in
+      let at : nth (decided language n outset (T.early ++ Ask m q ∷ T.late)) R.index ≡ Some R.entry = subst (λ z. nth (decided language n outset z) R.index ≡ Some R.entry) (sym T.moment) R.at in
       let l : length (applied A.node) < R.index = cases (cases_lt (length (applied A.node)) R.index) (λ l. l) (λ l.
-      let B = brought_before schema n opening O E T.early (Ask m q ∷ T.late) m A.node r R.index R.entry A.at l at R.asks in
+      let B = brought_before language n outset O E T.early (Ask m q ∷ T.late) m A.node r R.index R.entry A.at l at R.asks in
       absurd (new_after T.early T.late events (Ask m q) k r T.moment T.place new B.member B.event (among B.early B.late T.early B.event B.moment) B.brings)) in
-      let h : A.instant < R.entry.stamp = past_closed_time schema n opening O T.early (Ask m q ∷ T.late) m A.node A.at A.instant A.is_closed R.index R.entry l at in
+      let h : A.instant < R.entry.stamp = past_closed_time language n outset O T.early (Ask m q ∷ T.late) m A.node A.at A.instant A.is_closed R.index R.entry l at in
       let i = A.within in
       let j = A.answers.last in omega arith
 
-  explained : Explains schema events outs list
-  explained = record { stamped = stamped_rising list (decided_rises schema n opening O events); told = is_told; answered = is_answer; brought = were_submitted schema n opening E events }
+  explained : Explains language events outs list
+  explained = record { stamped = stamped_rising list (decided_rises language n outset O events); told = is_told; answered = is_answer; brought = were_submitted language n outset E events }
 
-  module _ (sealed : SealedRises schema n opening) where
+  module _ (sealed : SealedRises language n outset) where
     -- a member that was up after the first events stays so
     stays_on : (before mid late : List Event) (m j : ℕ) (x : Node) → (before ++ mid) ++ late ≡ events → j ≤ length before → IsUnstopped events m j (suc (length (before ++ mid))) →
-        nth (run schema n opening before).nodes m ≡ Some x → x.up ≡ true → StaysUp schema n opening before mid m
+        nth (run language n outset before).nodes m ≡ Some x → x.up ≡ true → StaysUp language n outset before mid m
     stays_on before mid late m j x s l U at up part rest z t q =
-        stays_up schema n part (run schema n opening before) m x at up
+        stays_up language n part (run language n outset before) m x at up
         (λ i e p stops. let w = slice_get_within part i e p in
         let whole : before ++ (part ++ (rest ++ late)) ≡ events = ap (λ v. before ++ v) (sym (append_assoc part rest late) ∙ ap (λ v. v ++ late) t) ∙ sym (append_assoc before mid late) ∙ s in
         U (suc (length before + i)) e (omega arith) (let h = ap length t in omega (arith, length-append part rest, length-append before mid))
         (subst (λ v. nth v (suc (length before + i)) ≡ Some e) whole (further before (part ++ (rest ++ late)) i ∙ in_front part (rest ++ late) i e p)) stops)
-        z (subst (λ v. nth v.nodes m ≡ Some z) (run_append schema n before part opening) q)
+        z (subst (λ v. nth v.nodes m ≡ Some z) (run_append language n before part outset) q)
 
-    is_in_what_is_asked : (j k m : ℕ) (told : Told) (T : IsTold schema list told) (q : Select) (a : Answer) → j < k → Gave outs j (Applied m told) → IsAnswered events outs k m q a → q.time ≡ None →
+    is_in_what_is_asked : (j k m : ℕ) (told : Told) (T : IsTold language list told) (q : Select) (a : Answer) → j < k → Gave outs j (Applied m told) → IsAnswered events outs k m q a → q.time ≡ None →
         IsUnstopped events m j k → T.entry.stamp ≤ a.last
     is_in_what_is_asked j k m told I q a l (out, p, c) h t U =
-        let T = turn_at schema n events opening outs j out G p in
+        let T = turn_at language n events outset outs j out G p in
         let S = answered_at k m q a h in
         let so_far = T.early ++ T.event ∷ [] in
         let M = between T.early T.late S.early S.late T.event (Ask m q) (T.moment ∙ sym S.moment) (let u = T.place in let v = S.place in omega arith) in
         let split : so_far ++ M.0 ≡ S.early = append_assoc T.early (T.event ∷ []) M.0 ∙ M.1 in
         let whole : so_far ++ T.late ≡ events = append_assoc T.early (T.event ∷ []) T.late ∙ T.moment in
-        let H = teller schema n (run schema n opening T.early) m told T.event out T.gives c in
-        let at : nth (run schema n opening so_far).nodes m ≡ Some H.0 = subst (λ z. nth z.nodes m ≡ Some H.0) (sym (run_append schema n T.early (T.event ∷ []) opening)) H.1 in
+        let H = teller language n (run language n outset T.early) m told T.event out T.gives c in
+        let at : nth (run language n outset so_far).nodes m ≡ Some H.0 = subst (λ z. nth z.nodes m ≡ Some H.0) (sym (run_append language n T.early (T.event ∷ []) outset)) H.1 in
         let up : H.0.up ≡ true = cases (cases_Bool H.0.up) (λ u. u) (λ u. absurd (applied_up so_far m told.index H.0 at H.2 I.entry I.at u)) in
-        let V : StaysUp schema n opening so_far M.0 m = stays_on so_far M.0 (Ask m q ∷ S.late) m j H.0 (ap (λ z. z ++ Ask m q ∷ S.late) split ∙ S.moment)
+        let V : StaysUp language n outset so_far M.0 m = stays_on so_far M.0 (Ask m q ∷ S.late) m j H.0 (ap (λ z. z ++ Ask m q ∷ S.late) split ∙ S.moment)
         (let u = T.place in omega (arith, length-append T.early (T.event ∷ []))) (subst (IsUnstopped events m j) (sym (ap (λ z. suc (length z)) split ∙ S.place)) U) at up in
-        let f = ((reached schema n opening O so_far).good.node m H.0 at).fits in
-        let z = told_closed schema n opening O sealed so_far T.late m told.index I.entry.stamp H.0 I.entry at (let i = H.2 in omega (arith, length-take H.0.commit H.0.log))
-        (subst (λ v. nth (decided schema n opening v) told.index ≡ Some I.entry) (sym whole) I.at) refl in
-        let y = last_is schema q (run schema n opening S.early) m a S.was t in
-        let u = closes_later schema n opening O sealed so_far M.0 m H.0 S.was.node at (subst (λ v. nth (run schema n opening v).nodes m ≡ Some S.was.node) (sym split) S.was.at) V in
+        let f = ((reached language n outset O so_far).good.node m H.0 at).fits in
+        let z = told_closed language n outset O sealed so_far T.late m told.index I.entry.stamp H.0 I.entry at (let i = H.2 in omega (arith, length-take H.0.commit H.0.log))
+        (subst (λ v. nth (decided language n outset v) told.index ≡ Some I.entry) (sym whole) I.at) refl in
+        let y = last_is language q (run language n outset S.early) m a S.was t in
+        let u = closes_later language n outset O sealed so_far M.0 m H.0 S.was.node at (subst (λ v. nth (run language n outset v).nodes m ≡ Some S.was.node) (sym split) S.was.at) V in
         let v = ap above S.was.is_closed in omega arith
       where
-        applied_up : (es : List Event) (m i : ℕ) (x : Node) → nth (run schema n opening es).nodes m ≡ Some x → i ≤ x.commit → (e : Entry) → nth list i ≡ Some e → x.up ≡ false → ⊥
+        applied_up : (es : List Event) (m i : ℕ) (x : Node) → nth (run language n outset es).nodes m ≡ Some x → i ≤ x.commit → (e : Entry) → nth list i ≡ Some e → x.up ≡ false → ⊥
         applied_up es m zero x at l e p u = none_some (nth list 0) e refl p
-        applied_up es m (suc i) x at l e p u = let c = idle_run schema n es opening idle m x at u in omega (arith, l)
+        applied_up es m (suc i) x at l e p u = let c = idle_run language n es outset idle m x at u in omega (arith, l)
           where
-            idle : IsIdle opening
-            idle k y q d = let f = ((reached schema n opening O []).good.node k y q).fits in let g = ap length (E.nodes k y q) in omega arith
+            idle : IsIdle outset
+            idle k y q d = let f = ((reached language n outset O []).good.node k y q).fits in let g = ap length (E.nodes k y q) in omega arith
 
     goes_forward : (j k m : ℕ) (q r : Select) (a b : Answer) → j < k → IsAnswered events outs j m q a → IsAnswered events outs k m r b → r.time ≡ None → IsUnstopped events m j k → a.last ≤ b.last
     goes_forward j k m q r a b l h i t U =
@@ -228,35 +228,35 @@ module _ (schema : Schema) (n : ℕ) (opening : World) (O : Opening n opening) (
         let M = between T.early T.late S.early S.late (Ask m q) (Ask m r) (T.moment ∙ sym S.moment) (let u = T.place in let v = S.place in omega arith) in
         let so_far = T.early ++ Ask m q ∷ [] in
         let split : so_far ++ M.0 ≡ S.early = append_assoc T.early (Ask m q ∷ []) M.0 ∙ M.1 in
-        let at : nth (run schema n opening so_far).nodes m ≡ Some T.was.node = subst (λ z. nth z.nodes m ≡ Some T.was.node) (sym (run_append schema n T.early (Ask m q ∷ []) opening)) T.was.at in
-        let V : StaysUp schema n opening so_far M.0 m = stays_on so_far M.0 (Ask m r ∷ S.late) m j T.was.node (ap (λ z. z ++ Ask m r ∷ S.late) split ∙ S.moment)
+        let at : nth (run language n outset so_far).nodes m ≡ Some T.was.node = subst (λ z. nth z.nodes m ≡ Some T.was.node) (sym (run_append language n T.early (Ask m q ∷ []) outset)) T.was.at in
+        let V : StaysUp language n outset so_far M.0 m = stays_on so_far M.0 (Ask m r ∷ S.late) m j T.was.node (ap (λ z. z ++ Ask m r ∷ S.late) split ∙ S.moment)
         (let u = T.place in omega (arith, length-append T.early (Ask m q ∷ []))) (subst (IsUnstopped events m j) (sym (ap (λ z. suc (length z)) split ∙ S.place)) U) at T.up in
-        let y = last_is schema r (run schema n opening S.early) m b S.was t in
-        let u = closes_later schema n opening O sealed so_far M.0 m T.was.node S.was.node at (subst (λ v. nth (run schema n opening v).nodes m ≡ Some S.was.node) (sym split) S.was.at) V in
+        let y = last_is language r (run language n outset S.early) m b S.was t in
+        let u = closes_later language n outset O sealed so_far M.0 m T.was.node S.was.node at (subst (λ v. nth (run language n outset v).nodes m ≡ Some S.was.node) (sym split) S.was.at) V in
         let v = ap above S.was.is_closed in
         let w = ap above T.was.is_closed in
         let c = T.was.within in
         let d = T.was.answers.last in omega arith
 
-    ordered : IsInOrder schema events outs list
+    ordered : IsInOrder language events outs list
     ordered = record { told_then_submitted = is_after_told; answered_then_submitted = is_after_answer; told_then_asked = is_in_what_is_asked; answered_then_asked = goes_forward }
 
-module _ (schema : Schema) (n : ℕ) (opening : World) (O : Opening n opening) (E : Empty opening) (sealed : SealedRises schema n opening) where
-  explained_by : (events : List Event) → IsExplainedBy schema n opening events (decided schema n opening events)
-  explained_by events outs G = (explained schema n opening O E events outs G, ordered schema n opening O E events outs G sealed)
+module _ (language : Language) (n : ℕ) (outset : World) (O : Outset n outset) (E : Empty outset) (sealed : SealedRises language n outset) where
+  explained_by : (events : List Event) → IsExplainedBy language n outset events (decided language n outset events)
+  explained_by events outs G = (explained language n outset O E events outs G, ordered language n outset O E events outs G sealed)
 
-  grows : (early late : List Event) → IsBeginning (decided schema n opening early) (decided schema n opening (early ++ late))
-  grows early late = (agrees schema n opening O (early ++ late)).decided_grows early late refl
+  grows : (early late : List Event) → IsBeginning (decided language n outset early) (decided language n outset (early ++ late))
+  grows early late = (agrees language n outset O (early ++ late)).decided_grows early late refl
 
-  pub one_list_explains : OneListExplains schema n opening
-  one_list_explains = record { list = decided schema n opening; explains = explained_by; goes_on = grows }
+  pub one_list_explains : OneListExplains language n outset
+  one_list_explains = record { list = decided language n outset; explains = explained_by; goes_on = grows }
 
-  pub is_explained : (events : List Event) → IsExplained schema n opening events
+  pub is_explained : (events : List Event) → IsExplained language n outset events
   is_explained events = record {
-    list = decided schema n opening events;
+    list = decided language n outset events;
     explains = explained_by events;
-    goes_on = λ early late s. (decided schema n opening early, explained_by early, subst (λ z. IsBeginning (decided schema n opening early) (decided schema n opening z)) s (grows early late));
+    goes_on = λ early late s. (decided language n outset early, explained_by early, subst (λ z. IsBeginning (decided language n outset early) (decided language n outset z)) s (grows early late));
   }
 
-  pub is_decided_in_order : (events : List Event) → IsDecidedInOrder schema n opening events
-  is_decided_in_order events outs G = ordered schema n opening O E events outs G sealed
+  pub is_decided_in_order : (events : List Event) → IsDecidedInOrder language n outset events
+  is_decided_in_order events outs G = ordered language n outset O E events outs G sealed

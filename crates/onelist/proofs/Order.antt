@@ -5,7 +5,7 @@ use Rattle.std.proofs.lemmas.List.Elements.{Contains-append_right}
 use Rattle.model.specs.Lists.{nth, IsBeginning}
 use Rattle.model.specs.Stamps.{above}
 use Rattle.model.specs.Logs.{closed}
-use Rattle.model.specs.Transactions.{Schema}
+use Rattle.model.specs.Transactions.{Language}
 use Rattle.model.specs.declared.entry.Entry.{Entry}
 use Rattle.model.specs.declared.entry.Request.{Request}
 use Rattle.model.specs.declared.entry.Told.{Told}
@@ -18,7 +18,7 @@ use Rattle.model.specs.Agreement.{decided, IsTold}
 use Rattle.safety.specs.Floors.{SealedRises, StaysUp}
 use Rattle.onelist.specs.Order.{Brings, IsNowhere, WasBrought, IsNewAfter, InRealOrder, LoggedInOrder, AcceptedInOrder, StampedAfterAnswers, AnswersGoForward, AnswersHaveWhatWasTold}
 use Rattle.safety.proofs.Lists.{cases, none_some, same_some, get_within, get_append, HasLast, last_entry, above_greater, Rising}
-use Rattle.safety.proofs.World.{Opening}
+use Rattle.safety.proofs.World.{Outset}
 use Rattle.safety.proofs.Runs.{run_append, reached, applied_begins, applied_rises, decided_rises, stamped_rising, past_closed_time}
 use Rattle.safety.proofs.Given.{was_answered, WasAnswered, was_told, WasTold}
 use Rattle.onelist.proofs.Requests.{nth_take, AllHeld, none, one}
@@ -52,8 +52,8 @@ one_of (x ∷ xs) late (y ∷ ys) d e s =
 same_instant : (t : ℕ) (o : Option SystemTime) → o ≡ None → (unwrap_or o (as_of t)).last ≡ t
 same_instant t o q = ap (λ z. (unwrap_or z (as_of t)).last) q
 
-pub last_is : (schema : Schema) (q : Select) (w : World) (m : ℕ) (a : Answer) (A : WasAnswered schema q w m a) → q.time ≡ None → a.last ≡ A.instant
-last_is schema q w m a A t = A.answers.last ∙ same_instant A.instant q.time t
+pub last_is : (language : Language) (q : Select) (w : World) (m : ℕ) (a : Answer) (A : WasAnswered language q w m a) → q.time ≡ None → a.last ≡ A.instant
+last_is language q w m a A t = A.answers.last ∙ same_instant A.instant q.time t
 
 -- what stands in a list up to the length of its beginning stands in the beginning
 begins_at : (xs list : List Entry) → IsBeginning xs list → (j : ℕ) (e : Entry) → j ≤ length xs → nth list j ≡ Some e → nth xs j ≡ Some e
@@ -68,69 +68,69 @@ in_order : (list : List Entry) → Rising list → (i j : ℕ) (d e : Entry) →
 in_order list R i j d e l p q = cases (cases_lt i j) (λ u. let r = (stamped_rising list R).rising i j d e u p q in omega arith)
     (λ u. let k : i ≡ j = omega arith in let same : d ≡ e = same_some (nth list j) d e (subst (λ z. nth list z ≡ Some d) k p) q in let z = ap (λ (v : Entry). v.stamp) same in omega arith)
 
-module _ (schema : Schema) (n : ℕ) (opening : World) (O : Opening n opening) (E : Empty opening) where
+module _ (language : Language) (n : ℕ) (outset : World) (O : Outset n outset) (E : Empty outset) where
   -- a request that is decided, and no later than what a member had applied, was brought before
-  pub brought_before : (early late : List Event) (m : ℕ) (x : Node) (r : Request) (j : ℕ) (e : Entry) → nth (run schema n opening early).nodes m ≡ Some x → j ≤ length (applied x) →
-      nth (decided schema n opening (early ++ late)) j ≡ Some e → e.request ≡ Some r → WasBrought schema n opening early r
+  pub brought_before : (early late : List Event) (m : ℕ) (x : Node) (r : Request) (j : ℕ) (e : Entry) → nth (run language n outset early).nodes m ≡ Some x → j ≤ length (applied x) →
+      nth (decided language n outset (early ++ late)) j ≡ Some e → e.request ≡ Some r → WasBrought language n outset early r
   brought_before early late m x r j e l s p q =
-      let b = begins_at (applied x) (decided schema n opening (early ++ late)) (applied_begins schema n opening O early late m x l) j e s p in
-      logged_brought schema n opening E early j e r (logged_now schema n opening E early m x l j e (nth_take x.commit x.log j e b)) q
+      let b = begins_at (applied x) (decided language n outset (early ++ late)) (applied_begins language n outset O early late m x l) j e s p in
+      logged_brought language n outset E early j e r (logged_now language n outset E early m x l j e (nth_take x.commit x.log j e b)) q
 
   -- what is brought by one event more, and was in no log before, is brought by that one
-  by_last : (early : List Event) (event : Event) (r : Request) → WasBrought schema n opening (early ++ event ∷ []) r → IsNowhere schema n opening early r → (k : ℕ) × Brings r k event
+  by_last : (early : List Event) (event : Event) (r : Request) → WasBrought language n outset (early ++ event ∷ []) r → IsNowhere language n outset early r → (k : ℕ) × Brings r k event
   by_last early event r B nowhere = cases (one_of B.early B.late early B.event event B.moment)
       (λ (rest, s). absurd (nowhere B.member B.node (record { early = B.early ++ B.event ∷ []; late = rest; moment = append_assoc B.early (B.event ∷ []) rest ∙ s; at = B.at }) B.stands))
       (λ h. (B.member, subst (Brings r B.member) h B.brings))
 
   -- what no event brought is in no log
-  new_nowhere : (early : List Event) (r : Request) → IsNewAfter early r → IsNowhere schema n opening early r
-  new_nowhere early r new m x W H = let B = was_brought schema n opening E early m x r W H in new B.member B.event (among B.early B.late early B.event B.moment) B.brings
+  new_nowhere : (early : List Event) (r : Request) → IsNewAfter early r → IsNowhere language n outset early r
+  new_nowhere early r new m x W H = let B = was_brought language n outset E early m x r W H in new B.member B.event (among B.early B.late early B.event B.moment) B.brings
 
   -- the member that told of it had applied it
-  told_before : (early late rest : List Event) (event : Event) (m : ℕ) (out : List Output) (told : Told) (r : Request) (j : ℕ) (e : Entry) → event ∷ rest ≡ late → IsNowhere schema n opening early r →
-      Gives schema n (run schema n opening early) event out → Contains out (Applied m told) → nth (decided schema n opening (early ++ late)) j ≡ Some e → e.request ≡ Some r → j ≤ told.index → ⊥
+  told_before : (early late rest : List Event) (event : Event) (m : ℕ) (out : List Output) (told : Told) (r : Request) (j : ℕ) (e : Entry) → event ∷ rest ≡ late → IsNowhere language n outset early r →
+      Gives language n (run language n outset early) event out → Contains out (Applied m told) → nth (decided language n outset (early ++ late)) j ≡ Some e → e.request ≡ Some r → j ≤ told.index → ⊥
   told_before early late rest event m out told r j e next nowhere g c p q l =
-      let T : WasTold schema (happens schema n (run schema n opening early) event) told = was_told schema n (run schema n opening early) m told event out g c in
-      let at : nth (run schema n opening (early ++ event ∷ [])).nodes T.member ≡ Some T.node = subst (λ z. nth z.nodes T.member ≡ Some T.node) (sym (run_append schema n early (event ∷ []) opening)) T.at in
+      let T : WasTold language (happens language n (run language n outset early) event) told = was_told language n (run language n outset early) m told event out g c in
+      let at : nth (run language n outset (early ++ event ∷ [])).nodes T.member ≡ Some T.node = subst (λ z. nth z.nodes T.member ≡ Some T.node) (sym (run_append language n early (event ∷ []) outset)) T.at in
       let all : (early ++ event ∷ []) ++ rest ≡ early ++ late = append_assoc early (event ∷ []) rest ∙ ap (λ z. early ++ z) next in
       let long : told.index ≤ length (applied T.node) = (let a = T.applied in let b = index_within T.node.log told.index T.is_told.entry T.is_told.at in omega (arith, length-take T.node.commit T.node.log)) in
-      let i = brought_before (early ++ event ∷ []) rest T.member T.node r j e at (omega arith) (subst (λ z. nth (decided schema n opening z) j ≡ Some e) (sym all) p) q in
+      let i = brought_before (early ++ event ∷ []) rest T.member T.node r j e at (omega arith) (subst (λ z. nth (decided language n outset z) j ≡ Some e) (sym all) p) q in
       let b = by_last early event r i nowhere in
-      brings_tells_nothing schema n (run schema n opening early) m told r b.0 event out b.1 g c
+      brings_tells_nothing language n (run language n outset early) m told r b.0 event out b.1 g c
 
-  pub logged_in_order : LoggedInOrder schema n opening
+  pub logged_in_order : LoggedInOrder language n outset
   logged_in_order early late told r j d e T nowhere at p q =
       let l : told.index < j = cases (cases_lt told.index j) (λ l. l) (λ l. absurd (told_before early late T.rest T.event T.member T.out told r j e T.next nowhere T.gives T.tells p q l)) in
-      (l, (stamped_rising _ (decided_rises schema n opening O (early ++ late))).rising told.index j d e l at p)
+      (l, (stamped_rising _ (decided_rises language n outset O (early ++ late))).rising told.index j d e l at p)
 
-  pub in_real_order : InRealOrder schema n opening
+  pub in_real_order : InRealOrder language n outset
   in_real_order early late told r j d e T new at p q = logged_in_order early late told r j d e T (new_nowhere early r new) at p q
 
-  pub accepted_in_order : AcceptedInOrder schema n opening
+  pub accepted_in_order : AcceptedInOrder language n outset
   accepted_in_order early late before after this other t u T S same new p q =
-      let list = decided schema n opening (early ++ late) in
-      let G = agrees schema n opening O (early ++ late) in
-      let I : IsTold schema list this = G.outcomes_agree early T.rest T.event T.out T.member this (ap (λ z. early ++ z) T.next) T.gives T.tells in
-      let J : IsTold schema list other = G.outcomes_agree before S.rest S.event S.out S.member other (ap (λ z. before ++ z) S.next ∙ same) S.gives S.tells in
-      let A = accepted_entry schema list this t I p in
-      let B = accepted_entry schema list other u J q in
+      let list = decided language n outset (early ++ late) in
+      let G = agrees language n outset O (early ++ late) in
+      let I : IsTold language list this = G.outcomes_agree early T.rest T.event T.out T.member this (ap (λ z. early ++ z) T.next) T.gives T.tells in
+      let J : IsTold language list other = G.outcomes_agree before S.rest S.event S.out S.member other (ap (λ z. before ++ z) S.next ∙ same) S.gives S.tells in
+      let A = accepted_entry language list this t I p in
+      let B = accepted_entry language list other u J q in
       let l = in_real_order early late this B.request (suc B.place) I.entry B.entry T (new B.request B.client B.number) I.at B.at B.asks in
-      let h : A.entry.stamp ≤ I.entry.stamp = in_order list (decided_rises schema n opening O (early ++ late)) (suc A.place) this.index A.entry I.entry A.low A.at I.at in
+      let h : A.entry.stamp ≤ I.entry.stamp = in_order list (decided_rises language n outset O (early ++ late)) (suc A.place) this.index A.entry I.entry A.low A.at I.at in
       let i = A.stamp in
       let j = B.stamp in
       let k = l.1 in omega arith
 
   -- ---- answers
 
-  pub stamped_after_answers : StampedAfterAnswers schema n opening
+  pub stamped_after_answers : StampedAfterAnswers language n outset
   stamped_after_answers early late m q out a r j e g c new p s =
-      let A = was_answered schema n (run schema n opening early) m q out a g c in
+      let A = was_answered language n (run language n outset early) m q out a g c in
       let z = A.within in
       let y = A.answers.last in
       let l : length (applied A.node) < j = cases (cases_lt (length (applied A.node)) j) (λ l. l) (λ l.
       let B = brought_before early late m A.node r j e A.at l p s in
       absurd (new B.member B.event (among B.early B.late early B.event B.moment) B.brings)) in
-      let h : A.instant < e.stamp = past_closed_time schema n opening O early late m A.node A.at A.instant A.is_closed j e l p in omega arith
+      let h : A.instant < e.stamp = past_closed_time language n outset O early late m A.node A.at A.instant A.is_closed j e l p in omega arith
 
 -- ---- one member's answers
 
@@ -141,18 +141,18 @@ nothing_held : (ps : List Message) → AllHeld Any ps
 nothing_held [] = none
 nothing_held (p ∷ ps) = one (record { carried = λ k e r l q. tt }) (nothing_held ps)
 
-module _ (schema : Schema) (n : ℕ) where
-  event_onward : (w : World) (e : Event) → Onward Any Any w (happens schema n w e) e
-  event_onward w e = onward Any Any schema n w (λ k x l i d r p q. tt) (nothing_held w.sent) e
+module _ (language : Language) (n : ℕ) where
+  event_onward : (w : World) (e : Event) → Onward Any Any w (happens language n w e) e
+  event_onward w e = onward Any Any language n w (λ k x l i d r p q. tt) (nothing_held w.sent) e
 
   commit_along : (es : List Event) (w : World) (m : ℕ) (x : Node) → nth w.nodes m ≡ Some x
-      → ((mid rest : List Event) (z : Node) → mid ++ rest ≡ es → nth (run schema n w mid).nodes m ≡ Some z → z.up ≡ true)
-      → (y : Node) × (nth (run schema n w es).nodes m ≡ Some y) × (x.commit ≤ y.commit)
+      → ((mid rest : List Event) (z : Node) → mid ++ rest ≡ es → nth (run language n w mid).nodes m ≡ Some z → z.up ≡ true)
+      → (y : Node) × (nth (run language n w es).nodes m ≡ Some y) × (x.commit ≤ y.commit)
   commit_along [] w m x l U = (x, l, omega arith)
   commit_along (e ∷ es) w m x l U =
       let R = (event_onward w e).rises m x l in
       let c = R.2 (U [] (e ∷ es) x refl l) (U (e ∷ []) es R.0 refl R.1) in
-      let H = commit_along es (happens schema n w e) m R.0 R.1 (λ mid rest z s q. U (e ∷ mid) rest z (ap (λ v. e ∷ v) s) q) in
+      let H = commit_along es (happens language n w e) m R.0 R.1 (λ mid rest z s q. U (e ∷ mid) rest z (ap (λ v. e ∷ v) s) q) in
       (H.0, H.1, (let h = H.2 in omega arith))
 
 closed_is : (L : List Entry) (j : ℕ) (e : Entry) → HasLast L j e → closed L ≡ Some e.stamp
@@ -186,61 +186,61 @@ closed_past (x ∷ xs) R i e p = go (last_entry (x ∷ xs) (omega arith))
         let h = in_order (x ∷ xs) R i (suc j) e d (let w = index_within (x ∷ xs) i e p in let z = D.size in omega arith) p D.there in
         let u = ap above (closed_is (x ∷ xs) j d D) in omega arith
 
-module _ (schema : Schema) (n : ℕ) (opening : World) (O : Opening n opening) (sealed : SealedRises schema n opening) where
-  pub closes_later : (early late : List Event) (m : ℕ) (x y : Node) → nth (run schema n opening early).nodes m ≡ Some x → nth (run schema n opening (early ++ late)).nodes m ≡ Some y →
-      StaysUp schema n opening early late m → above (closed_time x) ≤ above (closed_time y)
+module _ (language : Language) (n : ℕ) (outset : World) (O : Outset n outset) (sealed : SealedRises language n outset) where
+  pub closes_later : (early late : List Event) (m : ℕ) (x y : Node) → nth (run language n outset early).nodes m ≡ Some x → nth (run language n outset (early ++ late)).nodes m ≡ Some y →
+      StaysUp language n outset early late m → above (closed_time x) ≤ above (closed_time y)
   closes_later early late m x y l k U =
-      let joined : (es : List Event) → run schema n opening (early ++ es) ≡ run schema n (run schema n opening early) es = λ es. run_append schema n early es opening in
-      let H = commit_along schema n late (run schema n opening early) m x l (λ mid rest z e q. U mid rest z e (subst (λ v. nth v.nodes m ≡ Some z) (sym (joined mid)) q)) in
-      let same : H.0 ≡ y = same_some (nth (run schema n opening (early ++ late)).nodes m) H.0 y (subst (λ v. nth v.nodes m ≡ Some H.0) (sym (joined late)) H.1) k in
+      let joined : (es : List Event) → run language n outset (early ++ es) ≡ run language n (run language n outset early) es = λ es. run_append language n early es outset in
+      let H = commit_along language n late (run language n outset early) m x l (λ mid rest z e q. U mid rest z e (subst (λ v. nth v.nodes m ≡ Some z) (sym (joined mid)) q)) in
+      let same : H.0 ≡ y = same_some (nth (run language n outset (early ++ late)).nodes m) H.0 y (subst (λ v. nth v.nodes m ≡ Some H.0) (sym (joined late)) H.1) k in
       let c : x.commit ≤ y.commit = subst (λ (v : Node). x.commit ≤ v.commit) same H.2 in
-      let logs : above (closed (applied x)) ≤ above (closed (applied y)) = later_closed (applied x) (applied y) (decided schema n opening (early ++ late)) (decided_rises schema n opening O (early ++ late))
-      (applied_begins schema n opening O early late m x l) (subst (λ z. IsBeginning (applied y) (decided schema n opening z)) (append-nil (early ++ late)) (applied_begins schema n opening O (early ++ late) [] m y k))
+      let logs : above (closed (applied x)) ≤ above (closed (applied y)) = later_closed (applied x) (applied y) (decided language n outset (early ++ late)) (decided_rises language n outset O (early ++ late))
+      (applied_begins language n outset O early late m x l) (subst (λ z. IsBeginning (applied y) (decided language n outset z)) (append-nil (early ++ late)) (applied_begins language n outset O (early ++ late) [] m y k))
       (let f = fits (early ++ late) m y k in omega (arith, length-take x.commit x.log, length-take y.commit y.log)) in
       let seals : above x.sealed ≤ above y.sealed = seals_rise x.sealed refl in
       let a = above_greater (closed (applied x)) x.sealed in
       let b = above_greater (closed (applied y)) y.sealed in omega arith
     where
-      fits : (es : List Event) (j : ℕ) (z : Node) → nth (run schema n opening es).nodes j ≡ Some z → z.commit ≤ length z.log
-      fits es j z q = ((reached schema n opening O es).good.node j z q).fits
+      fits : (es : List Event) (j : ℕ) (z : Node) → nth (run language n outset es).nodes j ≡ Some z → z.commit ≤ length z.log
+      fits es j z q = ((reached language n outset O es).good.node j z q).fits
 
       seals_rise : (o : Option ℕ) → x.sealed ≡ o → above o ≤ above y.sealed
       seals_rise None e = omega arith
       seals_rise (Some t) e = let r = sealed early late m t x y l k U e in let z = ap above r.1 in let h = r.2 in omega arith
 
-  pub answers_go_forward : AnswersGoForward schema n opening
+  pub answers_go_forward : AnswersGoForward language n outset
   answers_go_forward early late m q r out more a b t g c h d U =
-      let A = was_answered schema n (run schema n opening early) m q out a g c in
-      let B = was_answered schema n (run schema n opening (early ++ late)) m r more b h d in
+      let A = was_answered language n (run language n outset early) m q out a g c in
+      let B = was_answered language n (run language n outset (early ++ late)) m r more b h d in
       let i = A.within in
       let k = A.answers.last in
-      let j = last_is schema r (run schema n opening (early ++ late)) m b B t in
+      let j = last_is language r (run language n outset (early ++ late)) m b B t in
       let z = closes_later early late m A.node B.node A.at B.at U in
       let u = ap above A.is_closed in
       let v = ap above B.is_closed in omega arith
 
   -- what is told as accepted is stamped at most at the closed time
-  pub told_closed : (early late : List Event) (m i t : ℕ) (x : Node) (e : Entry) → nth (run schema n opening early).nodes m ≡ Some x → i ≤ length (applied x) → nth (decided schema n opening (early ++ late)) i ≡ Some e → e.stamp ≡ t →
+  pub told_closed : (early late : List Event) (m i t : ℕ) (x : Node) (e : Entry) → nth (run language n outset early).nodes m ≡ Some x → i ≤ length (applied x) → nth (decided language n outset (early ++ late)) i ≡ Some e → e.stamp ≡ t →
       t + 1 ≤ above (closed_time x)
   told_closed early late m i t x e l s p q =
-      let list = decided schema n opening (early ++ late) in
-      let b = applied_begins schema n opening O early late m x l in
-      let h = closed_past (applied x) (applied_rises schema n opening O early m x l) i e (begins_at (applied x) list b i e s p) in
+      let list = decided language n outset (early ++ late) in
+      let b = applied_begins language n outset O early late m x l in
+      let h = closed_past (applied x) (applied_rises language n outset O early m x l) i e (begins_at (applied x) list b i e s p) in
       let z = above_greater (closed (applied x)) x.sealed in omega arith
 
-  pub answers_have_what_was_told : AnswersHaveWhatWasTold schema n opening
+  pub answers_have_what_was_told : AnswersHaveWhatWasTold language n outset
   answers_have_what_was_told early late event m t told q out more a p s g c h d U =
       let so_far = early ++ event ∷ [] in
       let split : (early ++ event ∷ []) ++ late ≡ early ++ event ∷ late = append_assoc early (event ∷ []) late in
-      let H = teller schema n (run schema n opening early) m told event out g c in
-      let at : nth (run schema n opening (early ++ event ∷ [])).nodes m ≡ Some H.0 = subst (λ z. nth z.nodes m ≡ Some H.0) (sym (run_append schema n early (event ∷ []) opening)) H.1 in
-      let list = decided schema n opening (early ++ event ∷ late) in
-      let I = (agrees schema n opening O (early ++ event ∷ late)).outcomes_agree early late event out m told refl g c in
-      let A = accepted_entry schema list told t I p in
-      let f = ((reached schema n opening O so_far).good.node m H.0 at).fits in
+      let H = teller language n (run language n outset early) m told event out g c in
+      let at : nth (run language n outset (early ++ event ∷ [])).nodes m ≡ Some H.0 = subst (λ z. nth z.nodes m ≡ Some H.0) (sym (run_append language n early (event ∷ []) outset)) H.1 in
+      let list = decided language n outset (early ++ event ∷ late) in
+      let I = (agrees language n outset O (early ++ event ∷ late)).outcomes_agree early late event out m told refl g c in
+      let A = accepted_entry language list told t I p in
+      let f = ((reached language n outset O so_far).good.node m H.0 at).fits in
       let z = told_closed so_far late m (suc A.place) t H.0 A.entry at (let i = H.2 in let j = A.low in omega (arith, length-take H.0.commit H.0.log))
-      (subst (λ v. nth (decided schema n opening v) (suc A.place) ≡ Some A.entry) (sym split) A.at) A.stamp in
-      let B = was_answered schema n (run schema n opening (early ++ event ∷ late)) m q more a h d in
-      let j = last_is schema q (run schema n opening (early ++ event ∷ late)) m a B s in
-      let u = closes_later so_far late m H.0 B.node at (subst (λ v. nth (run schema n opening v).nodes m ≡ Some B.node) (sym split) B.at) U in
+      (subst (λ v. nth (decided language n outset v) (suc A.place) ≡ Some A.entry) (sym split) A.at) A.stamp in
+      let B = was_answered language n (run language n outset (early ++ event ∷ late)) m q more a h d in
+      let j = last_is language q (run language n outset (early ++ event ∷ late)) m a B s in
+      let u = closes_later so_far late m H.0 B.node at (subst (λ v. nth (run language n outset v).nodes m ≡ Some B.node) (sym split) B.at) U in
       let v = ap above B.is_closed in omega arith

@@ -10,7 +10,7 @@ use Rattle.model.specs.Logs.{told_at, outcome, before_index}
 use Rattle.model.specs.Texts.{instant_text}
 use Rattle.fault.specs.declared.refusal.Refusal.{Refusal}
 use Rattle.fault.specs.declared.refusal.Refusal.TheVariants.{NotLeader, TimeFull, LogFull, NotClosed, NodeDown}
-use Rattle.model.specs.Transactions.{Schema, Statement}
+use Rattle.model.specs.Transactions.{Language, Statement}
 use Rattle.model.specs.declared.entry.Entry.{Entry}
 use Rattle.model.specs.declared.entry.Request.{Request}
 use Rattle.model.specs.declared.entry.Told.{Told}
@@ -37,7 +37,7 @@ only x y h = let e : h.0 ≡ 0 = omega (arith, h.1) in sym (subst (λ k. slice_i
 
 -- ---- nothing is told where something is submitted
 
-module _ (schema : Schema) (n : ℕ) (w : World) (m : ℕ) (told : Told) where
+module _ (language : Language) (n : ℕ) (w : World) (m : ℕ) (told : Told) where
   not_sent : (k : ℕ) (ps : List Message) → Contains (numbered k ps) (Applied m told) → ⊥
   not_sent k [] c = none_in (Applied m told) c
   not_sent k (p ∷ ps) c = cases (Contains-append_cases (Sent (k + 1) p ∷ []) (numbered (k + 1) ps) (Applied m told) c)
@@ -50,44 +50,44 @@ module _ (schema : Schema) (n : ℕ) (w : World) (m : ℕ) (told : Told) where
   none_applied : (k : ℕ) (f : ℕ → Option Told) (a c : ℕ) → Contains (map (Applied k) (filter_map f (range_with_len a (c - c)))) (Applied m told) → ⊥
   none_applied k f a c h = let z : c - c ≡ 0 = omega arith in none_in (Applied m told) (subst (λ i. Contains (map (Applied k) (filter_map f (range_with_len a i))) (Applied m told)) z h)
 
-  own_gives : (k : ℕ) (reading : ℤ) (request : Option Request) (x : Node) → Contains (effect_gives schema w k x (append_own n k reading request x)) (Applied m told) → ⊥
+  own_gives : (k : ℕ) (reading : ℤ) (request : Option Request) (x : Node) → Contains (effect_gives language w k x (append_own n k reading request x)) (Applied m told) → ⊥
   unfolding append_own
   own_gives k reading request x =
-      cond_both (not (is_leader x.role)) (Refuses (NotLeader x.known)) _ (λ o. Contains (effect_gives schema w k x o) (Applied m told) → ⊥) (λ p. not_refused k (NotLeader x.known))
-      (λ p. cond_both (is_time_full x.floor x.log) (Refuses TimeFull) _ (λ o. Contains (effect_gives schema w k x o) (Applied m told) → ⊥) (λ q. not_refused k TimeFull)
-      (λ q. cond_both (is_log_full x.log) (Refuses LogFull) (Moves (record { node = extended reading request x; sent = append_to_all n (extended reading request x) k })) (λ o. Contains (effect_gives schema w k x o) (Applied m told) → ⊥) (λ s. not_refused k LogFull)
-      (λ s c. cases (Contains-append_cases (numbered (length w.sent) (append_to_all n (extended reading request x) k)) (tells schema k x (extended reading request x)) (Applied m told) c)
+      cond_both (not (is_leader x.role)) (Refuses (NotLeader x.known)) _ (λ o. Contains (effect_gives language w k x o) (Applied m told) → ⊥) (λ p. not_refused k (NotLeader x.known))
+      (λ p. cond_both (is_time_full x.floor x.log) (Refuses TimeFull) _ (λ o. Contains (effect_gives language w k x o) (Applied m told) → ⊥) (λ q. not_refused k TimeFull)
+      (λ q. cond_both (is_log_full x.log) (Refuses LogFull) (Moves (record { node = extended reading request x; sent = append_to_all n (extended reading request x) k })) (λ o. Contains (effect_gives language w k x o) (Applied m told) → ⊥) (λ s. not_refused k LogFull)
+      (λ s c. cases (Contains-append_cases (numbered (length w.sent) (append_to_all n (extended reading request x) k)) (tells language k x (extended reading request x)) (Applied m told) c)
       (λ h. not_sent (length w.sent) (append_to_all n (extended reading request x) k) h)
-      (λ h. none_applied k (told_at schema (extended reading request x).log) (x.commit + 1) x.commit h))))
+      (λ h. none_applied k (told_at language (extended reading request x).log) (x.commit + 1) x.commit h))))
 
-  submit_gives : (k : ℕ) (reading : ℤ) (r : Request) (o : Option Node) → Contains (step_gives schema n w k (Local (Submit reading r)) o) (Applied m told) → ⊥
+  submit_gives : (k : ℕ) (reading : ℤ) (r : Request) (o : Option Node) → Contains (step_gives language n w k (Local (Submit reading r)) o) (Applied m told) → ⊥
   submit_gives k reading r None c = none_in (Applied m told) c
   submit_gives k reading r (Some x) c = up x.up c
     where
-      reads : (o : Result (List Statement) Refusal) → Contains (effect_gives schema w k x (elim (o) [ Ok ss ↦ on_input n k (Submit reading r) x | Err refusal ↦ Refuses refusal ])) (Applied m told) → ⊥
+      reads : (o : Result (List Statement) Refusal) → Contains (effect_gives language w k x (elim (o) [ Ok ss ↦ on_input n k (Submit reading r) x | Err refusal ↦ Refuses refusal ])) (Applied m told) → ⊥
       reads (Ok ss) h = own_gives k reading (Some r) x h
       reads (Err refusal) h = not_refused k refusal h
 
-      up : (b : Bool) → Contains (cond b (effect_gives schema w k x (elim (schema.reads r.text) [ Ok ss ↦ on_input n k (Submit reading r) x | Err refusal ↦ Refuses refusal ])) (Refused k NodeDown ∷ [])) (Applied m told) → ⊥
-      up true h = reads (schema.reads r.text) h
+      up : (b : Bool) → Contains (cond b (effect_gives language w k x (elim (language.reads r.text) [ Ok ss ↦ on_input n k (Submit reading r) x | Err refusal ↦ Refuses refusal ])) (Refused k NodeDown ∷ [])) (Applied m told) → ⊥
+      up true h = reads (language.reads r.text) h
       up false h = not_refused k NodeDown h
 
-  pub brings_tells_nothing : (r : Request) (k : ℕ) (e : Event) (out : List Output) → Brings r k e → Gives schema n w e out → Contains out (Applied m told) → ⊥
+  pub brings_tells_nothing : (r : Request) (k : ℕ) (e : Event) (out : List Output) → Brings r k e → Gives language n w e out → Contains out (Applied m told) → ⊥
   brings_tells_nothing r k _ out (Whole reading) g c = submit_gives k reading r (nth w.nodes k) (subst (λ z. Contains z (Applied m told)) g c)
   brings_tells_nothing r k _ out (CutShort reading) g c = none_in (Applied m told) (subst (λ z. Contains z (Applied m told)) g c)
 
   -- ---- who tells has applied
 
-  of_request : (i t : ℕ) (before : List Entry) (o : Option Request) → option_map (λ (r : Request). record { index = i; client = r.client; number = r.number; outcome = outcome schema t r before }) o ≡ Some told → told.index ≡ i
+  of_request : (i t : ℕ) (before : List Entry) (o : Option Request) → option_map (λ (r : Request). record { index = i; client = r.client; number = r.number; outcome = outcome language t r before }) o ≡ Some told → told.index ≡ i
   of_request i t before None q = absurd (none_some None told refl q)
-  of_request i t before (Some r) q = let s : record { index = i; client = r.client; number = r.number; outcome = outcome schema t r before } ≡ told = (cc) in ap (λ (v : Told). v.index) (sym s)
+  of_request i t before (Some r) q = let s : record { index = i; client = r.client; number = r.number; outcome = outcome language t r before } ≡ told = (cc) in ap (λ (v : Told). v.index) (sym s)
 
   of_entry : (list : List Entry) (i : ℕ) (o : Option Entry) →
-      option_and_then (λ (e : Entry). option_map (λ (r : Request). record { index = i; client = r.client; number = r.number; outcome = outcome schema e.stamp r (before_index list i) }) e.request) o ≡ Some told → told.index ≡ i
+      option_and_then (λ (e : Entry). option_map (λ (r : Request). record { index = i; client = r.client; number = r.number; outcome = outcome language e.stamp r (before_index list i) }) e.request) o ≡ Some told → told.index ≡ i
   of_entry list i None q = absurd (none_some None told refl q)
   of_entry list i (Some e) q = of_request i e.stamp (before_index list i) e.request q
 
-  told_index : (list : List Entry) (i : ℕ) → told_at schema list i ≡ Some told → told.index ≡ i
+  told_index : (list : List Entry) (i : ℕ) → told_at language list i ≡ Some told → told.index ≡ i
   told_index list i q = of_entry list i (nth list i) q
 
   module _ (k : ℕ) (f : ℕ → Option Told) where
@@ -108,43 +108,43 @@ module _ (schema : Schema) (n : ℕ) (w : World) (m : ℕ) (told : Told) where
   abbrev pub HasApplied : World → Type 0
   HasApplied v = (x : Node) × (nth v.nodes m ≡ Some x) × (told.index ≤ x.commit)
 
-  teller_effect : (k : ℕ) (x : Node) → nth w.nodes k ≡ Some x → (o : Effect) → Contains (effect_gives schema w k x o) (Applied m told) → HasApplied (done w k o)
+  teller_effect : (k : ℕ) (x : Node) → nth w.nodes k ≡ Some x → (o : Effect) → Contains (effect_gives language w k x o) (Applied m told) → HasApplied (done w k o)
   teller_effect k x l Nothing c = absurd (none_in (Applied m told) c)
   teller_effect k x l (Refuses r) c = absurd (not_refused k r c)
-  teller_effect k x l (Moves a) c = cases (Contains-append_cases (numbered (length w.sent) a.sent) (tells schema k x a.node) (Applied m told) c)
+  teller_effect k x l (Moves a) c = cases (Contains-append_cases (numbered (length w.sent) a.sent) (tells language k x a.node) (Applied m told) c)
       (λ h. absurd (not_sent (length w.sent) a.sent h))
-      (λ h. let r = told_in k (told_at schema a.node.log) (x.commit + 1) (a.node.commit - x.commit) h in
+      (λ h. let r = told_in k (told_at language a.node.log) (x.commit + 1) (a.node.commit - x.commit) h in
       let q = told_index a.node.log r.1 r.4 in
       let low = r.2 in
       let high = r.3 in
       (a.node, subst (λ i. nth (with_nth w.nodes k a.node) i ≡ Some a.node) (sym r.0) (nth_same w.nodes k x a.node l), omega arith))
 
-  teller_step : (k : ℕ) (j : Job) (o : Option Node) → nth w.nodes k ≡ o → Contains (step_gives schema n w k j o) (Applied m told) → HasApplied (does schema n w k j o)
+  teller_step : (k : ℕ) (j : Job) (o : Option Node) → nth w.nodes k ≡ o → Contains (step_gives language n w k j o) (Applied m told) → HasApplied (does language n w k j o)
   teller_step k j None l c = absurd (none_in (Applied m told) c)
   teller_step k j (Some x) l c = up x.up c
     where
-      up : (b : Bool) → Contains (cond b (effect_gives schema w k x (effect schema n w k j x)) (Refused k NodeDown ∷ [])) (Applied m told) → HasApplied (cond b (done w k (effect schema n w k j x)) w)
-      up true h = teller_effect k x l (effect schema n w k j x) h
+      up : (b : Bool) → Contains (cond b (effect_gives language w k x (effect language n w k j x)) (Refused k NodeDown ∷ [])) (Applied m told) → HasApplied (cond b (done w k (effect language n w k j x)) w)
+      up true h = teller_effect k x l (effect language n w k j x) h
       up false h = absurd (not_refused k NodeDown h)
 
-  teller_delivery : (j : Job) (o : Option Message) → Contains (delivery_gives schema n w j o) (Applied m told) → HasApplied (delivers schema n w j o)
+  teller_delivery : (j : Job) (o : Option Message) → Contains (delivery_gives language n w j o) (Applied m told) → HasApplied (delivers language n w j o)
   teller_delivery j None c = absurd (none_in (Applied m told) c)
   teller_delivery j (Some p) c = teller_step p.addressee j (nth w.nodes p.addressee) refl c
 
-  not_asked : (q : Select) (k : ℕ) (x : Node) (out : List Output) → Contains out (Applied m told) → (o : Option Query) → IsGivenIn schema k x o out → ⊥
+  not_asked : (q : Select) (k : ℕ) (x : Node) (out : List Output) → Contains out (Applied m told) → (o : Option Query) → IsGivenIn language k x o out → ⊥
   not_asked q k x out c None g = not_refused k (NotClosed (option_map instant_text (closed_time x))) (subst (λ z. Contains z (Applied m told)) g c)
   not_asked q k x out c (Some p) (a, i, g) = let e : Applied m told ≡ Answered k a = only _ _ (subst (λ z. Contains z (Applied m told)) g c) in absurd (cc)
 
-  not_asked_by : (q : Select) (k : ℕ) (x : Node) (out : List Output) → Contains out (Applied m told) → (b : Bool) → IsGivenBy schema k q x b out → ⊥
+  not_asked_by : (q : Select) (k : ℕ) (x : Node) (out : List Output) → Contains out (Applied m told) → (b : Bool) → IsGivenBy language k q x b out → ⊥
   not_asked_by q k x out c false g = not_refused k NodeDown (subst (λ z. Contains z (Applied m told)) g c)
   not_asked_by q k x out c true g = not_asked q k x out c (closed_query q (closed_time x)) g
 
-  not_asked_at : (q : Select) (k : ℕ) (o : Option Node) (out : List Output) → Contains out (Applied m told) → IsGivenAt schema k q o out → ⊥
+  not_asked_at : (q : Select) (k : ℕ) (o : Option Node) (out : List Output) → Contains out (Applied m told) → IsGivenAt language k q o out → ⊥
   not_asked_at q k None out c g = none_in (Applied m told) (subst (λ z. Contains z (Applied m told)) g c)
   not_asked_at q k (Some x) out c g = not_asked_by q k x out c x.up g
 
   -- the member that tells of a request has applied it after the event
-  pub teller : (e : Event) (out : List Output) → Gives schema n w e out → Contains out (Applied m told) → HasApplied (happens schema n w e)
+  pub teller : (e : Event) (out : List Output) → Gives language n w e out → Contains out (Applied m told) → HasApplied (happens language n w e)
   teller (Hand k i) out g c = teller_step k (Local i) (nth w.nodes k) refl (subst (λ z. Contains z (Applied m told)) g c)
   teller (Deliver k reading) out g c = teller_delivery (Delivery k reading) (nth w.sent k) (subst (λ z. Contains z (Applied m told)) g c)
   teller (Stop k) out g c = absurd (none_in (Applied m told) (subst (λ z. Contains z (Applied m told)) g c))

@@ -6,7 +6,7 @@ use Rattle.std.specs.Option.{option_map_or}
 use Rattle.model.specs.Lists.{nth, with_nth}
 use Rattle.fault.specs.declared.refusal.Refusal.{Refusal}
 use Rattle.fault.specs.declared.refusal.Refusal.TheVariants.{NotLeader, TimeFull, LogFull, TermFull}
-use Rattle.model.specs.Transactions.{Schema, Statement}
+use Rattle.model.specs.Transactions.{Language, Statement}
 use Rattle.model.specs.Logs.{last_entry}
 use Rattle.model.specs.declared.entry.Entry.{Entry}
 use Rattle.model.specs.declared.entry.Request.{Request}
@@ -114,8 +114,8 @@ module _ (n m : ℕ) (x : Node) (X : x.up ≡ true) where
   body_keeps reading from T (Stored k t) = was_stored from T k t
   body_keeps reading from T (Seal k t) = X
 
-message_keeps : (schema : Schema) (n m : ℕ) (reading : ℤ) (p : Message) (x : Node) → IsUp x → KeepsUp (on_message schema n m reading p x)
-message_keeps schema n m reading p x X = cond_both (is_honest schema n m p) (on_body n m reading p.sender p.term p.body (hears p.term x)) Nothing KeepsUp
+message_keeps : (language : Language) (n m : ℕ) (reading : ℤ) (p : Message) (x : Node) → IsUp x → KeepsUp (on_message language n m reading p x)
+message_keeps language n m reading p x X = cond_both (is_honest language n m p) (on_body n m reading p.sender p.term p.body (hears p.term x)) Nothing KeepsUp
     (λ h. body_keeps n m (hears p.term x) (heard p.term x X) reading p.sender p.term p.body) (λ h. tt)
 
 -- ---- an event
@@ -129,25 +129,25 @@ pub record Onward (w v : World) (e : Event) : Type 0 where
   pub up : (k : ℕ) (x : Node) → nth w.nodes k ≡ Some x → x.up ≡ true → (Stops k e → ⊥) → (y : Node) × (nth v.nodes k ≡ Some y) × (y.up ≡ true)
   pub idle : IsIdle w → IsIdle v
 
-module _ (schema : Schema) (n : ℕ) (w : World) where
+module _ (language : Language) (n : ℕ) (w : World) where
   unless_keeps : (r : Result (List Statement) Refusal) (e : Effect) → KeepsUp e → KeepsUp (elim (r) [ Ok ss ↦ e | Err refusal ↦ Refuses refusal ])
   unless_keeps (Ok ss) e h = h
   unless_keeps (Err refusal) e h = tt
 
-  handed : (m : ℕ) (i : Input) (x : Node) → IsUp x → KeepsUp (hand schema n m i x)
+  handed : (m : ℕ) (i : Input) (x : Node) → IsUp x → KeepsUp (hand language n m i x)
   handed m Timeout x X = input_keeps n m x X Timeout
   handed m Beat x X = input_keeps n m x X Beat
   handed m (Close reading) x X = input_keeps n m x X (Close reading)
   handed m (Floor reading) x X = input_keeps n m x X (Floor reading)
-  handed m (Submit reading request) x X = unless_keeps (schema.reads request.text) (on_input n m (Submit reading request) x) (input_keeps n m x X (Submit reading request))
+  handed m (Submit reading request) x X = unless_keeps (language.reads request.text) (on_input n m (Submit reading request) x) (input_keeps n m x X (Submit reading request))
 
-  effect_keeps : (m : ℕ) (j : Job) (x : Node) → IsUp x → KeepsUp (effect schema n w m j x)
+  effect_keeps : (m : ℕ) (j : Job) (x : Node) → IsUp x → KeepsUp (effect language n w m j x)
   effect_keeps m (Local i) x X = handed m i x X
   effect_keeps m (Delivery k reading) x X = go (nth w.sent k)
     where
-      go : (o : Option Message) → KeepsUp (option_map_or (λ (p : Message). on_message schema n m reading p x) o Nothing)
+      go : (o : Option Message) → KeepsUp (option_map_or (λ (p : Message). on_message language n m reading p x) o Nothing)
       go None = tt
-      go (Some p) = message_keeps schema n m reading p x X
+      go (Some p) = message_keeps language n m reading p x X
 
   same : (e : Event) → Onward w w e
   same e = record { up = λ k x l u s. (x, l, u); idle = λ I. I }
@@ -175,27 +175,27 @@ module _ (schema : Schema) (n : ℕ) (w : World) where
   done_onward e m x (Refuses refusal) l h = same e
   done_onward e m x (Moves a) l h = up_at e m x a.node a.sent l h
 
-  does_onward : (e : Event) (m : ℕ) (j : Job) → Onward w (does schema n w m j (nth w.nodes m)) e
-  does_onward e m j = if_there (nth w.nodes m) _ w (λ v. Onward w v e) (λ x l. cond_both x.up _ w (λ v. Onward w v e) (λ p. done_onward e m x (effect schema n w m j x) l (effect_keeps m j x p)) (λ p. same e)) (same e)
+  does_onward : (e : Event) (m : ℕ) (j : Job) → Onward w (does language n w m j (nth w.nodes m)) e
+  does_onward e m j = if_there (nth w.nodes m) _ w (λ v. Onward w v e) (λ x l. cond_both x.up _ w (λ v. Onward w v e) (λ p. done_onward e m x (effect language n w m j x) l (effect_keeps m j x p)) (λ p. same e)) (same e)
 
-  pub onward : (e : Event) → Onward w (happens schema n w e) e
+  pub onward : (e : Event) → Onward w (happens language n w e) e
   onward (Hand m i) = does_onward (Hand m i) m (Local i)
   onward (Deliver k reading) = if_there (nth w.sent k) _ w (λ v. Onward w v (Deliver k reading)) (λ p e. does_onward (Deliver k reading) p.addressee (Delivery k reading)) (same (Deliver k reading))
   onward (Stop m) = if_there (nth w.nodes m) _ w (λ v. Onward w v (Stop m)) (λ x l. cond_both x.up _ w (λ v. Onward w v (Stop m)) (λ p. down_at (Stop m) m x Whole) (λ p. same (Stop m))) (same (Stop m))
   onward (Start m) = if_there (nth w.nodes m) _ w (λ v. Onward w v (Start m)) (λ x l. cond_both x.up w _ (λ v. Onward w v (Start m)) (λ p. same (Start m)) (λ p. up_at (Start m) m x (started x) [] l refl)) (same (Start m))
   onward (Torn m j left) = if_there (nth w.nodes m) _ w (λ v. Onward w v (Torn m j left)) (λ x l. cond_both (x.up && is_for w m j) _ w (λ v. Onward w v (Torn m j left))
-      (λ p. down_at (Torn m j left) m (node_left left x (effect schema n w m j x)) (CutShort j left)) (λ p. same (Torn m j left))) (same (Torn m j left))
+      (λ p. down_at (Torn m j left) m (node_left left x (effect language n w m j x)) (CutShort j left)) (λ p. same (Torn m j left))) (same (Torn m j left))
   onward (Ask m q) = same (Ask m q)
 
 -- ---- a run
 
-pub stays_up : (schema : Schema) (n : ℕ) (es : List Event) (w : World) (m : ℕ) (x : Node) → nth w.nodes m ≡ Some x → IsUp x → ((i : ℕ) (e : Event) → slice_get es i ≡ Some e → Stops m e → ⊥) →
-    (z : Node) → nth (run schema n w es).nodes m ≡ Some z → IsUp z
-stays_up schema n [] w m x l u h z q = subst IsUp (same_some (nth w.nodes m) x z l q) u
-stays_up schema n (e ∷ es) w m x l u h z q =
-    let y = (onward schema n w e).up m x l u (h 0 e refl) in
-    stays_up schema n es (happens schema n w e) m y.0 y.1 y.2 (λ i d p. h (suc i) d p) z q
+pub stays_up : (language : Language) (n : ℕ) (es : List Event) (w : World) (m : ℕ) (x : Node) → nth w.nodes m ≡ Some x → IsUp x → ((i : ℕ) (e : Event) → slice_get es i ≡ Some e → Stops m e → ⊥) →
+    (z : Node) → nth (run language n w es).nodes m ≡ Some z → IsUp z
+stays_up language n [] w m x l u h z q = subst IsUp (same_some (nth w.nodes m) x z l q) u
+stays_up language n (e ∷ es) w m x l u h z q =
+    let y = (onward language n w e).up m x l u (h 0 e refl) in
+    stays_up language n es (happens language n w e) m y.0 y.1 y.2 (λ i d p. h (suc i) d p) z q
 
-pub idle_run : (schema : Schema) (n : ℕ) (es : List Event) (w : World) → IsIdle w → IsIdle (run schema n w es)
-idle_run schema n [] w I = I
-idle_run schema n (e ∷ es) w I = idle_run schema n es (happens schema n w e) ((onward schema n w e).idle I)
+pub idle_run : (language : Language) (n : ℕ) (es : List Event) (w : World) → IsIdle w → IsIdle (run language n w es)
+idle_run language n [] w I = I
+idle_run language n (e ∷ es) w I = idle_run language n es (happens language n w e) ((onward language n w e).idle I)

@@ -4,7 +4,7 @@
 -- that comes again is executed once. Events are counted from 1, and the k-th event gives the k-th list of outputs.
 use Rattle.std.specs.Prelude.{◌≡◌, ℕ, ◌<◌, ◌≤◌, Some, None, List, ◌++◌, Contains}
 use Rattle.model.specs.Lists.{nth, IsBeginning}
-use Rattle.model.specs.Transactions.{Schema}
+use Rattle.model.specs.Transactions.{Language}
 use Rattle.model.specs.declared.entry.Entry.{Entry}
 use Rattle.model.specs.declared.entry.Request.{Request}
 use Rattle.model.specs.declared.entry.Told.{Told}
@@ -52,44 +52,44 @@ pub record WereSubmitted (events : List Event) (list : List Entry) : Type 0 wher
   pub apart : (r s : Request) (R : HasRequest list r) (S : HasRequest list s) → (submitted r R).0 ≡ (submitted s S).0 → R.index ≡ S.index
 
 -- The list explains what these events gave.
-pub record Explains (schema : Schema) (events : List Event) (outs : List (List Output)) (list : List Entry) : Type 0 where
+pub record Explains (language : Language) (events : List Event) (outs : List (List Output)) (list : List Entry) : Type 0 where
   -- 1. its instants rise
   pub stamped : IsStamped list
   -- 2. each request that a member told of stands in the list, with the outcome that was told
-  pub told : (k m : ℕ) (told : Told) → Gave outs k (Applied m told) → IsTold schema list told
+  pub told : (k m : ℕ) (told : Told) → Gave outs k (Applied m told) → IsTold language list told
   -- 3. each answer is the one that the list has; to a question without system time, AS OF the instant that the answer names
-  pub answered : (k m : ℕ) (q : Select) (a : Answer) → IsAnswered events outs k m q a → IsAnswer schema (read_at a.last q) list a
+  pub answered : (k m : ℕ) (q : Select) (a : Answer) → IsAnswered events outs k m q a → IsAnswer language (read_at a.last q) list a
   -- 4. nothing in it is invented
   pub brought : WereSubmitted events list
 
 -- What began after something was told or answered stands after it.
-pub record IsInOrder (schema : Schema) (events : List Event) (outs : List (List Output)) (list : List Entry) : Type 0 where
+pub record IsInOrder (language : Language) (events : List Event) (outs : List (List Output)) (list : List Entry) : Type 0 where
   -- 1. a request that is first submitted after a member told of another stands behind that one
   pub told_then_submitted : (k m : ℕ) (told : Told) (r : Request) (R : HasRequest list r) → Gave outs k (Applied m told) → IsNew events k r → told.index < R.index
   -- 2. one that is first submitted after a member answered has an instant above the one that the answer names
   pub answered_then_submitted : (k m : ℕ) (q : Select) (a : Answer) (r : Request) (R : HasRequest list r) → IsAnswered events outs k m q a → IsNew events k r → a.last < R.entry.stamp
   -- 3. a question without system time that a member answers after it told of a request, and was not stopped in between, is answered AS OF that request's instant or a later one
-  pub told_then_asked : (j k m : ℕ) (told : Told) (T : IsTold schema list told) (q : Select) (a : Answer) → j < k → Gave outs j (Applied m told) → IsAnswered events outs k m q a → q.time ≡ None →
+  pub told_then_asked : (j k m : ℕ) (told : Told) (T : IsTold language list told) (q : Select) (a : Answer) → j < k → Gave outs j (Applied m told) → IsAnswered events outs k m q a → q.time ≡ None →
       IsUnstopped events m j k → T.entry.stamp ≤ a.last
   -- 4. and after another answer AS OF the instant that this one names, or a later one
   pub answered_then_asked : (j k m : ℕ) (q r : Select) (a b : Answer) → j < k → IsAnswered events outs j m q a → IsAnswered events outs k m r b → r.time ≡ None → IsUnstopped events m j k → a.last ≤ b.last
 
 -- The list explains, in order, all that these events gave.
-abbrev pub IsExplainedBy : Schema → ℕ → World → List Event → List Entry → Type 0
-IsExplainedBy schema n opening events list = (outs : List (List Output)) → GivesAll schema n opening events outs → Explains schema events outs list × IsInOrder schema events outs list
+abbrev pub IsExplainedBy : Language → ℕ → World → List Event → List Entry → Type 0
+IsExplainedBy language n outset events list = (outs : List (List Output)) → GivesAll language n outset events outs → Explains language events outs list × IsInOrder language events outs list
 
 -- Each run has one list that explains, in order, all that it gave; and where a run goes on, its list goes on.
-pub record OneListExplains (schema : Schema) (n : ℕ) (opening : World) : Type 0 where
+pub record OneListExplains (language : Language) (n : ℕ) (outset : World) : Type 0 where
   pub list : List Event → List Entry
-  pub explains : (events : List Event) → IsExplainedBy schema n opening events (list events)
+  pub explains : (events : List Event) → IsExplainedBy language n outset events (list events)
   pub goes_on : (early late : List Event) → IsBeginning (list early) (list (early ++ late))
 
 -- The same of one run: its list goes on from one that explains all that its events up to any moment gave.
-pub record IsExplained (schema : Schema) (n : ℕ) (opening : World) (events : List Event) : Type 0 where
+pub record IsExplained (language : Language) (n : ℕ) (outset : World) (events : List Event) : Type 0 where
   pub list : List Entry
-  pub explains : IsExplainedBy schema n opening events list
-  pub goes_on : (early late : List Event) → early ++ late ≡ events → (before : List Entry) × IsExplainedBy schema n opening early before × IsBeginning before list
+  pub explains : IsExplainedBy language n outset events list
+  pub goes_on : (early late : List Event) → early ++ late ≡ events → (before : List Entry) × IsExplainedBy language n outset early before × IsBeginning before list
 
 -- What is decided is in the order in which the events told and answered.
-abbrev pub IsDecidedInOrder : Schema → ℕ → World → List Event → Type 0
-IsDecidedInOrder schema n opening events = (outs : List (List Output)) → GivesAll schema n opening events outs → IsInOrder schema events outs (decided schema n opening events)
+abbrev pub IsDecidedInOrder : Language → ℕ → World → List Event → Type 0
+IsDecidedInOrder language n outset events = (outs : List (List Output)) → GivesAll language n outset events outs → IsInOrder language events outs (decided language n outset events)

@@ -1,14 +1,14 @@
 //! The order in which a run's requests and answers stand, and the one list of requests that explains
 //! a run. No function here does anything: what it is for is its contract, which a caller has as a fact.
 //!
-//! What is said of runs is said of every number of members, every schema and every list of events
+//! What is said of runs is said of every number of members, every language and every list of events
 //! (deliveries, repeats, losses, timeouts, requests, floors, clock readings, stops, starts and steps
-//! cut short), from each of two openings. `new` is of the one in which no term has begun and nobody leads,
+//! cut short), from each of two outsets. `new` is of the one in which no term has begun and nobody leads,
 //! `led` of the one in which all are in term 1, voted for member 1, and it leads.
 #![tactic(auto)]
 
 ghost use Rattle.std.specs.Prelude.{ℕ, List, ◌++◌};
-ghost use Rattle.model.specs.Transactions.{Schema};
+ghost use Rattle.model.specs.Transactions.{Language};
 ghost use Rattle.model.specs.Worlds.{World, Event, Output, new_world, led_world, run, GivesAll};
 ghost use Rattle.model.specs.Agreement.{decided};
 ghost use Rattle.onelist.specs.Explained.{OneListExplains, IsExplained, IsDecidedInOrder, WereSubmitted};
@@ -29,15 +29,15 @@ ghost use Rattle.onelist.specs.OrderRows.{ClockFalls, TornSubmit, RestartFallsBa
 /// 5. What a member told of, and what it answered, is in what it answers later without system time,
 ///    unless it was stopped in between.
 pub fn one_list_explains()
-    ensures new { (schema : Schema) (n : ℕ) → OneListExplains schema n (new_world n) }
-    ensures new_run { (schema : Schema) (n : ℕ) (events : List Event) → IsExplained schema n (new_world n) events }
-    ensures led { (schema : Schema) (n : ℕ) → OneListExplains schema n (led_world n) }
-    ensures led_run { (schema : Schema) (n : ℕ) (events : List Event) → IsExplained schema n (led_world n) events }
+    ensures new { (language : Language) (n : ℕ) → OneListExplains language n (new_world n) }
+    ensures new_run { (language : Language) (n : ℕ) (events : List Event) → IsExplained language n (new_world n) events }
+    ensures led { (language : Language) (n : ℕ) → OneListExplains language n (led_world n) }
+    ensures led_run { (language : Language) (n : ℕ) (events : List Event) → IsExplained language n (led_world n) events }
 {}
 
 /// A run in pieces: what some events gave, and then what others gave after them, is what all of them give.
 pub fn run_in_pieces()
-    ensures { (schema : Schema) (n : ℕ) (w : World) (early late : List Event) (outs more : List (List Output)) → GivesAll schema n w early outs → GivesAll schema n (run schema n w early) late more → GivesAll schema n w (early ++ late) (outs ++ more) }
+    ensures { (language : Language) (n : ℕ) (w : World) (early late : List Event) (outs more : List (List Output)) → GivesAll language n w early outs → GivesAll language n (run language n w early) late more → GivesAll language n w (early ++ late) (outs ++ more) }
 {}
 
 /// Nothing is invented: each request that is decided, that stands in a member's log, or that an
@@ -46,18 +46,18 @@ pub fn run_in_pieces()
 /// in anybody's log, and after the event it stands in that member's. So was each entry that is
 /// decided and has a request, by an event of its own: what is submitted once is decided at most once.
 pub fn nothing_invented()
-    ensures new { (schema : Schema) (n : ℕ) → NothingInvented schema n (new_world n) }
-    ensures new_logs { (schema : Schema) (n : ℕ) → NoLogInvented schema n (new_world n) }
-    ensures new_sent { (schema : Schema) (n : ℕ) → NothingSentInvented schema n (new_world n) }
-    ensures new_entries { (schema : Schema) (n : ℕ) → EachWasMade schema n (new_world n) }
-    ensures new_apart { (schema : Schema) (n : ℕ) → NoneMadeTwo schema n (new_world n) }
-    ensures new_run { (schema : Schema) (n : ℕ) (events : List Event) → WereSubmitted events (decided schema n (new_world n) events) }
-    ensures led { (schema : Schema) (n : ℕ) → NothingInvented schema n (led_world n) }
-    ensures led_logs { (schema : Schema) (n : ℕ) → NoLogInvented schema n (led_world n) }
-    ensures led_sent { (schema : Schema) (n : ℕ) → NothingSentInvented schema n (led_world n) }
-    ensures led_entries { (schema : Schema) (n : ℕ) → EachWasMade schema n (led_world n) }
-    ensures led_apart { (schema : Schema) (n : ℕ) → NoneMadeTwo schema n (led_world n) }
-    ensures led_run { (schema : Schema) (n : ℕ) (events : List Event) → WereSubmitted events (decided schema n (led_world n) events) }
+    ensures new { (language : Language) (n : ℕ) → NothingInvented language n (new_world n) }
+    ensures new_logs { (language : Language) (n : ℕ) → NoLogInvented language n (new_world n) }
+    ensures new_sent { (language : Language) (n : ℕ) → NothingSentInvented language n (new_world n) }
+    ensures new_entries { (language : Language) (n : ℕ) → EachWasMade language n (new_world n) }
+    ensures new_apart { (language : Language) (n : ℕ) → NoneMadeTwo language n (new_world n) }
+    ensures new_run { (language : Language) (n : ℕ) (events : List Event) → WereSubmitted events (decided language n (new_world n) events) }
+    ensures led { (language : Language) (n : ℕ) → NothingInvented language n (led_world n) }
+    ensures led_logs { (language : Language) (n : ℕ) → NoLogInvented language n (led_world n) }
+    ensures led_sent { (language : Language) (n : ℕ) → NothingSentInvented language n (led_world n) }
+    ensures led_entries { (language : Language) (n : ℕ) → EachWasMade language n (led_world n) }
+    ensures led_apart { (language : Language) (n : ℕ) → NoneMadeTwo language n (led_world n) }
+    ensures led_run { (language : Language) (n : ℕ) (events : List Event) → WereSubmitted events (decided language n (led_world n) events) }
 {}
 
 /// In real order: a request that no event had submitted when some member told of another stands after
@@ -66,26 +66,26 @@ pub fn nothing_invented()
 /// is submitted. And a request that no event had submitted when some member answered a question is
 /// stamped above the last instant that the answer names.
 pub fn in_real_order()
-    ensures new { (schema : Schema) (n : ℕ) → InRealOrder schema n (new_world n) }
-    ensures new_logged { (schema : Schema) (n : ℕ) → LoggedInOrder schema n (new_world n) }
-    ensures new_accepted { (schema : Schema) (n : ℕ) → AcceptedInOrder schema n (new_world n) }
-    ensures new_answers { (schema : Schema) (n : ℕ) → StampedAfterAnswers schema n (new_world n) }
-    ensures new_run { (schema : Schema) (n : ℕ) (events : List Event) → IsDecidedInOrder schema n (new_world n) events }
-    ensures led { (schema : Schema) (n : ℕ) → InRealOrder schema n (led_world n) }
-    ensures led_logged { (schema : Schema) (n : ℕ) → LoggedInOrder schema n (led_world n) }
-    ensures led_accepted { (schema : Schema) (n : ℕ) → AcceptedInOrder schema n (led_world n) }
-    ensures led_answers { (schema : Schema) (n : ℕ) → StampedAfterAnswers schema n (led_world n) }
-    ensures led_run { (schema : Schema) (n : ℕ) (events : List Event) → IsDecidedInOrder schema n (led_world n) events }
+    ensures new { (language : Language) (n : ℕ) → InRealOrder language n (new_world n) }
+    ensures new_logged { (language : Language) (n : ℕ) → LoggedInOrder language n (new_world n) }
+    ensures new_accepted { (language : Language) (n : ℕ) → AcceptedInOrder language n (new_world n) }
+    ensures new_answers { (language : Language) (n : ℕ) → StampedAfterAnswers language n (new_world n) }
+    ensures new_run { (language : Language) (n : ℕ) (events : List Event) → IsDecidedInOrder language n (new_world n) events }
+    ensures led { (language : Language) (n : ℕ) → InRealOrder language n (led_world n) }
+    ensures led_logged { (language : Language) (n : ℕ) → LoggedInOrder language n (led_world n) }
+    ensures led_accepted { (language : Language) (n : ℕ) → AcceptedInOrder language n (led_world n) }
+    ensures led_answers { (language : Language) (n : ℕ) → StampedAfterAnswers language n (led_world n) }
+    ensures led_run { (language : Language) (n : ℕ) (events : List Event) → IsDecidedInOrder language n (led_world n) events }
 {}
 
 /// Answers go forward, at one member that stays up: a question without system time is answered AS OF
 /// no smaller instant than the last one that an earlier answer named, and than that of a request which
 /// the member told of as accepted.
 pub fn answers_go_forward()
-    ensures new { (schema : Schema) (n : ℕ) → AnswersGoForward schema n (new_world n) }
-    ensures new_told { (schema : Schema) (n : ℕ) → AnswersHaveWhatWasTold schema n (new_world n) }
-    ensures led { (schema : Schema) (n : ℕ) → AnswersGoForward schema n (led_world n) }
-    ensures led_told { (schema : Schema) (n : ℕ) → AnswersHaveWhatWasTold schema n (led_world n) }
+    ensures new { (language : Language) (n : ℕ) → AnswersGoForward language n (new_world n) }
+    ensures new_told { (language : Language) (n : ℕ) → AnswersHaveWhatWasTold language n (new_world n) }
+    ensures led { (language : Language) (n : ℕ) → AnswersGoForward language n (led_world n) }
+    ensures led_told { (language : Language) (n : ℕ) → AnswersHaveWhatWasTold language n (led_world n) }
 {}
 
 /// Worked rows of order: a request stands after what was told before, though the leader's clock went

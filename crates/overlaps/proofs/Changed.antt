@@ -12,7 +12,7 @@ use Rattle.model.specs.Values.{key_cmp, same_key}
 use Rattle.model.specs.Tables.{Period}
 use Rattle.overlaps.specs.Index.{AreApart, changed_at}
 use Rattle.overlaps.specs.Key.{key_cmp_total}
-use Rattle.overlaps.specs.Stored.{items_of, items_in}
+use Rattle.overlaps.specs.Items.{items_of, items_in}
 
 abbrev pub Map : Type 0 → Type 0
 Map T = BTreeMap (List Value) (List T)

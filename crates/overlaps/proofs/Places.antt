@@ -144,7 +144,3 @@ module _ {T : Type 0} (period : T → Period) (some : (x : T) → (period x).sta
           each = subst (λ f. list_all (λ x. shares_day p (period x)) f ≡ true) same s.7;
           none_after = s.8;
         }
-
--- a key that has no items
-pub none_sharing : {T : Type 0} (period : T → Period) (p : Period) (xs ys : List T) → xs ≡ [] → ys ≡ [] → AreSharing period p xs 0 ys
-none_sharing period p xs ys none found = record { before = []; after = []; all = none ∙ ap (λ f. f ++ []) (sym found); place_is = refl; none_before = refl; each = rw found refl; none_after = refl }

@@ -1,4 +1,4 @@
 pub mod Reads
 pub mod Key
 pub mod Index
-pub mod Stored
+pub mod Items

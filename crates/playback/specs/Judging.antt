@@ -1,45 +1,15 @@
 -- What an audit says of what the journals of a store spell.
-use Rattle.std.specs.Prelude.{◌≢◌, ◌++◌, ℕ, suc, List, [], ◌∷◌, length, map}
+use Rattle.std.specs.Prelude.{List}
 use Rattle.std.specs.declared.vec.Vec.{Vec}
 use Rattle.std.specs.declared.alloc.Global.{Global}
+use Rattle.auditor.specs.Verdict as audited
+pub use Rattle.auditor.specs.Verdict.{IsExplained, IsFaultOf}
 use Rattle.moments.specs.Behind.{Records}
-use Rattle.moments.specs.Faults.{NoneAre}
-use Rattle.moments.specs.Rising.{Rise}
-use Rattle.moments.specs.declared.recorded.AuditFault.{AuditFault}
-use Rattle.moments.specs.declared.recorded.AuditFault.TheVariants.{NoMemory}
-use Rattle.moments.specs.declared.recorded.Recorded.{Recorded as Judged}
-use Rattle.auditor.specs.Audited.{Explains, IsFirst}
-use Rattle.auditor.specs.Faults.{IsOrderFault, OfRun}
-use Rattle.auditor.specs.Upheld.{Upholds}
 use Rattle.flight.specs.declared.flight.Recorded.{Recorded}
 use Rattle.flight.specs.declared.flight.Version.TheVariants.{Three}
 use Rattle.flight.specs.declared.life.Life.{Life}
-use Rattle.model.specs.Agreement.{Agree}
-use Rattle.model.specs.Worlds.{Event, new_world}
 use Rattle.sqlchecks.specs.Columns.{Tables}
-use Rattle.sqlread.specs.Meaning.{schema_of}
-
--- an answer of a node, as an audit takes it
-abbrev pub judged_of : ℕ → Recorded → Judged
-judged_of node a = record { node = node; mark = a.mark; query = a.query; answer = a.answer }
-
--- the answers of the nodes from this one on
-abbrev pub judged_from : ℕ → List (Vec Recorded Global) → List Judged
-judged_from node [] = []
-judged_from node (own ∷ later) = map (judged_of node) own.items ++ judged_from (suc node) later
 
 -- a group with these tables, and node by node its lives and answers
 abbrev pub records_of : Tables → List (Vec Life Global) → List (Vec Recorded Global) → Records
-records_of tables lives answers = record { version = Three; tables = tables; lives = lives; answers = judged_from 1 answers }
-
--- Marks rise, and the events of one run explain what was recorded; all members agree about these events, and the run upholds each
--- outcome and each answer that was recorded.
-abbrev pub IsExplained : Records → Type 0
-IsExplained r = Rise r.lives × ((events : List Event) × Explains r events × Agree (schema_of r.tables) (length r.lives) (new_world (length r.lives)) events × Upholds r events)
-
--- The fault is 53, and marks do not rise; or they do, no events explain what was recorded, and it is the first fault.
-pub record IsFaultOf (r : Records) (fault : AuditFault) : Type 0 where
-  pub found : fault ≢ NoMemory
-  pub order : IsOrderFault r.lives fault
-  pub none : OfRun (λ _. NoneAre (Explains r)) fault
-  pub first : OfRun (IsFirst r) fault
+records_of = audited.records_of Three

@@ -4,7 +4,7 @@
 -- `live` is the majority, as a test on members.
 use Rattle.std.specs.Prelude.{◌≡◌, ℕ, zero, suc, ℤ, pos, ◌+◌, ◌*◌, ◌<◌, ◌≤◌, ◌↔◌, Bool, true, false, Some, None, Ok, List, [], ◌∷◌, ◌++◌, length, Contains}
 use Rattle.model.specs.Lists.{nth, IsBeginning}
-use Rattle.model.specs.Transactions.{Schema, Statement}
+use Rattle.model.specs.Transactions.{Language, Statement}
 use Rattle.model.specs.Stamps.{TIME_LAST}
 use Rattle.model.specs.declared.entry.Entry.{Entry}
 use Rattle.model.specs.declared.entry.Told.{Told}
@@ -39,9 +39,9 @@ IsMild live reading w (Torn m job left) = ⊥
 IsMild live reading w (Ask m q) = ⊥
 
 -- the i-th event, counted from 0, finds the clocks at the i-th reading
-abbrev pub AllMild : Schema → ℕ → (ℕ → Bool) → (ℕ → ℤ) → World → List Event → Type 0
-AllMild schema n live clock w [] = Unit {0}
-AllMild schema n live clock w (e ∷ es) = IsMild live (clock 0) w e × AllMild schema n live (λ i. clock (suc i)) (happens schema n w e) es
+abbrev pub AllMild : Language → ℕ → (ℕ → Bool) → (ℕ → ℤ) → World → List Event → Type 0
+AllMild language n live clock w [] = Unit {0}
+AllMild language n live clock w (e ∷ es) = IsMild live (clock 0) w e × AllMild language n live (λ i. clock (suc i)) (happens language n w e) es
 
 -- two terms and two instants are left, and the log has at most k entries
 pub record RoomAt (k : ℕ) (x : Node) : Type 0 where
@@ -53,11 +53,11 @@ abbrev pub Room : (ℕ → Bool) → ℕ → World → Type 0
 Room live k w = (k + 2 ≤ LOG_LIMIT) × ((m : ℕ) (x : Node) → live m ≡ true → nth w.nodes m ≡ Some x → RoomAt k x)
 
 -- so many mild events, at most, lead to P, while clocks show these readings
-pub record Leads (schema : Schema) (n : ℕ) (live : ℕ → Bool) (clock : ℕ → ℤ) (most : ℕ) (w : World) (P : World → Type 0) : Type 0 where
+pub record Leads (language : Language) (n : ℕ) (live : ℕ → Bool) (clock : ℕ → ℤ) (most : ℕ) (w : World) (P : World → Type 0) : Type 0 where
   pub events : List Event
-  pub mild : AllMild schema n live clock w events
+  pub mild : AllMild language n live clock w events
   pub few : length events ≤ most
-  pub there : P (run schema n w events)
+  pub there : P (run language n w events)
 
 -- ---- all is well
 
@@ -78,9 +78,9 @@ pub record IsWell (n : ℕ) (live : ℕ → Bool) (leader : ℕ) (list : List En
   pub member : (m : ℕ) → 0 < m → m ≤ n → live m ≡ true → (x : Node) × (nth w.nodes m ≡ Some x) × IsInStep leader term list m x
 
 -- where all is well, what is decided is the leader's log: nothing that was decided is lost, and nothing waits
-abbrev pub WellIsDecided : Schema → ℕ → World → Type 0
-WellIsDecided schema n opening = (events : List Event) (live : ℕ → Bool) (leader : ℕ) (list : List Entry) → is_majority n live ≡ true →
-    IsWell n live leader list (run schema n opening events) → decided schema n opening events ≡ list
+abbrev pub WellIsDecided : Language → ℕ → World → Type 0
+WellIsDecided language n outset = (events : List Event) (live : ℕ → Bool) (leader : ℕ) (list : List Entry) → is_majority n live ≡ true →
+    IsWell n live leader list (run language n outset events) → decided language n outset events ≡ list
 
 -- the instant t is closed at each of the majority
 abbrev pub ClosedTo : (ℕ → Bool) → ℕ → World → Type 0
@@ -101,9 +101,9 @@ abbrev pub IsFrom : ℕ → ℤ → Type 0
 IsFrom t reading = (u : ℕ) × (reading ≡ pos u) × (t ≤ u) × (u < TIME_LAST)
 
 -- from wherever a run has come, whatever clocks show from t on, mild events lead to where all is well, and the instant t is closed
-abbrev pub NeverStuck : Schema → ℕ → World → Type 0
-NeverStuck schema n opening = (events : List Event) (live : ℕ → Bool) (clock : ℕ → ℤ) (t k : ℕ) → 2 ≤ n → is_majority n live ≡ true → ((i : ℕ) → IsFrom t (clock i)) → Room live k (run schema n opening events) →
-    Leads schema n live clock (enough n k) (run schema n opening events) (WellTo n live t)
+abbrev pub NeverStuck : Language → ℕ → World → Type 0
+NeverStuck language n outset = (events : List Event) (live : ℕ → Bool) (clock : ℕ → ℤ) (t k : ℕ) → 2 ≤ n → is_majority n live ≡ true → ((i : ℕ) → IsFrom t (clock i)) → Room live k (run language n outset events) →
+    Leads language n live clock (enough n k) (run language n outset events) (WellTo n live t)
 
 -- a clock does not show the last instant
 abbrev pub IsNotLast : ℤ → Type 0
@@ -117,9 +117,9 @@ pub record IsNew (x : Node) : Type 0 where
   pub vote : x.vote ≡ None
 
 -- as long as all but a minority are new, nobody leads, and nothing is decided, whatever the minority do
-abbrev pub MajorityNeeded : Schema → ℕ → Type 0
-MajorityNeeded schema n = (events : List Event) (live : ℕ → Bool) → is_majority n live ≡ false → ((m : ℕ) (x : Node) → live m ≡ false → nth (run schema n (new_world n) events).nodes m ≡ Some x → IsNew x) →
-    ((m : ℕ) (x : Node) → nth (run schema n (new_world n) events).nodes m ≡ Some x → x.role ≡ Leader → ⊥) × (decided schema n (new_world n) events ≡ [])
+abbrev pub MajorityNeeded : Language → ℕ → Type 0
+MajorityNeeded language n = (events : List Event) (live : ℕ → Bool) → is_majority n live ≡ false → ((m : ℕ) (x : Node) → live m ≡ false → nth (run language n (new_world n) events).nodes m ≡ Some x → IsNew x) →
+    ((m : ℕ) (x : Node) → nth (run language n (new_world n) events).nodes m ≡ Some x → x.role ≡ Leader → ⊥) × (decided language n (new_world n) events ≡ [])
 
 -- ---- a power cut
 
@@ -129,73 +129,73 @@ stop_all zero = []
 stop_all (suc n) = Stop (suc n) ∷ stop_all n
 
 -- after it mild events lead a majority that had room to where all is well, and what was decided before begins the log there
-abbrev pub Restarts : Schema → ℕ → World → Type 0
-Restarts schema n opening = (events : List Event) (live : ℕ → Bool) (clock : ℕ → ℤ) (k : ℕ) → 2 ≤ n → is_majority n live ≡ true → ((i : ℕ) → IsNotLast (clock i)) → Room live k (run schema n opening events) →
-    Leads schema n live clock (enough n k) (run schema n opening (events ++ stop_all n)) (λ w. (leader : ℕ) × (list : List Entry) × IsWell n live leader list w × IsBeginning (decided schema n opening events) list)
+abbrev pub Restarts : Language → ℕ → World → Type 0
+Restarts language n outset = (events : List Event) (live : ℕ → Bool) (clock : ℕ → ℤ) (k : ℕ) → 2 ≤ n → is_majority n live ≡ true → ((i : ℕ) → IsNotLast (clock i)) → Room live k (run language n outset events) →
+    Leads language n live clock (enough n k) (run language n outset (events ++ stop_all n)) (λ w. (leader : ℕ) × (list : List Entry) × IsWell n live leader list w × IsBeginning (decided language n outset events) list)
 
 -- ---- a floor
 
 -- from wherever all is well, with an entry of the leader's own term for the last, once the leader was asked for a floor mild events lead to
 -- where the instant is closed, and no log has grown
-abbrev pub WellCloses : Schema → ℕ → World → Type 0
-WellCloses schema n opening = (events : List Event) (live : ℕ → Bool) (clock : ℕ → ℤ) (leader t : ℕ) (list : List Entry) (x : Node) → 2 ≤ n → is_majority n live ≡ true →
-    (well : IsWell n live leader list (run schema n opening events)) → nth (run schema n opening events).nodes leader ≡ Some x → last_term list ≡ well.term → least_over x.floor list ≤ TIME_LAST → t ≤ TIME_LAST →
-    Leads schema n live clock (3 * n) (run schema n (run schema n opening events) (Hand leader (Floor (pos t)) ∷ [])) (λ v. IsWell n live leader list v × ClosedTo live t v)
+abbrev pub WellCloses : Language → ℕ → World → Type 0
+WellCloses language n outset = (events : List Event) (live : ℕ → Bool) (clock : ℕ → ℤ) (leader t : ℕ) (list : List Entry) (x : Node) → 2 ≤ n → is_majority n live ≡ true →
+    (well : IsWell n live leader list (run language n outset events)) → nth (run language n outset events).nodes leader ≡ Some x → last_term list ≡ well.term → least_over x.floor list ≤ TIME_LAST → t ≤ TIME_LAST →
+    Leads language n live clock (3 * n) (run language n (run language n outset events) (Hand leader (Floor (pos t)) ∷ [])) (λ v. IsWell n live leader list v × ClosedTo live t v)
 
 -- all is well, and once the leader was asked for a floor, mild events lead to where the instant is closed, and no log has grown
-pub record Closes (schema : Schema) (n : ℕ) (live : ℕ → Bool) (t : ℕ) (w : World) : Type 0 where
+pub record Closes (language : Language) (n : ℕ) (live : ℕ → Bool) (t : ℕ) (w : World) : Type 0 where
   pub leader : ℕ
   pub list : List Entry
   pub well : IsWell n live leader list w
-  pub closed : (clock : ℕ → ℤ) → Leads schema n live clock (3 * n) (run schema n w (Hand leader (Floor (pos t)) ∷ [])) (λ v. IsWell n live leader list v × ClosedTo live t v)
+  pub closed : (clock : ℕ → ℤ) → Leads language n live clock (3 * n) (run language n w (Hand leader (Floor (pos t)) ∷ [])) (λ v. IsWell n live leader list v × ClosedTo live t v)
 
 -- from wherever a run has come, mild events lead to where each instant can be closed without an entry
-abbrev pub ClosesQuietly : Schema → ℕ → World → Type 0
-ClosesQuietly schema n opening = (events : List Event) (live : ℕ → Bool) (clock : ℕ → ℤ) (k : ℕ) → 2 ≤ n → is_majority n live ≡ true → ((i : ℕ) → IsNotLast (clock i)) → Room live k (run schema n opening events) →
-    Leads schema n live clock (enough n k) (run schema n opening events) (λ w. (t : ℕ) → t ≤ TIME_LAST → Closes schema n live t w)
+abbrev pub ClosesQuietly : Language → ℕ → World → Type 0
+ClosesQuietly language n outset = (events : List Event) (live : ℕ → Bool) (clock : ℕ → ℤ) (k : ℕ) → 2 ≤ n → is_majority n live ≡ true → ((i : ℕ) → IsNotLast (clock i)) → Room live k (run language n outset events) →
+    Leads language n live clock (enough n k) (run language n outset events) (λ w. (t : ℕ) → t ≤ TIME_LAST → Closes language n live t w)
 
 -- ---- a request
 
 -- what is told of a request that is the list's last entry
-abbrev pub told_last : Schema → List Entry → Entry → Request → Told
-told_last schema list e r = record { index = length list; client = r.client; number = r.number; outcome = outcome schema e.stamp r (before_index list (length list)) }
+abbrev pub told_last : Language → List Entry → Entry → Request → Told
+told_last language list e r = record { index = length list; client = r.client; number = r.number; outcome = outcome language e.stamp r (before_index list (length list)) }
 
 -- in the course of the events member m tells this
-pub record Tells (schema : Schema) (n : ℕ) (w : World) (events : List Event) (m : ℕ) (told : Told) : Type 0 where
+pub record Tells (language : Language) (n : ℕ) (w : World) (events : List Event) (m : ℕ) (told : Told) : Type 0 where
   pub early : List Event
   pub event : Event
   pub late : List Event
   pub out : List Output
   pub at : early ++ event ∷ late ≡ events
-  pub gives : Gives schema n (run schema n w early) event out
+  pub gives : Gives language n (run language n w early) event out
   pub tells : Contains out (Applied m told)
 
 -- mild events lead to where all is well with the request for one entry more, and each has told of it, and all the same
-pub record Served (schema : Schema) (n : ℕ) (live : ℕ → Bool) (clock : ℕ → ℤ) (most leader : ℕ) (list : List Entry) (request : Request) (w : World) : Type 0 where
+pub record Served (language : Language) (n : ℕ) (live : ℕ → Bool) (clock : ℕ → ℤ) (most leader : ℕ) (list : List Entry) (request : Request) (w : World) : Type 0 where
   pub entry : Entry
   pub asks : entry.request ≡ Some request
-  pub way : Leads schema n live clock most w (IsWell n live leader (list ++ entry ∷ []))
-  pub told : (m : ℕ) → 0 < m → m ≤ n → live m ≡ true → Tells schema n w way.events m (told_last schema (list ++ entry ∷ []) entry request)
+  pub way : Leads language n live clock most w (IsWell n live leader (list ++ entry ∷ []))
+  pub told : (m : ℕ) → 0 < m → m ≤ n → live m ≡ true → Tells language n w way.events m (told_last language (list ++ entry ∷ []) entry request)
 
 -- from wherever all is well, and the leader has room for an entry, a request that can be read and is handed to it is served
-abbrev pub WellServes : Schema → ℕ → World → Type 0
-WellServes schema n opening = (events : List Event) (live : ℕ → Bool) (clock : ℕ → ℤ) (leader : ℕ) (list : List Entry) (x : Node) (reading : ℤ) (request : Request) (statements : List Statement) → 2 ≤ n → is_majority n live ≡ true →
-    IsWell n live leader list (run schema n opening events) → nth (run schema n opening events).nodes leader ≡ Some x → length list < LOG_LIMIT → least_over x.floor list ≤ TIME_LAST → schema.reads request.text ≡ Ok statements →
-    Served schema n live clock (n * (6 * length list + 18) + 3) leader list request (run schema n (run schema n opening events) (Hand leader (Submit reading request) ∷ []))
+abbrev pub WellServes : Language → ℕ → World → Type 0
+WellServes language n outset = (events : List Event) (live : ℕ → Bool) (clock : ℕ → ℤ) (leader : ℕ) (list : List Entry) (x : Node) (reading : ℤ) (request : Request) (statements : List Statement) → 2 ≤ n → is_majority n live ≡ true →
+    IsWell n live leader list (run language n outset events) → nth (run language n outset events).nodes leader ≡ Some x → length list < LOG_LIMIT → least_over x.floor list ≤ TIME_LAST → language.reads request.text ≡ Ok statements →
+    Served language n live clock (n * (6 * length list + 18) + 3) leader list request (run language n (run language n outset events) (Hand leader (Submit reading request) ∷ []))
 
 -- all is well, and once the request was handed to the leader, it is served
-pub record Serves (schema : Schema) (n : ℕ) (live : ℕ → Bool) (most : ℕ) (reading : ℤ) (request : Request) (w : World) : Type 0 where
+pub record Serves (language : Language) (n : ℕ) (live : ℕ → Bool) (most : ℕ) (reading : ℤ) (request : Request) (w : World) : Type 0 where
   pub leader : ℕ
   pub list : List Entry
   pub well : IsWell n live leader list w
-  pub served : (clock : ℕ → ℤ) → Served schema n live clock most leader list request (run schema n w (Hand leader (Submit reading request) ∷ []))
+  pub served : (clock : ℕ → ℤ) → Served language n live clock most leader list request (run language n w (Hand leader (Submit reading request) ∷ []))
 
 -- mild events lead from here, if a majority has room left, to where a request that can be read is served
-abbrev pub CanServe : Schema → ℕ → World → Type 0
-CanServe schema n w = (live : ℕ → Bool) (clock : ℕ → ℤ) (k : ℕ) (reading : ℤ) (request : Request) (statements : List Statement) → 2 ≤ n → is_majority n live ≡ true →
-    ((i : ℕ) → IsNotLast (clock i)) → Room live k w → schema.reads request.text ≡ Ok statements →
-    Leads schema n live clock (enough n k) w (Serves schema n live (enough n k + 3 * n) reading request)
+abbrev pub CanServe : Language → ℕ → World → Type 0
+CanServe language n w = (live : ℕ → Bool) (clock : ℕ → ℤ) (k : ℕ) (reading : ℤ) (request : Request) (statements : List Statement) → 2 ≤ n → is_majority n live ≡ true →
+    ((i : ℕ) → IsNotLast (clock i)) → Room live k w → language.reads request.text ≡ Ok statements →
+    Leads language n live clock (enough n k) w (Serves language n live (enough n k + 3 * n) reading request)
 
 -- wherever a run has come
-abbrev pub AlwaysServes : Schema → ℕ → World → Type 0
-AlwaysServes schema n opening = (events : List Event) → CanServe schema n (run schema n opening events)
+abbrev pub AlwaysServes : Language → ℕ → World → Type 0
+AlwaysServes language n outset = (events : List Event) → CanServe language n (run language n outset events)

@@ -1,13 +1,15 @@
 -- Where a log is cut: at the first entry that is another one.
-use Rattle.std.proofs.Common.{◌≡◌, ◌⊎◌, ◌∙◌, ℕ, zero, suc, ◌+◌, ◌-◌, ◌≤◌, ◌<◌, min, Bool, true, false, cond, Option, Some, None, List, [], ◌∷◌, ◌++◌, take, drop, length, slice_get, refl, sym, ap, arith, inl, inr}
+use Rattle.std.proofs.Common.{◌≡◌, ◌∙◌, ℕ, zero, suc, ◌+◌, ◌-◌, ◌≤◌, ◌<◌, min, Bool, true, false, cond, Option, Some, None, List, [], ◌∷◌, ◌++◌, take, drop, length, slice_get, refl, sym, ap, subst, arith, inl, inr}
 use Rattle.std.proofs.Common.{length-append}
 use Rattle.std.proofs.lemmas.List.{take-append-le, take-take, length-take, length-drop}
 use Rattle.std.proofs.lemmas.Bool.Decides.{eqb_tells}
 use Rattle.model.specs.declared.entry.Entry.{Entry}
-use Rattle.model.specs.Members.{agreed, has_term, term_of, term_at}
-use Rattle.model.specs.Steps.{accepted}
-use Rattle.model.specs.Kept.{kept_under}
+use Rattle.std.specs.Prelude.{vec_len}
+use Rattle.model.specs.Members.{agreed, has_term, term_of}
+use Rattle.raft.specs.declared.short_log.ShortLog.{ShortLog}
+use Rattle.raft.specs.Saved.{whole, Cut, IsSaved, Tells}
 use Rattle.raft.proofs.Lists.{Between, agreed_between, ltb_tells}
+use Rattle.raft.proofs.Windows.{whole_length}
 
 -- ---- an entry of a part of a list
 
@@ -68,19 +70,6 @@ agreed_parts log (e ∷ es) i lt within same =
 
 -- ---- cuts
 
--- the new log goes on after the first k entries of the old, with another entry where the old has one
-pub record Cut (k : ℕ) (old new : List Entry) : Type 0 where
-  pub begins : take k new ≡ take k old
-  pub more : k < length new
-  pub other : k < length old → term_at new (suc k) ≡ term_at old (suc k) → ⊥
-
-pub pushed : (xs : List Entry) (e : Entry) → Cut (length xs) xs (xs ++ e ∷ [])
-pushed xs e = record {
-  begins = take-append-le (length xs) xs (e ∷ []) (omega arith);
-  more = omega (arith, length-append xs (e ∷ []));
-  other = λ lt same. absurd (omega (arith, lt));
-}
-
 cut_there : (log es : List Entry) (prev : ℕ) → prev ≤ length log → agreed log prev es < prev + length es → Cut (agreed log prev es) log (take (agreed log prev es) log ++ drop (agreed log prev es - prev) es)
 cut_there log es prev within lt =
     let j = agreed log prev es in
@@ -88,39 +77,39 @@ cut_there log es prev within lt =
     let len : length (take j log) ≡ j = omega (arith, length-take j log, far.most) in
     let at : slice_get (take j log ++ drop (j - prev) es) j ≡ slice_get es (j - prev) = got_seam (take j log) (drop (j - prev) es) j (sym len) ∙ got_drop es (j - prev) in
     record {
+      within = far.most;
       begins = take-append-le j (take j log) (drop (j - prev) es) (omega (arith, len)) ∙ take-take j j log (omega arith);
       more = omega (arith, length-append (take j log) (drop (j - prev) es), len, length-drop (j - prev) es, far.low, lt);
-      other = λ low same. agreed_parts log es prev lt low (ap term_of (sym at) ∙ same);
+      other = λ low same. agreed_parts log es prev lt low (ap term_of (sym at ∙ same));
     }
 
-pub accepted_turns : (prev : ℕ) (es log : List Entry) → prev ≤ length log → (accepted log prev es ≡ log) ⊎ Cut (kept_under prev es log) log (accepted log prev es)
-unfolding kept_under
-accepted_turns prev es log within =
-    let j = agreed log prev es in
-    let far : Between prev (prev + length es) (length log) j = agreed_between log es prev within in
-    elim (eqb_tells j (prev + length es)) [
-      | inl same ↦ rw same.0 (inl refl)
-      | inr other ↦
-          let lt : j < prev + length es = omega (arith, other.1, far.high) in
-          let least : min j (length log) ≡ j = omega (arith, far.most) in
-          rw (other.0, least) (inr (cut_there log es prev within lt))
-    ]
+-- entries that a log agrees with up to an index cut it there
+accepted_cut : (log es new : List Entry) (prev j : ℕ) → j ≡ agreed log prev es → prev ≤ length log → j < prev + length es → new ≡ take j log ++ drop (j - prev) es → Cut j log new
+accepted_cut log es new prev j at within lt is =
+    let P : ℕ → Type 0 = λ i. i < prev + length es → new ≡ take i log ++ drop (i - prev) es → Cut i log new in
+    let here : P (agreed log prev es) = λ low whole_is. subst (λ (l : List Entry). Cut (agreed log prev es) log l) (sym whole_is) (cut_there log es prev within low) in
+    subst P (sym at) here lt is
+
+-- ---- what a log tells
+
+pub tells_cut : (stored : List Entry) (old new : ShortLog) (es rest : List Entry) (prev j : ℕ) → old.elsewhere ≤ length stored → IsSaved old → j ≤ old.elsewhere + vec_len old.tail → prev ≤ j → j ≡ agreed (whole old stored) prev es → j < prev + length es → rest ≡ drop (j - prev) es → whole new stored ≡ take j (whole old stored) ++ rest → new.saved ≡ min old.saved j → Tells stored old new
+tells_cut stored old new es rest prev j there all within low at lt part is saved =
+    let len : length (whole old stored) ≡ old.elsewhere + vec_len old.tail = whole_length old stored there in
+    let here : j ≡ new.saved = omega (arith, saved, all, within) in
+    let cut : Cut j (whole old stored) (whole new stored) = accepted_cut (whole old stored) es (whole new stored) prev j at (omega (arith, len, within, low)) lt (is ∙ ap (λ (xs : List Entry). take j (whole old stored) ++ xs) part) in
+    inr (subst (λ (k : ℕ). Cut k (whole old stored) (whole new stored)) here cut)
 
 -- ---- what follows from a cut
-
-pub uncut : (k : ℕ) (old new : List Entry) → (new ≡ old) ⊎ Cut k old new → k ≤ length old → length new ≡ length old → term_at new (suc k) ≡ term_at old (suc k) → new ≡ old
-uncut k old new (inl same) within len at = same
-uncut k old new (inr cut) within len at = absurd (cut.other (omega (arith, cut.more, within, len)) at)
-
-pub is_cut : (k : ℕ) (old new : List Entry) → (new ≡ old) ⊎ Cut k old new → (new ≡ old → ⊥) → Cut k old new
-is_cut k old new (inl same) other = absurd (other same)
-is_cut k old new (inr cut) other = cut
 
 -- no longer beginning of the old log is one of the new
 pub cut_most : (k j : ℕ) (old new : List Entry) → Cut k old new → j ≤ length old → take j new ≡ take j old → j ≤ k
 cut_most k j old new cut within same = elim (ltb_tells k j) [
   | inl lt ↦
       let at : slice_get new k ≡ slice_get old k = sym (got_take new k j lt.1) ∙ ap (λ xs. slice_get xs k) same ∙ got_take old k j lt.1 in
-      absurd (cut.other (omega (arith, lt.1, within)) (ap term_of at))
+      absurd (cut.other (omega (arith, lt.1, within)) at)
   | inr ge ↦ ge.1
 ]
+
+-- and the new log is another
+pub cut_changes : (k : ℕ) (old new : List Entry) → Cut k old new → new ≡ old → ⊥
+cut_changes k old new cut same = cut.other (omega (arith, cut.more, ap length same)) (ap (λ xs. slice_get xs k) same)

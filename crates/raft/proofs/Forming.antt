@@ -13,13 +13,13 @@ use Rattle.model.specs.declared.message.Input.{Input}
 use Rattle.model.specs.declared.message.Input.TheVariants.{Timeout, Beat, Close, Floor, Submit}
 use Rattle.model.specs.Stamps.{TIME_LAST, above, greater, stamp}
 use Rattle.model.specs.Logs.{closed, last_entry, least_over, least_stamp}
-use Rattle.model.specs.Transactions.{Schema, Statement}
+use Rattle.model.specs.Transactions.{Language, Statement}
 use Rattle.model.specs.Members.{Node, has_term, is_leader, is_candidate, is_majority, is_in, stands}
 use Rattle.model.specs.Steps.{After, Effect, Moves, Refuses, Nothing, TERM_LAST, LOG_LIMIT, accepted, time_out, append_own, on_input, is_time_full, is_log_full, extended, opened, crowned, counted, hears, in_term, grants, on_request_vote, on_vote, continues, cuts_below, go_on, spells, entries_of, on_append, on_reply, on_reply_yes, on_reply_no, ask_floor, asks_for, on_seek, on_stored, with_stored, floor_fits, on_body, is_honest, on_message}
 use Rattle.model.specs.Worlds.{hand}
 use Rattle.model.specs.Kept.{node_after}
 use Rattle.sqlchecks.specs.Columns.{Tables}
-use Rattle.sqlread.specs.Meaning.{schema_of}
+use Rattle.sqlread.specs.Meaning.{language_of}
 use Rattle.keep.specs.Log.{is_entry, is_numbered}
 use Rattle.raft.specs.declared.state.Work.{Work}
 use Rattle.raft.specs.declared.state.Work.TheVariants.{Local, Delivered}
@@ -36,7 +36,7 @@ neither false b e = (refl, e)
 neither true b e = absurd (cc e)
 
 -- terms do not fall and are not above the member's, stamps rise, and each entry is one by itself
-pub record Forms (schema : Schema) (y : Node) : Type 0 where
+pub record Forms (schema : Language) (y : Node) : Type 0 where
   pub rises : go_on None y.term y.log ≡ true
   pub entries : list_all (is_entry schema) y.log ≡ true
 
@@ -45,14 +45,14 @@ pub record Stands (x : Node) : Type 0 where
   pub stands : is_candidate x.role ≡ true → 1 ≤ x.term
   pub leads : is_leader x.role ≡ true → 1 ≤ x.term
 
-record Formed (schema : Schema) (x : Node) (effect : Effect) : Type 0 where
+record Formed (schema : Language) (x : Node) (effect : Effect) : Type 0 where
   pub forms : Forms schema (node_after x effect)
 
-record FormedAfter (schema : Schema) (a : After) : Type 0 where
+record FormedAfter (schema : Language) (a : After) : Type 0 where
   pub forms : Forms schema a.node
 
 -- the same log in a term that is no less
-raised : (schema : Schema) (x y : Node) → y.log ≡ x.log → x.term ≤ y.term → Forms schema x → Forms schema y
+raised : (schema : Language) (x y : Node) → y.log ≡ x.log → x.term ≤ y.term → Forms schema x → Forms schema y
 raised schema x y same up f = record {
   rises = rw same (higher None x.term y.term x.log up f.rises);
   entries = rw same f.entries;
@@ -72,7 +72,7 @@ over_none None b = omega arith
 over_none (Some a) None = omega arith
 over_none (Some a) (Some b) = omega arith
 
-extended_forms : (schema : Schema) (reading : ℤ) (request : Option Request) (x : Node) → 1 ≤ x.term → is_time_full x.floor x.log ≡ false → is_numbered request ≡ true → spells schema request ≡ true → Forms schema x → Forms schema (extended reading request x)
+extended_forms : (schema : Language) (reading : ℤ) (request : Option Request) (x : Node) → 1 ≤ x.term → is_time_full x.floor x.log ≡ false → is_numbered request ≡ true → spells schema request ≡ true → Forms schema x → Forms schema (extended reading request x)
 extended_forms schema reading request x first room numbered reads f =
     let least = least_over x.floor x.log in
     let e : Entry = record { term = x.term; stamp = stamp reading least; request = request } in
@@ -81,46 +81,46 @@ extended_forms schema reading request x first room numbered reads f =
     let fine : is_entry schema e ≡ true = joint _ _ (le-leb e.stamp TIME_LAST (stamp_below reading least (not_full x.floor x.log room))) (joint _ _ numbered reads) in
     record { rises = pushed_rises x.log e f.rises first later; entries = pushed_entries (is_entry schema) x.log e f.entries fine }
 
-append_own_forms : (schema : Schema) (n me : ℕ) (reading : ℤ) (request : Option Request) (x : Node) → Stands x → is_numbered request ≡ true → spells schema request ≡ true → Forms schema x → Formed schema x (append_own n me reading request x)
+append_own_forms : (schema : Language) (n me : ℕ) (reading : ℤ) (request : Option Request) (x : Node) → Stands x → is_numbered request ≡ true → spells schema request ≡ true → Forms schema x → Formed schema x (append_own n me reading request x)
 unfolding append_own
 append_own_forms schema n me reading request x s numbered reads f =
     let P : Effect → Type 0 = Formed schema x in
     told P (not (is_leader x.role)) _ _ (λ h. record { forms = f }) (λ leads. told P (is_time_full x.floor x.log) _ _ (λ h. record { forms = f }) (λ room. told P (is_log_full x.log) _ _ (λ h. record { forms = f }) (λ h.
     record { forms = extended_forms schema reading request x (s.leads (is_so (is_leader x.role) leads)) room numbered reads f })))
 
-time_out_forms : (schema : Schema) (n me : ℕ) (x : Node) → Forms schema x → Formed schema x (time_out n me x)
+time_out_forms : (schema : Language) (n me : ℕ) (x : Node) → Forms schema x → Formed schema x (time_out n me x)
 unfolding time_out
 time_out_forms schema n me x f =
     let P : Effect → Type 0 = Formed schema x in
     told P (is_leader x.role) _ _ (λ h. record { forms = f }) (λ h. told P (nat_le TERM_LAST x.term) _ _ (λ h. record { forms = f }) (λ h.
     record { forms = record { rises = higher None x.term (x.term + 1) x.log (omega arith) f.rises; entries = f.entries } }))
 
-beat_forms : (schema : Schema) (n me : ℕ) (x : Node) → Forms schema x → Formed schema x (on_input n me Beat x)
+beat_forms : (schema : Language) (n me : ℕ) (x : Node) → Forms schema x → Formed schema x (on_input n me Beat x)
 beat_forms schema n me x f = told (Formed schema x) (is_leader x.role) _ _ (λ h. record { forms = f }) (λ h. record { forms = f })
 
-unless_forms : (schema : Schema) (r : Result (List Statement) Refusal) (effect : Effect) (x : Node) → Forms schema x → (is_ok r ≡ true → Formed schema x effect) → Formed schema x (elim (r) [ Ok ss ↦ effect | Err refusal ↦ Refuses refusal ])
+unless_forms : (schema : Language) (r : Result (List Statement) Refusal) (effect : Effect) (x : Node) → Forms schema x → (is_ok r ≡ true → Formed schema x effect) → Formed schema x (elim (r) [ Ok ss ↦ effect | Err refusal ↦ Refuses refusal ])
 unless_forms schema (Ok statements) effect x f h = h refl
 unless_forms schema (Err refusal) effect x f h = record { forms = f }
 
-ask_forms : (schema : Schema) (n me : ℕ) (reading : ℤ) (x : Node) → Forms schema x → Formed schema x (ask_floor n me reading x)
+ask_forms : (schema : Language) (n me : ℕ) (reading : ℤ) (x : Node) → Forms schema x → Formed schema x (ask_floor n me reading x)
 unfolding ask_floor
 ask_forms schema n me reading x f =
     told (Formed schema x) (is_leader x.role && has_term (last_entry x.log) x.term) _ _ (λ h. record { forms = record { rises = f.rises; entries = f.entries } }) (λ h. record { forms = f })
 
-hand_forms : (schema : Tables) (n me : ℕ) (input : Input) (x : Node) → Stands x → IsRanged (Local input) → Forms (schema_of schema) x → Formed (schema_of schema) x (hand (schema_of schema) n me input x)
-hand_forms schema n me Timeout x s ranged f = time_out_forms (schema_of schema) n me x f
-hand_forms schema n me Beat x s ranged f = beat_forms (schema_of schema) n me x f
-hand_forms schema n me (Close reading) x s ranged f = append_own_forms (schema_of schema) n me reading None x s refl refl f
-hand_forms schema n me (Floor reading) x s ranged f = ask_forms (schema_of schema) n me reading x f
-hand_forms schema n me (Submit reading request) x s ranged f = unless_forms (schema_of schema) ((schema_of schema).reads request.text) _ x f (λ reads. append_own_forms (schema_of schema) n me reading (Some request) x s ranged reads f)
+hand_forms : (schema : Tables) (n me : ℕ) (input : Input) (x : Node) → Stands x → IsRanged (Local input) → Forms (language_of schema) x → Formed (language_of schema) x (hand (language_of schema) n me input x)
+hand_forms schema n me Timeout x s ranged f = time_out_forms (language_of schema) n me x f
+hand_forms schema n me Beat x s ranged f = beat_forms (language_of schema) n me x f
+hand_forms schema n me (Close reading) x s ranged f = append_own_forms (language_of schema) n me reading None x s refl refl f
+hand_forms schema n me (Floor reading) x s ranged f = ask_forms (language_of schema) n me reading x f
+hand_forms schema n me (Submit reading request) x s ranged f = unless_forms (language_of schema) ((language_of schema).reads request.text) _ x f (λ reads. append_own_forms (language_of schema) n me reading (Some request) x s ranged reads f)
 
 -- ---- messages
 
-opened_forms : (schema : Schema) (reading : ℤ) (x : Node) → 1 ≤ x.term → Forms schema x → Forms schema (opened reading x)
+opened_forms : (schema : Language) (reading : ℤ) (x : Node) → 1 ≤ x.term → Forms schema x → Forms schema (opened reading x)
 opened_forms schema reading x first f =
     told (Forms schema) (is_time_full x.floor x.log || is_log_full x.log) _ _ (λ h. f) (λ h. extended_forms schema reading None x first (neither (is_time_full x.floor x.log) (is_log_full x.log) h).0 refl refl f)
 
-vote_forms : (schema : Schema) (n me : ℕ) (reading : ℤ) (sender term : ℕ) (given : Bool) (floor : Option ℕ) (x : Node) → Stands x → Forms schema x → FormedAfter schema (on_vote n me reading sender term given floor x)
+vote_forms : (schema : Language) (n me : ℕ) (reading : ℤ) (sender term : ℕ) (given : Bool) (floor : Option ℕ) (x : Node) → Stands x → Forms schema x → FormedAfter schema (on_vote n me reading sender term given floor x)
 unfolding on_vote
 vote_forms schema n me reading sender term given floor x s f =
     let P : After → Type 0 = FormedAfter schema in
@@ -131,12 +131,12 @@ vote_forms schema n me reading sender term given floor x s f =
     (λ lost. record { forms = record { rises = f.rises; entries = f.entries } }))
     (λ h. record { forms = f })
 
-request_vote_forms : (schema : Schema) (me sender term i t : ℕ) (x : Node) → Forms schema x → FormedAfter schema (on_request_vote me sender term i t x)
+request_vote_forms : (schema : Language) (me sender term i t : ℕ) (x : Node) → Forms schema x → FormedAfter schema (on_request_vote me sender term i t x)
 unfolding on_request_vote
 request_vote_forms schema me sender term i t x f =
     told (FormedAfter schema) (grants sender term i t x) _ _ (λ h. record { forms = record { rises = f.rises; entries = f.entries } }) (λ h. record { forms = f })
 
-append_forms : (schema : Schema) (me sender term prev prev_term : ℕ) (es : List Entry) (commit : ℕ) (x : Node) → term ≤ x.term → list_all (is_entry schema) es ≡ true → Forms schema x → Formed schema x (on_append me sender term prev prev_term es commit x)
+append_forms : (schema : Language) (me sender term prev prev_term : ℕ) (es : List Entry) (commit : ℕ) (x : Node) → term ≤ x.term → list_all (is_entry schema) es ≡ true → Forms schema x → Formed schema x (on_append me sender term prev prev_term es commit x)
 unfolding on_append
 append_forms schema me sender term prev prev_term es commit x low new f =
     let P : Effect → Type 0 = Formed schema x in
@@ -155,25 +155,25 @@ append_forms schema me sender term prev prev_term es commit x low new f =
       };
     }))))
 
-reply_yes_forms : (schema : Schema) (n me sender matched : ℕ) (x : Node) → Forms schema x → Formed schema x (on_reply_yes n me sender matched x)
+reply_yes_forms : (schema : Language) (n me sender matched : ℕ) (x : Node) → Forms schema x → Formed schema x (on_reply_yes n me sender matched x)
 unfolding on_reply_yes
 reply_yes_forms schema n me sender matched x f = told (Formed schema x) (nat_lt (length x.log) matched) _ _ (λ h. record { forms = f }) (λ h. record { forms = record { rises = f.rises; entries = f.entries } })
 
-reply_no_forms : (schema : Schema) (me sender : ℕ) (x : Node) → Forms schema x → Formed schema x (on_reply_no me sender x)
+reply_no_forms : (schema : Language) (me sender : ℕ) (x : Node) → Forms schema x → Formed schema x (on_reply_no me sender x)
 unfolding on_reply_no
 reply_no_forms schema me sender x f = record { forms = record { rises = f.rises; entries = f.entries } }
 
-reply_forms : (schema : Schema) (n me sender term : ℕ) (ok : Bool) (matched : ℕ) (x : Node) → Forms schema x → Formed schema x (on_reply n me sender term ok matched x)
+reply_forms : (schema : Language) (n me sender term : ℕ) (ok : Bool) (matched : ℕ) (x : Node) → Forms schema x → Formed schema x (on_reply n me sender term ok matched x)
 reply_forms schema n me sender term ok matched x f =
     let P : Effect → Type 0 = Formed schema x in
     told P (is_leader x.role && (term == x.term)) _ _ (λ h. told P ok _ _ (λ h. reply_yes_forms schema n me sender matched x f) (λ h. reply_no_forms schema me sender x f)) (λ h. record { forms = f })
 
-seek_forms : (schema : Schema) (me sender term index floor : ℕ) (x : Node) → Forms schema x → Formed schema x (on_seek me sender term index floor x)
+seek_forms : (schema : Language) (me sender term index floor : ℕ) (x : Node) → Forms schema x → Formed schema x (on_seek me sender term index floor x)
 unfolding on_seek
 seek_forms schema me sender term index floor x f =
     told (Formed schema x) (nat_lt term x.term) _ _ (λ h. record { forms = f }) (λ h. told (Formed schema x) (is_leader x.role) _ _ (λ h. record { forms = f }) (λ h. record { forms = record { rises = f.rises; entries = f.entries } }))
 
-stored_forms : (schema : Schema) (n me sender term index floor : ℕ) (x : Node) → Forms schema x → FormedAfter schema (on_stored n me sender term index floor x)
+stored_forms : (schema : Language) (n me sender term index floor : ℕ) (x : Node) → Forms schema x → FormedAfter schema (on_stored n me sender term index floor x)
 unfolding on_stored
 stored_forms schema n me sender term index floor x f =
     let same : Forms schema (with_stored sender x) = record { rises = f.rises; entries = f.entries } in
@@ -181,7 +181,7 @@ stored_forms schema n me sender term index floor x f =
     (λ h. told (FormedAfter schema) (not (is_majority n (is_in x.stored)) && is_majority n (is_in (with_stored sender x).stored)) _ _ (λ h. record { forms = record { rises = f.rises; entries = f.entries } }) (λ h. record { forms = same }))
     (λ h. record { forms = f })
 
-body_forms : (schema : Schema) (n me : ℕ) (reading : ℤ) (sender term : ℕ) (b : Body) (x : Node) → Stands x → term ≤ x.term → list_all (is_entry schema) (entries_of b) ≡ true → Forms schema x → Formed schema x (on_body n me reading sender term b x)
+body_forms : (schema : Language) (n me : ℕ) (reading : ℤ) (sender term : ℕ) (b : Body) (x : Node) → Stands x → term ≤ x.term → list_all (is_entry schema) (entries_of b) ≡ true → Forms schema x → Formed schema x (on_body n me reading sender term b x)
 body_forms schema n me reading sender term (RequestVote i t) x s low new f = record { forms = (request_vote_forms schema me sender term i t x f).forms }
 body_forms schema n me reading sender term (Vote given floor) x s low new f = record { forms = (vote_forms schema n me reading sender term given floor x s f).forms }
 body_forms schema n me reading sender term (Append prev prev_term es commit) x s low new f = append_forms schema me sender term prev prev_term es commit x low new f
@@ -191,12 +191,12 @@ body_forms schema n me reading sender term (Stored index floor) x s low new f = 
 body_forms schema n me reading sender term (Seal index floor) x s low new f = record { forms = record { rises = f.rises; entries = f.entries } }
 
 -- the term that is heard of
-record Heard (schema : Schema) (term : ℕ) (y : Node) : Type 0 where
+record Heard (schema : Language) (term : ℕ) (y : Node) : Type 0 where
   pub forms : Forms schema y
   pub stands : Stands y
   pub low : term ≤ y.term
 
-hears_forms : (schema : Schema) (term : ℕ) (x : Node) → Stands x → Forms schema x → Heard schema term (hears term x)
+hears_forms : (schema : Language) (term : ℕ) (x : Node) → Stands x → Forms schema x → Heard schema term (hears term x)
 unfolding hears
 hears_forms schema term x s f = elim (ltb_tells x.term term) [
   | inl lt ↦ rw lt.0 (record {
@@ -207,13 +207,13 @@ hears_forms schema term x s f = elim (ltb_tells x.term term) [
   | inr ge ↦ rw ge.0 (record { forms = f; stands = s; low = ge.1 })
 ]
 
-after_heard : (schema : Schema) (x y : Node) (effect : Effect) → Forms schema x → Formed schema y effect → Formed schema x effect
+after_heard : (schema : Language) (x y : Node) (effect : Effect) → Forms schema x → Formed schema y effect → Formed schema x effect
 after_heard schema x y (Moves a) f h = record { forms = h.forms }
 after_heard schema x y (Refuses refusal) f h = record { forms = f }
 after_heard schema x y Nothing f h = record { forms = f }
 
 -- what is in range and reads is an entry
-entries_fine : (schema : Schema) (es : List Entry) → list_all is_ranged es ≡ true → list_all (λ e. spells schema e.request) es ≡ true → list_all (is_entry schema) es ≡ true
+entries_fine : (schema : Language) (es : List Entry) → list_all is_ranged es ≡ true → list_all (λ e. spells schema e.request) es ≡ true → list_all (is_entry schema) es ≡ true
 entries_fine schema [] a b = refl
 entries_fine schema (e ∷ es) a b =
     let ranged = parts (is_ranged e) (list_all is_ranged es) a in
@@ -221,7 +221,7 @@ entries_fine schema (e ∷ es) a b =
     let range = parts (nat_le e.stamp TIME_LAST) (is_numbered e.request) ranged.0 in
     joint _ _ (joint _ _ range.0 (joint _ _ range.1 reads.0)) (entries_fine schema es ranged.1 reads.1)
 
-message_forms : (schema : Schema) (n me : ℕ) (reading : ℤ) (m : Message) (x : Node) → Stands x → list_all is_ranged (entries_of m.body) ≡ true → Forms schema x → Formed schema x (on_message schema n me reading m x)
+message_forms : (schema : Language) (n me : ℕ) (reading : ℤ) (m : Message) (x : Node) → Stands x → list_all is_ranged (entries_of m.body) ≡ true → Forms schema x → Formed schema x (on_message schema n me reading m x)
 message_forms schema n me reading m x s ranged f =
     told (Formed schema x) (is_honest schema n me m) _ _ (λ honest.
     let h = hears_forms schema m.term x s f in
@@ -229,6 +229,6 @@ message_forms schema n me reading m x s ranged f =
     let reads = (parts _ (list_all (λ e. spells schema e.request) (entries_of m.body)) told_floor.0).1 in
     after_heard schema x (hears m.term x) _ f (body_forms schema n me reading m.sender m.term m.body (hears m.term x) h.stands h.low (entries_fine schema (entries_of m.body) ranged reads) h.forms)) (λ h. record { forms = f })
 
-pub work_forms : (schema : Tables) (n me : ℕ) (work : Work) (x : Node) → Stands x → IsRanged work → Forms (schema_of schema) x → Forms (schema_of schema) (node_after x (works schema n me work x))
+pub work_forms : (schema : Tables) (n me : ℕ) (work : Work) (x : Node) → Stands x → IsRanged work → Forms (language_of schema) x → Forms (language_of schema) (node_after x (works schema n me work x))
 work_forms schema n me (Local input) x s ranged f = (hand_forms schema n me input x s ranged f).forms
-work_forms schema n me (Delivered reading message) x s ranged f = (message_forms (schema_of schema) n me reading message x s ranged f).forms
+work_forms schema n me (Delivered reading message) x s ranged f = (message_forms (language_of schema) n me reading message x s ranged f).forms

@@ -16,10 +16,6 @@ pub greatest_le : (p : ℕ → Bool) (n : ℕ) → greatest p n ≤ n
 greatest_le p zero = omega arith
 greatest_le p (suc n) = elim (p (suc n)) as (λ b. cond b (suc n) (greatest p n) ≤ suc n) [ true ↦ omega arith | false ↦ omega (arith, greatest_le p n) ]
 
-greatest_hit : (p : ℕ → Bool) (n : ℕ) → 0 < n → p n ≡ true → greatest p n ≡ n
-greatest_hit p zero h e = absurd (omega (arith, h))
-greatest_hit p (suc n) h e = rw e refl
-
 -- none passes above the lower index
 skip : (p : ℕ → Bool) (lo hi : ℕ) → lo ≤ hi → ((j : ℕ) → lo < j → j ≤ hi → p j ≡ false) → greatest p hi ≡ greatest p lo
 skip p lo zero le none = let e : lo ≡ zero = omega (arith, le) in rw e refl
@@ -95,14 +91,6 @@ held_skip n me i x first lacks =
 
 pub commits_low : (n me i : ℕ) (x : Node) → i ≤ x.commit → max x.commit (greatest (is_matched n me x) i) ≡ x.commit
 commits_low n me i x low = omega (arith, low, greatest_le (is_matched n me x) i)
-
-matched_there : (n me i : ℕ) (x : Node) → is_majority n (holds_to me x.matched i) ≡ true → term_at x.log i ≡ x.term → is_matched n me x i ≡ true
-matched_there n me i x held own = elim (eqb_tells (term_at x.log i) x.term) [ inl h ↦ rw (h.0, held) refl | inr h ↦ absurd (h.1 own) ]
-
-pub commits_held : (n me i : ℕ) (x : Node) → x.commit < i → is_majority n (holds_to me x.matched i) ≡ true → term_at x.log i ≡ x.term → max x.commit (greatest (is_matched n me x) i) ≡ i
-commits_held n me i x past held own =
-    let here = greatest_hit (is_matched n me x) i (omega (arith, past)) (matched_there n me i x held own) in
-    omega (arith, past, here)
 
 unmatched : (n me j : ℕ) (x : Node) → (term_at x.log j ≡ x.term → ⊥) → is_matched n me x j ≡ false
 unmatched n me j x other = elim (eqb_tells (term_at x.log j) x.term) [ inl h ↦ absurd (other h.1) | inr h ↦ rw h.0 refl ]

@@ -1,7 +1,6 @@
 -- What is committed stays as it is.
 use Rattle.std.proofs.Common.{◌≡◌, ◌∙◌, ℕ, ℤ, ◌+◌, ◌-◌, ◌≤◌, ◌<◌, Bool, true, false, not, cond, ◌==◌, nat_lt, nat_le, ◌&&◌, ◌||◌, Option, Some, None, Result, Ok, Err, List, [], ◌∷◌, take, drop, length, refl, sym, subst, arith, inl, inr}
-use Rattle.std.proofs.Common.{length-append}
-use Rattle.std.proofs.lemmas.List.{take-append-le, take-take, length-take, length-drop}
+use Rattle.std.proofs.lemmas.List.{take-append-le, take-take, length-take}
 use Rattle.std.proofs.lemmas.Bool.Decides.{eqb_tells}
 use Rattle.fault.specs.declared.refusal.Refusal.{Refusal}
 use Rattle.model.specs.declared.entry.Entry.{Entry}
@@ -13,13 +12,13 @@ use Rattle.model.specs.declared.message.Input.{Input}
 use Rattle.model.specs.declared.message.Input.TheVariants.{Timeout, Beat, Close, Floor, Submit}
 use Rattle.model.specs.Stamps.{greater, stamp}
 use Rattle.model.specs.Logs.{last_entry, least_over}
-use Rattle.model.specs.Transactions.{Schema, Statement}
+use Rattle.model.specs.Transactions.{Language, Statement}
 use Rattle.model.specs.Members.{Node, agreed, has_term, is_leader, is_candidate, is_majority, is_in, stands}
 use Rattle.model.specs.Steps.{After, Effect, Moves, Refuses, Nothing, TERM_LAST, LOG_LIMIT, accepted, time_out, append_own, on_input, is_time_full, is_log_full, extended, opened, crowned, counted, hears, in_term, grants, on_request_vote, on_vote, continues, cuts_below, follows, takes_entries, commits, noted, seal_floor, on_append, on_reply, on_reply_yes, on_reply_no, ask_floor, asks_for, on_seek, on_stored, with_stored, on_body, is_honest, on_message}
 use Rattle.model.specs.Worlds.{hand}
 use Rattle.model.specs.Kept.{node_after}
 use Rattle.sqlchecks.specs.Columns.{Tables}
-use Rattle.sqlread.specs.Meaning.{schema_of}
+use Rattle.sqlread.specs.Meaning.{language_of}
 use Rattle.raft.specs.declared.state.Core.{Core}
 use Rattle.raft.specs.declared.state.Work.{Work}
 use Rattle.raft.specs.declared.state.Work.TheVariants.{Local, Delivered}
@@ -30,6 +29,7 @@ use Rattle.raft.specs.View.{node_of, works, effect_of, EffectFits, Grows}
 use Rattle.model.specs.declared.member.SealedFloor.{SealedFloor}
 use Rattle.raft.proofs.Sealing.{greater_more, greater_self}
 use Rattle.raft.proofs.Lists.{Between, agreed_between, ltb_tells, is_so, stands_within}
+use Rattle.raft.proofs.LogFacts.{neither}
 
 -- ---- tests
 
@@ -40,10 +40,6 @@ told P false u v p q = q refl
 both : {A : Type 0} (P : A → Type 0) (b : Bool) (u v : A) → P u → P v → P (cond b u v)
 both P true u v p q = p
 both P false u v p q = q
-
-neither : (a b : Bool) → (a || b) ≡ false → (a ≡ false) × (b ≡ false)
-neither false b e = (refl, e)
-neither true b e = absurd (cc e)
 
 not_both : (a b : Bool) → (a && b) ≡ false → a ≡ true → b ≡ false
 not_both true b e h = e
@@ -73,30 +69,6 @@ accepted_keeps c log prev es within e =
           let lt : j < prev + length es = omega (arith, other.1, far.high) in
           let after : c ≤ j = cut_after c log prev es e lt in
           rw other.0 (take-append-le c (take j log) (drop (j - prev) es) (omega (arith, length-take j log, far.most, after)) ∙ take-take c j log after)
-    ]
-
-pub accepted_reaches : (log : List Entry) (prev : ℕ) (es : List Entry) → prev ≤ length log → prev + length es ≤ length (accepted log prev es)
-accepted_reaches log prev es within =
-    let j = agreed log prev es in
-    let far : Between prev (prev + length es) (length log) j = agreed_between log es prev within in
-    elim (eqb_tells j (prev + length es)) [
-      | inl same ↦ rw same.0 (omega (arith, same.1, far.most))
-      | inr other ↦
-          let len = length-append (take j log) (drop (j - prev) es) in
-          rw other.0 (omega (arith, len, length-take j log, length-drop (j - prev) es, far.low, far.high, far.most))
-    ]
-
-pub accepted_holds : (c : ℕ) (log : List Entry) (prev : ℕ) (es : List Entry) → prev ≤ length log → c ≤ length log → cuts_below c log prev es ≡ false → c ≤ length (accepted log prev es)
-accepted_holds c log prev es within small e =
-    let j = agreed log prev es in
-    let far : Between prev (prev + length es) (length log) j = agreed_between log es prev within in
-    elim (eqb_tells j (prev + length es)) [
-      | inl same ↦ rw same.0 small
-      | inr other ↦
-          let lt : j < prev + length es = omega (arith, other.1, far.high) in
-          let after : c ≤ j = cut_after c log prev es e lt in
-          let len = length-append (take j log) (drop (j - prev) es) in
-          rw other.0 (omega (arith, len, length-take j log, far.most, after))
     ]
 
 -- ---- a step
@@ -145,7 +117,7 @@ unless_stays : (r : Result (List Statement) Refusal) (effect : Effect) (x : Node
 unless_stays (Ok statements) effect x h = h
 unless_stays (Err refusal) effect x h = refused x refusal
 
-hand_stays : (schema : Schema) (n me : ℕ) (input : Input) (x : Node) → x.commit ≤ length x.log → Stays x (hand schema n me input x)
+hand_stays : (schema : Language) (n me : ℕ) (input : Input) (x : Node) → x.commit ≤ length x.log → Stays x (hand schema n me input x)
 hand_stays schema n me Timeout x h = input_stays n me Timeout x h
 hand_stays schema n me Beat x h = input_stays n me Beat x h
 hand_stays schema n me (Close reading) x h = input_stays n me (Close reading) x h
@@ -232,7 +204,7 @@ heard x y (Moves a) e f g h = record { commit = rw f at h.commit; log = rw (e, f
 heard x y (Refuses refusal) e f g h = refused x refusal
 heard x y Nothing e f g h = nothing x
 
-message_stays : (schema : Schema) (n me : ℕ) (reading : ℤ) (m : Message) (x : Node) → x.commit ≤ length x.log → Stays x (on_message schema n me reading m x)
+message_stays : (schema : Language) (n me : ℕ) (reading : ℤ) (m : Message) (x : Node) → x.commit ≤ length x.log → Stays x (on_message schema n me reading m x)
 message_stays schema n me reading m x h =
     let y = hears m.term x in
     let log = hears_log m.term x in
@@ -241,8 +213,8 @@ message_stays schema n me reading m x h =
     both (Stays x) (is_honest schema n me m) _ _ (heard x y _ log commit (hears_sealed m.term x) (body_stays n me reading m.sender m.term m.body y small)) (nothing x)
 
 work_stays : (schema : Tables) (n me : ℕ) (work : Work) (x : Node) → x.commit ≤ length x.log → Stays x (works schema n me work x)
-work_stays schema n me (Local input) x h = hand_stays (schema_of schema) n me input x h
-work_stays schema n me (Delivered reading message) x h = message_stays (schema_of schema) n me reading message x h
+work_stays schema n me (Local input) x h = hand_stays (language_of schema) n me input x h
+work_stays schema n me (Delivered reading message) x h = message_stays (language_of schema) n me reading message x h
 
 -- ---- what a core gives
 

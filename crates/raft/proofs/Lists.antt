@@ -1,6 +1,5 @@
-use Rattle.std.proofs.Common.{◌≡◌, ◌⊎◌, ◌∙◌, ℕ, zero, suc, ◌+◌, ◌-◌, ◌≤◌, ◌<◌, min, Bool, ◌&&◌, true, false, not, cond, nat_lt, if◌then◌else◌, Option, Some, option_map, List, [], ◌∷◌, slice_get, slice_set, slice_index_or, ◌++◌, map, take, drop, length, replicate, refl, sym, ap, arith, add-one, inl, inr}
-use Rattle.std.proofs.Math.Seq.{take-length, drop-length}
-use Rattle.std.proofs.lemmas.List.{take_all, drop_all, map_push, length-take, length-drop}
+use Rattle.std.proofs.Common.{◌≡◌, ◌⊎◌, ◌∙◌, ℕ, zero, suc, ◌+◌, ◌-◌, ◌≤◌, ◌<◌, Bool, ◌&&◌, true, false, not, cond, nat_lt, if◌then◌else◌, Option, Some, option_map, List, [], ◌∷◌, slice_get, slice_set, slice_index_or, ◌++◌, map, take, drop, length, replicate, refl, sym, ap, arith, add-one, inl, inr}
+use Rattle.std.proofs.lemmas.List.{drop_all, map_push, length-take, length-drop}
 use Rattle.std.proofs.Common.{length-append}
 use Rattle.std.proofs.lemmas.Bool.Decides.{leb_tells, eqb_tells}
 use Rattle.std.proofs.lemmas.Option.{slice_get_past}
@@ -11,18 +10,6 @@ use Rattle.model.specs.Stamps.{above}
 use Rattle.model.specs.Members.{others, agreed, has_term, term_of, stands}
 use Rattle.model.specs.Steps.{go_on, accepted}
 use Rattle.raft.specs.Follows.{may_follow, go_on_from}
-
-pub take_min : {A : Type 0} (ys : List A) (k : ℕ) → take (min (length ys) k) ys ≡ take k ys
-take_min ys k = elim (leb_tells (length ys) k) [
-  | inl h ↦ let e : min (length ys) k ≡ length ys = omega (arith, h.1) in rw e (take-length ys ∙ sym (take_all k ys h.1))
-  | inr h ↦ let e : min (length ys) k ≡ k = omega (arith, h.1) in rw e refl
-]
-
-pub drop_min : {A : Type 0} (ys : List A) (k : ℕ) → drop (min k (length ys)) ys ≡ drop k ys
-drop_min ys k = elim (leb_tells (length ys) k) [
-  | inl h ↦ let e : min k (length ys) ≡ length ys = omega (arith, h.1) in rw e (drop-length ys ∙ sym (drop_all k ys h.1))
-  | inr h ↦ let e : min k (length ys) ≡ k = omega (arith, h.1) in rw e refl
-]
 
 -- what a loop over the members sends: nothing to me, one message to each other
 pub sent_more : {A : Type 0} (f : ℕ → A) (i me : ℕ) → (i + 1 ≡ me → ⊥) → map f (others (i + 1) me) ≡ map f (others i me) ++ f (i + 1) ∷ []

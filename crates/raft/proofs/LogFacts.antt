@@ -1,5 +1,5 @@
 -- What forms a log, as entries come to it.
-use Rattle.std.proofs.Common.{◌≡◌, ◌∙◌, ℕ, ℤ, pos, negsuc, zero, suc, ◌+◌, ◌-◌, ◌≤◌, ◌<◌, max, Bool, true, false, cond, nat_lt, nat_le, ◌&&◌, Option, Some, None, option_map, List, [], ◌∷◌, ◌++◌, take, drop, length, slice_get, get_or, bytes_eq, refl, sym, ap, subst, arith, inl, inr}
+use Rattle.std.proofs.Common.{◌≡◌, ◌∙◌, ℕ, ℤ, pos, negsuc, zero, suc, ◌+◌, ◌-◌, ◌≤◌, ◌<◌, max, Bool, true, false, cond, nat_lt, nat_le, ◌&&◌, ◌||◌, Option, Some, None, option_map, List, [], ◌∷◌, ◌++◌, take, drop, length, slice_get, get_or, bytes_eq, refl, sym, ap, subst, arith, inl, inr}
 use Rattle.std.proofs.Math.Seq.{take-length}
 use Rattle.std.proofs.lemmas.List.{take-append-drop}
 use Rattle.std.proofs.lemmas.List.Folds.{list_all-append}
@@ -11,10 +11,10 @@ use Rattle.model.specs.declared.entry.Entry.{Entry}
 use Rattle.model.specs.Lists.{nth}
 use Rattle.model.specs.Logs.{least_stamp}
 use Rattle.model.specs.Stamps.{TIME_LAST, above, stamp}
-use Rattle.model.specs.Transactions.{Schema}
+use Rattle.model.specs.Transactions.{Language}
 use Rattle.model.specs.Members.{agreed, term_of, term_at}
 use Rattle.model.specs.Steps.{TERM_LAST, accepted, continues, go_on, spells}
-use Rattle.keep.specs.Log.{is_entry, is_numbered}
+use Rattle.keep.specs.Log.{is_entry, is_numbered, is_vote}
 use Rattle.raft.proofs.Lists.{Between, agreed_between}
 
 -- ---- tests
@@ -22,6 +22,10 @@ use Rattle.raft.proofs.Lists.{Between, agreed_between}
 pub parts : (a b : Bool) → (a && b) ≡ true → (a ≡ true) × (b ≡ true)
 parts true b e = (refl, e)
 parts false b e = absurd (cc e)
+
+pub neither : (a b : Bool) → (a || b) ≡ false → (a ≡ false) × (b ≡ false)
+neither false b e = (refl, e)
+neither true b e = absurd (cc e)
 
 pub joint : (a b : Bool) → a ≡ true → b ≡ true → (a && b) ≡ true
 joint a b e f = rw (e, f) refl
@@ -154,10 +158,10 @@ all_got p [] i d lt h = absurd (omega (arith, lt))
 all_got p (e ∷ es) zero d lt h = (parts (p e) (list_all p es) h).0
 all_got p (e ∷ es) (suc i) d lt h = all_got p es i d (omega (arith, lt)) (parts (p e) (list_all p es) h).1
 
-pub reads_of : (schema : Schema) (e : Entry) → is_entry schema e ≡ true → spells schema e.request ≡ true
-reads_of schema e h =
-    let rest = parts (nat_le e.stamp TIME_LAST) (is_numbered e.request && spells schema e.request) h in
-    (parts (is_numbered e.request) (spells schema e.request) rest.1).1
+pub reads_of : (language : Language) (e : Entry) → is_entry language e ≡ true → spells language e.request ≡ true
+reads_of language e h =
+    let rest = parts (nat_le e.stamp TIME_LAST) (is_numbered e.request && spells language e.request) h in
+    (parts (is_numbered e.request) (spells language e.request) rest.1).1
 
 pub same_text : (xs ys : List ℕ) (b : Bool) → b ≡ bytes_eq xs ys → b ≡ true → xs ≡ ys
 same_text xs ys b is h = (bytes_eq-Decides xs ys).0 (sym is ∙ h)
@@ -209,3 +213,13 @@ terms_fit prev bound [] h f = refl
 terms_fit prev bound (e ∷ es) h f =
     let both = parts (fits prev bound e) (go_on (Some e) bound es) f in
     joint _ _ (le-leb e.term TERM_LAST (omega (arith, h, term_below prev bound e both.0))) (terms_fit (Some e) bound es h both.1)
+
+-- ---- a vote
+
+-- one of a group is one of a greater group
+pub vote_higher : (n m : ℕ) (vote : Option ℕ) → n ≤ m → is_vote n vote ≡ true → is_vote m vote ≡ true
+vote_higher n m None h f = refl
+vote_higher n m (Some v) h f =
+    let both = parts (nat_lt 0 v) (nat_le v n) f in
+    let below : v ≤ n = leb-true v n both.1 in
+    joint (nat_lt 0 v) (nat_le v m) both.0 (le-leb v m (omega (arith, below, h)))

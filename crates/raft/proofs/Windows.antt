@@ -1,18 +1,18 @@
--- A log of which the end is here and the rest on a shelf.
-use Rattle.std.proofs.Common.{◌≡◌, ◌∙◌, ℕ, zero, suc, ◌+◌, ◌-◌, ◌≤◌, ◌<◌, min, true, false, cond, Option, Some, None, option_map, List, [], ◌∷◌, ◌++◌, take, drop, length, slice_get, refl, sym, ap, subst, arith, inl, inr, rules}
+-- A log of which the end is here and the rest with its reader.
+use Rattle.std.proofs.Common.{◌≡◌, ◌∙◌, ℕ, zero, suc, ◌+◌, ◌-◌, ◌≤◌, ◌<◌, min, true, false, cond, Option, Some, None, option_map, List, [], ◌∷◌, ◌++◌, take, drop, length, slice_get, refl, sym, ap, subst, arith, rules}
 use Rattle.std.proofs.Common.{length-append, append_assoc}
-use Rattle.std.proofs.lemmas.List.{length-take, length-drop, take-append-le, take-take, take_all}
-use Rattle.std.proofs.lemmas.Bool.Decides.{eqb_tells, leb_tells}
+use Rattle.std.proofs.lemmas.List.{length-take, take-append-le, take-take}
 use Rattle.std.specs.Prelude.{vec_len}
 use Rattle.model.specs.declared.entry.Entry.{Entry}
 use Rattle.model.specs.Lists.{nth}
 use Rattle.model.specs.Logs.{closed, last_entry, least_over}
-use Rattle.model.specs.Members.{agreed, has_term, last_term, stands, term_at, term_of}
+use Rattle.model.specs.Members.{agreed, has_term, last_term, stands, term_of}
 use Rattle.model.specs.Stamps.{above, greater}
 use Rattle.model.specs.Steps.{continues}
-use Rattle.model.specs.Kept.{kept_under}
-use Rattle.raft.proofs.Lists.{agreed_reach, drop_min}
+use Rattle.raft.proofs.Lists.{agreed_reach}
+use Rattle.raft.specs.declared.short_log.ShortLog.{ShortLog}
 use Rattle.raft.specs.declared.state.Core.{Core}
+use Rattle.raft.specs.Saved.{whole}
 use Rattle.raft.specs.View.{log_of, Reaches}
 
 -- an entry of two lists, one after the other
@@ -58,7 +58,7 @@ last_seam (suc n) xs ys h = nth_seam (take (suc n) xs) ys (h (omega arith))
 pub last_of : (c : Core) (stored : List Entry) → last_entry (log_of c stored) ≡ last_entry c.log.tail.items
 last_of c stored =
     let len : vec_len c.log.tail ≡ length c.log.tail.items = search rules in
-    last_seam c.log.shelved stored c.log.tail.items (λ some. omega (arith, len, c.log.ends some))
+    last_seam c.log.elsewhere stored c.log.tail.items (λ some. omega (arith, len, c.log.ends some))
 
 pub last_term_of : (c : Core) (stored : List Entry) → last_term (log_of c stored) ≡ last_term c.log.tail.items
 last_term_of c stored = ap term_of (last_of c stored)
@@ -69,10 +69,13 @@ closed_of c stored = ap (λ (o : Option Entry). option_map (λ e. e.stamp) o) (l
 pub least_over_of : (c : Core) (stored : List Entry) (floor : Option ℕ) → least_over floor (log_of c stored) ≡ least_over floor c.log.tail.items
 least_over_of c stored floor = ap (λ (o : Option ℕ). above (greater o floor)) (closed_of c stored)
 
-pub length_of : (c : Core) (stored : List Entry) → Reaches c stored → length (log_of c stored) ≡ c.log.shelved + vec_len c.log.tail
-length_of c stored there =
-    let len : vec_len c.log.tail ≡ length c.log.tail.items = search rules in
-    length-append (take c.log.shelved stored) c.log.tail.items ∙ omega (arith, length-take c.log.shelved stored, there, len)
+pub whole_length : (l : ShortLog) (stored : List Entry) → l.elsewhere ≤ length stored → length (whole l stored) ≡ l.elsewhere + vec_len l.tail
+whole_length l stored there =
+    let len : vec_len l.tail ≡ length l.tail.items = search rules in
+    length-append (take l.elsewhere stored) l.tail.items ∙ omega (arith, length-take l.elsewhere stored, there, len)
+
+pub length_of : (c : Core) (stored : List Entry) → Reaches c stored → length (log_of c stored) ≡ c.log.elsewhere + vec_len c.log.tail
+length_of c stored there = whole_length c.log stored there
 
 pub log_pushed : (s : ℕ) (stored tail : List Entry) (e : Entry) → take s stored ++ (tail ++ e ∷ []) ≡ (take s stored ++ tail) ++ e ∷ []
 log_pushed s stored tail e = sym (append_assoc (take s stored) tail (e ∷ []))
@@ -168,37 +171,3 @@ seen_more log before place e low got =
     let there : slice_get log place ≡ Some e = subst (λ n. nth log n ≡ Some e) next got in
     let at : before + (place - before) ≡ place = omega (arith, low) in
     rw more (taken_next (drop before log) (place - before) e (got_dropped log before (place - before) ∙ ap (slice_get log) at ∙ there))
-
-pub seen_all : (log : List Entry) (before most first end : ℕ) → first ≡ min before (length log) → end ≡ min (length log) (first + most) → take (end - first) (drop first log) ≡ take most (drop before log)
-seen_all log before most first end from to =
-    let same : drop first log ≡ drop before log = ap (λ n. drop n log) from ∙ drop_min log before in
-    rw (← same) (elim (leb_tells (first + most) (length log)) [
-      | inl all ↦ let whole : end - first ≡ most = omega (arith, to, all.1) in rw whole refl
-      | inr some ↦
-          let few : length (drop first log) ≤ end - first = omega (arith, length-drop first log, to, from, some.1) in
-          take_all (end - first) (drop first log) few ∙ sym (take_all most (drop first log) (omega (arith, length-drop first log, some.1)))
-    ])
-
-pub missing : (log : List Entry) (place : ℕ) → place < length log → nth log (place + 1) ≡ None → ⊥
-missing log place lt gone =
-    let next : place + 1 ≡ suc place = omega arith in
-    there log place lt (subst (λ n. nth log n ≡ None) next gone)
-
--- the entry that a message would take the place of
-pub next_seen : (log window es : List Entry) (prev kept : ℕ) → window ≡ take 65 (drop (prev - 1) log) → length es ≤ 64 → kept ≡ kept_under prev es log → (kept ≡ length log → ⊥) → term_at window ((kept - (prev - 1)) + 1) ≡ term_at log (kept + 1)
-unfolding kept_under
-next_seen log window es prev kept seen few is other =
-    let j = agreed log prev es in
-    let reach = agreed_reach log es prev in
-    elim (eqb_tells j (prev + length es)) [
-      | inl same ↦ let all : kept ≡ length log = rw same.0 at is in absurd (other all)
-      | inr differ ↦
-          let least : kept ≡ min j (length log) = rw differ.0 at is in
-          let i = kept - (prev - 1) in
-          let near : i < 65 = omega (arith, least, reach.low, reach.high, differ.1, few) in
-          let low : prev ≤ kept = omega (arith, least, other, reach.low) in
-          let at : (prev - 1) + i ≡ kept = omega (arith, low) in
-          let next : i + 1 ≡ suc i = omega arith in
-          let after : kept + 1 ≡ suc kept = omega arith in
-          rw (next, after, seen) (ap term_of (got_taken (drop (prev - 1) log) i 65 near ∙ got_dropped log (prev - 1) i ∙ ap (slice_get log) at))
-    ]

@@ -1,17 +1,17 @@
--- What calls that read a shelf leave of it, and why they fail.
+-- What calls that read a reader leave of it, and why they fail.
 use Rattle.std.specs.Prelude.{◌≡◌, ◌⊎◌, ℕ, ◌≤◌, ◌<◌}
-use Rattle.model.specs.Transactions.{Schema}
+use Rattle.model.specs.Transactions.{Language}
 use Rattle.keep.specs.Durable.{Durable}
 use Rattle.keep.specs.declared.error.StoreError.{StoreError}
 use Rattle.keep.specs.declared.error.StoreError.TheVariants.{NoMemory, StoreFault}
 
--- Of a shelf before and after: whether it is honest, what it stores, what a next open may find, whom it serves, how often
+-- Of a reader before and after: whether it is honest, what it stores, what a next open may find, whom it serves, how often
 -- it has failed, and how often a save was asked of it. Nothing of it changed but what a failure changes.
-pub record IsRead (is is' : Type 0) (d d' : Durable) (holds holds' : Durable → Type 0) (serving serving' : ℕ → Schema → Type 0) (failed failed' saves saves' : ℕ) : Type 0 where
+pub record IsRead (is is' : Type 0) (d d' : Durable) (holds holds' : Durable → Type 0) (serving serving' : ℕ → Language → Type 0) (failed failed' saves saves' : ℕ) : Type 0 where
   pub honest : is' → is
   pub same : is' → d' ≡ d
   pub left : (x : Durable) → holds' x → holds x
-  pub serves : (members : ℕ) (tables : Schema) → serving members tables → serving' members tables
+  pub serves : (members : ℕ) (tables : Language) → serving members tables → serving' members tables
   pub counts : failed ≤ failed'
   pub unsaved : saves' ≡ saves
 

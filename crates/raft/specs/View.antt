@@ -1,16 +1,15 @@
 -- A core in the words of the definitions of a member and its step.
-use Rattle.std.specs.Prelude.{◌≡◌, ◌⊎◌, vec_len, ℕ, ◌+◌, ◌-◌, ◌≤◌, Bool, true, ◌&&◌, nat_lt, nat_le, if◌then◌else◌, List, [], ◌∷◌, ◌++◌, take, drop, length, Option, Some, None, MatchOption}
+use Rattle.std.specs.Prelude.{◌≡◌, ℕ, ◌-◌, ◌≤◌, Bool, true, ◌&&◌, nat_lt, nat_le, if◌then◌else◌, List, [], ◌∷◌, ◌++◌, take, drop, length, Option, Some, None, MatchOption}
 use Rattle.std.specs.List.{list_all}
 use Rattle.raft.specs.declared.state.Core.{Core}
 use Rattle.raft.specs.declared.state.Before.{Before}
 use Rattle.raft.specs.declared.state.Sending.{Sending}
-use Rattle.raft.specs.declared.state.Sending.TheVariants.{Nothing, Answer, VoteRequests, Append, Appends, Agreed, Accepted, Seeks, Seals, Learned}
+use Rattle.raft.specs.declared.state.Sending.TheVariants.{Nothing, Back, VoteRequests, Append, Appends, Agreed, Accepted, Seeks, Seals, Learned}
 use Rattle.raft.specs.declared.state.Work.{Work}
 use Rattle.raft.specs.declared.state.Work.TheVariants.{Local, Delivered}
 use Rattle.raft.specs.declared.state.Effect.{Effect as Given}
 use Rattle.raft.specs.declared.state.Effect.TheVariants.{Refused, Ignored, Done}
 use Rattle.raft.specs.declared.state.Taken.{Taken}
-use Rattle.raft.specs.declared.state.Mark.{Mark}
 use Rattle.keep.specs.declared.change.Change.{Change}
 use Rattle.keep.specs.declared.hard_state.HardState.{HardState}
 use Rattle.keep.specs.declared.state.State.{State}
@@ -26,19 +25,19 @@ use Rattle.model.specs.Stamps.{TIME_LAST, greater}
 use Rattle.model.specs.declared.entry.Entry.{Entry}
 use Rattle.model.specs.declared.entry.Request.{Request}
 use Rattle.model.specs.Lists.{nth_or}
-use Rattle.model.specs.Members.{Node, last_term, term_at}
-use Rattle.model.specs.Steps.{After, Effect, Moves, Refuses, answer, append_to, append_to_all, commits, entries_of, learned, on_message, settled, tell_all}
+use Rattle.model.specs.Members.{Node, last_term}
+use Rattle.model.specs.Steps.{After, Effect, Moves, Refuses, respond, append_to, append_to_all, commits, entries_of, learned, on_message, settled, tell_all}
 use Rattle.model.specs.Steps as steps
 use Rattle.model.specs.Worlds.{hand}
-use Rattle.model.specs.Kept.{kept_at}
+use Rattle.raft.specs.Saved.{IsSaved}
 use Rattle.sqlchecks.specs.Columns.{Tables}
-use Rattle.sqlread.specs.Meaning.{schema_of}
+use Rattle.sqlread.specs.Meaning.{language_of}
 
--- the whole log, where these are the entries on the shelf
+-- the whole log, where these are the entries that the reader has
 abbrev pub log_of : Core → List Entry → List Entry
-log_of c stored = take c.log.shelved stored ++ c.log.tail.items
+log_of c stored = take c.log.elsewhere stored ++ c.log.tail.items
 
--- the member that a core is, where these are the entries on the shelf
+-- the member that a core is, where these are the entries that the reader has
 abbrev pub node_of : Core → List Entry → Node
 node_of c stored = record {
   term = c.term;
@@ -66,9 +65,9 @@ hard_of x = record { term = x.term; vote = x.vote; floor = x.floor }
 abbrev pub hard_in : Core → HardState
 hard_in c = record { term = c.term; vote = c.vote; floor = c.floor }
 
--- the entries on the shelf are there
+-- the entries that the reader has are there
 abbrev pub Reaches : Core → List Entry → Type 0
-Reaches c stored = c.log.shelved ≤ length stored
+Reaches c stored = c.log.elsewhere ≤ length stored
 
 -- what is stored is what the member has
 pub record IsInStep (c : Core) (d : Durable) : Type 0 where
@@ -107,13 +106,8 @@ with_entry stamp request x = record x { log = x.log ++ record { term = x.term; s
 
 -- what the definitions say of this work
 abbrev pub works : Tables → ℕ → ℕ → Work → Node → Effect
-works schema n me (Local input) x = hand (schema_of schema) n me input x
-works schema n me (Delivered reading message) x = on_message (schema_of schema) n me reading message x
-
--- how much of the log this leaves
-abbrev pub kept_of : Work → List Entry → ℕ
-kept_of (Local input) log = length log
-kept_of (Delivered reading message) log = kept_at message.body log
+works schema n me (Local input) x = hand (language_of schema) n me input x
+works schema n me (Delivered reading message) x = on_message (language_of schema) n me reading message x
 
 -- what a core is after a step, and what it sends
 abbrev pub after_of : Core → List Entry → List Message → After
@@ -132,12 +126,12 @@ agrees n me sender x =
 -- what a member sends, and what it is then
 abbrev pub sends : ℕ → ℕ → Sending → Node → After
 sends n me Nothing x = record { node = x; sent = [] }
-sends n me (Answer to body) x = record { node = x; sent = answer x me to body }
+sends n me (Back to body) x = record { node = x; sent = respond x me to body }
 sends n me VoteRequests x = record { node = x; sent = tell_all n x me (RequestVote (length x.log) (last_term x.log)) }
 sends n me (Append to) x = record { node = x; sent = append_to x me to ∷ [] }
 sends n me Appends x = record { node = x; sent = append_to_all n x me }
 sends n me (Agreed sender) x = agrees n me sender x
-sends n me (Accepted to matched) x = record { node = settled x; sent = answer x me to (Reply true matched) }
+sends n me (Accepted to matched) x = record { node = settled x; sent = respond x me to (Reply true matched) }
 sends n me (Seeks asked) x = record { node = x; sent = tell_all n x me (Seek asked.index asked.floor) }
 sends n me (Seals seal) x = record { node = learned seal x; sent = tell_all n x me (Seal seal.index seal.floor) }
 sends n me (Learned seal) x = record { node = learned seal x; sent = [] }
@@ -145,7 +139,7 @@ sends n me (Learned seal) x = record { node = learned seal x; sent = [] }
 -- how many entries are looked at besides those that are sent: one to find what is committed, and one for a seal
 abbrev pub settling : Sending → ℕ
 settling Nothing = 0
-settling (Answer to body) = 0
+settling (Back to body) = 0
 settling VoteRequests = 0
 settling (Append to) = 0
 settling Appends = 0
@@ -198,7 +192,7 @@ Sees (Seal index floor) log window = Unit {0}
 -- it is that part of the log, and its texts spell transactions
 pub record IsWindow (schema : Tables) (body : Body) (log window : List Entry) : Type 0 where
   pub seen : Sees body log window
-  pub reads : list_all (is_entry (schema_of schema)) window ≡ true
+  pub reads : list_all (is_entry (language_of schema)) window ≡ true
 
 -- what is stored is as it was
 pub record IsStoredAlready (x y : Node) : Type 0 where
@@ -227,7 +221,7 @@ EffectFits x y (Done t) = ChangeFits x y t.change × (t.committed_before ≡ x.c
 
 -- once the change is stored, that is the log of such a member, and what the core has
 pub record IsStorable (new : Core) (change : Option Change) (d : Durable) : Type 0 where
-  pub forms : IsLog new.members (schema_of new.schema) (after_change change d)
+  pub forms : IsLog new.members (language_of new.schema) (after_change change d)
   pub step : IsInStep new (after_change change d)
 
 abbrev pub EffectForms : Core → Durable → Given Taken → Type 0
@@ -258,11 +252,6 @@ looks (Delivered reading message) = looked_at message.body
 abbrev pub LooksAt : Work → List Entry → List Entry → Type 0
 LooksAt (Local input) log window = Unit {0}
 LooksAt (Delivered reading message) log window = Sees message.body log window
-
--- it brings no more entries than a message may carry
-abbrev pub IsCarried : Work → Type 0
-IsCarried (Local input) = Unit {0}
-IsCarried (Delivered reading message) = length (entries_of message.body) ≤ 64
 
 -- the stamp is an instant, the client and the number are in range
 abbrev pub is_ranged : Entry → Bool
@@ -299,16 +288,8 @@ sent_by (Refused refusal) = 0
 sent_by Ignored = 0
 sent_by (Done t) = length t.messages.items
 
--- a step left the log as it was, as far as its length and the term of one entry tell
-abbrev pub IsAsBefore : Core → Mark → Type 0
-IsAsBefore c m = (c.log.shelved + vec_len c.log.tail ≡ m.length) × (c.log.shelved ≤ m.kept → term_at c.log.tail.items ((m.kept - c.log.shelved) + 1) ≡ m.next_term)
-
--- or it did not
-abbrev pub IsOther : Core → Mark → Type 0
-IsOther c m = c.log.shelved + vec_len c.log.tail ≡ m.length → (c.log.shelved ≤ m.kept) × (term_at c.log.tail.items ((m.kept - c.log.shelved) + 1) ≡ m.next_term → ⊥)
-
--- the change tells what is new since then
-abbrev pub IsSince : Core → Mark → Option Change → Type 0
-IsSince c m change =
-    (IsAsBefore c m × MatchOption change (hard_in c ≡ m.hard) (λ x. (x.hard ≡ hard_in c) × (x.kept ≡ c.log.shelved + vec_len c.log.tail) × (x.entries.items ≡ []) × (hard_in c ≡ m.hard → ⊥)))
-    ⊎ (IsOther c m × MatchOption change ⊥ (λ x. (x.hard ≡ hard_in c) × (x.kept ≡ m.kept) × (x.entries.items ≡ drop (m.kept - c.log.shelved) c.log.tail.items)))
+-- the change is how the log goes on after what is stored, and none where that is all and the hard state is as before
+abbrev pub IsNews : Core → List Entry → HardState → Option Change → Type 0
+IsNews c stored before change = MatchOption change
+    (IsSaved c.log × (hard_in c ≡ before))
+    (λ x. (x.hard ≡ hard_in c) × (x.kept ≡ c.log.saved) × (take c.log.saved (log_of c stored) ++ x.entries.items ≡ log_of c stored) × (IsSaved c.log → hard_in c ≡ before → ⊥))

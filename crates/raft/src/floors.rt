@@ -119,7 +119,7 @@ impl Core {
         }
         self.follow(sender);
         self.floor = greater(self.floor, Some(floor));
-        Effect::Done(Sending::Answer {
+        Effect::Done(Sending::Back {
             to: sender,
             body: Body::Stored { index, floor },
         })

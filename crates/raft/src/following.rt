@@ -1,9 +1,10 @@
 //! What a follower takes from its leader.
-ghost use Rattle.std.specs.Prelude.{◌≡◌, ◌+◌, ◌-◌, ◌<◌, ◌≤◌, ◌||◌, nat_lt, List, nat_le, length, take, drop, vec_len, IfOk, true, false};
+ghost use Rattle.std.specs.Prelude.{◌≡◌, ◌+◌, ◌-◌, ◌<◌, ◌≤◌, ◌||◌, nat_lt, List, nat_le, length, take, drop, vec_len, IfOk, true, false, OnOk};
 ghost use Rattle.std.specs.List.{list_all};
 ghost use Rattle.model.specs.declared.entry.Entry as in_log;
 ghost use Rattle.model.specs.Members.{agreed, stands};
 ghost use Rattle.model.specs.Steps.{accepted, cuts_below, on_append, follows, takes_entries, LOG_LIMIT, TERM_LAST};
+ghost use Rattle.raft.specs.Saved.{IsSaved, Tells};
 ghost use Rattle.raft.specs.View.{log_of, node_of, IsSameSeat, Reaches, outcome_of, asks_after, SameUnlessDone};
 
 use crate::logs::{agreed, continues, has_term};
@@ -21,7 +22,7 @@ impl Core {
         ghost stored: { List in_log.Entry }
         requires reaches { Reaches self.now stored }
         ensures value { window.now ≡ take 65 (drop (prev - 1) (log_of self.now stored)) → result ≡ stands (log_of self.now stored) prev prev_term }
-        ensures within { result ≡ true → prev ≤ self.now.log.shelved + vec_len self.now.log.tail }
+        ensures within { result ≡ true → prev ≤ self.now.log.elsewhere + vec_len self.now.log.tail }
     {
         prev == 0 || (prev <= self.log.length() && has_term(window, 0, prev_term))
     }
@@ -32,11 +33,11 @@ impl Core {
         ghost stored: { List in_log.Entry }
         requires reaches { Reaches self.now stored }
         requires few { length entries.now ≤ 64 }
-        requires within { prev ≤ self.now.log.shelved + vec_len self.now.log.tail }
+        requires within { prev ≤ self.now.log.elsewhere + vec_len self.now.log.tail }
         ensures value { window.now ≡ take 65 (drop (prev - 1) (log_of self.now stored)) → result ≡ agreed (log_of self.now stored) prev entries.now }
         ensures low { prev ≤ result }
         ensures high { result ≤ prev + length entries.now }
-        ensures within { result ≤ self.now.log.shelved + vec_len self.now.log.tail }
+        ensures within { result ≤ self.now.log.elsewhere + vec_len self.now.log.tail }
     {
         let first = prev.min(1);
         let index = prev - first + agreed(window, first, entries);
@@ -49,7 +50,7 @@ impl Core {
         ghost stored: { List in_log.Entry }
         requires reaches { Reaches self.now stored }
         requires few { length entries.now ≤ 64 }
-        requires within { prev ≤ self.now.log.shelved + vec_len self.now.log.tail }
+        requires within { prev ≤ self.now.log.elsewhere + vec_len self.now.log.tail }
         ensures value { index ≡ agreed (log_of self.now stored) prev entries.now → result ≡ (cuts_below self.now.commit (log_of self.now stored) prev entries.now || nat_lt LOG_LIMIT (length (accepted (log_of self.now stored) prev entries.now))) }
         ensures keeps { result ≡ false → index < prev + length entries.now → self.now.commit ≤ index }
         ensures room { result ≡ false → index < prev + length entries.now → prev + length entries.now ≤ 100000 }
@@ -90,14 +91,15 @@ impl Core {
         requires few { vec_len entries ≤ 64 }
         requires low { prev ≤ index }
         requires high { index ≤ prev + vec_len entries }
-        requires within { index ≤ self.old.log.shelved + vec_len self.old.log.tail }
+        requires within { index ≤ self.old.log.elsewhere + vec_len self.old.log.tail }
         requires keeps { index < prev + vec_len entries → self.old.commit ≤ index }
         requires room { index < prev + vec_len entries → prev + vec_len entries ≤ 100000 }
         requires terms { list_all (λ e. nat_le e.term TERM_LAST) entries.items ≡ true }
         ensures done { index ≡ agreed (log_of self.old stored) prev entries.items → IfOk result
             (λ _. node_of self.new stored ≡ takes_entries prev entries.items commit (node_of self.old stored)) }
         ensures seat { IsSameSeat self.old self.new }
-        ensures lower { self.new.log.shelved ≤ self.old.log.shelved }
+        ensures tells { index ≡ agreed (log_of self.old stored) prev entries.items → IsSaved self.old.log → OnOk result (Tells stored self.old.log self.new.log) }
+        ensures lower { self.new.log.elsewhere ≤ self.old.log.elsewhere }
         ensures short { vec_len self.new.log.tail ≤ vec_len self.old.log.tail + 64 }
     {
         let end = prev + entries.len();
@@ -130,10 +132,11 @@ impl Core {
         ensures same { IfOk result (SameUnlessDone self.old self.new stored) }
         ensures few { IfOk result (λ o. asks_after o ≤ 1) }
         ensures seat { IsSameSeat self.old self.new }
-        ensures lower { self.new.log.shelved ≤ self.old.log.shelved }
+        ensures tells { window.now ≡ take 65 (drop (prev - 1) (log_of self.old stored)) → IsSaved self.old.log → OnOk result (Tells stored self.old.log self.new.log) }
+        ensures lower { self.new.log.elsewhere ≤ self.old.log.elsewhere }
         ensures short { vec_len self.new.log.tail ≤ vec_len self.old.log.tail + 64 }
     {
-        let no = Sending::Answer {
+        let no = Sending::Back {
             to: sender,
             body: Body::Reply {
                 ok: false,

@@ -1,7 +1,7 @@
 //! Whether what is stored may be that of a member, and whether texts read.
 ghost use Rattle.std.specs.Prelude.{◌≡◌, ◌⊎◌, IfOk, true, false, None, nat_le};
 ghost use Rattle.std.specs.List.{list_all};
-ghost use Rattle.sqlread.specs.Meaning.{schema_of};
+ghost use Rattle.sqlread.specs.Meaning.{language_of};
 ghost use Rattle.model.specs.Steps.{spells, TERM_LAST};
 ghost use Rattle.keep.specs.Log.{is_vote};
 ghost use Rattle.raft.specs.Start.{IsStart};
@@ -20,7 +20,7 @@ pub(crate) fn reads(
     schema: &Schema,
     request: &Option<Request>,
 ) -> Result<bool, AllocError>
-    ensures { IfOk result (λ yes. yes ≡ spells (schema_of schema.now) request.now) }
+    ensures { IfOk result (λ yes. yes ≡ spells (language_of schema.now) request.now) }
 {
     match request {
         None => Ok(true),

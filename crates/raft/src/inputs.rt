@@ -1,10 +1,11 @@
 //! Local inputs: a timeout, a beat, and entries that a leader appends.
-ghost use Rattle.std.specs.Prelude.{◌≡◌, ◌+◌, ◌<◌, ◌≤◌, List, vec_len, IfOk, IsOk, IfSome, IfNone, true, false};
+ghost use Rattle.std.specs.Prelude.{◌≡◌, ◌+◌, ◌<◌, ◌≤◌, List, vec_len, IfOk, IsOk, IfSome, IfNone, true, false, OnOk};
 ghost use Rattle.model.specs.declared.entry.Entry as in_log;
 ghost use Rattle.model.specs.Stamps.{stamp};
 ghost use Rattle.model.specs.Logs.{least_over};
 ghost use Rattle.model.specs.Steps.{time_out, append_own, is_time_full, is_log_full, on_input};
 ghost use Rattle.raft.specs.Memory.{is_idle};
+ghost use Rattle.raft.specs.Saved.{IsSaved, Tells};
 ghost use Rattle.raft.specs.View.{log_of, node_of, with_entry, IsSameSeat, Reaches, outcome_of, asks_after, SameUnlessDone};
 
 use crate::state::{Core, Effect, Sending};
@@ -54,7 +55,7 @@ impl Core {
         ghost stored: { List in_log.Entry }
         requires { Reaches self.now stored }
         ensures value { result ≡ is_log_full (log_of self.now stored) }
-        ensures room { result ≡ false → self.now.log.shelved + vec_len self.now.log.tail < 100000 }
+        ensures room { result ≡ false → self.now.log.elsewhere + vec_len self.now.log.tail < 100000 }
     {
         self.log.length() >= LOG_ROOM
     }
@@ -67,10 +68,12 @@ impl Core {
         request: Option<Request>,
     ) -> Result<(), AllocError>
         ghost stored: { List in_log.Entry }
-        requires { self.old.log.shelved + vec_len self.old.log.tail < 100000 }
+        requires reaches { Reaches self.old stored }
+        requires room { self.old.log.elsewhere + vec_len self.old.log.tail < 100000 }
         ensures done { IfOk result (λ _. node_of self.new stored ≡ with_entry stamp request (node_of self.old stored)) }
         ensures seat { IsSameSeat self.old self.new }
-        ensures shelved { self.new.log.shelved ≡ self.old.log.shelved }
+        ensures tells { IsSaved self.old.log → OnOk result (Tells stored self.old.log self.new.log) }
+        ensures elsewhere { self.new.log.elsewhere ≡ self.old.log.elsewhere }
         ensures short { vec_len self.new.log.tail ≤ vec_len self.old.log.tail + 1 }
     {
         let entry = Entry {
@@ -97,7 +100,8 @@ impl Core {
         ensures same { IfOk result (SameUnlessDone self.old self.new stored) }
         ensures few { IfOk result (λ o. asks_after o ≤ 1) }
         ensures seat { IsSameSeat self.old self.new }
-        ensures shelved { self.new.log.shelved ≡ self.old.log.shelved }
+        ensures tells { IsSaved self.old.log → OnOk result (Tells stored self.old.log self.new.log) }
+        ensures elsewhere { self.new.log.elsewhere ≡ self.old.log.elsewhere }
         ensures short { vec_len self.new.log.tail ≤ vec_len self.old.log.tail + 1 }
     {
         if !self.is_leader() {
@@ -124,7 +128,8 @@ impl Core {
         ensures same { IfOk result (SameUnlessDone self.old self.new stored) }
         ensures few { IfOk result (λ o. asks_after o ≤ 1) }
         ensures seat { IsSameSeat self.old self.new }
-        ensures shelved { self.new.log.shelved ≡ self.old.log.shelved }
+        ensures tells { IsSaved self.old.log → OnOk result (Tells stored self.old.log self.new.log) }
+        ensures elsewhere { self.new.log.elsewhere ≡ self.old.log.elsewhere }
         ensures short { vec_len self.new.log.tail ≤ vec_len self.old.log.tail + 1 }
     {
         match input {

@@ -77,7 +77,7 @@ impl Core {
     /// can be committed. It goes over what each member matches, not over the log.
     #[tactic(auto, using(crate::proofs::Greatest::held_skip, crate::proofs::Greatest::below_less, crate::proofs::Windows::length_of))]
     pub(crate) fn held(&self) -> usize
-        ensures within { result ≤ self.now.log.shelved + vec_len self.now.log.tail }
+        ensures within { result ≤ self.now.log.elsewhere + vec_len self.now.log.tail }
         ensures most { (stored : List in_log.Entry) → Reaches self.now stored → greatest (is_matched self.now.members self.now.me (node_of self.now stored)) (length (log_of self.now stored)) ≡ greatest (is_matched self.now.members self.now.me (node_of self.now stored)) result }
         ensures held { self.now.commit < result → is_majority self.now.members (holds_to self.now.me self.now.matched.items result) ≡ true }
     {
@@ -119,7 +119,7 @@ impl Core {
     #[tactic(auto, using(crate::proofs::Lists::noted_within))]
     fn note(&mut self, sender: Member, matched: usize)
         ghost stored: { List in_log.Entry }
-        requires { matched ≤ self.old.log.shelved + vec_len self.old.log.tail }
+        requires { matched ≤ self.old.log.elsewhere + vec_len self.old.log.tail }
         ensures node { node_of self.new stored ≡ noted sender matched (node_of self.old stored) }
         ensures seat { IsSameSeat self.old self.new }
         ensures log { self.new.log ≡ self.old.log }

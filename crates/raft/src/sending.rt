@@ -10,7 +10,7 @@ ghost use Rattle.raft.specs.Reading.{IsRead, IsCauseOr};
 use crate::counted::number_at;
 use crate::state::{Core, Sending};
 use keep::error::StoreError;
-use keep::keeper::Shelf;
+use keep::keeper::LogReader;
 use model::entry::Entries;
 use model::member::{AskedFloor, Member, SealedFloor};
 use model::message::{Body, CARRIED_MOST, Message};
@@ -39,18 +39,18 @@ impl Core {
     }
 
     /// The entries that a member is to have next, as many as a message may carry.
-    fn append_to<S: Shelf>(&self, shelf: &mut S, to: Member) -> Result<Message, StoreError>
-        requires up { S.is_up shelf.old ≡ true }
-        requires reaches { S.is_honest shelf.old → Reaches self.now (S.stored shelf.old).log }
-        ensures ok { IfOk result (λ m. S.is_honest shelf.new → m ≡ append_to (node_of self.now (S.stored shelf.old).log) self.now.me to) }
-        ensures shelf { IsRead (S.is_honest shelf.old) (S.is_honest shelf.new) (S.stored shelf.old) (S.stored shelf.new) (S.may_hold shelf.old) (S.may_hold shelf.new) (S.serves shelf.old) (S.serves shelf.new) (S.failed shelf.old) (S.failed shelf.new) (S.saves shelf.old) (S.saves shelf.new) }
-        ensures up { OnOk result (S.is_up shelf.new ≡ true) }
-        ensures cause { IfErr result (IsCauseOr (S.is_honest shelf.new) (S.failed shelf.old) (S.failed shelf.new)) }
-        ensures asks { S.asks shelf.new ≤ S.asks shelf.old + 65 }
+    fn append_to<S: LogReader>(&self, reader: &mut S, to: Member) -> Result<Message, StoreError>
+        requires up { S.is_up reader.old ≡ true }
+        requires reaches { S.is_honest reader.old → Reaches self.now (S.stored reader.old).log }
+        ensures ok { IfOk result (λ m. S.is_honest reader.new → m ≡ append_to (node_of self.now (S.stored reader.old).log) self.now.me to) }
+        ensures reader { IsRead (S.is_honest reader.old) (S.is_honest reader.new) (S.stored reader.old) (S.stored reader.new) (S.may_hold reader.old) (S.may_hold reader.new) (S.serves reader.old) (S.serves reader.new) (S.failed reader.old) (S.failed reader.new) (S.saves reader.old) (S.saves reader.new) }
+        ensures up { OnOk result (S.is_up reader.new ≡ true) }
+        ensures cause { IfErr result (IsCauseOr (S.is_honest reader.new) (S.failed reader.old) (S.failed reader.new)) }
+        ensures asks { S.asks reader.new ≤ S.asks reader.old + 65 }
     {
         let prev_index = number_at(&self.next, to).saturating_sub(1);
-        let prev_term = self.term_at(shelf, prev_index)?;
-        let entries = self.window(shelf, prev_index, CARRIED_MOST)?;
+        let prev_term = self.term_at(reader, prev_index)?;
+        let entries = self.window(reader, prev_index, CARRIED_MOST)?;
         let body = Body::Append {
             prev_index,
             prev_term,
@@ -61,29 +61,33 @@ impl Core {
     }
 
     /// An `Append` to one member.
-    fn append_one<S: Shelf>(&self, shelf: &mut S, to: Member) -> Result<Vec<Message>, StoreError>
-        requires up { S.is_up shelf.old ≡ true }
-        requires reaches { S.is_honest shelf.old → Reaches self.now (S.stored shelf.old).log }
-        ensures ok { IfOk result (λ ms. S.is_honest shelf.new → ms.items ≡ append_to (node_of self.now (S.stored shelf.old).log) self.now.me to ∷ []) }
-        ensures shelf { IsRead (S.is_honest shelf.old) (S.is_honest shelf.new) (S.stored shelf.old) (S.stored shelf.new) (S.may_hold shelf.old) (S.may_hold shelf.new) (S.serves shelf.old) (S.serves shelf.new) (S.failed shelf.old) (S.failed shelf.new) (S.saves shelf.old) (S.saves shelf.new) }
-        ensures up { OnOk result (S.is_up shelf.new ≡ true) }
-        ensures cause { IfErr result (IsCauseOr (S.is_honest shelf.new) (S.failed shelf.old) (S.failed shelf.new)) }
-        ensures asks { IfOk result (λ ms. S.asks shelf.new ≤ S.asks shelf.old + 65 * length ms.items) }
+    fn append_one<S: LogReader>(
+        &self,
+        reader: &mut S,
+        to: Member,
+    ) -> Result<Vec<Message>, StoreError>
+        requires up { S.is_up reader.old ≡ true }
+        requires reaches { S.is_honest reader.old → Reaches self.now (S.stored reader.old).log }
+        ensures ok { IfOk result (λ ms. S.is_honest reader.new → ms.items ≡ append_to (node_of self.now (S.stored reader.old).log) self.now.me to ∷ []) }
+        ensures reader { IsRead (S.is_honest reader.old) (S.is_honest reader.new) (S.stored reader.old) (S.stored reader.new) (S.may_hold reader.old) (S.may_hold reader.new) (S.serves reader.old) (S.serves reader.new) (S.failed reader.old) (S.failed reader.new) (S.saves reader.old) (S.saves reader.new) }
+        ensures up { OnOk result (S.is_up reader.new ≡ true) }
+        ensures cause { IfErr result (IsCauseOr (S.is_honest reader.new) (S.failed reader.old) (S.failed reader.new)) }
+        ensures asks { IfOk result (λ ms. S.asks reader.new ≤ S.asks reader.old + 65 * length ms.items) }
     {
-        let message = self.append_to(shelf, to)?;
+        let message = self.append_to(reader, to)?;
         let messages = self.one(message)?;
         Ok(messages)
     }
 
     /// An `Append` to each other member, in order.
-    fn append_to_all<S: Shelf>(&self, shelf: &mut S) -> Result<Vec<Message>, StoreError>
-        requires up { S.is_up shelf.old ≡ true }
-        requires reaches { S.is_honest shelf.old → Reaches self.now (S.stored shelf.old).log }
-        ensures ok { IfOk result (λ ms. S.is_honest shelf.new → ms.items ≡ append_to_all self.now.members (node_of self.now (S.stored shelf.old).log) self.now.me) }
-        ensures shelf { IsRead (S.is_honest shelf.old) (S.is_honest shelf.new) (S.stored shelf.old) (S.stored shelf.new) (S.may_hold shelf.old) (S.may_hold shelf.new) (S.serves shelf.old) (S.serves shelf.new) (S.failed shelf.old) (S.failed shelf.new) (S.saves shelf.old) (S.saves shelf.new) }
-        ensures up { OnOk result (S.is_up shelf.new ≡ true) }
-        ensures cause { IfErr result (IsCauseOr (S.is_honest shelf.new) (S.failed shelf.old) (S.failed shelf.new)) }
-        ensures asks { IfOk result (λ ms. S.asks shelf.new ≤ S.asks shelf.old + 65 * length ms.items) }
+    fn append_to_all<S: LogReader>(&self, reader: &mut S) -> Result<Vec<Message>, StoreError>
+        requires up { S.is_up reader.old ≡ true }
+        requires reaches { S.is_honest reader.old → Reaches self.now (S.stored reader.old).log }
+        ensures ok { IfOk result (λ ms. S.is_honest reader.new → ms.items ≡ append_to_all self.now.members (node_of self.now (S.stored reader.old).log) self.now.me) }
+        ensures reader { IsRead (S.is_honest reader.old) (S.is_honest reader.new) (S.stored reader.old) (S.stored reader.new) (S.may_hold reader.old) (S.may_hold reader.new) (S.serves reader.old) (S.serves reader.new) (S.failed reader.old) (S.failed reader.new) (S.saves reader.old) (S.saves reader.new) }
+        ensures up { OnOk result (S.is_up reader.new ≡ true) }
+        ensures cause { IfErr result (IsCauseOr (S.is_honest reader.new) (S.failed reader.old) (S.failed reader.new)) }
+        ensures asks { IfOk result (λ ms. S.asks reader.new ≤ S.asks reader.old + 65 * length ms.items) }
     {
         let mut messages = Vec::new(self.alloc);
         for index in 0..self.members {
@@ -91,7 +95,7 @@ impl Core {
             if to == self.me {
                 continue;
             }
-            let message = self.append_to(shelf, to)?;
+            let message = self.append_to(reader, to)?;
             messages.push(message)?;
         }
         Ok(messages)
@@ -126,23 +130,23 @@ impl Core {
 
     /// The greatest index that can be committed now: up to there a majority match, and an entry of its
     /// own term stands there. Where the entry is of another term, so are all before it.
-    fn commits<S: Shelf>(&self, shelf: &mut S) -> Result<usize, StoreError>
-        requires up { S.is_up shelf.old ≡ true }
-        requires reaches { S.is_honest shelf.old → Reaches self.now (S.stored shelf.old).log }
-        requires rises { S.is_honest shelf.old → go_on None self.now.term (log_of self.now (S.stored shelf.old).log) ≡ true }
-        ensures ok { IfOk result (λ index. S.is_honest shelf.new → index ≡ (commits self.now.members self.now.me (node_of self.now (S.stored shelf.old).log)).commit) }
+    fn commits<S: LogReader>(&self, reader: &mut S) -> Result<usize, StoreError>
+        requires up { S.is_up reader.old ≡ true }
+        requires reaches { S.is_honest reader.old → Reaches self.now (S.stored reader.old).log }
+        requires rises { S.is_honest reader.old → go_on None self.now.term (log_of self.now (S.stored reader.old).log) ≡ true }
+        ensures ok { IfOk result (λ index. S.is_honest reader.new → index ≡ (commits self.now.members self.now.me (node_of self.now (S.stored reader.old).log)).commit) }
         ensures low { IfOk result (λ index. self.now.commit ≤ index) }
-        ensures within { IfOk result (λ index. index ≤ self.now.log.shelved + vec_len self.now.log.tail) }
-        ensures shelf { IsRead (S.is_honest shelf.old) (S.is_honest shelf.new) (S.stored shelf.old) (S.stored shelf.new) (S.may_hold shelf.old) (S.may_hold shelf.new) (S.serves shelf.old) (S.serves shelf.new) (S.failed shelf.old) (S.failed shelf.new) (S.saves shelf.old) (S.saves shelf.new) }
-        ensures up { OnOk result (S.is_up shelf.new ≡ true) }
-        ensures cause { IfErr result (IsCauseOr (S.is_honest shelf.new) (S.failed shelf.old) (S.failed shelf.new)) }
-        ensures asks { S.asks shelf.new ≤ S.asks shelf.old + 1 }
+        ensures within { IfOk result (λ index. index ≤ self.now.log.elsewhere + vec_len self.now.log.tail) }
+        ensures reader { IsRead (S.is_honest reader.old) (S.is_honest reader.new) (S.stored reader.old) (S.stored reader.new) (S.may_hold reader.old) (S.may_hold reader.new) (S.serves reader.old) (S.serves reader.new) (S.failed reader.old) (S.failed reader.new) (S.saves reader.old) (S.saves reader.new) }
+        ensures up { OnOk result (S.is_up reader.new ≡ true) }
+        ensures cause { IfErr result (IsCauseOr (S.is_honest reader.new) (S.failed reader.old) (S.failed reader.new)) }
+        ensures asks { S.asks reader.new ≤ S.asks reader.old + 1 }
     {
         let index = self.held();
         if index <= self.commit {
             return Ok(self.commit);
         }
-        let term = self.term_at(shelf, index)?;
+        let term = self.term_at(reader, index)?;
         if term == self.term {
             Ok(index)
         } else {
@@ -152,58 +156,58 @@ impl Core {
 
     /// Commits what can be committed now that the log of a member is known to agree further, so that a seal that waits may
     /// count, and sends what comes of it: to all where something is committed, else to that member what it has not yet.
-    fn on_agreed<S: Shelf>(
+    fn on_agreed<S: LogReader>(
         &mut self,
-        shelf: &mut S,
+        reader: &mut S,
         sender: Member,
     ) -> Result<Vec<Message>, StoreError>
-        requires up { S.is_up shelf.old ≡ true }
-        requires reaches { S.is_honest shelf.old → Reaches self.old (S.stored shelf.old).log }
-        requires rises { S.is_honest shelf.old → go_on None self.old.term (log_of self.old (S.stored shelf.old).log) ≡ true }
-        ensures ok { IfOk result (λ ms. S.is_honest shelf.new → after_of self.new (S.stored shelf.old).log ms.items ≡ agrees self.old.members self.old.me sender (node_of self.old (S.stored shelf.old).log)) }
+        requires up { S.is_up reader.old ≡ true }
+        requires reaches { S.is_honest reader.old → Reaches self.old (S.stored reader.old).log }
+        requires rises { S.is_honest reader.old → go_on None self.old.term (log_of self.old (S.stored reader.old).log) ≡ true }
+        ensures ok { IfOk result (λ ms. S.is_honest reader.new → after_of self.new (S.stored reader.old).log ms.items ≡ agrees self.old.members self.old.me sender (node_of self.old (S.stored reader.old).log)) }
         ensures seat { IsSameSeat self.old self.new }
         ensures log { self.new.log ≡ self.old.log }
         ensures hard { (self.new.term ≡ self.old.term) × (self.new.vote ≡ self.old.vote) }
         ensures low { self.old.commit ≤ self.new.commit }
-        ensures shelf { IsRead (S.is_honest shelf.old) (S.is_honest shelf.new) (S.stored shelf.old) (S.stored shelf.new) (S.may_hold shelf.old) (S.may_hold shelf.new) (S.serves shelf.old) (S.serves shelf.new) (S.failed shelf.old) (S.failed shelf.new) (S.saves shelf.old) (S.saves shelf.new) }
-        ensures up { OnOk result (S.is_up shelf.new ≡ true) }
-        ensures cause { IfErr result (IsCauseOr (S.is_honest shelf.new) (S.failed shelf.old) (S.failed shelf.new)) }
-        ensures asks { IfOk result (λ ms. S.asks shelf.new ≤ S.asks shelf.old + (65 * length ms.items + 2)) }
+        ensures reader { IsRead (S.is_honest reader.old) (S.is_honest reader.new) (S.stored reader.old) (S.stored reader.new) (S.may_hold reader.old) (S.may_hold reader.new) (S.serves reader.old) (S.serves reader.new) (S.failed reader.old) (S.failed reader.new) (S.saves reader.old) (S.saves reader.new) }
+        ensures up { OnOk result (S.is_up reader.new ≡ true) }
+        ensures cause { IfErr result (IsCauseOr (S.is_honest reader.new) (S.failed reader.old) (S.failed reader.new)) }
+        ensures asks { IfOk result (λ ms. S.asks reader.new ≤ S.asks reader.old + (65 * length ms.items + 2)) }
     {
         let before = self.commit;
-        self.commit = self.commits(shelf)?;
-        self.settle(shelf)?;
+        self.commit = self.commits(reader)?;
+        self.settle(reader)?;
         if before < self.commit {
-            return self.append_to_all(shelf);
+            return self.append_to_all(reader);
         }
         if number_at(&self.next, sender) <= self.log.length() {
-            return self.append_one(shelf, sender);
+            return self.append_one(reader, sender);
         }
         Ok(Vec::new(self.alloc))
     }
 
     /// The messages that are to be sent, with the entries that they take.
-    pub(crate) fn send<S: Shelf>(
+    pub(crate) fn send<S: LogReader>(
         &mut self,
-        shelf: &mut S,
+        reader: &mut S,
         sending: Sending,
     ) -> Result<Vec<Message>, StoreError>
-        requires up { S.is_up shelf.old ≡ true }
-        requires reaches { S.is_honest shelf.old → Reaches self.old (S.stored shelf.old).log }
-        requires rises { S.is_honest shelf.old → go_on None self.old.term (log_of self.old (S.stored shelf.old).log) ≡ true }
-        ensures ok { IfOk result (λ ms. S.is_honest shelf.new → after_of self.new (S.stored shelf.old).log ms.items ≡ sends self.old.members self.old.me sending (node_of self.old (S.stored shelf.old).log)) }
+        requires up { S.is_up reader.old ≡ true }
+        requires reaches { S.is_honest reader.old → Reaches self.old (S.stored reader.old).log }
+        requires rises { S.is_honest reader.old → go_on None self.old.term (log_of self.old (S.stored reader.old).log) ≡ true }
+        ensures ok { IfOk result (λ ms. S.is_honest reader.new → after_of self.new (S.stored reader.old).log ms.items ≡ sends self.old.members self.old.me sending (node_of self.old (S.stored reader.old).log)) }
         ensures seat { IsSameSeat self.old self.new }
         ensures log { self.new.log ≡ self.old.log }
         ensures hard { (self.new.term ≡ self.old.term) × (self.new.vote ≡ self.old.vote) }
         ensures low { self.old.commit ≤ self.new.commit }
-        ensures shelf { IsRead (S.is_honest shelf.old) (S.is_honest shelf.new) (S.stored shelf.old) (S.stored shelf.new) (S.may_hold shelf.old) (S.may_hold shelf.new) (S.serves shelf.old) (S.serves shelf.new) (S.failed shelf.old) (S.failed shelf.new) (S.saves shelf.old) (S.saves shelf.new) }
-        ensures up { OnOk result (S.is_up shelf.new ≡ true) }
-        ensures cause { IfErr result (IsCauseOr (S.is_honest shelf.new) (S.failed shelf.old) (S.failed shelf.new)) }
-        ensures asks { IfOk result (λ ms. S.asks shelf.new ≤ S.asks shelf.old + (65 * length ms.items + settling sending)) }
+        ensures reader { IsRead (S.is_honest reader.old) (S.is_honest reader.new) (S.stored reader.old) (S.stored reader.new) (S.may_hold reader.old) (S.may_hold reader.new) (S.serves reader.old) (S.serves reader.new) (S.failed reader.old) (S.failed reader.new) (S.saves reader.old) (S.saves reader.new) }
+        ensures up { OnOk result (S.is_up reader.new ≡ true) }
+        ensures cause { IfErr result (IsCauseOr (S.is_honest reader.new) (S.failed reader.old) (S.failed reader.new)) }
+        ensures asks { IfOk result (λ ms. S.asks reader.new ≤ S.asks reader.old + (65 * length ms.items + settling sending)) }
     {
         match sending {
             Sending::Nothing => Ok(Vec::new(self.alloc)),
-            Sending::Answer { to, body } => {
+            Sending::Back { to, body } => {
                 let messages = self.one(self.message(to, body))?;
                 Ok(messages)
             }
@@ -212,11 +216,11 @@ impl Core {
                 let messages = self.tell_all(&body)?;
                 Ok(messages)
             }
-            Sending::Append(to) => self.append_one(shelf, to),
-            Sending::Appends => self.append_to_all(shelf),
-            Sending::Agreed(sender) => self.on_agreed(shelf, sender),
+            Sending::Append(to) => self.append_one(reader, to),
+            Sending::Appends => self.append_to_all(reader),
+            Sending::Agreed(sender) => self.on_agreed(reader, sender),
             Sending::Accepted { to, matched } => {
-                self.settle(shelf)?;
+                self.settle(reader)?;
                 let messages = self.one(self.message(to, Body::Reply { ok: true, matched }))?;
                 Ok(messages)
             }
@@ -230,11 +234,11 @@ impl Core {
                 let SealedFloor { index, floor, .. } = seal;
                 let body = Body::Seal { index, floor };
                 let messages = self.tell_all(&body)?;
-                self.learn(shelf, seal)?;
+                self.learn(reader, seal)?;
                 Ok(messages)
             }
             Sending::Learned(seal) => {
-                self.learn(shelf, seal)?;
+                self.learn(reader, seal)?;
                 Ok(Vec::new(self.alloc))
             }
         }

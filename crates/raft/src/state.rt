@@ -55,7 +55,7 @@ pub enum Effect<T> {
 pub(crate) enum Sending {
     Nothing,
     /// One message, to one member.
-    Answer { to: Member, body: Body },
+    Back { to: Member, body: Body },
     /// A `RequestVote` to each other member.
     VoteRequests,
     /// An `Append` to one member.
@@ -72,18 +72,6 @@ pub(crate) enum Sending {
     Seals(SealedFloor),
     /// Nothing, once this seal is learned.
     Learned(SealedFloor),
-}
-
-/// What is to be known of a member before a step, to tell what the step changed of what is stored.
-#[derive(Clone, Copy)]
-pub(crate) struct Mark {
-    pub hard: HardState,
-    /// How many entries the log has.
-    pub length: usize,
-    /// How many of them the step leaves in any case.
-    pub kept: usize,
-    /// The term of the entry after these, 0 where there is none.
-    pub next_term: u64,
 }
 
 /// What a member was before it heard of a greater term.
@@ -152,7 +140,7 @@ pub struct Core {
     ghost vote_within: { is_vote members vote ≡ true },
     ghost stands: { is_candidate role ≡ true → 1 ≤ term },
     ghost leads: { is_leader role ≡ true → 1 ≤ term },
-    ghost commit_within: { commit ≤ log.shelved + vec_len log.tail },
+    ghost commit_within: { commit ≤ log.elsewhere + vec_len log.tail },
     ghost matches_within: { (m : ℕ) → nth_or matched.items m 0 ≤ 100000 },
 }
 
@@ -210,7 +198,7 @@ impl Core {
 
     /// How many entries its log has.
     pub fn length(&self) -> usize
-        ensures { result ≡ self.now.log.shelved + vec_len self.now.log.tail }
+        ensures { result ≡ self.now.log.elsewhere + vec_len self.now.log.tail }
     {
         self.log.length()
     }

@@ -3,20 +3,20 @@ ghost use Rattle.std.specs.Prelude.{◌≡◌, ◌+◌, ◌-◌, ◌*◌, ◌<�
 ghost use Rattle.std.specs.List.{list_all};
 ghost use Rattle.keep.specs.Log.{IsLog, IsSmall, is_entry};
 ghost use Rattle.keep.specs.Durable.{Durable};
-ghost use Rattle.sqlread.specs.Meaning.{schema_of};
+ghost use Rattle.sqlread.specs.Meaning.{language_of};
 ghost use Rattle.model.specs.declared.entry.Entry as in_log;
 ghost use Rattle.model.specs.Steps.{is_honest, entries_of, floor_fits, spells, on_message, on_body, go_on, TERM_LAST};
 ghost use Rattle.model.specs.Worlds.{hand};
-ghost use Rattle.model.specs.Members.{term_at};
 ghost use Rattle.raft.specs.Memory.{spares_memory};
 ghost use Rattle.raft.specs.declared.state.Work.TheVariants.{Local};
 ghost use Rattle.raft.specs.declared.state.Effect.TheVariants as effects;
 ghost use Rattle.raft.specs.Reading.{IsRead, IsCauseOr};
-ghost use Rattle.raft.specs.View.{asks_after, brought, looked_at, looks, effect_of, hard_in, hard_of, kept_of, log_of, node_of, outcome_of, works, EffectFits, EffectForms, Grows, IsCarried, IsInStep, IsRanged, IsSameSeat, IsWindow, LooksAt, Reaches, SameUnlessDone, Sees, is_ranged};
+ghost use Rattle.raft.specs.Saved.{IsSaved, Tells};
+ghost use Rattle.raft.specs.View.{asks_after, brought, looked_at, looks, effect_of, hard_in, hard_of, log_of, node_of, outcome_of, works, EffectFits, EffectForms, Grows, IsInStep, IsRanged, IsSameSeat, IsWindow, LooksAt, Reaches, SameUnlessDone, Sees, is_ranged};
 
 use crate::floors::floor_fits;
 use crate::forms::reads;
-use crate::logs::{go_on, has_ranges, term_at};
+use crate::logs::{go_on, has_ranges};
 use crate::state::{Core, Effect, Sending, Work};
 use fault::Text;
 use model::entry::{Entry, Request};
@@ -67,7 +67,7 @@ impl Core {
     /// The window has a request with this text at a place. Then the text reads: it was read when the request came into the
     /// log.
     fn has_read(&self, window: &[Entry], place: usize, text: &Text) -> bool
-        ensures { list_all (is_entry (schema_of self.now.schema)) window.now ≡ true → result ≡ true → is_ok ((schema_of self.now.schema).reads text.now) ≡ true }
+        ensures { list_all (is_entry (language_of self.now.schema)) window.now ≡ true → result ≡ true → is_ok ((language_of self.now.schema).reads text.now) ≡ true }
     {
         let Some(entry) = window.get(place) else {
             return false;
@@ -85,7 +85,7 @@ impl Core {
         place: usize,
         request: &Option<Request>,
     ) -> Result<bool, AllocError>
-        ensures { list_all (is_entry (schema_of self.now.schema)) window.now ≡ true → IfOk result (λ yes. yes ≡ spells (schema_of self.now.schema) request.now) }
+        ensures { list_all (is_entry (language_of self.now.schema)) window.now ≡ true → IfOk result (λ yes. yes ≡ spells (language_of self.now.schema) request.now) }
     {
         if let Some(request) = request {
             if self.has_read(window, place, &request.text) {
@@ -102,7 +102,7 @@ impl Core {
         first: usize,
         entries: &[Entry],
     ) -> Result<bool, AllocError>
-        ensures { list_all (is_entry (schema_of self.now.schema)) window.now ≡ true → IfOk result (λ yes. yes ≡ list_all (λ e. spells (schema_of self.now.schema) e.request) entries.now) }
+        ensures { list_all (is_entry (language_of self.now.schema)) window.now ≡ true → IfOk result (λ yes. yes ≡ list_all (λ e. spells (language_of self.now.schema) e.request) entries.now) }
     {
         for (i, entry) in entries.iter().enumerate() {
             if !self.spells(window, first.saturating_add(i), &entry.request)? {
@@ -115,10 +115,10 @@ impl Core {
     /// Entries that a message may carry, and a floor that a member may tell.
     fn may_carry(&self, window: &[Entry], term: u64, body: &Body) -> Result<bool, AllocError>
         requires { term ≤ LAST_TERM }
-        ensures value { list_all (is_entry (schema_of self.now.schema)) window.now ≡ true → IfOk result
+        ensures value { list_all (is_entry (language_of self.now.schema)) window.now ≡ true → IfOk result
             (λ yes. yes
             ≡ (nat_le (length (entries_of body.now)) 64 && go_on None term (entries_of body.now)
-            && list_all (λ e. spells (schema_of self.now.schema) e.request) (entries_of body.now) && floor_fits body.now)) }
+            && list_all (λ e. spells (language_of self.now.schema) e.request) (entries_of body.now) && floor_fits body.now)) }
         ensures few { IfOk result (λ yes. yes ≡ true → length (entries_of body.now) ≤ 64) }
         ensures terms { IfOk result (λ yes. yes ≡ true → list_all (λ e. nat_le e.term TERM_LAST) (entries_of body.now) ≡ true) }
     {
@@ -140,7 +140,7 @@ impl Core {
 
     /// Whether a member that keeps the rules can have sent this to me.
     fn is_honest(&self, window: &[Entry], message: &Message) -> Result<bool, AllocError>
-        ensures value { list_all (is_entry (schema_of self.now.schema)) window.now ≡ true → IfOk result (λ yes. yes ≡ is_honest (schema_of self.now.schema) self.now.members self.now.me message.now) }
+        ensures value { list_all (is_entry (language_of self.now.schema)) window.now ≡ true → IfOk result (λ yes. yes ≡ is_honest (language_of self.now.schema) self.now.members self.now.me message.now) }
         ensures term { IfOk result (λ yes. yes ≡ true → message.now.term ≤ LAST_TERM) }
         ensures member { IfOk result (λ yes. yes ≡ true → (1 ≤ message.now.sender) × (message.now.sender ≤ self.now.members)) }
         ensures few { IfOk result (λ yes. yes ≡ true → length (entries_of message.now.body) ≤ 64) }
@@ -179,7 +179,8 @@ impl Core {
         ensures asks { IfOk result (λ o. asks_after o + looked_at body ≤ 66) }
         ensures same { IfOk result (SameUnlessDone self.old self.new stored) }
         ensures seat { IsSameSeat self.old self.new }
-        ensures lower { self.new.log.shelved ≤ self.old.log.shelved }
+        ensures tells { Sees body (log_of self.old stored) window.now → IsSaved self.old.log → OnOk result (Tells stored self.old.log self.new.log) }
+        ensures lower { self.new.log.elsewhere ≤ self.old.log.elsewhere }
         ensures short { vec_len self.new.log.tail ≤ vec_len self.old.log.tail + 64 }
     {
         match body {
@@ -227,11 +228,12 @@ impl Core {
         requires { Reaches self.old stored }
         ensures done { IsWindow self.old.schema message.body (log_of self.old stored) window.now → IfOk result
             (λ o. outcome_of self.new stored o
-            ≡ on_message (schema_of self.old.schema) self.old.members self.old.me reading message (node_of self.old stored)) }
+            ≡ on_message (language_of self.old.schema) self.old.members self.old.me reading message (node_of self.old stored)) }
         ensures asks { IfOk result (λ o. asks_after o + looked_at message.body ≤ 66) }
         ensures same { IfOk result (SameUnlessDone self.old self.new stored) }
         ensures seat { IsSameSeat self.old self.new }
-        ensures lower { self.new.log.shelved ≤ self.old.log.shelved }
+        ensures tells { Sees message.body (log_of self.old stored) window.now → IsSaved self.old.log → OnOk result (Tells stored self.old.log self.new.log) }
+        ensures lower { self.new.log.elsewhere ≤ self.old.log.elsewhere }
         ensures short { vec_len self.new.log.tail ≤ vec_len self.old.log.tail + 64 }
     {
         if !self.is_honest(window, &message)? {
@@ -263,12 +265,13 @@ impl Core {
         requires { Reaches self.old stored }
         ensures done { IfOk result
             (λ o. outcome_of self.new stored o
-            ≡ hand (schema_of self.old.schema) self.old.members self.old.me input (node_of self.old stored)) }
+            ≡ hand (language_of self.old.schema) self.old.members self.old.me input (node_of self.old stored)) }
         ensures spares { spares_memory self.old.members self.old.me (Local input) (node_of self.old stored) ≡ true → IsOk result }
         ensures asks { IfOk result (λ o. asks_after o ≤ 1) }
         ensures same { IfOk result (SameUnlessDone self.old self.new stored) }
         ensures seat { IsSameSeat self.old self.new }
-        ensures shelved { self.new.log.shelved ≡ self.old.log.shelved }
+        ensures tells { IsSaved self.old.log → OnOk result (Tells stored self.old.log self.new.log) }
+        ensures elsewhere { self.new.log.elsewhere ≡ self.old.log.elsewhere }
         ensures short { vec_len self.new.log.tail ≤ vec_len self.old.log.tail + 1 }
     {
         match input {
@@ -295,14 +298,15 @@ impl Core {
     ) -> Result<Effect<Sending>, AllocError>
         ghost stored: { List in_log.Entry }
         requires { Reaches self.old stored }
-        ensures done { LooksAt work (log_of self.old stored) window.now → list_all (is_entry (schema_of self.old.schema)) window.now ≡ true → IfOk result
+        ensures done { LooksAt work (log_of self.old stored) window.now → list_all (is_entry (language_of self.old.schema)) window.now ≡ true → IfOk result
             (λ o. outcome_of self.new stored o
             ≡ works self.old.schema self.old.members self.old.me work (node_of self.old stored)) }
         ensures spares { spares_memory self.old.members self.old.me work (node_of self.old stored) ≡ true → IsOk result }
         ensures asks { IfOk result (λ o. asks_after o + looks work ≤ 65 * brought work + 1) }
         ensures same { IfOk result (SameUnlessDone self.old self.new stored) }
         ensures seat { IsSameSeat self.old self.new }
-        ensures lower { self.new.log.shelved ≤ self.old.log.shelved }
+        ensures tells { LooksAt work (log_of self.old stored) window.now → IsSaved self.old.log → OnOk result (Tells stored self.old.log self.new.log) }
+        ensures lower { self.new.log.elsewhere ≤ self.old.log.elsewhere }
         ensures short { vec_len self.new.log.tail ≤ vec_len self.old.log.tail + 64 }
     {
         match work {

@@ -1,9 +1,10 @@
 //! Elections.
-ghost use Rattle.std.specs.Prelude.{◌≡◌, ◌==◌, true, ◌+◌, ◌<◌, ◌≤◌, ◌++◌, List, take, vec_len, IfOk};
+ghost use Rattle.std.specs.Prelude.{◌≡◌, ◌==◌, true, ◌+◌, ◌<◌, ◌≤◌, ◌++◌, List, take, vec_len, IfOk, OnOk};
 ghost use Rattle.std.specs.Option.{option_map_or};
 ghost use Rattle.model.specs.Members.{is_up_to_date, is_leader, is_candidate};
 ghost use Rattle.model.specs.Steps.{counted, hears, grants, on_request_vote, on_vote, opened, stands_up};
 ghost use Rattle.model.specs.declared.entry.Entry as in_log;
+ghost use Rattle.raft.specs.Saved.{IsSaved, Tells};
 ghost use Rattle.raft.specs.View.{log_of, node_of, sends, CanForget, IsSameSeat, Reaches, forgotten};
 
 use crate::counted::set_flag;
@@ -160,7 +161,7 @@ impl Core {
         if given {
             self.vote = Some(sender);
         }
-        Sending::Answer {
+        Sending::Back {
             to: sender,
             body: Body::Vote {
                 given,
@@ -198,7 +199,8 @@ impl Core {
         requires reaches { Reaches self.old stored }
         ensures done { IfOk result (λ _. node_of self.new stored ≡ opened reading (node_of self.old stored)) }
         ensures seat { IsSameSeat self.old self.new }
-        ensures shelved { self.new.log.shelved ≡ self.old.log.shelved }
+        ensures tells { IsSaved self.old.log → OnOk result (Tells stored self.old.log self.new.log) }
+        ensures elsewhere { self.new.log.elsewhere ≡ self.old.log.elsewhere }
         ensures short { vec_len self.new.log.tail ≤ vec_len self.old.log.tail + 1 }
     {
         let Some(stamp) = self.next_stamp(reading) else {
@@ -236,7 +238,8 @@ impl Core {
             (λ sending. sends self.old.members self.old.me sending (node_of self.new stored)
             ≡ on_vote self.old.members self.old.me reading sender term given floor (node_of self.old stored)) }
         ensures seat { IsSameSeat self.old self.new }
-        ensures shelved { self.new.log.shelved ≡ self.old.log.shelved }
+        ensures tells { IsSaved self.old.log → OnOk result (Tells stored self.old.log self.new.log) }
+        ensures elsewhere { self.new.log.elsewhere ≡ self.old.log.elsewhere }
         ensures short { vec_len self.new.log.tail ≤ vec_len self.old.log.tail + 1 }
     {
         if !(given && term == self.term && self.is_candidate()) {

@@ -38,7 +38,7 @@ use Rattle.sqlread.specs.declared.statement.NewValue.TheVariants.{Literal}
 use Rattle.sqlread.specs.Shapes.{StatementShape, Insert, Update}
 use Rattle.sqlread.specs.Changes.{in_table, listed, list_in, given, values_in, value_given, day_given, row_given, insert_into, insert_in, portion_in, assignable, new_value_in, assignment_in, update_in, statement_in, statements_in}
 use Rattle.sqlread.specs.Texts.{transaction_in}
-use Rattle.sqlread.specs.Meaning.{new_value as value_of, set_at, set_of, meaning, meanings, schema_of}
+use Rattle.sqlread.specs.Meaning.{new_value as value_of, set_at, set_of, meaning, meanings, language_of}
 use Rattle.rowtext.specs.Spacing.{token_text}
 use Rattle.rowtext.specs.Again.{IsWritten, lines, ReadsWhatIsWritten}
 use Rattle.apply.specs.Laws.{TextsFine}
@@ -107,8 +107,8 @@ unfolding lend lent emp statements_in statement_in update_in in_table table_name
 lend_checked from to = rw (from, to) refl
 
 says : (text : List ℕ) (forms : List StatementForm) (shapes : List StatementShape) → nat_lt 4096 (length text) ≡ false → parsed statements text ≡ Ok forms → statements_in emp forms ≡ Ok shapes →
-    (schema_of emp).reads text ≡ Ok (map meaning shapes)
-unfolding schema_of transaction_in
+    (language_of emp).reads text ≡ Ok (map meaning shapes)
+unfolding language_of transaction_in
 says text forms shapes short p c = ap meanings (cond-false _ _ _ short ∙ ap (λ r. r >>= statements_in emp) p ∙ c)
 
 -- ---- what they leave on lists of rows
@@ -117,22 +117,22 @@ missing_none : (all : Rows) (n : ℕ) (rows : List Row) → missing_in_rows [] a
 missing_none all n [] = refl
 missing_none all n (r ∷ rows) = missing_none all n rows
 
-no_orphan : (all : Rows) → rows_orphan (schema_of emp) all ≡ None
-unfolding rows_orphan schema_of emp
+no_orphan : (all : Rows) → rows_orphan (language_of emp) all ≡ None
+unfolding rows_orphan language_of emp
 no_orphan all = rw (missing_none all 0 (all 0)) refl
 
-runs : (t : ℕ) (text : List ℕ) (ss : List Statement) (all next : Rows) → (schema_of emp).reads text ≡ Ok ss → run_all_on_rows t ss all ≡ Ok next → rows_executed (schema_of emp) t text all ≡ Ok next
+runs : (t : ℕ) (text : List ℕ) (ss : List Statement) (all next : Rows) → (language_of emp).reads text ≡ Ok ss → run_all_on_rows t ss all ≡ Ok next → rows_executed (language_of emp) t text all ≡ Ok next
 unfolding rows_executed rows_transacted
 runs t text ss all next r e =
-    ap (λ (x : Result (List Statement) Refusal). rows_transacted (schema_of emp) t (result_unwrap_or x []) all) r
-    ∙ ap (λ (x : Result Rows Refusal). and_then x (λ next. rows_unless_orphan (schema_of emp) next (rows_orphan (schema_of emp) (all_in_order next)))) e
-    ∙ ap (rows_unless_orphan (schema_of emp) next) (no_orphan (all_in_order next))
+    ap (λ (x : Result (List Statement) Refusal). rows_transacted (language_of emp) t (result_unwrap_or x []) all) r
+    ∙ ap (λ (x : Result Rows Refusal). and_then x (λ next. rows_unless_orphan (language_of emp) next (rows_orphan (language_of emp) (all_in_order next)))) e
+    ∙ ap (rows_unless_orphan (language_of emp) next) (no_orphan (all_in_order next))
 
-fails : (t : ℕ) (text : List ℕ) (ss : List Statement) (all : Rows) (r : Refusal) → (schema_of emp).reads text ≡ Ok ss → run_all_on_rows t ss all ≡ Err r → rows_executed (schema_of emp) t text all ≡ Err r
+fails : (t : ℕ) (text : List ℕ) (ss : List Statement) (all : Rows) (r : Refusal) → (language_of emp).reads text ≡ Ok ss → run_all_on_rows t ss all ≡ Err r → rows_executed (language_of emp) t text all ≡ Err r
 unfolding rows_executed rows_transacted
 fails t text ss all r s e =
-    ap (λ (x : Result (List Statement) Refusal). rows_transacted (schema_of emp) t (result_unwrap_or x []) all) s
-    ∙ ap (λ (x : Result Rows Refusal). and_then x (λ next. rows_unless_orphan (schema_of emp) next (rows_orphan (schema_of emp) (all_in_order next)))) e
+    ap (λ (x : Result (List Statement) Refusal). rows_transacted (language_of emp) t (result_unwrap_or x []) all) s
+    ∙ ap (λ (x : Result Rows Refusal). and_then x (λ next. rows_unless_orphan (language_of emp) next (rows_orphan (language_of emp) (all_in_order next)))) e
 
 abbrev none : Rows
 none = λ n. []
@@ -166,30 +166,30 @@ both = record { term = 1; stamp = 102; request = Some (record { client = 7; numb
 has_rows : EachListed → (rows : List Row) (table : Table) → Lists rows table → HasRows table rows
 has_rows law rows table l row = ((λ r. has_contains rows row (law rows table row l r)), (λ h. l.each row (contains_has rows row h)))
 
-module _ (read_hires : (schema_of emp).reads hires ≡ Ok (map meaning (hired ∷ []))) (read_lends : (schema_of emp).reads lends ≡ Ok (map meaning (lent ∷ []))) where
-  first_rows : rows_after (schema_of emp) first ≡ one
+module _ (read_hires : (language_of emp).reads hires ≡ Ok (map meaning (hired ∷ []))) (read_lends : (language_of emp).reads lends ≡ Ok (map meaning (lent ∷ []))) where
+  first_rows : rows_after (language_of emp) first ≡ one
   unfolding rows_after executed
   first_rows = ap (next_rows none) (runs 101 hires (map meaning (hired ∷ [])) none one read_hires hire_runs)
 
-  both_rows : rows_after (schema_of emp) both ≡ three
+  both_rows : rows_after (language_of emp) both ≡ three
   unfolding rows_after executed
-  both_rows = ap (λ (all : Rows). next_rows all (rows_executed (schema_of emp) 102 lends all)) first_rows ∙ ap (next_rows one) (runs 102 lends (map meaning (lent ∷ [])) one three read_lends lend_runs)
+  both_rows = ap (λ (all : Rows). next_rows all (rows_executed (language_of emp) 102 lends all)) first_rows ∙ ap (next_rows one) (runs 102 lends (map meaning (lent ∷ [])) one three read_lends lend_runs)
 
   module _ (fine : TextsFine) (logs : FineLogs) (on_rows : LogsOnRows) (outcomes : OutcomesOnRows) (listed : EachListed) where
-    rows_at : (before : List Entry) (rows : Rows) → rows_after (schema_of emp) before ≡ rows → AllListed rows (state_after (schema_of emp) before)
-    rows_at before rows e = subst (λ (all : Rows). AllListed all (state_after (schema_of emp) before)) e (on_rows (schema_of emp) before (logs (schema_of emp) before (fine emp)))
+    rows_at : (before : List Entry) (rows : Rows) → rows_after (language_of emp) before ≡ rows → AllListed rows (state_after (language_of emp) before)
+    rows_at before rows e = subst (λ (all : Rows). AllListed all (state_after (language_of emp) before)) e (on_rows (language_of emp) before (logs (language_of emp) before (fine emp)))
 
-    refused : outcome (schema_of emp) 103 (record { client = 7; number = 3; text = hires }) both ≡ Err KeyOverlap
+    refused : outcome (language_of emp) 103 (record { client = 7; number = 3; text = hires }) both ≡ Err KeyOverlap
     unfolding outcome executed
     refused =
         let r : Request = record { client = 7; number = 3; text = hires } in
-        sym (outcomes (schema_of emp) 103 r both three (fine emp hires) (rows_at both three both_rows)) ∙ ap (rows_outcome_at 103) (fails 103 hires (map meaning (hired ∷ [])) three KeyOverlap read_hires hire_fails)
+        sym (outcomes (language_of emp) 103 r both three (fine emp hires) (rows_at both three both_rows)) ∙ ap (rows_outcome_at 103) (fails 103 hires (map meaning (hired ∷ [])) three KeyOverlap read_hires hire_fails)
 
     example : ByExample
     unfolding state_at
     example = (
-      has_rows listed (one 0) (state_after (schema_of emp) first 0) (rows_at first one first_rows 0),
-      has_rows listed (three 0) (state_after (schema_of emp) both 0) (rows_at both three both_rows 0),
+      has_rows listed (one 0) (state_after (language_of emp) first 0) (rows_at first one first_rows 0),
+      has_rows listed (three 0) (state_after (language_of emp) both 0) (rows_at both three both_rows 0),
       refused,
     )
 

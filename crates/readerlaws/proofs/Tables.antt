@@ -1,4 +1,4 @@
--- Tables that arise, and what a change does to their rows.
+-- Tables that arise, and what an action does to their rows.
 use Rattle.std.proofs.Common.{◌≡◌, ℕ, ◌<◌, ◌≤◌, inl, inr, Bool, true, false, cond, List, [], ◌∷◌, ◌++◌, Option, Some, None, option_map, is_none, unwrap_or, Result, Ok, Err, refl, sym, ap, ◌∙◌, subst, arith}
 use Rattle.std.specs.Prelude.{◌&&◌, ◌↔◌, flat_map, Contains}
 use Rattle.std.specs.List.{list_any}
@@ -8,13 +8,13 @@ use Rattle.std.proofs.lemmas.Bool.{cases_lt, and_parts, and_from, leb-true, ltb-
 use Rattle.fault.specs.declared.refusal.Refusal.{Refusal}
 use Rattle.fault.specs.declared.refusal.Refusal.TheVariants.{KeyOverlap, NumberRange}
 use Rattle.model.specs.declared.value.Value.{Value}
-use Rattle.model.specs.Tables.{days, Period, Cell, Table, Row, IsRow, inside, row_at, empty_table}
+use Rattle.model.specs.Tables.{days, Period, Fact, Table, Row, IsRow, inside, row_at, empty_table}
 use Rattle.model.specs.Values.{same_key}
 use Rattle.model.specs.Statements.{meets, is_met, insert_overlaps, inserted, set_overflows, updated, deleted}
-use Rattle.model.specs.Transactions.{Change, Insert, Update, Delete, changed}
+use Rattle.model.specs.Transactions.{Action, Insert, Update, Delete, changed}
 use Rattle.rowlaws.specs.Rows.{Has, Lists, EachListed}
 use Rattle.rowlaws.specs.Cutting.{cut, cut_rows, removed, removed_rows}
-use Rattle.rowlaws.specs.Changes.{IsFine, clashes, overflows, rows_changed, SameResult, ChangeOnRows, OverlapsOnRows, OverflowsOnRows}
+use Rattle.rowlaws.specs.Changes.{IsFine, clashes, overflows, rows_changed, SameResult, ActionOnRows, OverlapsOnRows, OverflowsOnRows}
 use Rattle.rowlaws.proofs.Keys.{same_key-true, same_key-itself}
 use Rattle.rowlaws.proofs.Anys.{any_has, has_any}
 use Rattle.rowlaws.proofs.Contents.{has_contains, contains_has}
@@ -28,22 +28,22 @@ lists_none : Lists [] empty_table
 unfolding empty_table IsStrictlySortedBy
 lists_none = record { each = λ r h. absurd h; every = λ k d c h. cc; once = tt; within = λ r h. absurd h; keyed = λ r h. absurd h; keys = tt }
 
--- the rows after an accepted change
-pub record After (c : Change) (t : ℕ) (rows : List Row) (new : Table) : Type 0 where
+-- the rows after an accepted action
+pub record After (c : Action) (t : ℕ) (rows : List Row) (new : Table) : Type 0 where
   pub rows_new : List Row
   pub are : rows_changed c t rows ≡ Ok rows_new
   pub listed : Lists rows_new new
 
-after : (c : Change) (t : ℕ) (rows : List Row) (new : Table) (x : Result (List Row) Refusal) (y : Result Table Refusal) → rows_changed c t rows ≡ x → SameResult Lists x y → y ≡ Ok new → After c t rows new
+after : (c : Action) (t : ℕ) (rows : List Row) (new : Table) (x : Result (List Row) Refusal) (y : Result Table Refusal) → rows_changed c t rows ≡ x → SameResult Lists x y → y ≡ Ok new → After c t rows new
 after c t rows new (Ok a) (Ok b) e h g = let q : b ≡ new = cc in record { rows_new = a; are = e; listed = subst (λ s. Lists a s) q h }
 after c t rows new (Ok a) (Err d) e h g = absurd h
 after c t rows new (Err d) (Ok b) e h g = absurd h
 after c t rows new (Err d) (Err f) e h g = absurd (cc)
 
-pub changed_lists : ChangeOnRows → (c : Change) (t : ℕ) (rows : List Row) (old new : Table) → IsFine c → Lists rows old → changed c t old ≡ Ok new → After c t rows new
+pub changed_lists : ActionOnRows → (c : Action) (t : ℕ) (rows : List Row) (old new : Table) → IsFine c → Lists rows old → changed c t old ≡ Ok new → After c t rows new
 changed_lists law c t rows old new fine l e = after c t rows new (rows_changed c t rows) (changed c t old) refl (law c t rows old fine l) e
 
-pub arises_lists : ChangeOnRows → (table : Table) → Arises table → (rows : List Row) × Lists rows table
+pub arises_lists : ActionOnRows → (table : Table) → Arises table → (rows : List Row) × Lists rows table
 arises_lists law table Empty = ([], lists_none)
 arises_lists law table (Changed c t before after fine a e) =
     let old = arises_lists law before a in
@@ -56,7 +56,7 @@ ok_same : {A : Type 0} (b : Bool) (r : Refusal) (x y : A) → cond b (Err r) (Ok
 ok_same true r x y e = absurd (cc)
 ok_same false r x y e = cc
 
-pub inserted_is_there : ChangeOnRows → EachListed → InsertedIsThere
+pub inserted_is_there : ActionOnRows → EachListed → InsertedIsThere
 unfolding rows_changed
 inserted_is_there law listed key values p t before after row some short a e =
     let old = arises_lists law before a in
@@ -70,7 +70,7 @@ inserted_is_there law listed key values p t before after row some short a e =
 
 -- ---- rows of a table that arises
 
-module _ (law : ChangeOnRows) (listed : EachListed) (table : Table) (a : Arises table) where
+module _ (law : ActionOnRows) (listed : EachListed) (table : Table) (a : Arises table) where
   -- it ends by the last day
   short : {row : Row} → IsRow table row → row.period.end ≤ days
   short {row} r = let l = arises_lists law table a in l.1.within row (listed l.0 table row l.1 r)
@@ -89,9 +89,9 @@ module _ (law : ChangeOnRows) (listed : EachListed) (table : Table) (a : Arises 
   -- the day is one of the row that is found
   lies_in : (k : List Value) (d : ℕ) (row : Row) → row_at table k d ≡ Some row → IsRow table row × (row.key ≡ k) × (inside row.period d ≡ true)
   unfolding row_at
-  lies_in k d row e = by (table.cell k d) refl
+  lies_in k d row e = by (table.fact k d) refl
     where
-      by : (o : Option Cell) → table.cell k d ≡ o → IsRow table row × (row.key ≡ k) × (inside row.period d ≡ true)
+      by : (o : Option Fact) → table.fact k d ≡ o → IsRow table row × (row.key ≡ k) × (inside row.period d ≡ true)
       by None g = absurd (let h : row_at table k d ≡ None = rw g refl in let n : None ≡ Some row = sym h ∙ e in cc)
       by (Some c) g =
           let l = arises_lists law table a in
@@ -100,7 +100,7 @@ module _ (law : ChangeOnRows) (listed : EachListed) (table : Table) (a : Arises 
           let same : r.0 ≡ row = (let q : Some r.0 ≡ Some row = sym (found k d (l.1.each r.0 r.1) r.2 i) ∙ e in cc) in
           subst (λ (x : Row). IsRow table x × (x.key ≡ k) × (inside x.period d ≡ true)) same (l.1.each r.0 r.1, r.2, i)
 
-pub rows_are_runs : ChangeOnRows → EachListed → RowsAreRuns
+pub rows_are_runs : ActionOnRows → EachListed → RowsAreRuns
 rows_are_runs law listed table key d row a = ((λ e. lies_in law listed table a key d row e), (λ h. found law listed table a key d h.0 h.1 h.2))
 
 pub no_longer_run : NoLongerRun
@@ -119,9 +119,9 @@ rows_share_no_day table a b d r s e i =
 
 -- ---- DELETE
 
-deleted_cell : (passes : Row → Bool) (p : Period) (t : ℕ) (old : Table) (k : List Value) (d : ℕ) → is_met passes p old k d ≡ true → inside p d ≡ true → (deleted passes p t old).cell k d ≡ None
+deleted_fact : (passes : Row → Bool) (p : Period) (t : ℕ) (old : Table) (k : List Value) (d : ℕ) → is_met passes p old k d ≡ true → inside p d ≡ true → (deleted passes p t old).fact k d ≡ None
 unfolding deleted
-deleted_cell passes p t old k d m i = rw (m, i) refl
+deleted_fact passes p t old k d m i = rw (m, i) refl
 
 -- a row that passes and has a day of the portion is met
 meets_on : (passes : Row → Bool) (p : Period) (row : Row) (d : ℕ) → passes row ≡ true → inside row.period d ≡ true → inside p d ≡ true → meets passes p row ≡ true
@@ -137,20 +137,20 @@ meets_on passes p row d pass i j =
 ok_inj : (x y : Table) → (let o : Result Table Refusal = Ok x in o ≡ Ok y) → x ≡ y
 ok_inj x y h = cc
 
-pub deleted_is_gone : ChangeOnRows → EachListed → DeletedIsGone
+pub deleted_is_gone : ActionOnRows → EachListed → DeletedIsGone
 unfolding changed
 deleted_is_gone law listed passes p t before after row d a e r pass i =
     let is = and_parts _ _ i in
     let same : deleted passes p t before ≡ after = ok_inj (deleted passes p t before) after e in
-    ap (λ (x : Table). x.cell row.key d) (sym same)
-    ∙ deleted_cell passes p t before row.key d (met_at law listed before a passes p d r is.0 ∙ meets_on passes p row d pass is.0 is.1) is.1
+    ap (λ (x : Table). x.fact row.key d) (sym same)
+    ∙ deleted_fact passes p t before row.key d (met_at law listed before a passes p d r is.0 ∙ meets_on passes p row d pass is.0 is.1) is.1
 
 -- ---- what is not met
 
 alone : {xs : List Row} {x : Row} → xs ≡ x ∷ [] → Has xs x
 alone {xs} {x} e = subst (λ ys. Has ys x) (sym e) (inl refl)
 
-pub unmet_stays : ChangeOnRows → EachListed → UnmetStays
+pub unmet_stays : ActionOnRows → EachListed → UnmetStays
 unfolding rows_changed cut_rows removed_rows
 unmet_stays law listed (Insert key values p) t before after row fine a e r n =
     let old = arises_lists law before a in
@@ -172,25 +172,25 @@ unmet_stays law listed (Delete passes p) t before after row fine a e r n =
 -- ---- what is met
 
 -- values that are left or not, born at the instant
-abbrev born : ℕ → List Value → Cell
+abbrev born : ℕ → List Value → Fact
 born t values = record { values = values; system_start = t }
 
-module _ (listed : EachListed) (law : ChangeOnRows) (before : Table) (a : Arises before) {row : Row} (r : IsRow before row) (d : ℕ) (i : inside row.period d ≡ true) where
-  cell_is : before.cell row.key d ≡ Some (record { values = row.values; system_start = row.system_start })
-  cell_is = let x = lies law listed before a {row = row} d i in r.filled d x.from x.before
+module _ (listed : EachListed) (law : ActionOnRows) (before : Table) (a : Arises before) {row : Row} (r : IsRow before row) (d : ℕ) (i : inside row.period d ≡ true) where
+  fact_is : before.fact row.key d ≡ Some (record { values = row.values; system_start = row.system_start })
+  fact_is = let x = lies law listed before a {row = row} d i in r.filled d x.from x.before
 
-  deleted_met : (passes : Row → Bool) (p : Period) (t : ℕ) → meets passes p row ≡ true → (deleted passes p t before).cell row.key d ≡ option_map (λ values. record { values = values; system_start = t }) (left_by (Delete passes p) row d)
+  deleted_met : (passes : Row → Bool) (p : Period) (t : ℕ) → meets passes p row ≡ true → (deleted passes p t before).fact row.key d ≡ option_map (λ values. record { values = values; system_start = t }) (left_by (Delete passes p) row d)
   unfolding deleted
-  deleted_met passes p t m = rw (met_at law listed before a passes p d r i ∙ m, cell_is) (by (inside p d))
+  deleted_met passes p t m = rw (met_at law listed before a passes p d r i ∙ m, fact_is) (by (inside p d))
     where
       by : (b : Bool) → cond b None (Some (born t row.values)) ≡ option_map (λ (values : List Value). born t values) (cond b None (Some row.values))
       by true = refl
       by false = refl
 
   updated_met : (passes : Row → Bool) (p : Period) (set : List Value → Option (List Value)) (t : ℕ) → meets passes p row ≡ true → ((set row.values ≡ None) → ⊥) →
-      (updated passes p set t before).cell row.key d ≡ option_map (λ values. record { values = values; system_start = t }) (left_by (Update passes p set) row d)
+      (updated passes p set t before).fact row.key d ≡ option_map (λ values. record { values = values; system_start = t }) (left_by (Update passes p set) row d)
   unfolding updated
-  updated_met passes p set t m some = rw (met_at law listed before a passes p d r i ∙ m, cell_is) (by (inside p d) (set row.values) some)
+  updated_met passes p set t m some = rw (met_at law listed before a passes p d r i ∙ m, fact_is) (by (inside p d) (set row.values) some)
     where
       by : (b : Bool) (o : Option (List Value)) → ((o ≡ None) → ⊥) → Some (born t (cond b (unwrap_or o row.values) row.values)) ≡ option_map (λ (values : List Value). born t values) (cond b o (Some row.values))
       by true None n = absurd (n refl)
@@ -207,16 +207,16 @@ ok_test : {A : Type 0} (b : Bool) (r : Refusal) (x y : A) → cond b (Err r) (Ok
 ok_test true r x y e = absurd (cc)
 ok_test false r x y e = (refl, cc)
 
-pub met_is_changed : ChangeOnRows → EachListed → OverflowsOnRows → MetIsChanged
+pub met_is_changed : ActionOnRows → EachListed → OverflowsOnRows → MetIsChanged
 unfolding changed
 met_is_changed law listed over (Insert key values p) t before after row d fine a e r m i = absurd (both m refl)
 met_is_changed law listed over (Update passes p set) t before after row d fine a e r m i =
     let l = arises_lists law before a in
     let is = ok_test (set_overflows passes p set before) NumberRange (updated passes p set t before) after e in
-    ap (λ (x : Table). x.cell row.key d) (sym is.1)
+    ap (λ (x : Table). x.fact row.key d) (sym is.1)
     ∙ updated_met listed law before a r d i passes p set t m (in_range over l.0 before passes p set l.1 fine is.0 row (listed l.0 before row l.1 r) m)
 met_is_changed law listed over (Delete passes p) t before after row d fine a e r m i =
-    ap (λ (x : Table). x.cell row.key d) (sym (ok_inj (deleted passes p t before) after e)) ∙ deleted_met listed law before a r d i passes p t m
+    ap (λ (x : Table). x.fact row.key d) (sym (ok_inj (deleted passes p t before) after e)) ∙ deleted_met listed law before a r d i passes p t m
 
 -- ---- a refused INSERT
 
@@ -245,7 +245,7 @@ clash key p row d e i =
     let g = ltb-true d p.end y.1 in
     and_from _ _ (and_from _ _ (subst (λ k. same_key row.key k ≡ true) e (same_key-itself row.key)) (lt-ltb row.period.start p.end (omega arith))) (lt-ltb p.start row.period.end (omega arith))
 
-pub insert_is_refused : ChangeOnRows → EachListed → OverlapsOnRows → InsertIsRefused
+pub insert_is_refused : ActionOnRows → EachListed → OverlapsOnRows → InsertIsRefused
 unfolding changed
 insert_is_refused law listed over key values p t before some short a =
     let l = arises_lists law before a in
@@ -260,14 +260,14 @@ insert_is_refused law listed over key values p t before some short a =
 
 -- ---- the parts
 
--- the rows after the change are the parts of the rows before it
+-- the rows after the action are the parts of the rows before it
 flat_parts : EachListed → (f : Row → List Row) (before after : Table) (rows more : List Row) → Lists rows before → Lists more after → flat_map f rows ≡ more → (row : Row) → IsRow after row ↔ ((old : Row) × IsRow before old × Contains (f old) row)
 flat_parts listed f before after rows more l m e row = (
   (λ r. let h = flat_has f rows row (subst (λ xs. Has xs row) (sym e) (listed more after row m r)) in (h.0, l.each h.0 h.1, has_contains (f h.0) row h.2)),
   (λ h. m.each row (subst (λ xs. Has xs row) e (has_flat f rows h.0 row (listed rows before h.0 l h.1) (contains_has (f h.0) row h.2)))),
 )
 
-pub parts_are_there : ChangeOnRows → EachListed → PartsAreThere
+pub parts_are_there : ActionOnRows → EachListed → PartsAreThere
 unfolding rows_changed cut_rows removed_rows
 parts_are_there law listed (Insert key values p) t before after row fine a e other = absurd (other key values p refl)
 parts_are_there law listed (Update passes p set) t before after row fine a e other =

@@ -21,8 +21,8 @@ use Rattle.sqlchecks.specs.Answering.{or_refuse}
 use Rattle.sqlchecks.specs.Columns.{Tables}
 use Rattle.sqlchecks.specs.Literals.{named, day_named, instant_named}
 use Rattle.sqlchecks.proofs.Days.{day_is, instant_is}
-use Rattle.sqlread.specs.Reading.{IsSchema}
-use Rattle.sqlread.specs.Meaning.{schema_of}
+use Rattle.sqlread.specs.Reading.{IsLanguage}
+use Rattle.sqlread.specs.Meaning.{language_of}
 use Rattle.readerlaws.specs.Laws.{IsOneReading, OneReading, OneQuestion, OneMeaning, DaysAreNamed, InstantsAreNamed}
 
 -- ---- one reading
@@ -51,10 +51,10 @@ one_reading told spells wrong text = one_told (Spells text) (IsWrongAt text) (sp
 pub one_question : IsTold query → OneQuestion
 one_question told text = one_told (grammar.Spells query text) (grammar.IsWrongAt query text) (spelled_in query text) (spelled_in query text) (told text).0 (told text).1 refl
 
-pub one_meaning : ((tables : Tables) → IsSchema tables (schema_of tables)) → OneMeaning
+pub one_meaning : ((tables : Tables) → IsLanguage tables (language_of tables)) → OneMeaning
 one_meaning is tables text =
     let reads = (is tables).reads text in
-    let r = (schema_of tables).reads text in
+    let r = (language_of tables).reads text in
     (r, (reads r).1 refl, (λ s h. sym ((reads s).0 h)))
 
 -- ---- days

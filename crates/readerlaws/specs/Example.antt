@@ -7,7 +7,7 @@ use Rattle.model.specs.Tables.{Table, Row, IsRow}
 use Rattle.model.specs.Logs.{outcome, state_at}
 use Rattle.schema.specs.declared.table.Kind.TheVariants.{Integer, Date, SystemStart, SystemEnd}
 use Rattle.sqlchecks.specs.Columns.{Tables}
-use Rattle.sqlread.specs.Meaning.{schema_of}
+use Rattle.sqlread.specs.Meaning.{language_of}
 use Rattle.readerlaws.specs.Laws.{requests_from}
 
 -- Emp: an employee, and from which day up to which other without it he is of which department; key ENo with EPeriod
@@ -51,6 +51,6 @@ HasRows table rows = (row : Row) → IsRow table row ↔ Contains rows row
 -- same INSERT once more is refused.
 abbrev pub ByExample : Type 0
 ByExample =
-    HasRows (state_at (schema_of emp) worked 101 0) (his 733772 734452 3 101 ∷ [])
-    × HasRows (state_at (schema_of emp) worked 102 0) (his 733772 734170 3 102 ∷ his 734170 734389 4 102 ∷ his 734389 734452 3 102 ∷ [])
-    × (outcome (schema_of emp) 103 (record { client = 7; number = 3; text = hires }) (reverse worked) ≡ Err KeyOverlap)
+    HasRows (state_at (language_of emp) worked 101 0) (his 733772 734452 3 101 ∷ [])
+    × HasRows (state_at (language_of emp) worked 102 0) (his 733772 734170 3 102 ∷ his 734170 734389 4 102 ∷ his 734389 734452 3 102 ∷ [])
+    × (outcome (language_of emp) 103 (record { client = 7; number = 3; text = hires }) (reverse worked) ≡ Err KeyOverlap)

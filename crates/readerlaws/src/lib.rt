@@ -14,7 +14,7 @@ pub fn inserted_is_there()
     ensures there { InsertedIsThere }
     ensures refused { InsertIsRefused }
 {
-    rowlaws::change_on_rows();
+    rowlaws::action_on_rows();
     rowlaws::each_listed();
     rowlaws::overlaps_on_rows();
 }
@@ -23,7 +23,7 @@ pub fn inserted_is_there()
 pub fn deleted_is_gone()
     ensures { DeletedIsGone }
 {
-    rowlaws::change_on_rows();
+    rowlaws::action_on_rows();
     rowlaws::each_listed();
 }
 
@@ -34,7 +34,7 @@ pub fn unmet_stays()
     ensures met { MetIsChanged }
     ensures parts { PartsAreThere }
 {
-    rowlaws::change_on_rows();
+    rowlaws::action_on_rows();
     rowlaws::each_listed();
     rowlaws::overflows_on_rows();
 }
@@ -49,7 +49,7 @@ pub fn rows_are_runs()
     ensures runs { RowsAreRuns }
     ensures longest { NoLongerRun }
 {
-    rowlaws::change_on_rows();
+    rowlaws::action_on_rows();
     rowlaws::each_listed();
 }
 
@@ -61,7 +61,7 @@ pub fn no_orphans()
     ensures tables { TablesArise }
 {
     apply::laws::texts_fine();
-    rowlaws::change_on_rows();
+    rowlaws::action_on_rows();
     rowlaws::fine_logs();
     rowlaws::logs_on_rows();
     rowlaws::none_accepted();
@@ -110,7 +110,7 @@ pub fn one_reading()
 {
     sqlsyntax::laws::forms_told();
     sqlsyntax::laws::transactions_spelled();
-    sqlread::laws::schema_is_spelled();
+    sqlread::laws::language_is_spelled();
 }
 
 /// 13. Days are named by their dates in the calendar, and instants by their dates and times.

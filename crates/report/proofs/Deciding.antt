@@ -7,14 +7,14 @@ use Rattle.std.proofs.Math.Seq.{take-append_seam}
 use Rattle.model.specs.Agreement.{longer, longest, decided_from}
 use Rattle.model.specs.Lists.{IsBeginning}
 use Rattle.model.specs.Members.{Node, applied}
-use Rattle.model.specs.Transactions.{Schema}
+use Rattle.model.specs.Transactions.{Language}
 use Rattle.model.specs.Worlds.{World, Event, happens, run, fresh}
 use Rattle.model.specs.declared.entry.Entry.{Entry}
 
-pub decided_more : (schema : Schema) (n : ℕ) (best : List Entry) (w : World) (es : List Event) (e : Event)
-    → decided_from schema n best w (es ++ e ∷ []) ≡ longest (decided_from schema n best w es) (happens schema n (run schema n w es) e).nodes
-decided_more schema n best w [] e = refl
-decided_more schema n best w (x ∷ es) e = decided_more schema n (longest best w.nodes) (happens schema n w x) es e
+pub decided_more : (language : Language) (n : ℕ) (best : List Entry) (w : World) (es : List Event) (e : Event)
+    → decided_from language n best w (es ++ e ∷ []) ≡ longest (decided_from language n best w es) (happens language n (run language n w es) e).nodes
+decided_more language n best w [] e = refl
+decided_more language n best w (x ∷ es) e = decided_more language n (longest best w.nodes) (happens language n w x) es e
 
 pub none_longer : (n : ℕ) → longest [] (replicate n (fresh 0 None)) ≡ []
 none_longer zero = refl

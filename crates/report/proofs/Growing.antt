@@ -8,9 +8,9 @@ use Rattle.model.specs.Members.{Node, applied}
 use Rattle.model.specs.Worlds.{Event, new_world}
 use Rattle.model.specs.declared.entry.Entry.{Entry}
 use Rattle.moments.proofs.Sending.{now_next}
-use Rattle.sqlread.specs.Meaning.{schema_of}
+use Rattle.sqlread.specs.Meaning.{language_of}
 use Rattle.world.specs.declared.history.World.{World}
-use Rattle.world.specs.Run.{events_of, members_in, now_of, opening_of, schema_in}
+use Rattle.world.specs.Run.{events_of, members_in, now_of, outset_of, language_in}
 use Rattle.world.specs.View.{if_up}
 use Rattle.report.specs.Deciding.{decided_by, longer_at, AreAlong, AreBlankDown, GoesAlong, IsSameWorld}
 use Rattle.report.proofs.Deciding.{decided_more, longest_next, longest_begins, longer_stays}
@@ -60,18 +60,18 @@ longest_at best nodes k blank less =
 -- ---- event by event
 
 -- what is decided once one more event has happened
-pub decided_next : (old new : World) (e : Event) → schema_in new ≡ schema_in old → members_in new ≡ members_in old → events_of new ≡ events_of old ++ e ∷ []
+pub decided_next : (old new : World) (e : Event) → language_in new ≡ language_in old → members_in new ≡ members_in old → events_of new ≡ events_of old ++ e ∷ []
     → decided_by new ≡ longest (decided_by old) (now_of new).nodes
 decided_next old new e schema members events =
     (λ i. decided (schema i) (members i) (new_world (members i)) (events i))
-    ∙ (decided_more (schema_in old) (members_in old) [] (opening_of old) (events_of old) e
+    ∙ (decided_more (language_in old) (members_in old) [] (outset_of old) (events_of old) e
     ∙ ap (λ w. longest (decided_by old) w.nodes) (sym (now_next old new e schema members events)))
 
 -- all that members have then applied goes along with what was decided before
-pub along_next : (old new : World) (e : Event) → schema_in new ≡ schema_in old → members_in new ≡ members_in old → events_of new ≡ events_of old ++ e ∷ []
-    → Agree (schema_in new) (members_in new) (opening_of new) (events_of new) → AreAlong (decided_by old) (now_of new).nodes
+pub along_next : (old new : World) (e : Event) → language_in new ≡ language_in old → members_in new ≡ members_in old → events_of new ≡ events_of old ++ e ∷ []
+    → Agree (language_in new) (members_in new) (outset_of new) (events_of new) → AreAlong (decided_by old) (now_of new).nodes
 along_next old new e schema members events agree =
-    let same : decided_by old ≡ decided (schema_in new) (members_in new) (opening_of new) (events_of old) = (λ i. decided (sym schema i) (sym members i) (new_world (sym members i)) (events_of old)) in
+    let same : decided_by old ≡ decided (language_in new) (members_in new) (outset_of new) (events_of old) = (λ i. decided (sym schema i) (sym members i) (new_world (sym members i)) (events_of old)) in
     record {
       whole = decided_by new;
       begins = subst (λ list. IsBeginning list (decided_by new)) (sym same) (agree.decided_grows (events_of old) (e ∷ []) (sym events));
@@ -80,10 +80,10 @@ along_next old new e schema members events agree =
 
 -- what is decided where the same happened
 pub decided_same : (old new : World) → IsSameWorld old new → decided_by new ≡ decided_by old
-decided_same old new is = λ i. decided (schema_of (is.tables i)) (is.members i) (new_world (is.members i)) (is.events i)
+decided_same old new is = λ i. decided (language_of (is.tables i)) (is.members i) (new_world (is.members i)) (is.events i)
 
 -- what one event more decides, once all that members have applied is in the list
-pub went_on : {E : Type 0} (r : Result (Unit {0}) E) (old mid new : World) (e : Event) (before after : List Entry) → schema_in mid ≡ schema_in old → members_in mid ≡ members_in old
+pub went_on : {E : Type 0} (r : Result (Unit {0}) E) (old mid new : World) (e : Event) (before after : List Entry) → language_in mid ≡ language_in old → members_in mid ≡ members_in old
     → events_of mid ≡ events_of old ++ e ∷ [] → before ≡ decided_by old → OnOk r (after ≡ longest before (now_of mid).nodes) → OnOk r (IsSameWorld mid new) → OnOk r (after ≡ decided_by new)
 went_on (Ok x) old mid new e before after schema members events was is same =
     is ∙ (ap (λ list. longest list (now_of mid).nodes) was ∙ (sym (decided_next old mid e schema members events) ∙ sym (decided_same mid new same)))

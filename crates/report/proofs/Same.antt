@@ -3,7 +3,7 @@ use Rattle.std.proofs.Common.{◌≡◌, ◌∙◌, ℕ, [], ap, false}
 use Rattle.model.specs.Lists.{nth}
 use Rattle.model.specs.Agreement.{decided}
 use Rattle.model.specs.Worlds.{new_world, run}
-use Rattle.sqlread.specs.Meaning.{schema_of}
+use Rattle.sqlread.specs.Meaning.{language_of}
 use Rattle.world.specs.declared.history.World.{World}
 use Rattle.world.specs.Run.{events_of, members_in, member_of, now_of, tables_in}
 use Rattle.report.specs.Deciding.{decided_by, IsSameWorld}
@@ -11,7 +11,7 @@ use Rattle.report.proofs.Deciding.{none_longer}
 
 -- the members are the same
 pub same_nodes : (old new : World) → IsSameWorld old new → (now_of new).nodes ≡ (now_of old).nodes
-same_nodes old new is = λ i. (run (schema_of (is.tables i)) (is.members i) (new_world (is.members i)) (is.events i)).nodes
+same_nodes old new is = λ i. (run (language_of (is.tables i)) (is.members i) (new_world (is.members i)) (is.events i)).nodes
 
 pub same_member : (old new : World) (m : ℕ) → IsSameWorld old new → member_of new m ≡ member_of old m
 same_member old new m is = ap (λ nodes. nth nodes m) (same_nodes old new is)
@@ -25,4 +25,4 @@ same_on old new last is on = same_then old new last is on.events on.tables on.me
 
 -- nothing is decided before anything happened
 pub decided_none : (w : World) → events_of w ≡ [] → decided_by w ≡ []
-decided_none w none = ap (decided (schema_of (tables_in w)) (members_in w) (new_world (members_in w))) none ∙ none_longer (members_in w)
+decided_none w none = ap (decided (language_of (tables_in w)) (members_in w) (new_world (members_in w))) none ∙ none_longer (members_in w)

@@ -5,11 +5,11 @@ use Rattle.model.specs.Agreement.{longer, decided}
 use Rattle.model.specs.Members.{Node, applied}
 use Rattle.model.specs.declared.entry.Entry.{Entry}
 use Rattle.world.specs.declared.history.World.{World}
-use Rattle.world.specs.Run.{events_of, members_in, opening_of, schema_in, tables_in}
+use Rattle.world.specs.Run.{events_of, members_in, outset_of, language_in, tables_in}
 
 -- what is decided in all that happened so far
 abbrev pub decided_by : World → List Entry
-decided_by w = decided (schema_in w) (members_in w) (opening_of w) (events_of w)
+decided_by w = decided (language_in w) (members_in w) (outset_of w) (events_of w)
 
 -- the longer one of a list and of what a member has applied, if there is one
 abbrev pub longer_at : List Entry → Option Node → List Entry

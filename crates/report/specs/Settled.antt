@@ -1,7 +1,7 @@
 -- What decided entries come to.
 use Rattle.std.specs.Prelude.{ℕ, ◌-◌, Option, Some, None, Result, Ok, Err, List, [], ◌∷◌, ◌++◌, length, slice_get, option_map}
 use Rattle.fault.specs.declared.refusal.Refusal.{Refusal}
-use Rattle.model.specs.Transactions.{Schema}
+use Rattle.model.specs.Transactions.{Language}
 use Rattle.model.specs.Logs.{outcome}
 use Rattle.model.specs.declared.entry.Entry.{Entry}
 use Rattle.model.specs.declared.entry.Request.{Request}
@@ -14,11 +14,11 @@ if_found None = []
 if_found (Some outcome) = outcome ∷ []
 
 -- what comes of an entry's request, if it has one, after the entries before it, from the newest back
-abbrev pub outcome_in : Schema → List Entry → ℕ → Option Request → List (Result ℕ Refusal)
+abbrev pub outcome_in : Language → List Entry → ℕ → Option Request → List (Result ℕ Refusal)
 outcome_in schema before stamp request = if_found (option_map (λ r. outcome schema stamp r before) request)
 
 -- what comes of the requests of entries, in their order, after those before them, from the newest back
-abbrev pub outcomes_from : Schema → List Entry → List Entry → List (Result ℕ Refusal)
+abbrev pub outcomes_from : Language → List Entry → List Entry → List (Result ℕ Refusal)
 outcomes_from schema before [] = []
 outcomes_from schema before (e ∷ later) = outcome_in schema before e.stamp e.request ++ outcomes_from schema (e ∷ before) later
 
@@ -40,5 +40,5 @@ summed list outcomes stamps = record {
   log = digest_of list;
 }
 
-abbrev pub settled_of : Schema → List Entry → Settled
+abbrev pub settled_of : Language → List Entry → Settled
 settled_of schema list = summed list (outcomes_from schema [] list) (stamps_in (outcomes_from schema [] list))

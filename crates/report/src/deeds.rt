@@ -2,7 +2,7 @@
 use crate::stuck::Records;
 use flight::life::{Ending, Life, Packet, Step};
 use model::member::Member;
-use moments::{Deed, Moment};
+use moments::{Deed, Moment, list_deeds};
 use std::alloc::{AllocError, Global};
 
 /// The lives of a node; none where it is not there.
@@ -69,41 +69,10 @@ pub(crate) fn life_at(records: &Records<'_>, moment: &Moment) -> usize {
     }
 }
 
-// Adds what a node does in a life, in its order.
-fn add_life(
-    node: Member,
-    place: usize,
-    life: &Life,
-    moments: &mut Vec<Moment>,
-) -> Result<(), AllocError> {
-    moments.push(Moment {
-        mark: life.opening.mark,
-        node,
-        deed: Deed::Opens { life: place },
-    })?;
-    for (step, taken) in life.steps.iter().enumerate() {
-        moments.push(Moment {
-            mark: taken.mark,
-            node,
-            deed: Deed::Takes { life: place, step },
-        })?;
-    }
-    if let Ending::Torn(step) = &life.ending {
-        moments.push(Moment {
-            mark: step.mark,
-            node,
-            deed: Deed::Tears { life: place },
-        })?;
-    }
-    Ok(())
-}
-
 // What a node does, in the order of its lives.
 fn moments_of(alloc: Global, node: Member, lives: &[Life]) -> Result<Vec<Moment>, AllocError> {
     let mut moments = Vec::new(alloc);
-    for (place, life) in lives.iter().enumerate() {
-        add_life(node, place, life, &mut moments)?;
-    }
+    list_deeds(&mut moments, node, lives)?;
     Ok(moments)
 }
 

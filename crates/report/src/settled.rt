@@ -2,7 +2,7 @@
 ghost use Rattle.std.specs.Prelude.{◌≡◌, ◌≤◌, ◌++◌, ◌∷◌, [], false, IfOk, OnOk, length, map};
 ghost use Rattle.model.specs.Agreement.{decided, longest};
 ghost use Rattle.model.specs.Worlds.{new_world};
-ghost use Rattle.sqlread.specs.Meaning.{schema_of};
+ghost use Rattle.sqlread.specs.Meaning.{language_of};
 ghost use Rattle.world.specs.Run.{events_of, member_of, members_in, now_of, tables_in};
 ghost use Rattle.world.specs.View.{event_of, if_up};
 ghost use Rattle.report.specs.Deciding.{decided_by, longer_at, AreAlong, AreBlankDown, GoesAlong, IsSameWorld};
@@ -34,7 +34,7 @@ pub struct Settled {
 impl Settled {
     /// Of these entries, run one at a time over tables of this schema. The error is want of memory.
     pub fn of(alloc: Global, schema: &Schema, list: &[Entry]) -> Result<Settled, AllocError>
-        ensures { IfOk result (λ s. s ≡ settled_of (schema_of schema.now) list.now) }
+        ensures { IfOk result (λ s. s ≡ settled_of (language_of schema.now) list.now) }
     {
         let outcomes = outcomes_of(alloc, schema, list)?;
         let stamps = stamps_in(alloc, outcomes.as_slice())?;
@@ -71,7 +71,7 @@ fn outcomes_of(
     schema: &Schema,
     list: &[Entry],
 ) -> Result<Vec<Result<Stamp, Refusal>>, AllocError>
-    ensures { IfOk result (λ outcomes. outcomes.items ≡ outcomes_from (schema_of schema.now) [] list.now) }
+    ensures { IfOk result (λ outcomes. outcomes.items ≡ outcomes_from (language_of schema.now) [] list.now) }
 {
     let mut tables = Tables::new(alloc, schema)?;
     let mut outcomes = Vec::new(alloc);
@@ -145,6 +145,8 @@ fn go_on(
     ensures members { OnOk result (members_in world.new ≡ members_in world.old) }
     ensures live { OnOk result (world.new.is_spent ≡ false) }
 {
+    // Its contract says that what members apply begins what is decided.
+    safety::agreement();
     world.run(&[event.clone()?])?;
     add_all(world, members, list)
 }
@@ -159,7 +161,7 @@ pub fn decided_of(
 ) -> Result<Vec<Entry>, AllocError>
     requires least { 3 ≤ members }
     requires most { members ≤ 7 }
-    ensures { IfOk result (λ list. list.items ≡ decided (schema_of schema.now) members (new_world members) (map event_of events.now)) }
+    ensures { IfOk result (λ list. list.items ≡ decided (language_of schema.now) members (new_world members) (map event_of events.now)) }
 {
     let mut world = World::new(alloc, members, schema.clone()?)?;
     let mut list = Vec::new(alloc);

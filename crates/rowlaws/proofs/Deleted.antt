@@ -4,16 +4,16 @@ use Rattle.std.proofs.Common.{◌≡◌, ℕ, ◌-◌, ◌<◌, ◌≤◌, ◌�
 use Rattle.std.proofs.lemmas.Bool.{cases_Bool, and_parts, and_from, and_left, and_right, lt-ltb, le-ltb, le-leb, lt-leb, ltb-true, cond-true, cond-false}
 use Rattle.model.specs.declared.value.Value.{Value}
 use Rattle.rowlaws.proofs.RowFacts.{InRow, both, row_at_is}
-use Rattle.model.specs.Tables.{days, Period, Cell, Table, Row, IsRow, joined, inside}
+use Rattle.model.specs.Tables.{days, Period, Fact, Table, Row, IsRow, joined, inside}
 use Rattle.model.specs.Statements.{deleted, is_met, meets}
 use Rattle.rowlaws.specs.Rows.{Has, Lists}
 use Rattle.rowlaws.specs.Cutting.{part, removed, removed_rows}
 use Rattle.rowlaws.proofs.Recut.{Cuts, Middle, one_cuts, parts_cuts, parts_born, lists_cut, older_cut}
 
-abbrev pub no_system_start : ℕ → Cell → Cell
+abbrev pub no_system_start : ℕ → Fact → Fact
 no_system_start t c = record { values = c.values; system_start = t }
 
-some_or : (m i : Bool) (o : Option Cell) (t : ℕ) → is_some (cond m (cond i None (option_map (no_system_start t) o)) o) ≡ (is_some o && not (m && i))
+some_or : (m i : Bool) (o : Option Fact) (t : ℕ) → is_some (cond m (cond i None (option_map (no_system_start t) o)) o) ≡ (is_some o && not (m && i))
 some_or true true None t = refl
 some_or true true (Some c) t = refl
 some_or true false None t = refl
@@ -41,9 +41,9 @@ module _ (passes : Row → Bool) (p : Period) (t : ℕ) (old : Table) where
   unfolding is_met
   met_is {r} row short k d x = ap (λ (o : Option Row). option_map_or (meets passes p) o false) (row_at_is row short k d x)
 
-  new_some : (k : List Value) (d : ℕ) → is_some (new.cell k d) ≡ (is_some (old.cell k d) && left k d)
+  new_some : (k : List Value) (d : ℕ) → is_some (new.fact k d) ≡ (is_some (old.fact k d) && left k d)
   unfolding deleted
-  new_some k d = some_or (is_met passes p old k d) (inside p d) (old.cell k d) t
+  new_some k d = some_or (is_met passes p old k d) (inside p d) (old.fact k d) t
 
   new_cut : (k : List Value) (d : ℕ) → new.is_cut k d ≡ old.is_cut k d
   unfolding deleted
@@ -53,24 +53,24 @@ module _ (passes : Row → Bool) (p : Period) (t : ℕ) (old : Table) where
   unfolding deleted
   new_keys = refl
 
-  unmet_cell : (k : List Value) (d : ℕ) → is_met passes p old k d ≡ false → new.cell k d ≡ old.cell k d
+  unmet_fact : (k : List Value) (d : ℕ) → is_met passes p old k d ≡ false → new.fact k d ≡ old.fact k d
   unfolding deleted
-  unmet_cell k d m = rw m refl
+  unmet_fact k d m = rw m refl
 
-  met_outside : (k : List Value) (d : ℕ) (c : Cell) → is_met passes p old k d ≡ true → inside p d ≡ false → old.cell k d ≡ Some c → new.cell k d ≡ Some (record { values = c.values; system_start = t })
+  met_outside : (k : List Value) (d : ℕ) (c : Fact) → is_met passes p old k d ≡ true → inside p d ≡ false → old.fact k d ≡ Some c → new.fact k d ≡ Some (record { values = c.values; system_start = t })
   unfolding deleted
   met_outside k d c m i h = rw (m, i, h) refl
 
-  met_inside : (k : List Value) (d : ℕ) → is_met passes p old k d ≡ true → inside p d ≡ true → is_some (new.cell k d) ≡ false
+  met_inside : (k : List Value) (d : ℕ) → is_met passes p old k d ≡ true → inside p d ≡ true → is_some (new.fact k d) ≡ false
   unfolding deleted
   met_inside k d m i = rw (m, i) refl
 
   still_apart : (k : List Value) (d : ℕ) → joined old k d ≡ false → joined new k d ≡ false
-  still_apart k d h = rw (new_some k d, new_some k (d - 1), new_cut k d) (apart_then (nat_lt 0 d) (is_some (old.cell k (d - 1))) (is_some (old.cell k d)) (old.is_cut k d) (left k (d - 1)) (left k d) h)
+  still_apart k d h = rw (new_some k d, new_some k (d - 1), new_cut k d) (apart_then (nat_lt 0 d) (is_some (old.fact k (d - 1))) (is_some (old.fact k d)) (old.is_cut k d) (left k (d - 1)) (left k d) h)
 
   -- nothing of these two days is deleted
   still_joined : (k : List Value) (d : ℕ) → left k (d - 1) ≡ true → left k d ≡ true → joined new k d ≡ joined old k d
-  still_joined k d a b = rw (new_some k d, new_some k (d - 1), new_cut k d) (rw (a, b) (by (nat_lt 0 d) (is_some (old.cell k (d - 1))) (is_some (old.cell k d)) (old.is_cut k d)))
+  still_joined k d a b = rw (new_some k d, new_some k (d - 1), new_cut k d) (rw (a, b) (by (nat_lt 0 d) (is_some (old.fact k (d - 1))) (is_some (old.fact k d)) (old.is_cut k d)))
     where
       by : (l x y cut : Bool) → (l && (x && true) && (y && true) && not cut) ≡ (l && x && y && not cut)
       by false x y cut = refl
@@ -78,13 +78,13 @@ module _ (passes : Row → Bool) (p : Period) (t : ℕ) (old : Table) where
       by true true false cut = refl
       by true true true cut = refl
 
-  gap_here : (k : List Value) (d : ℕ) → is_some (new.cell k d) ≡ false → joined new k d ≡ false
+  gap_here : (k : List Value) (d : ℕ) → is_some (new.fact k d) ≡ false → joined new k d ≡ false
   gap_here k d h = rw h (and_left _ _ (and_right _ false refl))
 
-  gap_before : (k : List Value) (d : ℕ) → is_some (new.cell k (d - 1)) ≡ false → joined new k d ≡ false
+  gap_before : (k : List Value) (d : ℕ) → is_some (new.fact k (d - 1)) ≡ false → joined new k d ≡ false
   gap_before k d h = rw h (and_left _ _ (and_left _ _ (and_right _ false refl)))
 
-  from_old : (k : List Value) (d : ℕ) (c : Cell) → new.cell k d ≡ Some c → is_some (old.cell k d) ≡ true
+  from_old : (k : List Value) (d : ℕ) (c : Fact) → new.fact k d ≡ Some c → is_some (old.fact k d) ≡ true
   from_old k d c h = (and_parts _ _ (sym (new_some k d) ∙ ap is_some h)).0
 
   outside : (d : ℕ) → (d < p.start) ⊎ (p.end ≤ d) → inside p d ≡ false
@@ -103,7 +103,7 @@ module _ (passes : Row → Bool) (p : Period) (t : ℕ) (old : Table) where
         let no : (d : ℕ) → r.period.start ≤ d → d < r.period.end → is_met passes p old r.key d ≡ false = λ d a b. met_is row short r.key d (in_row d a b) ∙ m in
         record {
           some = row.some;
-          filled = λ d a b. unmet_cell r.key d (no d a b) ∙ row.filled d a b;
+          filled = λ d a b. unmet_fact r.key d (no d a b) ∙ row.filled d a b;
           whole = λ d a b. still_joined r.key d (unmet_left r.key (d - 1) (no (d - 1) (omega arith) (omega arith))) (unmet_left r.key d (no d (omega arith) b)) ∙ row.whole d a b;
           first = still_apart r.key r.period.start row.first;
           last = still_apart r.key r.period.end row.last;

@@ -35,21 +35,21 @@ module _ (key values : List Value) (p : Period) (t : ℕ) (old : Table) where
   unfolding inserted
   new_keys = refl
 
-  pub other_cell : (k : List Value) (d : ℕ) → same_key k key ≡ false → new.cell k d ≡ old.cell k d
+  pub other_fact : (k : List Value) (d : ℕ) → same_key k key ≡ false → new.fact k d ≡ old.fact k d
   unfolding inserted
-  other_cell k d h = rw h refl
+  other_fact k d h = rw h refl
 
   other_joined : (k : List Value) (d : ℕ) → same_key k key ≡ false → joined new k d ≡ joined old k d
   unfolding inserted
   other_joined k d h = rw h refl
 
-  pub outside_cell : (d : ℕ) → inside p d ≡ false → new.cell key d ≡ old.cell key d
+  pub outside_fact : (d : ℕ) → inside p d ≡ false → new.fact key d ≡ old.fact key d
   unfolding inserted
-  outside_cell d h = rw (same_key-itself key, h) refl
+  outside_fact d h = rw (same_key-itself key, h) refl
 
-  inside_cell : (d : ℕ) → p.start ≤ d → d < p.end → new.cell key d ≡ Some (record { values = values; system_start = t })
+  inside_fact : (d : ℕ) → p.start ≤ d → d < p.end → new.fact key d ≡ Some (record { values = values; system_start = t })
   unfolding inserted
-  inside_cell d h g = rw (same_key-itself key, le-leb p.start d h, lt-ltb d p.end g) refl
+  inside_fact d h g = rw (same_key-itself key, le-leb p.start d h, lt-ltb d p.end g) refl
 
   outside_joined : (d : ℕ) → (d < p.start) ⊎ (p.end < d) → joined new key d ≡ joined old key d
   unfolding inserted
@@ -66,20 +66,20 @@ module _ (key values : List Value) (p : Period) (t : ℕ) (old : Table) where
   inner_joined d h g = rw (same_key-itself key, le-leb p.start d (omega arith), lt-ltb d p.end g, le-leb d p.end (omega arith), le-leb p.start (d - 1) (omega arith), lt-ltb (d - 1) p.end (omega arith), lt-ltb 0 d (omega arith), ne_eqb d p.start (λ e. omega arith), ne_eqb d p.end (λ e. omega arith)) refl
 
   module _ (le : p.start < p.end) (clear : insert_overlaps key p old ≡ false) where
-    pub empty_in : (d : ℕ) → p.start ≤ d → d < p.end → is_some (old.cell key d) ≡ false
+    pub empty_in : (d : ℕ) → p.start ≤ d → d < p.end → is_some (old.fact key d) ≡ false
     unfolding insert_overlaps
-    empty_in d h g = any_in_range (λ x. is_some (old.cell key x)) p.start (p.end - p.start) d clear h (omega arith)
+    empty_in d h g = any_in_range (λ x. is_some (old.fact key x)) p.start (p.end - p.start) d clear h (omega arith)
 
     -- a row of the old table has no day of the period
     pub apart_from : {r : Row} → IsRow old r → r.key ≡ key → (d : ℕ) → p.start ≤ d → d < p.end → r.period.start ≤ d → d < r.period.end → ⊥
-    apart_from {r} row e d a b x y = both (ap is_some (subst (λ k. old.cell k d ≡ Some (record { values = r.values; system_start = r.system_start })) e (row.filled d x y))) (empty_in d a b)
+    apart_from {r} row e d a b x y = both (ap is_some (subst (λ k. old.fact k d ≡ Some (record { values = r.values; system_start = r.system_start })) e (row.filled d x y))) (empty_in d a b)
 
     stays_same : {r : Row} → IsRow old r → r.key ≡ key → IsRow new r
     stays_same {r} row e =
         let some = row.some in
         let out : (d : ℕ) → r.period.start ≤ d → d < r.period.end → (d < p.start) ⊎ (p.end ≤ d) = λ d a b. elim (cases_lt d p.start) [ inl l ↦ inl l | inr g ↦ elim (cases_lt d p.end) [ inl m ↦ absurd (apart_from row e d g m a b) | inr m ↦ inr m ] ] in
         let test : (d : ℕ) → (d < p.start) ⊎ (p.end ≤ d) → inside p d ≡ false = λ d o. elim o [ inl l ↦ and_left _ _ (lt-leb p.start d l) | inr l ↦ and_right _ _ (le-ltb d p.end l) ] in
-        let filled : (d : ℕ) → r.period.start ≤ d → d < r.period.end → new.cell key d ≡ Some (record { values = r.values; system_start = r.system_start }) = λ d a b. outside_cell d (test d (out d a b)) ∙ subst (λ k. old.cell k d ≡ Some (record { values = r.values; system_start = r.system_start })) e (row.filled d a b) in
+        let filled : (d : ℕ) → r.period.start ≤ d → d < r.period.end → new.fact key d ≡ Some (record { values = r.values; system_start = r.system_start }) = λ d a b. outside_fact d (test d (out d a b)) ∙ subst (λ k. old.fact k d ≡ Some (record { values = r.values; system_start = r.system_start })) e (row.filled d a b) in
         let whole : (d : ℕ) → r.period.start < d → d < r.period.end → joined new key d ≡ true = λ d a b. outside_joined d (elim (out d (omega arith) b) [ inl l ↦ inl l | inr l ↦ elim (out (d - 1) (omega arith) (omega arith)) [ inl m ↦ absurd (omega arith) | inr m ↦ inr (omega arith) ] ]) ∙ subst (λ k. joined old k d ≡ true) e (row.whole d a b) in
         let end : (d : ℕ) → joined old key d ≡ false → (d ≤ p.start) ⊎ (p.end ≤ d) → joined new key d ≡ false = λ d h o. elim o [
           | inl l ↦ elim (cases_lt d p.start) [ inl m ↦ outside_joined d (inl m) ∙ h | inr m ↦ edge_joined (omega arith) d (inl (omega arith)) ]
@@ -96,7 +96,7 @@ module _ (key values : List Value) (p : Period) (t : ℕ) (old : Table) where
     stays_other : {r : Row} → IsRow old r → same_key r.key key ≡ false → IsRow new r
     stays_other {r} row n = record {
       some = row.some;
-      filled = λ d a b. other_cell r.key d n ∙ row.filled d a b;
+      filled = λ d a b. other_fact r.key d n ∙ row.filled d a b;
       whole = λ d a b. other_joined r.key d n ∙ row.whole d a b;
       first = other_joined r.key r.period.start n ∙ row.first;
       last = other_joined r.key r.period.end n ∙ row.last;
@@ -106,4 +106,4 @@ module _ (key values : List Value) (p : Period) (t : ℕ) (old : Table) where
     stays {r} row = elim (cases_Bool (same_key r.key key)) [ inl y ↦ stays_same row (same_key-true r.key key y) | inr n ↦ stays_other row n ]
 
     pub comes : IsRow new fresh
-    comes = record { some = le; filled = inside_cell; whole = inner_joined; first = edge_joined (omega arith) p.start (inl refl); last = edge_joined (omega arith) p.end (inr refl) }
+    comes = record { some = le; filled = inside_fact; whole = inner_joined; first = edge_joined (omega arith) p.start (inl refl); last = edge_joined (omega arith) p.end (inr refl) }

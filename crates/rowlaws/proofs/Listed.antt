@@ -6,13 +6,13 @@ use Rattle.std.specs.List.Sorted.{IsStrictlySortedBy}
 use Rattle.std.proofs.lemmas.Bool.{cases_lt, cases_Bool, and_parts, and_from, leb-true, ltb-true, not-true, not_from_false}
 use Rattle.model.specs.declared.value.Value.{Value}
 use Rattle.model.specs.Values.{same_key, key_cmp}
-use Rattle.model.specs.Tables.{days, Period, Cell, Table, Row, IsRow, joined, inside, begins, empty_table}
+use Rattle.model.specs.Tables.{days, Period, Fact, Table, Row, IsRow, joined, inside, begins, empty_table}
 use Rattle.model.specs.Statements.{inserted, insert_overlaps, with_key, beginnings, row_count}
 use Rattle.rowlaws.specs.Rows.{Has, Apart, Lists, SameRows}
 use Rattle.rowlaws.proofs.Keys.{same_key-true, has_key, has_keys, sorted_with_key, apart_from_sorted}
 use Rattle.rowlaws.proofs.Members.{has_left, has_right, has_cases, apart_append, has_filter, filter_has, apart_filter, pigeon, has_map, map_has, apart_map, has_flat, flat_has, apart_flat, has_range, apart_range}
 use Rattle.rowlaws.proofs.RowFacts.{both, one_row}
-use Rattle.rowlaws.proofs.Inserted.{stays, comes, apart_from, new_keys, other_cell, outside_cell}
+use Rattle.rowlaws.proofs.Inserted.{stays, comes, apart_from, new_keys, other_fact, outside_fact}
 
 pub lists_none : Lists [] empty_table
 unfolding empty_table IsStrictlySortedBy
@@ -20,9 +20,9 @@ lists_none = record { each = λ r h. absurd h; every = λ k d c h. cc; once = tt
 
 -- ---- how many rows
 
-is_some_cell : {A : Type 0} (o : Option A) → is_some o ≡ true → (c : A) × (o ≡ Some c)
-is_some_cell (Some c) h = (c, refl)
-is_some_cell None h = cc
+is_some_fact : {A : Type 0} (o : Option A) → is_some o ≡ true → (c : A) × (o ≡ Some c)
+is_some_fact (Some c) h = (c, refl)
+is_some_fact None h = cc
 
 begins_first : {table : Table} {r : Row} → IsRow table r → begins table r.key r.period.start ≡ true
 begins_first {table} {r} row = and_from _ _ (ap is_some (row.filled r.period.start (omega arith) row.some)) (not_from_false _ row.first)
@@ -59,7 +59,7 @@ count_is rows table l =
     let m = flat_has (of_key table) table.keys z h in
     let b = of_key_is table m.0 z m.2 in
     let parts = and_parts _ _ b.1 in
-    let c = is_some_cell (table.cell m.0 z.1) parts.0 in
+    let c = is_some_fact (table.fact m.0 z.1) parts.0 in
     let r = l.every m.0 z.1 c.0 c.1 in
     let row = l.each r.0 r.1 in
     let not_inner : r.0.period.start < z.1 → ⊥ = λ g. both (subst (λ k. joined table k z.1 ≡ true) r.2 (row.whole z.1 g r.4)) (not-true _ parts.1) in
@@ -118,14 +118,14 @@ module _ (key values : List Value) (p : Period) (t : ℕ) (rows : List Row) (old
       in_keys : (r : Row) → Has rows r ⊎ (r ≡ row_new) → Has (inserted key values p t old).keys r.key
       in_keys r o = subst (λ ks. Has ks r.key) (sym (new_keys key values p t old)) (elim o [ inl a ↦ has_keys key old.keys r.key (l.keyed r a) | inr e ↦ subst (λ k. Has (with_key key old.keys) k) (ap (λ x. x.key) (sym e)) (has_key key old.keys) ])
 
-      old_one : (k : List Value) (d : ℕ) (c : Cell) → old.cell k d ≡ Some c → (r : Row) × Has (rows ++ row_new ∷ []) r × (r.key ≡ k) × (r.period.start ≤ d) × (d < r.period.end)
+      old_one : (k : List Value) (d : ℕ) (c : Fact) → old.fact k d ≡ Some c → (r : Row) × Has (rows ++ row_new ∷ []) r × (r.key ≡ k) × (r.period.start ≤ d) × (d < r.period.end)
       old_one k d c h = let r = l.every k d c h in (r.0, has_left rows (row_new ∷ []) r.0 r.1, r.2, r.3, r.4)
 
-      found : (k : List Value) (d : ℕ) (c : Cell) → (inserted key values p t old).cell k d ≡ Some c → insert_overlaps key p old ≡ false → (r : Row) × Has (rows ++ row_new ∷ []) r × (r.key ≡ k) × (r.period.start ≤ d) × (d < r.period.end)
+      found : (k : List Value) (d : ℕ) (c : Fact) → (inserted key values p t old).fact k d ≡ Some c → insert_overlaps key p old ≡ false → (r : Row) × Has (rows ++ row_new ∷ []) r × (r.key ≡ k) × (r.period.start ≤ d) × (d < r.period.end)
       found k d c h clear = elim (cases_Bool (same_key k key)) [
-        | inr n ↦ old_one k d c (sym (other_cell key values p t old k d n) ∙ h)
+        | inr n ↦ old_one k d c (sym (other_fact key values p t old k d n) ∙ h)
         | inl y ↦ let e : k ≡ key = same_key-true k key y in elim (cases_Bool (inside p d)) [
           | inl i ↦ let parts = and_parts _ _ i in (row_new, has_right rows (row_new ∷ []) row_new (inl refl), sym e, leb-true p.start d parts.0, ltb-true d p.end parts.1)
-          | inr o ↦ old_one k d c (ap (λ x. old.cell x d) e ∙ sym (outside_cell key values p t old d o) ∙ ap (λ x. (inserted key values p t old).cell x d) (sym e) ∙ h)
+          | inr o ↦ old_one k d c (ap (λ x. old.fact x d) e ∙ sym (outside_fact key values p t old d o) ∙ ap (λ x. (inserted key values p t old).fact x d) (sym e) ∙ h)
         ]
       ]

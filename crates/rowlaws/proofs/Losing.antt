@@ -7,18 +7,18 @@ use Rattle.fault.specs.declared.refusal.Refusal.{Refusal}
 use Rattle.fault.specs.declared.refusal.Refusal.TheVariants.{KeyOverlap, RowLimit, NumberRange}
 use Rattle.model.specs.declared.value.Value.{Value}
 use Rattle.model.specs.Values.{same_key}
-use Rattle.model.specs.Tables.{Period, Cell, Table, Row, IsRow, inside}
+use Rattle.model.specs.Tables.{Period, Fact, Table, Row, IsRow, inside}
 use Rattle.model.specs.Periods.{is_free}
 use Rattle.model.specs.Statements.{days_of, inserted, updated, deleted, insert_overlaps, set_overflows, is_met}
-use Rattle.model.specs.Transactions.{State, Statement, Change, Insert, Update, Delete, changed, and_then, within_limit, with_table, run_statement, run_statements}
+use Rattle.model.specs.Transactions.{State, Statement, Action, Insert, Update, Delete, changed, and_then, within_limit, with_table, run_statement, run_statements}
 use Rattle.rowlaws.specs.Rows.{Has, Lists}
 use Rattle.rowlaws.specs.Touching.{IsTouched}
 use Rattle.rowlaws.specs.Covering.{periods_of}
-use Rattle.rowlaws.specs.Losing.{is_lost, day_went, is_uncovered, loses, has_lost_day, losing_keys, IsTouchedAmong, may_empty, may_empty_in, LostDay, LosesDay, LosingKeys, LosingAmong, TouchedAmong, UntouchedAmong, AmongBoth, LostByChange, LostByStatements}
+use Rattle.rowlaws.specs.Losing.{is_lost, day_went, is_uncovered, loses, has_lost_day, losing_keys, IsTouchedAmong, may_empty, may_empty_in, LostDay, LosesDay, LosingKeys, LosingAmong, TouchedAmong, UntouchedAmong, AmongBoth, LostByAction, LostByStatements}
 use Rattle.rowlaws.proofs.Keys.{same_key-true, same_key-itself}
 use Rattle.rowlaws.proofs.Members.{has_left, has_right, has_map, map_has, has_filter, filter_has}
 use Rattle.rowlaws.proofs.RowFacts.{both, one_row}
-use Rattle.rowlaws.proofs.Recut.{some_cell}
+use Rattle.rowlaws.proofs.Recut.{some_fact}
 use Rattle.rowlaws.proofs.Anys.{any_has, has_any, same_test}
 use Rattle.rowlaws.proofs.Least.{IsLeast, find_day}
 use Rattle.rowlaws.proofs.Orphaned.{filled_by}
@@ -45,8 +45,8 @@ inside_is p d h = let q = and_parts _ _ h in (leb-true _ _ q.0, ltb-true _ _ q.1
 free_not : (rows : List Row) (k : List Value) (d : ℕ) (r : Row) → is_free (periods_of rows k) d ≡ true → Has rows r → r.key ≡ k → r.period.start ≤ d → d < r.period.end → ⊥
 free_not rows k d r free h e a b = both (has_any (λ (p : Period). inside p d) (periods_of rows k) r.period (has_period rows k r h e) (is_inside r.period d a b)) (not-true _ free)
 
-filled_row : (table : Table) (r : Row) (k : List Value) (d : ℕ) → IsRow table r → r.key ≡ k → r.period.start ≤ d → d < r.period.end → is_some (table.cell k d) ≡ true
-filled_row table r k d row e a b = subst (λ x. is_some (table.cell x d) ≡ true) e (ap is_some (row.filled d a b))
+filled_row : (table : Table) (r : Row) (k : List Value) (d : ℕ) → IsRow table r → r.key ≡ k → r.period.start ≤ d → d < r.period.end → is_some (table.fact k d) ≡ true
+filled_row table r k d row e a b = subst (λ x. is_some (table.fact x d) ≡ true) e (ap is_some (row.filled d a b))
 
 -- ---- a day that is in none of the periods
 
@@ -65,7 +65,7 @@ module _ (rows more : List Row) (old new : Table) (removed added : List Row) (l 
   went_with : (d : ℕ) → is_lost old new k d ≡ true → (r : Row) × Has removed r × (r.key ≡ k) × (r.period.start ≤ d) × (d < r.period.end)
   went_with d h =
       let q = and_parts _ _ h in
-      let c = some_cell (old.cell k d) q.0 in
+      let c = some_fact (old.fact k d) q.0 in
       let r = l.every k d c.0 c.1 in
       elim (touch.stay r.0 (l.each r.0 r.1)) [
         | inl n ↦ absurd (both (filled_row new r.0 k d n r.2 r.3 r.4) (not-true _ q.1))
@@ -88,9 +88,9 @@ module _ (rows more : List Row) (old new : Table) (removed added : List Row) (l 
       and_from _ _ (has_any (λ (p : Period). inside p d) (periods_of removed k) r.0.period (has_period removed k r.0 r.1 r.2) (is_inside r.0.period d r.3 r.4)) (came_free d h)
 
   -- no row that is there has a day of one that went
-  not_there : (r : Row) (d : ℕ) → Has removed r → r.key ≡ k → r.period.start ≤ d → d < r.period.end → is_free (periods_of added k) d ≡ true → is_some (new.cell k d) ≡ true → ⊥
+  not_there : (r : Row) (d : ℕ) → Has removed r → r.key ≡ k → r.period.start ≤ d → d < r.period.end → is_free (periods_of added k) d ≡ true → is_some (new.fact k d) ≡ true → ⊥
   not_there r d g e a b free h =
-      let c = some_cell (new.cell k d) h in
+      let c = some_fact (new.fact k d) h in
       let s = m.every k d c.0 c.1 in
       let went = touch.went r g in
       elim (touch.comes s.0 (m.each s.0 s.1)) [
@@ -101,7 +101,7 @@ module _ (rows more : List Row) (old new : Table) (removed added : List Row) (l 
       ]
 
   went_lost : (r : Row) (d : ℕ) → Has removed r → r.key ≡ k → r.period.start ≤ d → d < r.period.end → is_free (periods_of added k) d ≡ true → is_lost old new k d ≡ true
-  went_lost r d g e a b free = and_from _ _ (filled_row old r k d (touch.went r g).0 e a b) (elim (cases_Bool (is_some (new.cell k d))) [
+  went_lost r d g e a b free = and_from _ _ (filled_row old r k d (touch.went r g).0 e a b) (elim (cases_Bool (is_some (new.fact k d))) [
     | inl y ↦ absurd (not_there r d g e a b free y)
     | inr n ↦ not_from_false _ n
   ])
@@ -145,7 +145,7 @@ module _ (rows more : List Row) (old new : Table) (removed added : List Row) (l 
   among_with : (d : ℕ) → is_lost old new k d ≡ true → (r : Row) × Has removed r × (r.key ≡ k) × (r.period.start ≤ d) × (d < r.period.end)
   among_with d h =
       let q = and_parts _ _ h in
-      let c = some_cell (old.cell k d) q.0 in
+      let c = some_fact (old.fact k d) q.0 in
       let r = l.every k d c.0 c.1 in
       elim (touch.stay r.0 (l.each r.0 r.1)) [
         | inl n ↦ absurd (both (filled_row new r.0 k d n r.2 r.3 r.4) (not-true _ q.1))
@@ -176,7 +176,7 @@ losing_one rows more old new removed added k m touch h =
     let row = (touch.went x.0 r.0).0 in
     let some = row.some in
     let d = uncovered_day (is_free (periods_of more x.0.key)) x.0.period (find (is_free (periods_of more x.0.key)) (days_of x.0.period)) (find_day (is_free (periods_of more x.0.key)) x.0.period (omega arith)) r.1 in
-    let empty : not (is_some (new.cell x.0.key d.0)) ≡ true = ap not (filled_by more new m x.0.key d.0) ∙ d.3 in
+    let empty : not (is_some (new.fact x.0.key d.0)) ≡ true = ap not (filled_by more new m x.0.key d.0) ∙ d.3 in
     (d.0, subst (λ y. is_lost old new y d.0 ≡ true) (sym x.2) (and_from _ _ (filled_row old x.0 x.0.key d.0 row refl d.1 d.2) empty))
 
 pub losing_keys_are : LosingKeys
@@ -198,19 +198,19 @@ among_both a b c removed added later_removed later_added first second = record {
   ];
 }
 
--- ---- by changes
+-- ---- by actions
 
-inserted_keeps : (b : Bool) (c : Cell) (o : Option Cell) → (is_some o && not (is_some (cond b (Some c) o))) ≡ true → ⊥
+inserted_keeps : (b : Bool) (c : Fact) (o : Option Fact) → (is_some o && not (is_some (cond b (Some c) o))) ≡ true → ⊥
 inserted_keeps b c None h = both h refl
 inserted_keeps true c (Some x) h = both h refl
 inserted_keeps false c (Some x) h = both h refl
 
-updated_keeps : (b : Bool) (f : Cell → Cell) (o : Option Cell) → (is_some o && not (is_some (cond b (option_map f o) o))) ≡ true → ⊥
+updated_keeps : (b : Bool) (f : Fact → Fact) (o : Option Fact) → (is_some o && not (is_some (cond b (option_map f o) o))) ≡ true → ⊥
 updated_keeps b f None h = both h refl
 updated_keeps true f (Some x) h = both h refl
 updated_keeps false f (Some x) h = both h refl
 
-deleted_keeps : (b i : Bool) (f : Cell → Cell) (o : Option Cell) → (is_some o && not (is_some (cond b (cond i None (option_map f o)) o))) ≡ true → i ≡ true
+deleted_keeps : (b i : Bool) (f : Fact → Fact) (o : Option Fact) → (is_some o && not (is_some (cond b (cond i None (option_map f o)) o))) ≡ true → i ≡ true
 deleted_keeps b i f None h = absurd (both h refl)
 deleted_keeps false i f (Some x) h = absurd (both h refl)
 deleted_keeps true true f (Some x) h = refl
@@ -218,25 +218,25 @@ deleted_keeps true false f (Some x) h = absurd (both h refl)
 
 by_delete : (passes : Row → Bool) (p : Period) (t : ℕ) (old : Table) (k : List Value) (d : ℕ) → is_lost old (deleted passes p t old) k d ≡ true → inside p d ≡ true
 unfolding deleted
-by_delete passes p t old k d h = deleted_keeps (is_met passes p old k d) (inside p d) (λ c. record { values = c.values; system_start = t }) (old.cell k d) h
+by_delete passes p t old k d h = deleted_keeps (is_met passes p old k d) (inside p d) (λ c. record { values = c.values; system_start = t }) (old.fact k d) h
 
 by_update : (passes : Row → Bool) (p : Period) (set : List Value → Option (List Value)) (t : ℕ) (old : Table) (k : List Value) (d : ℕ) → is_lost old (updated passes p set t old) k d ≡ true → ⊥
 unfolding updated
-by_update passes p set t old k d h = updated_keeps (is_met passes p old k d) (λ c. record { values = cond (inside p d) (unwrap_or (set c.values) c.values) c.values; system_start = t }) (old.cell k d) h
+by_update passes p set t old k d h = updated_keeps (is_met passes p old k d) (λ c. record { values = cond (inside p d) (unwrap_or (set c.values) c.values) c.values; system_start = t }) (old.fact k d) h
 
 by_insert : (key values : List Value) (p : Period) (t : ℕ) (old : Table) (k : List Value) (d : ℕ) → is_lost old (inserted key values p t old) k d ≡ true → ⊥
 unfolding inserted
-by_insert key values p t old k d h = inserted_keeps (same_key k key && inside p d) (record { values = values; system_start = t }) (old.cell k d) h
+by_insert key values p t old k d h = inserted_keeps (same_key k key && inside p d) (record { values = values; system_start = t }) (old.fact k d) h
 
-pub lost_by_change : LostByChange
+pub lost_by_action : LostByAction
 unfolding changed
-lost_by_change (Insert key values p) t old new k d e h =
+lost_by_action (Insert key values p) t old new k d e h =
     let o = ok_if (insert_overlaps key p old) KeyOverlap (inserted key values p t old) new e in
     absurd (by_insert key values p t old k d (subst (λ x. is_lost old x k d ≡ true) (sym o.1) h))
-lost_by_change (Update passes p set) t old new k d e h =
+lost_by_action (Update passes p set) t old new k d e h =
     let o = ok_if (set_overflows passes p set old) NumberRange (updated passes p set t old) new e in
     absurd (by_update passes p set t old k d (subst (λ x. is_lost old x k d ≡ true) (sym o.1) h))
-lost_by_change (Delete passes p) t old new k d e h =
+lost_by_action (Delete passes p) t old new k d e h =
     let q : deleted passes p t old ≡ new = cc in
     by_delete passes p t old k d (subst (λ x. is_lost old x k d ≡ true) (sym q) h)
 
@@ -256,27 +256,27 @@ lost_then true true c h = inr h
 lost_then true false c h = inl refl
 lost_then false b c h = absurd (both h refl)
 
-lost_at : (c : Change) (t m n : ℕ) (state : State) (table : Table) (k : List Value) (d : ℕ) → changed c t (state m) ≡ Ok table → is_lost (state n) (with_table m state table n) k d ≡ true → (n == m && may_empty c d) ≡ true
+lost_at : (c : Action) (t m n : ℕ) (state : State) (table : Table) (k : List Value) (d : ℕ) → changed c t (state m) ≡ Ok table → is_lost (state n) (with_table m state table n) k d ≡ true → (n == m && may_empty c d) ≡ true
 lost_at c t m n state table k d e h = elim (cases_Bool (n == m)) [
   | inl y ↦
       let lost : is_lost (state n) table k d ≡ true = subst (λ b. is_lost (state n) (cond b table (state n)) k d ≡ true) y h in
-      and_from _ _ y (lost_by_change c t (state m) table k d e (subst (λ x. is_lost (state x) table k d ≡ true) (eqb-true n m y) lost))
+      and_from _ _ y (lost_by_action c t (state m) table k d e (subst (λ x. is_lost (state x) table k d ≡ true) (eqb-true n m y) lost))
   | inr x ↦ absurd (not_itself _ (subst (λ b. is_lost (state n) (cond b table (state n)) k d ≡ true) x h))
 ]
 
 pub lost_by_statement : (t : ℕ) (s : Statement) (state next : State) (n : ℕ) (k : List Value) (d : ℕ) → run_statement t s state ≡ Ok next → is_lost (state n) (next n) k d ≡ true → may_empty_in n d s ≡ true
 lost_by_statement t s state next n k d e h =
-    let a = then_ok (and_then (changed s.change t (state s.table)) within_limit) (λ table. Ok (with_table s.table state table)) next e in
-    let b = then_ok (changed s.change t (state s.table)) within_limit a.0 a.1 in
+    let a = then_ok (and_then (changed s.action t (state s.table)) within_limit) (λ table. Ok (with_table s.table state table)) next e in
+    let b = then_ok (changed s.action t (state s.table)) within_limit a.0 a.1 in
     let o = ok_if _ RowLimit b.0 a.0 b.2 in
     let q : with_table s.table state a.0 ≡ next = let z = a.2 in cc in
-    lost_at s.change t s.table n state a.0 k d (b.1 ∙ ap (λ x. Ok x) o.1) (subst (λ x. is_lost (state n) (x n) k d ≡ true) (sym q) h)
+    lost_at s.action t s.table n state a.0 k d (b.1 ∙ ap (λ x. Ok x) o.1) (subst (λ x. is_lost (state n) (x n) k d ≡ true) (sym q) h)
 
 pub lost_by_statements : LostByStatements
 lost_by_statements t [] state next n k d e h = let q : state ≡ next = cc in absurd (not_itself _ (subst (λ x. is_lost (state n) (x n) k d ≡ true) (sym q) h))
 lost_by_statements t (s ∷ ss) state next n k d e h =
     let a = then_ok (run_statement t s state) (run_statements t ss) next e in
-    elim (lost_then (is_some ((state n).cell k d)) (is_some ((a.0 n).cell k d)) (is_some ((next n).cell k d)) h) [
+    elim (lost_then (is_some ((state n).fact k d)) (is_some ((a.0 n).fact k d)) (is_some ((next n).fact k d)) h) [
       | inl x ↦ or_left _ _ (lost_by_statement t s state a.0 n k d a.1 x)
       | inr y ↦ or_right _ _ (lost_by_statements t ss a.0 next n k d a.2 y)
     ]

@@ -13,17 +13,17 @@ use Rattle.std.proofs.lemmas.Map.Keys.{sorted_head, sorted_tail}
 use Rattle.std.proofs.lemmas.Bool.{cases_lt, cases_Bool, and_parts, and_from, le-leb, lt-ltb, leb-true, ltb-true}
 use Rattle.model.specs.declared.value.Value.{Value}
 use Rattle.model.specs.Values.{key_cmp, same_key}
-use Rattle.model.specs.Tables.{days, Period, Cell, Table, Row, IsRow, inside}
+use Rattle.model.specs.Tables.{days, Period, Fact, Table, Row, IsRow, inside}
 use Rattle.rowlaws.specs.Rows.{Has, Lists}
 use Rattle.model.specs.Statements.{days_of}
-use Rattle.model.specs.Transactions.{State, Schema, Reference, Place, lacks, is_orphan, first_orphan}
+use Rattle.model.specs.Transactions.{State, Language, Reference, Place, lacks, is_orphan, first_orphan}
 use Rattle.rowlaws.specs.Statements.{Rows, AllListed}
 use Rattle.model.specs.Periods.{StartInOrder, is_free}
 use Rattle.rowlaws.specs.Covering.{PeriodsInOrder, place_cmp, AllInOrder, periods_of, missing_by, missing, place_at, missing_in_rows, missing_in_tables, rows_orphan}
 use Rattle.rowlaws.proofs.Keys.{key_total, key_same, key_itself, same_key-true, same_key-itself}
 use Rattle.rowlaws.proofs.Members.{has_map, map_has, has_filter, filter_has}
 use Rattle.rowlaws.proofs.RowFacts.{both, one_row}
-use Rattle.rowlaws.proofs.Recut.{some_cell}
+use Rattle.rowlaws.proofs.Recut.{some_fact}
 use Rattle.rowlaws.proofs.Anys.{any_has, has_any, same_test}
 use Rattle.rowlaws.proofs.Orders.{then_less, nat_less}
 use Rattle.rowlaws.proofs.Least.{IsLeast, least_same, least_or, find_least, find_day}
@@ -185,10 +185,10 @@ periods_in_order (r ∷ rows) k s =
       | inr x ↦ rw x rest
     ]
 
-pub filled_by : (rows : List Row) (table : Table) → Lists rows table → (k : List Value) (d : ℕ) → is_some (table.cell k d) ≡ list_any (λ p. inside p d) (periods_of rows k)
+pub filled_by : (rows : List Row) (table : Table) → Lists rows table → (k : List Value) (d : ℕ) → is_some (table.fact k d) ≡ list_any (λ p. inside p d) (periods_of rows k)
 filled_by rows table l k d = same_test _ _
     (λ h.
-    let c = some_cell (table.cell k d) h in
+    let c = some_fact (table.fact k d) h in
     let r = l.every k d c.0 c.1 in
     has_any (λ (p : Period). inside p d) (periods_of rows k) r.0.period (has_map (λ (x : Row). x.period) _ r.0 (has_filter (λ (x : Row). same_key x.key k) rows r.0 r.1 (ap (λ m. same_key m k) r.2 ∙ same_key-itself k))) (and_from _ _ (le-leb _ _ r.3) (lt-ltb _ _ r.4)))
     (λ h.
@@ -197,34 +197,34 @@ filled_by rows table l k d = same_test _ _
     let r = filter_has (λ (x : Row). same_key x.key k) rows m.0 m.1 in
     let ps = and_parts _ _ (subst (λ (q : Period). inside q d ≡ true) m.2 p.2) in
     let key : m.0.key ≡ k = same_key-true m.0.key k r.1 in
-    subst (λ x. is_some (table.cell x d) ≡ true) key (ap is_some ((l.each m.0 r.0).filled d (leb-true _ _ ps.0) (ltb-true _ _ ps.1))))
+    subst (λ x. is_some (table.fact x d) ≡ true) key (ap is_some ((l.each m.0 r.0).filled d (leb-true _ _ ps.0) (ltb-true _ _ ps.1))))
 
 -- ---- orphans
 
-module _ (schema : Schema) (all : Rows) (state : State) (l : AllListed all state) where
+module _ (language : Language) (all : Rows) (state : State) (l : AllListed all state) where
   -- the day of the row has no parent by the foreign key
   abbrev pub row_lacks : ℕ → Row → ℕ → Reference → Bool
   row_lacks n r d f = f.child == n && is_free (periods_of (all f.parent) (f.refers r.key r.values)) d
 
-  lacks_is : (n : ℕ) (r : Row) (d : ℕ) (f : Reference) → (state n).cell r.key d ≡ Some (record { values = r.values; system_start = r.system_start }) → lacks state (place n r.key d) f ≡ row_lacks n r d f
+  lacks_is : (n : ℕ) (r : Row) (d : ℕ) (f : Reference) → (state n).fact r.key d ≡ Some (record { values = r.values; system_start = r.system_start }) → lacks state (place n r.key d) f ≡ row_lacks n r d f
   lacks_is n r d f h =
-      ap (λ (o : Option Cell). elim o [ Some c ↦ f.child == n && not (is_some ((state f.parent).cell (f.refers r.key c.values) d)) | None ↦ false ]) h
+      ap (λ (o : Option Fact). elim o [ Some c ↦ f.child == n && not (is_some ((state f.parent).fact (f.refers r.key c.values) d)) | None ↦ false ]) h
       ∙ ap (λ b. f.child == n && not b) (filled_by (all f.parent) (state f.parent) (l f.parent) (f.refers r.key r.values) d)
 
-  pub orphan_is : (n : ℕ) (r : Row) → IsRow (state n) r → (d : ℕ) → r.period.start ≤ d → d < r.period.end → list_any (row_lacks n r d) schema.references ≡ is_orphan schema state (place n r.key d)
-  orphan_is n r row d a b = any_same (row_lacks n r d) (lacks state (place n r.key d)) schema.references (λ f. sym (lacks_is n r d f (row.filled d a b)))
+  pub orphan_is : (n : ℕ) (r : Row) → IsRow (state n) r → (d : ℕ) → r.period.start ≤ d → d < r.period.end → list_any (row_lacks n r d) language.references ≡ is_orphan language state (place n r.key d)
+  orphan_is n r row d a b = any_same (row_lacks n r d) (lacks state (place n r.key d)) language.references (λ f. sym (lacks_is n r d f (row.filled d a b)))
 
-  lacks_some : (p : Place) (f : Reference) → lacks state p f ≡ true → is_some ((state p.table).cell p.key p.day) ≡ true
-  lacks_some p f h = by ((state p.table).cell p.key p.day) h
+  lacks_some : (p : Place) (f : Reference) → lacks state p f ≡ true → is_some ((state p.table).fact p.key p.day) ≡ true
+  lacks_some p f h = by ((state p.table).fact p.key p.day) h
     where
-      by : (o : Option Cell) → elim o [ Some c ↦ f.child == p.table && not (is_some ((state f.parent).cell (f.refers p.key c.values) p.day)) | None ↦ false ] ≡ true → is_some o ≡ true
+      by : (o : Option Fact) → elim o [ Some c ↦ f.child == p.table && not (is_some ((state f.parent).fact (f.refers p.key c.values) p.day)) | None ↦ false ] ≡ true → is_some o ≡ true
       by (Some c) g = refl
       by None g = g
 
-  pub orphan_row : (n : ℕ) (k : List Value) (d : ℕ) → is_orphan schema state (place n k d) ≡ true → (r : Row) × Has (all n) r × (r.key ≡ k) × (r.period.start ≤ d) × (d < r.period.end)
+  pub orphan_row : (n : ℕ) (k : List Value) (d : ℕ) → is_orphan language state (place n k d) ≡ true → (r : Row) × Has (all n) r × (r.key ≡ k) × (r.period.start ≤ d) × (d < r.period.end)
   orphan_row n k d h =
-      let f = any_has (lacks state (place n k d)) schema.references h in
-      let c = some_cell ((state n).cell k d) (lacks_some (place n k d) f.0 f.2) in
+      let f = any_has (lacks state (place n k d)) language.references h in
+      let c = some_fact ((state n).fact k d) (lacks_some (place n k d) f.0 f.2) in
       (l n).every k d c.0 c.1
 
   missing_by_least : (n : ℕ) (r : Row) (f : Reference) → r.period.start ≤ r.period.end → IsLeast (λ d. row_lacks n r d f) r.period.start r.period.end (missing_by all n r f)
@@ -249,21 +249,21 @@ module _ (schema : Schema) (all : Rows) (state : State) (l : AllListed all state
   ]
 
   module _ (sorted : AllInOrder all) where
-    table_orphan : (n : ℕ) → find (is_orphan schema state) (of_table days n (state n).keys) ≡ missing_in_rows schema.references all n (all n)
+    table_orphan : (n : ℕ) → find (is_orphan language state) (of_table days n (state n).keys) ≡ missing_in_rows language.references all n (all n)
     table_orphan n =
-        let f : Place → Bool = is_orphan schema state in
-        first_one f n (find f (of_table days n (state n).keys)) (missing_in_rows schema.references all n (all n))
+        let f : Place → Bool = is_orphan language state in
+        first_one f n (find f (of_table days n (state n).keys)) (missing_in_rows language.references all n (all n))
         (keys_all f days n (state n).keys (λ k d h. let r = orphan_row n k d h in let a = (l n).within r.0 r.1 in let b = r.4 in (subst (λ x. Has (state n).keys x) r.2 ((l n).keyed r.0 r.1), omega arith)) _ (keys_first f days n (state n).keys (l n).keys))
-        (rows_all f n (all n) (orphan_row n) _ (rows_first f n schema.references all (all n) (sorted n) (parted n) (λ r h.
-        least_same (λ d. list_any (row_lacks n r d) schema.references) (λ d. f (place n r.key d)) r.period.start r.period.end (missing schema.references all n r) (orphan_is n r ((l n).each r h)) (missing_least n r schema.references (let s = ((l n).each r h).some in omega arith)))))
+        (rows_all f n (all n) (orphan_row n) _ (rows_first f n language.references all (all n) (sorted n) (parted n) (λ r h.
+        least_same (λ d. list_any (row_lacks n r d) language.references) (λ d. f (place n r.key d)) r.period.start r.period.end (missing language.references all n r) (orphan_is n r ((l n).each r h)) (missing_least n r language.references (let s = ((l n).each r h).some in omega arith)))))
 
-    tables_orphan : (ns : List ℕ) → find (is_orphan schema state) (flat_map (λ n. of_table days n (state n).keys) ns) ≡ missing_in_tables schema.references all ns
+    tables_orphan : (ns : List ℕ) → find (is_orphan language state) (flat_map (λ n. of_table days n (state n).keys) ns) ≡ missing_in_tables language.references all ns
     tables_orphan [] = refl
     tables_orphan (n ∷ ns) =
-        find-append (is_orphan schema state) (of_table days n (state n).keys) (flat_map (λ n. of_table days n (state n).keys) ns)
-        ∙ ap (λ o. option_or o (find (is_orphan schema state) (flat_map (λ n. of_table days n (state n).keys) ns))) (table_orphan n)
-        ∙ ap (option_or (missing_in_rows schema.references all n (all n))) (tables_orphan ns)
+        find-append (is_orphan language state) (of_table days n (state n).keys) (flat_map (λ n. of_table days n (state n).keys) ns)
+        ∙ ap (λ o. option_or o (find (is_orphan language state) (flat_map (λ n. of_table days n (state n).keys) ns))) (table_orphan n)
+        ∙ ap (option_or (missing_in_rows language.references all n (all n))) (tables_orphan ns)
 
-    pub orphan_on_rows : rows_orphan schema all ≡ first_orphan schema state
+    pub orphan_on_rows : rows_orphan language all ≡ first_orphan language state
     unfolding rows_orphan first_orphan
-    orphan_on_rows = sym (tables_orphan (range_with_len 0 schema.tables))
+    orphan_on_rows = sym (tables_orphan (range_with_len 0 language.tables))

@@ -4,7 +4,7 @@ use Rattle.std.specs.List.Sorted.{IsStrictlySortedBy}
 use Rattle.std.proofs.lemmas.Bool.{cases_lt, cases_Bool, lt-ltb, le-ltb}
 use Rattle.model.specs.declared.value.Value.{Value}
 use Rattle.model.specs.Values.{key_cmp}
-use Rattle.model.specs.Tables.{Period, Cell, Table, Row, IsRow}
+use Rattle.model.specs.Tables.{Period, Fact, Table, Row, IsRow}
 use Rattle.rowlaws.specs.Rows.{Has, Apart, Lists}
 use Rattle.rowlaws.specs.Cutting.{if_days, part}
 use Rattle.rowlaws.proofs.Members.{has_left, has_right, has_cases, apart_append, has_flat, flat_has, apart_flat}
@@ -22,21 +22,21 @@ pub record PieceOf (r z : Row) : Type 0 where
 pub record Cuts (f : Row → List Row) (new : Table) (r : Row) : Type 0 where
   pub each : (z : Row) → Has (f r) z → IsRow new z × PieceOf r z
   pub apart : Apart (f r)
-  pub covers : (d : ℕ) (c : Cell) → r.period.start ≤ d → d < r.period.end → new.cell r.key d ≡ Some c → (z : Row) × Has (f r) z × (z.key ≡ r.key) × (z.period.start ≤ d) × (d < z.period.end)
+  pub covers : (d : ℕ) (c : Fact) → r.period.start ≤ d → d < r.period.end → new.fact r.key d ≡ Some c → (z : Row) × Has (f r) z × (z.key ≡ r.key) × (z.period.start ≤ d) × (d < z.period.end)
 
-pub some_cell : {A : Type 0} (o : Option A) → is_some o ≡ true → (c : A) × (o ≡ Some c)
-some_cell None h = absurd (both h refl)
-some_cell (Some c) h = (c, refl)
+pub some_fact : {A : Type 0} (o : Option A) → is_some o ≡ true → (c : A) × (o ≡ Some c)
+some_fact None h = absurd (both h refl)
+some_fact (Some c) h = (c, refl)
 
-module _ (f : Row → List Row) (old new : Table) (same_keys : new.keys ≡ old.keys) (from : (k : List Value) (d : ℕ) (c : Cell) → new.cell k d ≡ Some c → is_some (old.cell k d) ≡ true)
+module _ (f : Row → List Row) (old new : Table) (same_keys : new.keys ≡ old.keys) (from : (k : List Value) (d : ℕ) (c : Fact) → new.fact k d ≡ Some c → is_some (old.fact k d) ≡ true)
     (rows : List Row) (l : Lists rows old) (cuts : (r : Row) → Has rows r → Cuts f new r) where
   pub lists_cut : Lists (flat_map f rows) new
   lists_cut = record {
     each = λ z h. let o = flat_has f rows z h in ((cuts o.0 o.1).each z o.2).0;
     every = λ k d c h.
-        let cell = some_cell (old.cell k d) (from k d c h) in
-        let r = l.every k d cell.0 cell.1 in
-        let z = (cuts r.0 r.1).covers d c r.3 r.4 (subst (λ m. new.cell m d ≡ Some c) (sym r.2) h) in
+        let fact = some_fact (old.fact k d) (from k d c h) in
+        let r = l.every k d fact.0 fact.1 in
+        let z = (cuts r.0 r.1).covers d c r.3 r.4 (subst (λ m. new.fact m d ≡ Some c) (sym r.2) h) in
         (z.0, has_flat f rows r.0 z.0 r.1 z.1, z.2 ∙ r.2, z.3, z.4);
     once = apart_flat f rows l.once (λ r h. (cuts r h).apart) (λ x w z h g a b.
         let px = ((cuts x h).each z a).1 in
@@ -80,7 +80,7 @@ one_cuts f new r e row = record {
 pub record Middle (p : Period) (t : ℕ) (new : Table) (r : Row) (ms : List Row) : Type 0 where
   pub each : (z : Row) → Has ms z → IsRow new z × (z.key ≡ r.key) × (z.period.start ≡ max r.period.start p.start) × (z.period.end ≡ min r.period.end p.end) × (z.system_start ≡ t)
   pub apart : Apart ms
-  pub covers : (d : ℕ) (c : Cell) → r.period.start ≤ d → d < r.period.end → p.start ≤ d → d < p.end → new.cell r.key d ≡ Some c → (z : Row) × Has ms z
+  pub covers : (d : ℕ) (c : Fact) → r.period.start ≤ d → d < r.period.end → p.start ≤ d → d < p.end → new.fact r.key d ≡ Some c → (z : Row) × Has ms z
 
 -- the row is cut in what is before the portion, within it and after it
 module _ (f : Row → List Row) (new : Table) (p : Period) (t : ℕ) (r : Row) (ms : List Row) (le : p.start < p.end) (some : r.period.start < r.period.end) (a_day : r.period.start < p.end) (b_day : p.start < r.period.end) (middle : Middle p t new r ms)

@@ -2,7 +2,7 @@
 use Rattle.std.proofs.Common.{◌≡◌, ℕ, zero, suc, ◌+◌, ◌<◌, ◌≤◌, inl, inr, Bool, true, false, List, Some, refl, sym, ap, ◌∙◌, subst, arith}
 use Rattle.std.proofs.lemmas.Bool.{cases_lt, cases_order, true≢false}
 use Rattle.model.specs.declared.value.Value.{Value}
-use Rattle.model.specs.Tables.{days, Cell, Table, Row, IsRow, joined, first_day, end_day, row_at}
+use Rattle.model.specs.Tables.{days, Fact, Table, Row, IsRow, joined, first_day, end_day, row_at}
 
 -- the day of the key lies in the row
 pub record InRow (row : Row) (k : List Value) (d : ℕ) : Type 0 where
@@ -38,10 +38,10 @@ one_row {table} {r} {s} a b k d x y =
     let key : r.key ≡ s.key = x.key ∙ sym y.key in
     let start = neither r.period.start s.period.start (not_before a b k d x y) (not_before b a k d y x) in
     let end = neither r.period.end s.period.end (not_longer a b k d x y) (not_longer b a k d y x) in
-    let c : Cell = record { values = r.values; system_start = r.system_start } in
-    let c' : Cell = record { values = s.values; system_start = s.system_start } in
-    let cell : c ≡ c' = some_inj c c' (sym (a.filled d x.from x.before) ∙ ap (λ l. table.cell l d) key ∙ b.filled d y.from y.before) in
-    λ i. record { key = key i; period = record { start = start i; end = end i }; values = (cell i).values; system_start = (cell i).system_start }
+    let c : Fact = record { values = r.values; system_start = r.system_start } in
+    let c' : Fact = record { values = s.values; system_start = s.system_start } in
+    let fact : c ≡ c' = some_inj c c' (sym (a.filled d x.from x.before) ∙ ap (λ l. table.fact l d) key ∙ b.filled d y.from y.before) in
+    λ i. record { key = key i; period = record { start = start i; end = end i }; values = (fact i).values; system_start = (fact i).system_start }
 
 -- rows of one table with one key and start are one
 pub one_place : (table : Table) (r s : Row) → IsRow table r → IsRow table s → r.key ≡ s.key → r.period.start ≡ s.period.start → r ≡ s
@@ -73,5 +73,5 @@ row_at_is {table} {r} row short k d x =
     let before = x.before in
     let start = first_day_is (joined table k) r.period.start d (starts_at row k r.period.start x.key refl) x.from (λ y a b. joined_in row k y x.key a (omega arith)) in
     let end = end_day_is (joined table k) r.period.end days d (subst (λ m. joined table m r.period.end ≡ false) x.key row.last) x.before (omega arith) (λ y a b. joined_in row k y x.key (omega arith) b) in
-    let cell : table.cell k d ≡ Some (record { values = r.values; system_start = r.system_start }) = subst (λ m. table.cell m d ≡ Some (record { values = r.values; system_start = r.system_start })) x.key (row.filled d x.from x.before) in
-    rw cell (λ i. Some (record { key = sym x.key i; period = record { start = start i; end = end i }; values = r.values; system_start = r.system_start }))
+    let fact : table.fact k d ≡ Some (record { values = r.values; system_start = r.system_start }) = subst (λ m. table.fact m d ≡ Some (record { values = r.values; system_start = r.system_start })) x.key (row.filled d x.from x.before) in
+    rw fact (λ i. Some (record { key = sym x.key i; period = record { start = start i; end = end i }; values = r.values; system_start = r.system_start }))

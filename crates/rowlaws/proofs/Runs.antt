@@ -8,8 +8,8 @@ use Rattle.model.specs.Statements.{inserted, insert_overlaps, set_overflows, row
 use Rattle.rowlaws.specs.Rows.{Lists}
 use Rattle.fault.specs.declared.refusal.Refusal.{Refusal}
 use Rattle.fault.specs.declared.refusal.Refusal.TheVariants.{KeyOverlap, RowLimit, NumberRange}
-use Rattle.model.specs.Transactions.{State, Change, Insert, Update, Delete, Statement, changed, and_then, within_limit, with_table, run_statement, run_statements}
-use Rattle.rowlaws.specs.Changes.{IsFine, clashes, overflows, rows_changed, SameResult, Follows, ChangeOnRows, ChangeFollows, FollowsThen}
+use Rattle.model.specs.Transactions.{State, Action, Insert, Update, Delete, Statement, changed, and_then, within_limit, with_table, run_statement, run_statements}
+use Rattle.rowlaws.specs.Changes.{IsFine, clashes, overflows, rows_changed, SameResult, Follows, ActionOnRows, ActionFollows, FollowsThen}
 use Rattle.rowlaws.specs.Statements.{AreFine, rows_within_limit, Rows, with_rows, run_on_rows, run_all_on_rows, AllListed, AllFollow, StatementOnRows, StatementsOnRows}
 use Rattle.rowlaws.proofs.Members.{has_cases}
 use Rattle.rowlaws.proofs.Listed.{lists_inserted, count_is, row_listed}
@@ -51,18 +51,18 @@ follows_inserted key values p t rows old l le short clear row h =
       | inr b ↦ elim b [ inl e ↦ inr (ap (λ r. r.system_start) e) | inr n ↦ absurd n ]
     ]
 
-pub change_agrees : (c : Change) (t : ℕ) (rows : List Row) (old : Table) → IsFine c → Lists rows old → SameResult (Next t old) (rows_changed c t rows) (changed c t old)
+pub action_agrees : (c : Action) (t : ℕ) (rows : List Row) (old : Table) → IsFine c → Lists rows old → SameResult (Next t old) (rows_changed c t rows) (changed c t old)
 unfolding rows_changed changed
-change_agrees (Insert key values p) t rows old fine l =
+action_agrees (Insert key values p) t rows old fine l =
     agree_if (Next t old) (list_any (clashes key p) rows) (insert_overlaps key p old) KeyOverlap _ _ (sym (same_overlaps rows old l p fine.0 key))
     (λ clear. (lists_inserted key values p t rows old l fine.0 fine.1 clear, follows_inserted key values p t rows old l fine.0 fine.1 clear))
-change_agrees (Update passes p set) t rows old fine l =
+action_agrees (Update passes p set) t rows old fine l =
     agree_if (Next t old) (list_any (overflows passes p set) rows) (set_overflows passes p set old) NumberRange _ _ (sym (same_overflows rows old l p fine passes set))
     (λ clear. (lists_updated passes p set t old fine rows l, older_updated passes p set t old fine rows l))
-change_agrees (Delete passes p) t rows old fine l = (lists_deleted passes p t old fine rows l, older_deleted passes p t old fine rows l)
+action_agrees (Delete passes p) t rows old fine l = (lists_deleted passes p t old fine rows l, older_deleted passes p t old fine rows l)
 
-pub change_same : ChangeOnRows
-change_same c t rows old fine l = agree_weaker (Next t old) Lists (rows_changed c t rows) (changed c t old) (λ a b h. h.0) (change_agrees c t rows old fine l)
+pub action_same : ActionOnRows
+action_same c t rows old fine l = agree_weaker (Next t old) Lists (rows_changed c t rows) (changed c t old) (λ a b h. h.0) (action_agrees c t rows old fine l)
 
 next_ok : (t : ℕ) (old new : Table) (x : Result (List Row) Refusal) (y : Result Table Refusal) → SameResult (Next t old) x y → y ≡ Ok new → Follows t old new
 next_ok t old new (Ok a) (Ok b) h e = let q : b ≡ new = cc in subst (λ s. Follows t old s) q h.1
@@ -70,8 +70,8 @@ next_ok t old new (Ok a) (Err d) h e = absurd h
 next_ok t old new (Err d) (Ok b) h e = absurd h
 next_ok t old new (Err d) (Err f) h e = absurd (cc)
 
-pub change_next : ChangeFollows
-change_next c t rows old new fine l e = next_ok t old new (rows_changed c t rows) (changed c t old) (change_agrees c t rows old fine l) e
+pub action_next : ActionFollows
+action_next c t rows old new fine l e = next_ok t old new (rows_changed c t rows) (changed c t old) (action_agrees c t rows old fine l) e
 
 pub follows_then : FollowsThen
 follows_then t a b c f g row h = elim (g row h) [ inl o ↦ f row o | inr e ↦ inr e ]
@@ -95,10 +95,10 @@ with_agrees t n all state l rows table h = ((λ m. by m (m == n) refl), (λ m. o
     older m true e = subst (λ k. Follows t (state k) table) (sym (eqb-true m n e)) h.1
     older m false e = λ row g. inl g
 
-pub statement_agrees : (t : ℕ) (s : Statement) (all : Rows) (state : State) → IsFine s.change → AllListed all state → SameResult (NextAll t state) (run_on_rows t s all) (run_statement t s state)
+pub statement_agrees : (t : ℕ) (s : Statement) (all : Rows) (state : State) → IsFine s.action → AllListed all state → SameResult (NextAll t state) (run_on_rows t s all) (run_statement t s state)
 statement_agrees t s all state fine l =
-    agree_then (Next t (state s.table)) (NextAll t state) _ _ (and_then (rows_changed s.change t (all s.table)) rows_within_limit) (and_then (changed s.change t (state s.table)) within_limit)
-    (agree_then (Next t (state s.table)) (Next t (state s.table)) rows_within_limit within_limit (rows_changed s.change t (all s.table)) (changed s.change t (state s.table)) (change_agrees s.change t (all s.table) (state s.table) fine (l s.table)) (limit_agrees t (state s.table)))
+    agree_then (Next t (state s.table)) (NextAll t state) _ _ (and_then (rows_changed s.action t (all s.table)) rows_within_limit) (and_then (changed s.action t (state s.table)) within_limit)
+    (agree_then (Next t (state s.table)) (Next t (state s.table)) rows_within_limit within_limit (rows_changed s.action t (all s.table)) (changed s.action t (state s.table)) (action_agrees s.action t (all s.table) (state s.table) fine (l s.table)) (limit_agrees t (state s.table)))
     (λ rows table h. with_agrees t s.table all state l rows table h)
 
 pub follow_both : (t : ℕ) (a b c : State) → AllFollow t a b → AllFollow t b c → AllFollow t a c

@@ -1,4 +1,4 @@
--- References after a change, by what it touched alone.
+-- References after an action, by what it touched alone.
 use Rattle.std.specs.Result.{result_unwrap_or}
 use Rattle.std.proofs.Common.{◌≡◌, ℕ, ◌<◌, ◌≤◌, ◌⊎◌, inl, inr, Bool, true, false, cond, not, filter, ◌&&◌, ◌==◌, List, [], ◌∷◌, ◌++◌, map, flat_map, Option, Some, None, is_some, Result, Ok, Err, refl, sym, ap, ◌∙◌, subst, arith, Ordering}
 use Rattle.std.specs.Prelude.{find}
@@ -15,8 +15,8 @@ use Rattle.model.specs.declared.value.Value.{Value}
 use Rattle.model.specs.declared.entry.Entry.{Entry}
 use Rattle.model.specs.declared.entry.Request.{Request}
 use Rattle.model.specs.Values.{key_cmp, same_key}
-use Rattle.model.specs.Tables.{days, Cell, Row, empty_table}
-use Rattle.model.specs.Transactions.{State, Schema, Reference, Place, lacks, is_orphan, first_orphan, unless_orphan, and_then, transacted, run_statements, executed_text}
+use Rattle.model.specs.Tables.{days, Fact, Row, empty_table}
+use Rattle.model.specs.Transactions.{State, Language, Reference, Place, lacks, is_orphan, first_orphan, unless_orphan, and_then, transacted, run_statements, executed_text}
 use Rattle.model.specs.Logs.{is_first, state_after}
 use Rattle.rowlaws.specs.Rows.{Has}
 use Rattle.rowlaws.specs.Statements.{Rows, AllListed}
@@ -124,25 +124,25 @@ among_first f n fs all (r ∷ rows) least =
 
 -- ---- what can have become an orphan
 
-none_before : (schema : Schema) (before : Rows) (old : State) → AllListed before old → first_orphan schema old ≡ None → ReferencesHold schema old
-none_before schema before old l h = (hold_is schema before old l).0 h
+none_before : (language : Language) (before : Rows) (old : State) → AllListed before old → first_orphan language old ≡ None → ReferencesHold language old
+none_before language before old l h = (hold_is language before old l).0 h
 
 pub kept_child : KeptChild
-kept_child schema before old new f r d l clean has lt row a b kept =
-    let held = none_before schema before old l clean f has lt r.key d _ (row.filled d a b) in
-    elim (cases_Bool (is_some ((new f.parent).cell (f.refers r.key r.values) d))) [
+kept_child language before old new f r d l clean has lt row a b kept =
+    let held = none_before language before old l clean f has lt r.key d _ (row.filled d a b) in
+    elim (cases_Bool (is_some ((new f.parent).fact (f.refers r.key r.values) d))) [
       | inl y ↦ y
       | inr n ↦ absurd (kept (and_from _ _ held (not_from_false _ n)))
     ]
 
-lack_parts : (state : State) (f : Reference) (p : Place) (c : Cell) → (state p.table).cell p.key p.day ≡ Some c → lacks state p f ≡ true → (f.child ≡ p.table) × (is_some ((state f.parent).cell (f.refers p.key c.values) p.day) ≡ false)
+lack_parts : (state : State) (f : Reference) (p : Place) (c : Fact) → (state p.table).fact p.key p.day ≡ Some c → lacks state p f ≡ true → (f.child ≡ p.table) × (is_some ((state f.parent).fact (f.refers p.key c.values) p.day) ≡ false)
 lack_parts state f p c e h =
-    let t : (f.child == p.table && not (is_some ((state f.parent).cell (f.refers p.key c.values) p.day))) ≡ true =
-    sym (ap (λ (o : Option Cell). elim o [ Some c ↦ f.child == p.table && not (is_some ((state f.parent).cell (f.refers p.key c.values) p.day)) | None ↦ false ]) e) ∙ h in
+    let t : (f.child == p.table && not (is_some ((state f.parent).fact (f.refers p.key c.values) p.day))) ≡ true =
+    sym (ap (λ (o : Option Fact). elim o [ Some c ↦ f.child == p.table && not (is_some ((state f.parent).fact (f.refers p.key c.values) p.day)) | None ↦ false ]) e) ∙ h in
     let q = and_parts _ _ t in
     (eqb-true f.child p.table q.0, not-true _ q.1)
 
-module _ (schema : Schema) (before all removed added : Rows) (old new : State) (l : AllListed before old) (m : AllListed all new) (touch : AllTouchedAmong old new removed added) (clean : first_orphan schema old ≡ None) where
+module _ (language : Language) (before all removed added : Rows) (old new : State) (l : AllListed before old) (m : AllListed all new) (touch : AllTouchedAmong old new removed added) (clean : first_orphan language old ≡ None) where
   suspect_by : (n : ℕ) (f : Reference) (r : Row) → f.child ≡ n → Has (added n ++ flat_map (rows_referring f (all n)) (losing_keys (removed f.parent) (all f.parent))) r → Has (suspects_by all removed added n f) r
   suspect_by n f r e h = subst (λ b. Has (cond b (added n ++ flat_map (rows_referring f (all n)) (losing_keys (removed f.parent) (all f.parent))) []) r) (sym (eq-eqb f.child n e)) h
 
@@ -155,7 +155,7 @@ module _ (schema : Schema) (before all removed added : Rows) (old new : State) (
       let here : Has (rows_referring f (all n) k) r = has_filter (λ (x : Row). same_key (f.refers x.key x.values) k) (all n) r h (same_key-itself k) in
       suspect_by n f r e (has_right (added n) (flat_map (rows_referring f (all n)) (losing_keys (removed p) (all p))) r (has_flat (rows_referring f (all n)) (losing_keys (removed p) (all p)) k r losing here))
 
-  suspect_for : (n : ℕ) → n < schema.tables → (r : Row) (d : ℕ) (f : Reference) → Has (all n) r → r.period.start ≤ d → d < r.period.end → Has schema.references f → lacks new (place n r.key d) f ≡ true → Has (suspects_by all removed added n f) r
+  suspect_for : (n : ℕ) → n < language.tables → (r : Row) (d : ℕ) (f : Reference) → Has (all n) r → r.period.start ≤ d → d < r.period.end → Has language.references f → lacks new (place n r.key d) f ≡ true → Has (suspects_by all removed added n f) r
   suspect_for n lt r d f h a b has lack =
       let row = (m n).each r h in
       let parts = lack_parts new f (place n r.key d) _ (row.filled d a b) lack in
@@ -163,73 +163,73 @@ module _ (schema : Schema) (before all removed added : Rows) (old new : State) (
       elim ((touch n).comes r row) [
         | inr c ↦ suspect_by n f r child (has_left (added n) (flat_map (rows_referring f (all n)) (losing_keys (removed f.parent) (all f.parent))) r c)
         | inl o ↦
-            let held = none_before schema before old l clean f has (subst (λ x. x < schema.tables) (sym child) lt) r.key d _ (subst (λ x. (old x).cell r.key d ≡ Some (record { values = r.values; system_start = r.system_start })) (sym child) (o.filled d a b)) in
+            let held = none_before language before old l clean f has (subst (λ x. x < language.tables) (sym child) lt) r.key d _ (subst (λ x. (old x).fact r.key d ≡ Some (record { values = r.values; system_start = r.system_start })) (sym child) (o.filled d a b)) in
             suspect_lost n f r d child h (and_from _ _ held (not_from_false _ parts.1))
       ]
 
-  pub suspect : (n : ℕ) → n < schema.tables → (k : List Value) (d : ℕ) → is_orphan schema new (place n k d) ≡ true
-      → (r : Row) × Has (suspects schema.references all removed added n) r × Has (all n) r × (r.key ≡ k) × (r.period.start ≤ d) × (d < r.period.end)
+  pub suspect : (n : ℕ) → n < language.tables → (k : List Value) (d : ℕ) → is_orphan language new (place n k d) ≡ true
+      → (r : Row) × Has (suspects language.references all removed added n) r × Has (all n) r × (r.key ≡ k) × (r.period.start ≤ d) × (d < r.period.end)
   suspect n lt k d h =
-      let f = any_has (lacks new (place n k d)) schema.references h in
-      let r = orphan_row schema all new m n k d h in
+      let f = any_has (lacks new (place n k d)) language.references h in
+      let r = orphan_row language all new m n k d h in
       let lack : lacks new (place n r.0.key d) f.0 ≡ true = subst (λ x. lacks new (place n x d) f.0 ≡ true) (sym r.2) f.2 in
-      (r.0, has_flat (suspects_by all removed added n) schema.references f.0 r.0 f.1 (suspect_for n lt r.0 d f.0 r.1 r.3 r.4 f.1 lack), r.1, r.2, r.3, r.4)
+      (r.0, has_flat (suspects_by all removed added n) language.references f.0 r.0 f.1 (suspect_for n lt r.0 d f.0 r.1 r.3 r.4 f.1 lack), r.1, r.2, r.3, r.4)
 
   -- ---- the search
 
-  module _ (picked : Rows) (is : IsPicked schema.references all removed added picked) where
+  module _ (picked : Rows) (is : IsPicked language.references all removed added picked) where
     -- a search that finds the first of the picked rows of a table finds the first of the table
-    first_of_table : (n : ℕ) → n < schema.tables → (o : Option Place) → InRows (is_orphan schema new) n (picked n) o → find (is_orphan schema new) (of_table days n (new n).keys) ≡ o
+    first_of_table : (n : ℕ) → n < language.tables → (o : Option Place) → InRows (is_orphan language new) n (picked n) o → find (is_orphan language new) (of_table days n (new n).keys) ≡ o
     first_of_table n lt o found =
-        let f : Place → Bool = is_orphan schema new in
+        let f : Place → Bool = is_orphan language new in
         first_one f n (find f (of_table days n (new n).keys)) o
-        (keys_all f days n (new n).keys (λ k d h. let r = orphan_row schema all new m n k d h in let a = (m n).within r.0 r.1 in let b = r.4 in (subst (λ x. Has (new n).keys x) r.2 ((m n).keyed r.0 r.1), omega arith)) _ (keys_first f days n (new n).keys (m n).keys))
+        (keys_all f days n (new n).keys (λ k d h. let r = orphan_row language all new m n k d h in let a = (m n).within r.0 r.1 in let b = r.4 in (subst (λ x. Has (new n).keys x) r.2 ((m n).keyed r.0 r.1), omega arith)) _ (keys_first f days n (new n).keys (m n).keys))
         (rows_all f n (picked n) (λ k d h. let r = suspect n lt k d h in (r.0, is.each n r.0 r.1 r.2, r.3, r.4, r.5)) o found)
 
-    picked_least : (n : ℕ) (r : Row) → Has (picked n) r → IsLeast (λ d. is_orphan schema new (place n r.key d)) r.period.start r.period.end (missing schema.references all n r)
+    picked_least : (n : ℕ) (r : Row) → Has (picked n) r → IsLeast (λ d. is_orphan language new (place n r.key d)) r.period.start r.period.end (missing language.references all n r)
     picked_least n r h =
         let row = (m n).each r (is.listed n r h) in
-        least_same _ (λ d. is_orphan schema new (place n r.key d)) r.period.start r.period.end (missing schema.references all n r) (orphan_is schema all new m n r row) (missing_least schema all new m n r schema.references (let s = row.some in omega arith))
+        least_same _ (λ d. is_orphan language new (place n r.key d)) r.period.start r.period.end (missing language.references all n r) (orphan_is language all new m n r row) (missing_least language all new m n r language.references (let s = row.some in omega arith))
 
-    picked_tables : (ns : List ℕ) → ((n : ℕ) → Has ns n → n < schema.tables) → find (is_orphan schema new) (flat_map (λ n. of_table days n (new n).keys) ns) ≡ first_in_tables schema.references all picked ns
+    picked_tables : (ns : List ℕ) → ((n : ℕ) → Has ns n → n < language.tables) → find (is_orphan language new) (flat_map (λ n. of_table days n (new n).keys) ns) ≡ first_in_tables language.references all picked ns
     picked_tables [] lt = refl
     picked_tables (n ∷ ns) lt =
-        find-append (is_orphan schema new) (of_table days n (new n).keys) (flat_map (λ n. of_table days n (new n).keys) ns)
-        ∙ ap (λ o. option_or o (find (is_orphan schema new) (flat_map (λ n. of_table days n (new n).keys) ns))) (first_of_table n (lt n (inl refl)) (first_among schema.references all n (picked n)) (among_first (is_orphan schema new) n schema.references all (picked n) (picked_least n)))
-        ∙ ap (option_or (first_among schema.references all n (picked n))) (picked_tables ns (λ x h. lt x (inr h)))
+        find-append (is_orphan language new) (of_table days n (new n).keys) (flat_map (λ n. of_table days n (new n).keys) ns)
+        ∙ ap (λ o. option_or o (find (is_orphan language new) (flat_map (λ n. of_table days n (new n).keys) ns))) (first_of_table n (lt n (inl refl)) (first_among language.references all n (picked n)) (among_first (is_orphan language new) n language.references all (picked n) (picked_least n)))
+        ∙ ap (option_or (first_among language.references all n (picked n))) (picked_tables ns (λ x h. lt x (inr h)))
 
-    pub first_picked : picked_orphan schema all picked ≡ first_orphan schema new
+    pub first_picked : picked_orphan language all picked ≡ first_orphan language new
     unfolding picked_orphan first_orphan
-    first_picked = sym (picked_tables (range_with_len 0 schema.tables) (λ n h. let r = (range_has 0 schema.tables n h).1 in omega arith))
+    first_picked = sym (picked_tables (range_with_len 0 language.tables) (λ n h. let r = (range_has 0 language.tables n h).1 in omega arith))
 
     -- ---- in order
 
     module _ (sorted : AllInOrder picked) where
       picked_parted : (n : ℕ) → AreParted (picked n)
-      picked_parted n r s h g e lt = parted schema all new m n r s (is.listed n r h) (is.listed n s g) e lt
+      picked_parted n r s h g e lt = parted language all new m n r s (is.listed n r h) (is.listed n s g) e lt
 
-      ordered_tables : (ns : List ℕ) → ((n : ℕ) → Has ns n → n < schema.tables) → find (is_orphan schema new) (flat_map (λ n. of_table days n (new n).keys) ns) ≡ first_in_order schema.references all picked ns
+      ordered_tables : (ns : List ℕ) → ((n : ℕ) → Has ns n → n < language.tables) → find (is_orphan language new) (flat_map (λ n. of_table days n (new n).keys) ns) ≡ first_in_order language.references all picked ns
       ordered_tables [] lt = refl
       ordered_tables (n ∷ ns) lt =
-          find-append (is_orphan schema new) (of_table days n (new n).keys) (flat_map (λ n. of_table days n (new n).keys) ns)
-          ∙ ap (λ o. option_or o (find (is_orphan schema new) (flat_map (λ n. of_table days n (new n).keys) ns))) (first_of_table n (lt n (inl refl)) (missing_in_rows schema.references all n (picked n)) (rows_first (is_orphan schema new) n schema.references all (picked n) (sorted n) (picked_parted n) (picked_least n)))
-          ∙ ap (option_or (missing_in_rows schema.references all n (picked n))) (ordered_tables ns (λ x h. lt x (inr h)))
+          find-append (is_orphan language new) (of_table days n (new n).keys) (flat_map (λ n. of_table days n (new n).keys) ns)
+          ∙ ap (λ o. option_or o (find (is_orphan language new) (flat_map (λ n. of_table days n (new n).keys) ns))) (first_of_table n (lt n (inl refl)) (missing_in_rows language.references all n (picked n)) (rows_first (is_orphan language new) n language.references all (picked n) (sorted n) (picked_parted n) (picked_least n)))
+          ∙ ap (option_or (missing_in_rows language.references all n (picked n))) (ordered_tables ns (λ x h. lt x (inr h)))
 
-      pub first_ordered : ordered_orphan schema all picked ≡ first_orphan schema new
+      pub first_ordered : ordered_orphan language all picked ≡ first_orphan language new
       unfolding ordered_orphan first_orphan
-      first_ordered = sym (ordered_tables (range_with_len 0 schema.tables) (λ n h. let r = (range_has 0 schema.tables n h).1 in omega arith))
+      first_ordered = sym (ordered_tables (range_with_len 0 language.tables) (λ n h. let r = (range_has 0 language.tables n h).1 in omega arith))
 
 pub orphan_suspect : OrphanSuspect
-orphan_suspect schema before all removed added old new p l m touch clean lt h = suspect schema before all removed added old new l m touch clean p.table lt p.key p.day h
+orphan_suspect language before all removed added old new p l m touch clean lt h = suspect language before all removed added old new l m touch clean p.table lt p.key p.day h
 
 pub one_orphan : OneOrphan
-one_orphan schema all state next l m = sym (same_orphan schema all state l) ∙ same_orphan schema all next m
+one_orphan language all state next l m = sym (same_orphan language all state l) ∙ same_orphan language all next m
 
 pub picked_orphan_is : PickedOrphan
-picked_orphan_is schema all removed added picked state c l is = first_picked schema c.2 all removed added c.0 c.1 c.3 c.4 c.5 c.6 picked is ∙ one_orphan schema all c.1 state c.4 l
+picked_orphan_is language all removed added picked state c l is = first_picked language c.2 all removed added c.0 c.1 c.3 c.4 c.5 c.6 picked is ∙ one_orphan language all c.1 state c.4 l
 
 pub ordered_orphan_is : OrderedOrphan
-ordered_orphan_is schema all removed added picked state c l is sorted = first_ordered schema c.2 all removed added c.0 c.1 c.3 c.4 c.5 c.6 picked is sorted ∙ one_orphan schema all c.1 state c.4 l
+ordered_orphan_is language all removed added picked state c l is sorted = first_ordered language c.2 all removed added c.0 c.1 c.3 c.4 c.5 c.6 picked is sorted ∙ one_orphan language all c.1 state c.4 l
 
 -- each suspect is a row of its table, where no row is told of that came and went again
 suspect_listed : (fs : List Reference) (all removed added : Rows) (old new : State) → AllListed all new → AllTouched old new removed added → (n : ℕ) (r : Row) → Has (suspects fs all removed added n) r → Has (all n) r
@@ -245,9 +245,9 @@ suspect_listed fs all removed added old new m touch n r h =
     by f false g = absurd g
 
 pub touched_orphan_is : TouchedOrphan
-touched_orphan_is schema before all removed added old new l m touch clean =
-    first_picked schema before all removed added old new l m (λ n. touched_among (old n) (new n) (removed n) (added n) (touch n)) clean (suspects schema.references all removed added)
-    (record { listed = suspect_listed schema.references all removed added old new m touch; each = λ n r h g. h })
+touched_orphan_is language before all removed added old new l m touch clean =
+    first_picked language before all removed added old new l m (λ n. touched_among (old n) (new n) (removed n) (added n) (touch n)) clean (suspects language.references all removed added)
+    (record { listed = suspect_listed language.references all removed added old new m touch; each = λ n r h g. h })
 
 -- ---- an index
 
@@ -332,18 +332,18 @@ keys_picked all wanted keys sorted ordered among = (
 
 -- ---- transactions and logs
 
-accepted : (schema : Schema) (state next : State) (o : Option Place) → unless_orphan schema state o ≡ Ok next → (o ≡ None) × (state ≡ next)
-accepted schema state next None h = (refl, cc)
-accepted schema state next (Some p) h = absurd (cc)
+accepted : (language : Language) (state next : State) (o : Option Place) → unless_orphan language state o ≡ Ok next → (o ≡ None) × (state ≡ next)
+accepted language state next None h = (refl, cc)
+accepted language state next (Some p) h = absurd (cc)
 
 pub none_accepted : NoneAccepted
-none_accepted schema state next h = (accepted schema state next (first_orphan schema state) h).0
+none_accepted language state next h = (accepted language state next (first_orphan language state) h).0
 
 pub whole_itself : WholeItself
-whole_itself schema all state l clean = (state, state, all, l, l, (λ n. untouched_among (state n)), clean)
+whole_itself language all state l clean = (state, state, all, l, l, (λ n. untouched_among (state n)), clean)
 
 pub whole_then : WholeThen
-whole_then schema all more removed added later_removed later_added c runs =
+whole_then language all more removed added later_removed later_added c runs =
     let later = runs c.1 c.4 in (
       c.0,
       later.0,
@@ -355,7 +355,7 @@ whole_then schema all more removed added later_removed later_added c runs =
     )
 
 pub whole_among : WholeAmong
-whole_among schema all removed added more_removed more_added c g k = (
+whole_among language all removed added more_removed more_added c g k = (
   c.0,
   c.1,
   c.2,
@@ -367,42 +367,42 @@ whole_among schema all removed added more_removed more_added c g k = (
 
 pub no_orphan_then : NoOrphanThen
 unfolding transacted
-no_orphan_then schema t ss state next h =
-    let a = then_ok (run_statements t ss state) (λ next. unless_orphan schema next (first_orphan schema next)) next h in
-    let o = accepted schema a.0 next (first_orphan schema a.0) a.2 in
-    subst (λ x. first_orphan schema x ≡ None) o.1 o.0
+no_orphan_then language t ss state next h =
+    let a = then_ok (run_statements t ss state) (λ next. unless_orphan language next (first_orphan language next)) next h in
+    let o = accepted language a.0 next (first_orphan language a.0) a.2 in
+    subst (λ x. first_orphan language x ≡ None) o.1 o.0
 
-no_orphan_next : (schema : Schema) (state : State) (x : Result State Refusal) → first_orphan schema state ≡ None → ((next : State) → x ≡ Ok next → first_orphan schema next ≡ None) → first_orphan schema (result_unwrap_or x state) ≡ None
-no_orphan_next schema state (Ok next) h f = f next refl
-no_orphan_next schema state (Err e) h f = h
+no_orphan_next : (language : Language) (state : State) (x : Result State Refusal) → first_orphan language state ≡ None → ((next : State) → x ≡ Ok next → first_orphan language next ≡ None) → first_orphan language (result_unwrap_or x state) ≡ None
+no_orphan_next language state (Ok next) h f = f next refl
+no_orphan_next language state (Err e) h f = h
 
-no_orphan_text : (schema : Schema) (t : ℕ) (text : List ℕ) (state next : State) → executed_text schema t text state ≡ Ok next → first_orphan schema next ≡ None
+no_orphan_text : (language : Language) (t : ℕ) (text : List ℕ) (state next : State) → executed_text language t text state ≡ Ok next → first_orphan language next ≡ None
 unfolding executed_text
-no_orphan_text schema t text state next h = no_orphan_then schema t (result_unwrap_or (schema.reads text) []) state next h
+no_orphan_text language t text state next h = no_orphan_then language t (result_unwrap_or (language.reads text) []) state next h
 
 -- what the request of an entry leaves, if it is a first that is accepted
-abbrev after_request : Schema → ℕ → Option Request → List Entry → State → State
-after_request schema t o before state = option_map_or (λ (r : Request). cond (is_first r before) (result_unwrap_or (executed_text schema t r.text state) state) state) o state
+abbrev after_request : Language → ℕ → Option Request → List Entry → State → State
+after_request language t o before state = option_map_or (λ (r : Request). cond (is_first r before) (result_unwrap_or (executed_text language t r.text state) state) state) o state
 
-no_orphan_request : (schema : Schema) (t : ℕ) (o : Option Request) (before : List Entry) (state : State) → first_orphan schema state ≡ None → first_orphan schema (after_request schema t o before state) ≡ None
-no_orphan_request schema t None before state h = h
-no_orphan_request schema t (Some r) before state h = by (is_first r before)
+no_orphan_request : (language : Language) (t : ℕ) (o : Option Request) (before : List Entry) (state : State) → first_orphan language state ≡ None → first_orphan language (after_request language t o before state) ≡ None
+no_orphan_request language t None before state h = h
+no_orphan_request language t (Some r) before state h = by (is_first r before)
   where
-    by : (b : Bool) → first_orphan schema (cond b (result_unwrap_or (executed_text schema t r.text state) state) state) ≡ None
-    by true = no_orphan_next schema state (executed_text schema t r.text state) h (no_orphan_text schema t r.text state)
+    by : (b : Bool) → first_orphan language (cond b (result_unwrap_or (executed_text language t r.text state) state) state) ≡ None
+    by true = no_orphan_next language state (executed_text language t r.text state) h (no_orphan_text language t r.text state)
     by false = h
 
-no_orphan_empty : (schema : Schema) → first_orphan schema (λ n. empty_table) ≡ None
+no_orphan_empty : (language : Language) → first_orphan language (λ n. empty_table) ≡ None
 unfolding empty_table
-no_orphan_empty schema = (hold_is schema (λ n. []) (λ n. empty_table) (λ n. lists_none)).1 (λ f g lt k d c e. absurd (cc))
+no_orphan_empty language = (hold_is language (λ n. []) (λ n. empty_table) (λ n. lists_none)).1 (λ f g lt k d c e. absurd (cc))
 
 pub no_orphan_after : NoOrphanAfter
 unfolding state_after
-no_orphan_after schema [] = no_orphan_empty schema
-no_orphan_after schema (e ∷ before) = no_orphan_request schema e.stamp e.request before (state_after schema before) (no_orphan_after schema before)
+no_orphan_after language [] = no_orphan_empty language
+no_orphan_after language (e ∷ before) = no_orphan_request language e.stamp e.request before (state_after language before) (no_orphan_after language before)
 
 pub transaction_touched : TransactionTouched
 unfolding rows_transacted
-transaction_touched schema t ss before all removed added picked state run c l is =
-    ap (λ x. and_then x (λ next. rows_unless_orphan schema next (rows_orphan schema (all_in_order next)))) run
-    ∙ ap (rows_unless_orphan schema all) (same_orphan schema all state l ∙ sym (picked_orphan_is schema all removed added picked state c l is))
+transaction_touched language t ss before all removed added picked state run c l is =
+    ap (λ x. and_then x (λ next. rows_unless_orphan language next (rows_orphan language (all_in_order next)))) run
+    ∙ ap (rows_unless_orphan language all) (same_orphan language all state l ∙ sym (picked_orphan_is language all removed added picked state c l is))

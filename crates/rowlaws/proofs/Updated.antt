@@ -4,7 +4,7 @@ use Rattle.std.proofs.Common.{◌≡◌, ℕ, ◌-◌, ◌<◌, ◌≤◌, ◌�
 use Rattle.std.proofs.lemmas.Bool.{cases_lt, cases_Bool, and_parts, and_from, and_left, and_right, or_left, or_right, lt-ltb, le-ltb, le-leb, lt-leb, ltb-true, eq-eqb, ne_eqb, cond-true, cond-false}
 use Rattle.model.specs.declared.value.Value.{Value}
 use Rattle.rowlaws.proofs.RowFacts.{InRow, row_at_is}
-use Rattle.model.specs.Tables.{days, Period, Cell, Table, Row, IsRow, joined, inside}
+use Rattle.model.specs.Tables.{days, Period, Fact, Table, Row, IsRow, joined, inside}
 use Rattle.model.specs.Statements.{updated, is_met, is_edge, meets}
 use Rattle.rowlaws.specs.Rows.{Has, Lists}
 use Rattle.rowlaws.specs.Cutting.{part, cut, cut_rows}
@@ -34,12 +34,12 @@ module _ (passes : Row → Bool) (p : Period) (set : List Value → Option (List
   unfolding is_met
   met_is {r} row short k d x = ap (λ (o : Option Row). option_map_or (meets passes p) o false) (row_at_is row short k d x)
 
-  new_some : (k : List Value) (d : ℕ) → is_some (new.cell k d) ≡ is_some (old.cell k d)
+  new_some : (k : List Value) (d : ℕ) → is_some (new.fact k d) ≡ is_some (old.fact k d)
   unfolding updated
   new_some k d = by (is_met passes p old k d)
     where
-      by : (b : Bool) → is_some (cond b (option_map (λ (c : Cell). let u : Cell = record { values = cond (inside p d) (unwrap_or (set c.values) c.values) c.values; system_start = t } in u) (old.cell k d)) (old.cell k d)) ≡ is_some (old.cell k d)
-      by true = some_map _ (old.cell k d)
+      by : (b : Bool) → is_some (cond b (option_map (λ (c : Fact). let u : Fact = record { values = cond (inside p d) (unwrap_or (set c.values) c.values) c.values; system_start = t } in u) (old.fact k d)) (old.fact k d)) ≡ is_some (old.fact k d)
+      by true = some_map _ (old.fact k d)
       by false = refl
 
   new_cut : (k : List Value) (d : ℕ) → new.is_cut k d ≡ (old.is_cut k d || (is_edge p d && joined old k d && is_met passes p old k d))
@@ -47,7 +47,7 @@ module _ (passes : Row → Bool) (p : Period) (set : List Value → Option (List
   new_cut k d = refl
 
   new_joined : (k : List Value) (d : ℕ) → joined new k d ≡ (joined old k d && not (is_edge p d && is_met passes p old k d))
-  new_joined k d = rw (new_some k d, new_some k (d - 1), new_cut k d) (joins (nat_lt 0 d) (is_some (old.cell k (d - 1))) (is_some (old.cell k d)) (old.is_cut k d) (is_edge p d) (is_met passes p old k d))
+  new_joined k d = rw (new_some k d, new_some k (d - 1), new_cut k d) (joins (nat_lt 0 d) (is_some (old.fact k (d - 1))) (is_some (old.fact k d)) (old.is_cut k d) (is_edge p d) (is_met passes p old k d))
 
   still_apart : (k : List Value) (d : ℕ) → joined old k d ≡ false → joined new k d ≡ false
   still_apart k d h = new_joined k d ∙ and_left _ _ h
@@ -69,15 +69,15 @@ module _ (passes : Row → Bool) (p : Period) (set : List Value → Option (List
       and_true true = refl
       and_true false = refl
 
-  unmet_cell : (k : List Value) (d : ℕ) → is_met passes p old k d ≡ false → new.cell k d ≡ old.cell k d
+  unmet_fact : (k : List Value) (d : ℕ) → is_met passes p old k d ≡ false → new.fact k d ≡ old.fact k d
   unfolding updated
-  unmet_cell k d m = rw m refl
+  unmet_fact k d m = rw m refl
 
-  met_inside : (k : List Value) (d : ℕ) (c : Cell) → is_met passes p old k d ≡ true → inside p d ≡ true → old.cell k d ≡ Some c → new.cell k d ≡ Some (record { values = unwrap_or (set c.values) c.values; system_start = t })
+  met_inside : (k : List Value) (d : ℕ) (c : Fact) → is_met passes p old k d ≡ true → inside p d ≡ true → old.fact k d ≡ Some c → new.fact k d ≡ Some (record { values = unwrap_or (set c.values) c.values; system_start = t })
   unfolding updated
   met_inside k d c m i h = rw (m, i, h) refl
 
-  met_outside : (k : List Value) (d : ℕ) (c : Cell) → is_met passes p old k d ≡ true → inside p d ≡ false → old.cell k d ≡ Some c → new.cell k d ≡ Some (record { values = c.values; system_start = t })
+  met_outside : (k : List Value) (d : ℕ) (c : Fact) → is_met passes p old k d ≡ true → inside p d ≡ false → old.fact k d ≡ Some c → new.fact k d ≡ Some (record { values = c.values; system_start = t })
   unfolding updated
   met_outside k d c m i h = rw (m, i, h) refl
 
@@ -88,14 +88,14 @@ module _ (passes : Row → Bool) (p : Period) (set : List Value → Option (List
     unmet_row : meets passes p r ≡ false → IsRow new r
     unmet_row m = record {
       some = row.some;
-      filled = λ d a b. unmet_cell r.key d (met_is row short r.key d (in_row d a b) ∙ m) ∙ row.filled d a b;
+      filled = λ d a b. unmet_fact r.key d (met_is row short r.key d (in_row d a b) ∙ m) ∙ row.filled d a b;
       whole = λ d a b. not_met r.key d (met_is row short r.key d (in_row d (omega arith) b) ∙ m) ∙ row.whole d a b;
       first = still_apart r.key r.period.start row.first;
       last = still_apart r.key r.period.end row.last;
     }
 
     piece_row : meets passes p r ≡ true → (s e : ℕ) (v : List Value) → s < e → r.period.start ≤ s → e ≤ r.period.end → (s ≡ r.period.start) ⊎ (is_edge p s ≡ true) → (e ≡ r.period.end) ⊎ (is_edge p e ≡ true)
-        → ((d : ℕ) → s < d → d < e → is_edge p d ≡ false) → ((d : ℕ) → s ≤ d → d < e → new.cell r.key d ≡ Some (record { values = v; system_start = t })) → IsRow new (part r s e v t)
+        → ((d : ℕ) → s < d → d < e → is_edge p d ≡ false) → ((d : ℕ) → s ≤ d → d < e → new.fact r.key d ≡ Some (record { values = v; system_start = t })) → IsRow new (part r s e v t)
     piece_row m s e v some from to left right clean cells = record {
       some = some;
       filled = cells;
@@ -127,7 +127,7 @@ module _ (passes : Row → Bool) (p : Period) (set : List Value → Option (List
       met_at : (d : ℕ) → r.period.start ≤ d → d < r.period.end → is_met passes p old r.key d ≡ true
       met_at d a b = met_is row short r.key d (in_row d a b) ∙ m
 
-      left_out : (d : ℕ) → r.period.start ≤ d → d < r.period.end → (d < p.start) ⊎ (p.end ≤ d) → new.cell r.key d ≡ Some (record { values = r.values; system_start = t })
+      left_out : (d : ℕ) → r.period.start ≤ d → d < r.period.end → (d < p.start) ⊎ (p.end ≤ d) → new.fact r.key d ≡ Some (record { values = r.values; system_start = t })
       left_out d a b o = met_outside r.key d (record { values = r.values; system_start = r.system_start }) (met_at d a b) (outside d o) (row.filled d a b)
 
       overlap : (r.period.start < p.end) × (p.start < r.period.end)
@@ -189,13 +189,3 @@ module _ (passes : Row → Bool) (p : Period) (set : List Value → Option (List
   pub older_updated : p.start < p.end → (rows : List Row) → Lists rows old → (z : Row) → IsRow new z → IsRow old z ⊎ (z.system_start ≡ t)
   unfolding cut_rows
   older_updated le rows l = older_cut t (cut passes p set t) old new rows l (lists_updated le rows l) (λ r z h g. cut_born le (l.each r h) (l.within r h) z g)
-
--- outside the portion the values stay
-pub outside_stays : (passes : Row → Bool) (p : Period) (set : List Value → Option (List Value)) (t : ℕ) (old : Table) (k : List Value) (d : ℕ) → inside p d ≡ false → option_map (λ (c : Cell). c.values) ((updated passes p set t old).cell k d) ≡ option_map (λ (c : Cell). c.values) (old.cell k d)
-unfolding updated
-outside_stays passes p set t old k d o = rw o (by (is_met passes p old k d) (old.cell k d))
-  where
-    by : (b : Bool) (c : Option Cell) → option_map (λ (c : Cell). c.values) (cond b (option_map (λ (c : Cell). let u : Cell = record { values = c.values; system_start = t } in u) c) c) ≡ option_map (λ (c : Cell). c.values) c
-    by true None = refl
-    by true (Some c) = refl
-    by false c = refl

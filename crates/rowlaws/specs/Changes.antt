@@ -7,12 +7,12 @@ use Rattle.model.specs.declared.value.Value.{Value}
 use Rattle.model.specs.Values.{same_key}
 use Rattle.model.specs.Tables.{days, Period, Table, Row, IsRow}
 use Rattle.model.specs.Statements.{meets, insert_overlaps, inserted, set_overflows}
-use Rattle.model.specs.Transactions.{Change, Insert, Update, Delete, changed}
+use Rattle.model.specs.Transactions.{Action, Insert, Update, Delete, changed}
 use Rattle.rowlaws.specs.Rows.{Lists}
 use Rattle.rowlaws.specs.Cutting.{cut_rows, removed_rows}
 
 -- a period that is inserted has a day, and none past the last; a portion has a day
-abbrev pub IsFine : Change → Type 0
+abbrev pub IsFine : Action → Type 0
 IsFine (Insert key values p) = (p.start < p.end) × (p.end ≤ days)
 IsFine (Update passes p set) = p.start < p.end
 IsFine (Delete passes p) = p.start < p.end
@@ -29,8 +29,8 @@ clashes key p r = same_key r.key key && nat_lt r.period.start p.end && nat_lt p.
 abbrev pub overflows : (Row → Bool) → Period → (List Value → Option (List Value)) → Row → Bool
 overflows passes p set r = meets passes p r && is_none (set r.values)
 
--- the rows after the change at instant t, or its refusal 20 or 23
-unfoldable pub rows_changed : Change → ℕ → List Row → Result (List Row) Refusal
+-- the rows after the action at instant t, or its refusal 20 or 23
+unfoldable pub rows_changed : Action → ℕ → List Row → Result (List Row) Refusal
 rows_changed (Insert key values p) t rows = if list_any (clashes key p) rows then Err KeyOverlap else Ok (rows ++ new_row key values p t ∷ [])
 rows_changed (Update passes p set) t rows = if list_any (overflows passes p set) rows then Err NumberRange else Ok (cut_rows passes p set t rows)
 rows_changed (Delete passes p) t rows = Ok (removed_rows passes p t rows)
@@ -65,14 +65,14 @@ abbrev pub OverflowsOnRows : Type 0
 OverflowsOnRows = (rows : List Row) (old : Table) (passes : Row → Bool) (p : Period) (set : List Value → Option (List Value)) →
     Lists rows old → p.start < p.end → set_overflows passes p set old ≡ list_any (overflows passes p set) rows
 
--- a change on a list of rows comes to what it comes to on days
-abbrev pub ChangeOnRows : Type 0
-ChangeOnRows = (c : Change) (t : ℕ) (rows : List Row) (old : Table) → IsFine c → Lists rows old → SameResult Lists (rows_changed c t rows) (changed c t old)
+-- an action on a list of rows comes to what it comes to on days
+abbrev pub ActionOnRows : Type 0
+ActionOnRows = (c : Action) (t : ℕ) (rows : List Row) (old : Table) → IsFine c → Lists rows old → SameResult Lists (rows_changed c t rows) (changed c t old)
 
--- each row that a change leaves was there before, or is born with it
-abbrev pub ChangeFollows : Type 0
-ChangeFollows = (c : Change) (t : ℕ) (rows : List Row) (old new : Table) → IsFine c → Lists rows old → changed c t old ≡ Ok new → Follows t old new
+-- each row that an action leaves was there before, or is born with it
+abbrev pub ActionFollows : Type 0
+ActionFollows = (c : Action) (t : ℕ) (rows : List Row) (old new : Table) → IsFine c → Lists rows old → changed c t old ≡ Ok new → Follows t old new
 
--- and so of two changes in turn
+-- and so of two actions in turn
 abbrev pub FollowsThen : Type 0
 FollowsThen = (t : ℕ) (a b c : Table) → Follows t a b → Follows t b c → Follows t a c

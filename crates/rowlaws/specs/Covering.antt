@@ -7,10 +7,10 @@ use Rattle.std.specs.Ordering.{ordering_then, nat_cmp}
 use Rattle.std.specs.declared.cmp.Ordering.{Ordering}
 use Rattle.model.specs.declared.value.Value.{Value}
 use Rattle.model.specs.Values.{key_cmp, same_key}
-use Rattle.model.specs.Tables.{Period, Cell, Row}
+use Rattle.model.specs.Tables.{Period, Fact, Row}
 use Rattle.model.specs.Periods.{StartInOrder, is_free}
 use Rattle.model.specs.Statements.{days_of}
-use Rattle.model.specs.Transactions.{State, Schema, Reference, Place, first_orphan}
+use Rattle.model.specs.Transactions.{State, Language, Reference, Place, first_orphan}
 use Rattle.rowlaws.specs.Rows.{Has}
 use Rattle.rowlaws.specs.Statements.{Rows, AllListed}
 
@@ -70,8 +70,8 @@ missing_in_tables fs all [] = None
 missing_in_tables fs all (n ∷ ns) = option_or (missing_in_rows fs all n (all n)) (missing_in_tables fs all ns)
 
 -- the first day without a parent
-unfoldable pub rows_orphan : Schema → Rows → Option Place
-rows_orphan schema all = missing_in_tables schema.references all (range_with_len 0 schema.tables)
+unfoldable pub rows_orphan : Language → Rows → Option Place
+rows_orphan language all = missing_in_tables language.references all (range_with_len 0 language.tables)
 
 -- ---- laws
 
@@ -86,13 +86,13 @@ PeriodsInOrder = (rows : List Row) (k : List Value) → IsStrictlySortedBy place
 
 -- over rows in order, the first day without a parent is the first on days
 abbrev pub OrphanOnRows : Type 0
-OrphanOnRows = (schema : Schema) (all : Rows) (state : State) → AllListed all state → AllInOrder all → rows_orphan schema all ≡ first_orphan schema state
+OrphanOnRows = (language : Language) (all : Rows) (state : State) → AllListed all state → AllInOrder all → rows_orphan language all ≡ first_orphan language state
 
 -- for each foreign key, each filled day of the child is a filled day of the parent's key that its values name
-abbrev pub ReferencesHold : Schema → State → Type 0
-ReferencesHold schema state = (f : Reference) → Has schema.references f → f.child < schema.tables →
-    (k : List Value) (d : ℕ) (c : Cell) → (state f.child).cell k d ≡ Some c → IsTrue (is_some ((state f.parent).cell (f.refers k c.values) d))
+abbrev pub ReferencesHold : Language → State → Type 0
+ReferencesHold language state = (f : Reference) → Has language.references f → f.child < language.tables →
+    (k : List Value) (d : ℕ) (c : Fact) → (state f.child).fact k d ≡ Some c → IsTrue (is_some ((state f.parent).fact (f.refers k c.values) d))
 
 -- there is no first day without a parent exactly where the references hold
 abbrev pub References : Type 0
-References = (schema : Schema) (all : Rows) (state : State) → AllListed all state → first_orphan schema state ≡ None ↔ ReferencesHold schema state
+References = (language : Language) (all : Rows) (state : State) → AllListed all state → first_orphan language state ≡ None ↔ ReferencesHold language state

@@ -4,7 +4,7 @@ use Rattle.std.specs.List.{AllByRecursion}
 use Rattle.fault.specs.declared.refusal.Refusal.{Refusal}
 use Rattle.model.specs.declared.entry.Request.{Request}
 use Rattle.model.specs.declared.entry.Entry.{Entry}
-use Rattle.model.specs.Transactions.{Schema}
+use Rattle.model.specs.Transactions.{Language}
 use Rattle.model.specs.Logs.{Outcome, is_first, first_outcome, state_after}
 use Rattle.rowlaws.specs.Statements.{Rows, AllListed, AllFollow}
 use Rattle.rowlaws.specs.Transactions.{rows_executed, IsFineText}
@@ -12,17 +12,17 @@ use Rattle.rowlaws.specs.Transactions.{rows_executed, IsFineText}
 -- ---- logs whose texts are well formed
 
 -- a request, if there is one
-abbrev pub IsFineRequest : Schema → Option Request → Type 0
-IsFineRequest schema None = Unit {0}
-IsFineRequest schema (Some r) = IsFineText schema r.text
+abbrev pub IsFineRequest : Language → Option Request → Type 0
+IsFineRequest language None = Unit {0}
+IsFineRequest language (Some r) = IsFineText language r.text
 
 -- each request of a list of entries
-abbrev pub AllFine : Schema → List Entry → Type 0
-AllFine schema list = AllByRecursion (λ e. IsFineRequest schema e.request) list
+abbrev pub AllFine : Language → List Entry → Type 0
+AllFine language list = AllByRecursion (λ e. IsFineRequest language e.request) list
 
 -- what any text says is well formed
-abbrev pub ReadsFine : Schema → Type 0
-ReadsFine schema = (text : List ℕ) → IsFineText schema text
+abbrev pub ReadsFine : Language → Type 0
+ReadsFine language = (text : List ℕ) → IsFineText language text
 
 -- ---- what a log leaves. In what follows `before` is a list of entries from the newest back to the oldest.
 
@@ -32,14 +32,14 @@ next_rows all (Ok next) = next
 next_rows all (Err refusal) = all
 
 -- what a request leaves, if it is a first
-abbrev pub rows_after_request : Schema → ℕ → Option Request → List Entry → Rows → Rows
-rows_after_request schema t None before all = all
-rows_after_request schema t (Some r) before all = if is_first r before then next_rows all (rows_executed schema t r.text all) else all
+abbrev pub rows_after_request : Language → ℕ → Option Request → List Entry → Rows → Rows
+rows_after_request language t None before all = all
+rows_after_request language t (Some r) before all = if is_first r before then next_rows all (rows_executed language t r.text all) else all
 
 -- what the first requests leave, one at a time, each once
-unfoldable pub rows_after : Schema → List Entry → Rows
-rows_after schema [] = λ n. []
-rows_after schema (e ∷ before) = rows_after_request schema e.stamp e.request before (rows_after schema before)
+unfoldable pub rows_after : Language → List Entry → Rows
+rows_after language [] = λ n. []
+rows_after language (e ∷ before) = rows_after_request language e.stamp e.request before (rows_after language before)
 
 -- accepted at its instant, or refused
 abbrev pub rows_outcome_at : ℕ → Result Rows Refusal → Outcome
@@ -47,24 +47,24 @@ rows_outcome_at t (Ok next) = Ok t
 rows_outcome_at t (Err refusal) = Err refusal
 
 -- what a first request comes to, by the rows before it
-abbrev pub rows_outcome : Schema → ℕ → Request → Rows → Outcome
-rows_outcome schema t r all = rows_outcome_at t (rows_executed schema t r.text all)
+abbrev pub rows_outcome : Language → ℕ → Request → Rows → Outcome
+rows_outcome language t r all = rows_outcome_at t (rows_executed language t r.text all)
 
 -- ---- laws
 
 -- what a log leaves on lists of rows are the rows of what it leaves on days
 abbrev pub LogsOnRows : Type 0
-LogsOnRows = (schema : Schema) (before : List Entry) → AllFine schema before → AllListed (rows_after schema before) (state_after schema before)
+LogsOnRows = (language : Language) (before : List Entry) → AllFine language before → AllListed (rows_after language before) (state_after language before)
 
 -- each row that an entry leaves was there before, or is born at the entry's instant
 abbrev pub LogsFollow : Type 0
-LogsFollow = (schema : Schema) (e : Entry) (before : List Entry) → AllFine schema (e ∷ before) → AllFollow e.stamp (state_after schema before) (state_after schema (e ∷ before))
+LogsFollow = (language : Language) (e : Entry) (before : List Entry) → AllFine language (e ∷ before) → AllFollow e.stamp (state_after language before) (state_after language (e ∷ before))
 
 -- what a first request comes to, by the rows before it, is what it comes to on days
 abbrev pub OutcomesOnRows : Type 0
-OutcomesOnRows = (schema : Schema) (t : ℕ) (r : Request) (before : List Entry) (all : Rows) →
-    IsFineText schema r.text → AllListed all (state_after schema before) → rows_outcome schema t r all ≡ first_outcome schema t r before
+OutcomesOnRows = (language : Language) (t : ℕ) (r : Request) (before : List Entry) (all : Rows) →
+    IsFineText language r.text → AllListed all (state_after language before) → rows_outcome language t r all ≡ first_outcome language t r before
 
--- a schema by which any text is well formed has well formed logs
+-- a language by which any text is well formed has well formed logs
 abbrev pub FineLogs : Type 0
-FineLogs = (schema : Schema) (list : List Entry) → ReadsFine schema → AllFine schema list
+FineLogs = (language : Language) (list : List Entry) → ReadsFine language → AllFine language list

@@ -5,14 +5,14 @@ use Rattle.model.specs.declared.value.Value.{Value}
 use Rattle.model.specs.Tables.{Period, inside, Table, Row, IsRow}
 use Rattle.model.specs.Periods.{is_free}
 use Rattle.model.specs.Statements.{days_of}
-use Rattle.model.specs.Transactions.{State, Statement, Change, Insert, Update, Delete, changed, run_statements}
+use Rattle.model.specs.Transactions.{State, Statement, Action, Insert, Update, Delete, changed, run_statements}
 use Rattle.rowlaws.specs.Rows.{Has, Lists}
 use Rattle.rowlaws.specs.Touching.{IsTouched}
 use Rattle.rowlaws.specs.Covering.{periods_of}
 
 -- the day was filled, and is no longer
 abbrev pub is_lost : Table → Table → List Value → ℕ → Bool
-is_lost old new k d = is_some (old.cell k d) && not (is_some (new.cell k d))
+is_lost old new k d = is_some (old.fact k d) && not (is_some (new.fact k d))
 
 -- a row of the key that went has the day, and none that came has it
 abbrev pub day_went : List Row → List Row → List Value → ℕ → Bool
@@ -41,17 +41,17 @@ pub record IsTouchedAmong (old new : Table) (removed added : List Row) : Type 0 
   pub stay : (row : Row) → IsRow old row → IsRow new row ⊎ Has removed row
   pub comes : (row : Row) → IsRow new row → IsRow old row ⊎ Has added row
 
--- ---- changes
+-- ---- actions
 
--- the days that a change may empty: those of a DELETE's portion
-abbrev pub may_empty : Change → ℕ → Bool
+-- the days that an action may empty: those of a DELETE's portion
+abbrev pub may_empty : Action → ℕ → Bool
 may_empty (Insert key values p) d = false
 may_empty (Update passes p set) d = false
 may_empty (Delete passes p) d = inside p d
 
 -- the statement may empty this day in table n
 abbrev pub may_empty_in : ℕ → ℕ → Statement → Bool
-may_empty_in n d s = n == s.table && may_empty s.change d
+may_empty_in n d s = n == s.table && may_empty s.action d
 
 -- ---- laws
 
@@ -75,7 +75,7 @@ abbrev pub LosingAmong : Type 0
 LosingAmong = (rows more : List Row) (old new : Table) (removed added : List Row) (k : List Value) (d : ℕ) →
     Lists rows old → Lists more new → IsTouchedAmong old new removed added → IsTrue (is_lost old new k d) → Has (losing_keys removed more) k
 
--- what was touched is among itself; nothing is, between a table and itself; and what two changes touch is among both
+-- what was touched is among itself; nothing is, between a table and itself; and what two actions touch is among both
 abbrev pub TouchedAmong : Type 0
 TouchedAmong = (old new : Table) (removed added : List Row) → IsTouched old new removed added → IsTouchedAmong old new removed added
 
@@ -87,8 +87,8 @@ AmongBoth = (a b c : Table) (removed added later_removed later_added : List Row)
     IsTouchedAmong a b removed added → IsTouchedAmong b c later_removed later_added → IsTouchedAmong a c (removed ++ later_removed) (added ++ later_added)
 
 -- an INSERT and an UPDATE lose no day, and a DELETE only days of its portion
-abbrev pub LostByChange : Type 0
-LostByChange = (c : Change) (t : ℕ) (old new : Table) (k : List Value) (d : ℕ) → changed c t old ≡ Ok new → IsTrue (is_lost old new k d) → IsTrue (may_empty c d)
+abbrev pub LostByAction : Type 0
+LostByAction = (c : Action) (t : ℕ) (old new : Table) (k : List Value) (d : ℕ) → changed c t old ≡ Ok new → IsTrue (is_lost old new k d) → IsTrue (may_empty c d)
 
 -- so statements in turn lose a day of a table only where one of them is a DELETE from that table with the day in its portion
 abbrev pub LostByStatements : Type 0

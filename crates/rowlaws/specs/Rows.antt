@@ -4,7 +4,7 @@ use Rattle.std.specs.Cmp.{IsTotalOrder}
 use Rattle.std.specs.List.Sorted.{IsStrictlySortedBy, IsPermutation}
 use Rattle.model.specs.declared.value.Value.{Value}
 use Rattle.model.specs.Values.{key_cmp}
-use Rattle.model.specs.Tables.{days, inside, Cell, Table, Row, IsRow}
+use Rattle.model.specs.Tables.{days, inside, Fact, Table, Row, IsRow}
 use Rattle.model.specs.Statements.{row_count}
 
 -- z is an element
@@ -21,7 +21,7 @@ Apart (x ∷ xs) = (Has xs x → ⊥) × Apart xs
 -- last day, and the table's keys, in order, have theirs
 pub record Lists (rows : List Row) (table : Table) : Type 0 where
   pub each : (r : Row) → Has rows r → IsRow table r
-  pub every : (k : List Value) (d : ℕ) (c : Cell) → table.cell k d ≡ Some c → (r : Row) × Has rows r × (r.key ≡ k) × (r.period.start ≤ d) × (d < r.period.end)
+  pub every : (k : List Value) (d : ℕ) (c : Fact) → table.fact k d ≡ Some c → (r : Row) × Has rows r × (r.key ≡ k) × (r.period.start ≤ d) × (d < r.period.end)
   pub once : Apart rows
   pub within : (r : Row) → Has rows r → r.period.end ≤ days
   pub keyed : (r : Row) → Has rows r → Has table.keys r.key

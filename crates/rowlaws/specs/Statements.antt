@@ -10,7 +10,7 @@ use Rattle.rowlaws.specs.Changes.{IsFine, rows_changed, SameResult, Follows}
 -- each statement is well formed
 abbrev pub AreFine : List Statement → Type 0
 AreFine [] = Unit {0}
-AreFine (s ∷ ss) = IsFine s.change × AreFine ss
+AreFine (s ∷ ss) = IsFine s.action × AreFine ss
 
 -- the rows of each table, by its number
 abbrev pub Rows : Type 0
@@ -26,7 +26,7 @@ with_rows n all rows = λ m. if m == n then rows else all m
 
 -- a statement changes one table, and leaves it at most 20,000 rows
 abbrev pub run_on_rows : ℕ → Statement → Rows → Result Rows Refusal
-run_on_rows t s all = and_then (and_then (rows_changed s.change t (all s.table)) rows_within_limit) (λ rows. Ok (with_rows s.table all rows))
+run_on_rows t s all = and_then (and_then (rows_changed s.action t (all s.table)) rows_within_limit) (λ rows. Ok (with_rows s.table all rows))
 
 -- the statements one after another, up to the first refusal
 abbrev pub run_all_on_rows : ℕ → List Statement → Rows → Result Rows Refusal
@@ -46,7 +46,7 @@ AllFollow t old new = (n : ℕ) → Follows t (old n) (new n)
 -- a statement on lists of rows comes to what it comes to on days, and the lists stay the rows of every table
 abbrev pub StatementOnRows : Type 0
 StatementOnRows = (t : ℕ) (s : Statement) (all : Rows) (state : State) →
-    IsFine s.change → AllListed all state → SameResult AllListed (run_on_rows t s all) (run_statement t s state)
+    IsFine s.action → AllListed all state → SameResult AllListed (run_on_rows t s all) (run_statement t s state)
 
 -- and so do several
 abbrev pub StatementsOnRows : Type 0

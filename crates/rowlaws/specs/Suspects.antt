@@ -1,4 +1,4 @@
--- References after a change, by what it touched alone: which rows can have a day without a parent now, if none had before.
+-- References after an action, by what it touched alone: which rows can have a day without a parent now, if none had before.
 use Rattle.std.specs.Prelude.{◌≡◌, ℕ, ◌<◌, ◌≤◌, ◌==◌, is_some, IsTrue, Option, Some, None, List, [], ◌∷◌, ◌++◌, if◌then◌else◌, filter, flat_map, Ok}
 use Rattle.std.specs.List.{range_with_len}
 use Rattle.std.specs.Option.{option_or}
@@ -8,7 +8,7 @@ use Rattle.std.specs.declared.cmp.Ordering.TheVariants.{Less, Equal, Greater}
 use Rattle.model.specs.declared.value.Value.{Value}
 use Rattle.model.specs.Values.{key_cmp, same_key}
 use Rattle.model.specs.Tables.{Row, IsRow}
-use Rattle.model.specs.Transactions.{State, Statement, Schema, Reference, Place, is_orphan, first_orphan}
+use Rattle.model.specs.Transactions.{State, Statement, Language, Reference, Place, is_orphan, first_orphan}
 use Rattle.rowlaws.specs.Rows.{Has}
 use Rattle.rowlaws.specs.Statements.{Rows, run_all_on_rows, AllListed}
 use Rattle.rowlaws.specs.Covering.{place_at, missing, missing_in_rows, AllInOrder}
@@ -69,49 +69,49 @@ first_in_order fs all picked [] = None
 first_in_order fs all picked (n ∷ ns) = option_or (missing_in_rows fs all n (picked n)) (first_in_order fs all picked ns)
 
 -- the first day without a parent, looked for among these rows alone
-unfoldable pub picked_orphan : Schema → Rows → Rows → Option Place
-picked_orphan schema all picked = first_in_tables schema.references all picked (range_with_len 0 schema.tables)
+unfoldable pub picked_orphan : Language → Rows → Rows → Option Place
+picked_orphan language all picked = first_in_tables language.references all picked (range_with_len 0 language.tables)
 
 -- and where they are in order
-unfoldable pub ordered_orphan : Schema → Rows → Rows → Option Place
-ordered_orphan schema all picked = first_in_order schema.references all picked (range_with_len 0 schema.tables)
+unfoldable pub ordered_orphan : Language → Rows → Rows → Option Place
+ordered_orphan language all picked = first_in_order language.references all picked (range_with_len 0 language.tables)
 
 -- and among the suspects
-abbrev pub touched_orphan : Schema → Rows → Rows → Rows → Option Place
-touched_orphan schema all removed added = picked_orphan schema all (suspects schema.references all removed added)
+abbrev pub touched_orphan : Language → Rows → Rows → Rows → Option Place
+touched_orphan language all removed added = picked_orphan language all (suspects language.references all removed added)
 
 -- ---- laws
 
 -- a row that stood before has, by each foreign key, a parent on each day that the parent's key did not lose
 abbrev pub KeptChild : Type 0
-KeptChild = (schema : Schema) (before : Rows) (old new : State) (f : Reference) (r : Row) (d : ℕ) →
-    AllListed before old → first_orphan schema old ≡ None → Has schema.references f → f.child < schema.tables → IsRow (old f.child) r → r.period.start ≤ d → d < r.period.end →
-    (IsTrue (is_lost (old f.parent) (new f.parent) (f.refers r.key r.values) d) → ⊥) → IsTrue (is_some ((new f.parent).cell (f.refers r.key r.values) d))
+KeptChild = (language : Language) (before : Rows) (old new : State) (f : Reference) (r : Row) (d : ℕ) →
+    AllListed before old → first_orphan language old ≡ None → Has language.references f → f.child < language.tables → IsRow (old f.child) r → r.period.start ≤ d → d < r.period.end →
+    (IsTrue (is_lost (old f.parent) (new f.parent) (f.refers r.key r.values) d) → ⊥) → IsTrue (is_some ((new f.parent).fact (f.refers r.key r.values) d))
 
 -- if there was no day without a parent, each one that there is lies in a suspect
 abbrev pub OrphanSuspect : Type 0
-OrphanSuspect = (schema : Schema) (before all removed added : Rows) (old new : State) (p : Place) →
-    AllListed before old → AllListed all new → AllTouchedAmong old new removed added → first_orphan schema old ≡ None → p.table < schema.tables → IsTrue (is_orphan schema new p) →
-    (r : Row) × Has (suspects schema.references all removed added p.table) r × Has (all p.table) r × (r.key ≡ p.key) × (r.period.start ≤ p.day) × (p.day < r.period.end)
+OrphanSuspect = (language : Language) (before all removed added : Rows) (old new : State) (p : Place) →
+    AllListed before old → AllListed all new → AllTouchedAmong old new removed added → first_orphan language old ≡ None → p.table < language.tables → IsTrue (is_orphan language new p) →
+    (r : Row) × Has (suspects language.references all removed added p.table) r × Has (all p.table) r × (r.key ≡ p.key) × (r.period.start ≤ p.day) × (p.day < r.period.end)
 
 -- then the first day without a parent of any rows with all suspects among them is the first of all
 abbrev pub PickedOrphan : Type 0
-PickedOrphan = (schema : Schema) (all removed added picked : Rows) (state : State) →
-    ComesFromWhole schema all removed added → AllListed all state → IsPicked schema.references all removed added picked → picked_orphan schema all picked ≡ first_orphan schema state
+PickedOrphan = (language : Language) (all removed added picked : Rows) (state : State) →
+    ComesFromWhole language all removed added → AllListed all state → IsPicked language.references all removed added picked → picked_orphan language all picked ≡ first_orphan language state
 
 -- and so where they are in order
 abbrev pub OrderedOrphan : Type 0
-OrderedOrphan = (schema : Schema) (all removed added picked : Rows) (state : State) →
-    ComesFromWhole schema all removed added → AllListed all state → IsPicked schema.references all removed added picked → AllInOrder picked →
-    ordered_orphan schema all picked ≡ first_orphan schema state
+OrderedOrphan = (language : Language) (all removed added picked : Rows) (state : State) →
+    ComesFromWhole language all removed added → AllListed all state → IsPicked language.references all removed added picked → AllInOrder picked →
+    ordered_orphan language all picked ≡ first_orphan language state
 
 -- and so is the first of the suspects, where no row is told of that came and went again
 abbrev pub TouchedOrphan : Type 0
-TouchedOrphan = (schema : Schema) (before all removed added : Rows) (old new : State) →
-    AllListed before old → AllListed all new → AllTouched old new removed added → first_orphan schema old ≡ None → touched_orphan schema all removed added ≡ first_orphan schema new
+TouchedOrphan = (language : Language) (before all removed added : Rows) (old new : State) →
+    AllListed before old → AllListed all new → AllTouched old new removed added → first_orphan language old ≡ None → touched_orphan language all removed added ≡ first_orphan language new
 
 -- a transaction on lists of rows, where the references are judged by what its statements touched
 abbrev pub TransactionTouched : Type 0
-TransactionTouched = (schema : Schema) (t : ℕ) (ss : List Statement) (before all removed added picked : Rows) (state : State) →
-    run_all_on_rows t ss before ≡ Ok all → ComesFromWhole schema all removed added → AllListed all state → IsPicked schema.references all removed added picked →
-    rows_transacted schema t ss before ≡ rows_unless_orphan schema all (picked_orphan schema all picked)
+TransactionTouched = (language : Language) (t : ℕ) (ss : List Statement) (before all removed added picked : Rows) (state : State) →
+    run_all_on_rows t ss before ≡ Ok all → ComesFromWhole language all removed added → AllListed all state → IsPicked language.references all removed added picked →
+    rows_transacted language t ss before ≡ rows_unless_orphan language all (picked_orphan language all picked)

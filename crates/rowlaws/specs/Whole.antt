@@ -2,7 +2,7 @@
 use Rattle.std.specs.Prelude.{◌≡◌, ℕ, None, List, [], ◌++◌, Ok}
 use Rattle.model.specs.declared.entry.Entry.{Entry}
 use Rattle.model.specs.Tables.{Row}
-use Rattle.model.specs.Transactions.{State, Statement, Schema, first_orphan, unless_orphan, transacted}
+use Rattle.model.specs.Transactions.{State, Statement, Language, first_orphan, unless_orphan, transacted}
 use Rattle.model.specs.Logs.{state_after}
 use Rattle.rowlaws.specs.Rows.{Has}
 use Rattle.rowlaws.specs.Touching.{IsTouched}
@@ -18,40 +18,40 @@ abbrev pub AllTouchedAmong : State → State → Rows → Rows → Type 0
 AllTouchedAmong old new removed added = (n : ℕ) → IsTouchedAmong (old n) (new n) (removed n) (added n)
 
 -- from some state without a day without a parent the tables came to these rows, and what was touched is among removed and added
-abbrev pub ComesFromWhole : Schema → Rows → Rows → Rows → Type 0
-ComesFromWhole schema all removed added =
-    (old : State) × (new : State) × (before : Rows) × AllListed before old × AllListed all new × AllTouchedAmong old new removed added × (first_orphan schema old ≡ None)
+abbrev pub ComesFromWhole : Language → Rows → Rows → Rows → Type 0
+ComesFromWhole language all removed added =
+    (old : State) × (new : State) × (before : Rows) × AllListed before old × AllListed all new × AllTouchedAmong old new removed added × (first_orphan language old ≡ None)
 
 -- ---- laws
 
 -- states that have the same rows have one first day without a parent
 abbrev pub OneOrphan : Type 0
-OneOrphan = (schema : Schema) (all : Rows) (state next : State) → AllListed all state → AllListed all next → first_orphan schema state ≡ first_orphan schema next
+OneOrphan = (language : Language) (all : Rows) (state next : State) → AllListed all state → AllListed all next → first_orphan language state ≡ first_orphan language next
 
 -- an accepted transaction leaves no day without a parent
 abbrev pub NoOrphanThen : Type 0
-NoOrphanThen = (schema : Schema) (t : ℕ) (ss : List Statement) (state next : State) → transacted schema t ss state ≡ Ok next → first_orphan schema next ≡ None
+NoOrphanThen = (language : Language) (t : ℕ) (ss : List Statement) (state next : State) → transacted language t ss state ≡ Ok next → first_orphan language next ≡ None
 
 -- nor does a log
 abbrev pub NoOrphanAfter : Type 0
-NoOrphanAfter = (schema : Schema) (before : List Entry) → first_orphan schema (state_after schema before) ≡ None
+NoOrphanAfter = (language : Language) (before : List Entry) → first_orphan language (state_after language before) ≡ None
 
 -- where a check of the references accepts, there is no day without a parent
 abbrev pub NoneAccepted : Type 0
-NoneAccepted = (schema : Schema) (state next : State) → unless_orphan schema state (first_orphan schema state) ≡ Ok next → first_orphan schema state ≡ None
+NoneAccepted = (language : Language) (state next : State) → unless_orphan language state (first_orphan language state) ≡ Ok next → first_orphan language state ≡ None
 
 -- tables without such a day come from themselves, and nothing was touched
 abbrev pub WholeItself : Type 0
-WholeItself = (schema : Schema) (all : Rows) (state : State) → AllListed all state → first_orphan schema state ≡ None → ComesFromWhole schema all (λ n. []) (λ n. [])
+WholeItself = (language : Language) (all : Rows) (state : State) → AllListed all state → first_orphan language state ≡ None → ComesFromWhole language all (λ n. []) (λ n. [])
 
--- after one change more, what it touches is added
+-- after one action more, what it touches is added
 abbrev pub WholeThen : Type 0
-WholeThen = (schema : Schema) (all more removed added later_removed later_added : Rows) → ComesFromWhole schema all removed added →
+WholeThen = (language : Language) (all more removed added later_removed later_added : Rows) → ComesFromWhole language all removed added →
     ((state : State) → AllListed all state → (next : State) × AllListed more next × AllTouched state next later_removed later_added) →
-    ComesFromWhole schema more (λ n. removed n ++ later_removed n) (λ n. added n ++ later_added n)
+    ComesFromWhole language more (λ n. removed n ++ later_removed n) (λ n. added n ++ later_added n)
 
 -- and more may be told of, in any order
 abbrev pub WholeAmong : Type 0
-WholeAmong = (schema : Schema) (all removed added more_removed more_added : Rows) → ComesFromWhole schema all removed added →
+WholeAmong = (language : Language) (all removed added more_removed more_added : Rows) → ComesFromWhole language all removed added →
     ((n : ℕ) (r : Row) → Has (removed n) r → Has (more_removed n) r) → ((n : ℕ) (r : Row) → Has (added n) r → Has (more_added n) r) →
-    ComesFromWhole schema all more_removed more_added
+    ComesFromWhole language all more_removed more_added

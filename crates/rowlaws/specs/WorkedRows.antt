@@ -5,7 +5,7 @@ use Rattle.model.specs.declared.value.Value.{Value}
 use Rattle.model.specs.declared.value.Value.TheVariants.{Number}
 use Rattle.model.specs.Values.{same_key}
 use Rattle.model.specs.Tables.{Period, Row}
-use Rattle.model.specs.Transactions.{Change, Insert, Update, Delete, Schema}
+use Rattle.model.specs.Transactions.{Action, Insert, Update, Delete, Language}
 use Rattle.rowlaws.specs.Changes.{rows_changed}
 use Rattle.rowlaws.specs.Touching.{rows_without, removed_by, added_by, removed_both, added_both}
 use Rattle.rowlaws.specs.Statements.{Rows}
@@ -30,7 +30,7 @@ has_number n r = same_key r.key (number n)
 abbrev pub hired : List Row
 hired = row 22217 733772 734452 3 101 ∷ []
 
-abbrev pub lent : Change
+abbrev pub lent : Action
 lent = Update (has_number 22217) (from_to 734170 734389) (λ values. Some (number 4))
 
 abbrev pub after_lent : List Row
@@ -55,10 +55,10 @@ Refused =
     × (rows_changed (Insert (number 22217) (number 3) (from_to 734451 734453)) 102 hired ≡ Err KeyOverlap)
     × (rows_changed (Update (λ r. true) (from_to 0 3652058) (λ values. None)) 102 hired ≡ Err NumberRange)
 
--- ---- two changes in turn
+-- ---- two actions in turn
 
 -- the middle of the three is deleted again in the same transaction
-abbrev pub dropped : Change
+abbrev pub dropped : Action
 dropped = Delete (λ r. true) (from_to 734170 734389)
 
 -- it came and went, so it is in neither list; and so is a row that is inserted and deleted
@@ -78,7 +78,7 @@ CameAndWent =
 abbrev pub company : ℕ → Rows
 company from n = if nat_lt n 1 then row 3 734137 734196 0 100 ∷ row 3 from 734288 0 100 ∷ [] else (row 5 734168 734227 3 101 ∷ [])
 
-abbrev pub references : Schema
+abbrev pub references : Language
 references = record { tables = 2; name = λ n. []; references = record { child = 1; parent = 0; refers = λ k v. v } ∷ []; reads = λ text. Ok [] }
 
 -- the two periods of the parent touch; or there is one day between them, 2011-03-01

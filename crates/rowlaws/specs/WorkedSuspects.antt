@@ -2,7 +2,7 @@
 use Rattle.std.specs.Prelude.{◌≡◌, true, nat_lt, Some, None, Ok, List, [], ◌∷◌, if◌then◌else◌}
 use Rattle.model.specs.Values.{same_key}
 use Rattle.model.specs.Tables.{Row}
-use Rattle.model.specs.Transactions.{Change, Delete}
+use Rattle.model.specs.Transactions.{Action, Delete}
 use Rattle.rowlaws.specs.Changes.{rows_changed}
 use Rattle.rowlaws.specs.Touching.{removed_by, added_by}
 use Rattle.rowlaws.specs.Statements.{Rows}
@@ -23,10 +23,10 @@ abbrev pub of_two : List Row → List Row → Rows
 of_two first second n = if nat_lt n 1 then first else (if nat_lt n 2 then second else [])
 
 -- department 3 without ten days of March, or without May
-abbrev pub without_march : Change
+abbrev pub without_march : Action
 without_march = Delete (has_number 3) (from_to 734200 734210)
 
-abbrev pub without_may : Change
+abbrev pub without_may : Action
 without_may = Delete (has_number 3) (from_to 734257 734288)
 
 abbrev pub after_march : List Row

@@ -18,7 +18,7 @@ use Rattle.schema.specs.Shape.{TableShape}
 use Rattle.schema.specs.declared.table.Kind.{Kind}
 use Rattle.sqltokens.specs.declared.token.Keyword.TheVariants as keyword
 use Rattle.sqltokens.specs.declared.token.Sign.TheVariants as sign
-use Rattle.sqltokens.specs.What.{What, Name, is_word, is_mark}
+use Rattle.sqltokens.specs.What.{What, Name, is_word, is_symbol}
 use Rattle.sqltokens.specs.Classes.{digits, dates}
 use Rattle.sqlsyntax.specs.declared.forms.Operator.{Operator}
 use Rattle.namesyntax.specs.Words.{is_name_text}
@@ -337,13 +337,13 @@ set_again table before (form ∷ forms) all are e =
 pub assignments_again : (table : TableShape) → ReadsAgain assignments (assignments_after table []) (λ all. map (assignment_of table) all)
 unfolding assignments another_assignment
 assignments_again table forms all r =
-    let row_of = fits_row assignment another_assignment (is_mark sign.Comma) (λ a f. f) forms r.fits in
-    let tokens = all_row assignment another_assignment (is_mark sign.Comma) IsWritten (λ a w. w.1) forms row_of.0 r.written in
+    let row_of = fits_row assignment another_assignment (is_symbol sign.Comma) (λ a f. f) forms r.fits in
+    let tokens = all_row assignment another_assignment (is_symbol sign.Comma) IsWritten (λ a w. w.1) forms row_of.0 r.written in
     let again = set_again table [] forms all (record { fit = row_of.1; written = tokens }) r.let_through in
     let some : 0 < length (map (assignment_of table) again.new) = omega (arith, length-map again.new (assignment_of table), again.count, row_of.0) in
     let here : IsReadAs assignments (assignments_after table []) (map (assignment_of table) again.new) all = record {
-      fits = row_fits assignment another_assignment (is_mark sign.Comma) (λ a f. f) (map (assignment_of table) again.new) some again.are.fit;
-      written = row_all assignment another_assignment (is_mark sign.Comma) IsWritten (λ a w. (sign_written sign.Comma, w)) (map (assignment_of table) again.new) some again.are.written;
+      fits = row_fits assignment another_assignment (is_symbol sign.Comma) (λ a f. f) (map (assignment_of table) again.new) some again.are.fit;
+      written = row_all assignment another_assignment (is_symbol sign.Comma) IsWritten (λ a w. (sign_written sign.Comma, w)) (map (assignment_of table) again.new) some again.are.written;
       let_through = again.let_through;
     } in
     subst (λ (l : List Assignment). IsReadAs assignments (assignments_after table []) (map (assignment_of table) l) all) again.is here

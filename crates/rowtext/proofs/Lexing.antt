@@ -8,7 +8,7 @@ use Rattle.std.proofs.lemmas.Bool.{ne_eqb, eq-eqb, eqb-true, leb-true, ltb-true,
 use Rattle.std.proofs.lemmas.List.{length-append, length-drop}
 use Rattle.sqltokens.specs.declared.token.Sign.{Sign}
 use Rattle.sqltokens.specs.declared.token.Sign.TheVariants as sign
-use Rattle.sqltokens.specs.What.{What, Word as Keyed, Mark, Name, Digits, Text, Stray}
+use Rattle.sqltokens.specs.What.{What, Word as Keyed, Symbol, Name, Digits, Text, Stray}
 use Rattle.sqltokens.specs.Lexing.{is_blank, is_printable, is_word_byte, word_what, closes, sign_of, one_sign, two_sign, token_of, IsLongest, IsOther, longest_text, above, longest_within, tokens_within, tokens_of}
 use Rattle.sqltokens.specs.Syntax.{said}
 use Rattle.sqltokens.proofs.Texts.{decide, and_parts}
@@ -108,7 +108,7 @@ text_parts bs t e = go (decide (closes bs)) where
   go (inl h) = (h, some_is (Text (take (length bs - 1) bs)) t (rw h at e))
   go (inr h) = let none = rw h at e in absurd cc
 
-pub sign_parts : (b : ℕ) (bs : List ℕ) → is_ascii_alphabetic b ≡ false → is_ascii_digit b ≡ false → b ≢ 39 → token_of (b ∷ bs) ≡ option_map Mark (sign_of (b ∷ bs))
+pub sign_parts : (b : ℕ) (bs : List ℕ) → is_ascii_alphabetic b ≡ false → is_ascii_digit b ≡ false → b ≢ 39 → token_of (b ∷ bs) ≡ option_map Symbol (sign_of (b ∷ bs))
 unfolding token_of
 sign_parts b bs alpha digit quote = rw (alpha, digit, ne_eqb b 39 quote) refl
 
@@ -193,20 +193,20 @@ longest_quoted bs rest t e end =
     let is : Text (take (length bs - 1) (bs ++ rest)) ≡ t = ap Text (take_within (length bs - 1) bs rest (omega arith)) ∙ parts.1 in
     subst (λ w. IsLongest (39 ∷ bs ++ rest) (length (39 ∷ bs)) w) is (subst (λ n. IsLongest (39 ∷ bs ++ rest) n (Text (take (length bs - 1) (bs ++ rest)))) one found)
 
-pub mark_is : (o : Option Sign) (t : What) → option_map Mark o ≡ Some t → (s : Sign) × (o ≡ Some s) × (t ≡ Mark s)
-mark_is None t e = absurd cc
-mark_is (Some s) t e = (s, refl, sym (some_is (Mark s) t e))
+pub symbol_is : (o : Option Sign) (t : What) → option_map Symbol o ≡ Some t → (s : Sign) × (o ≡ Some s) × (t ≡ Symbol s)
+symbol_is None t e = absurd cc
+symbol_is (Some s) t e = (s, refl, sym (some_is (Symbol s) t e))
 
 -- a sign alone, where no sign of two bytes begins
-longest_one : (b : ℕ) (rest : List ℕ) (s : Sign) → IsOther b → one_sign b ≡ Some s → (1 < length (b ∷ rest) → two_sign b (get_or (b ∷ rest) 1 0) ≡ None) → IsLongest (b ∷ rest) 1 (Mark s)
+longest_one : (b : ℕ) (rest : List ℕ) (s : Sign) → IsOther b → one_sign b ≡ Some s → (1 < length (b ∷ rest) → two_sign b (get_or (b ∷ rest) 1 0) ≡ None) → IsLongest (b ∷ rest) 1 (Symbol s)
 longest_one b rest s other e pair = one_at_front (b ∷ rest) s (omega arith) other pair e
 
 longest_sign : (b : ℕ) (bs rest : List ℕ) (t : What) → IsOther b → token_of (b ∷ bs) ≡ Some t → IsEnd rest → IsLongest ((b ∷ bs) ++ rest) (length (b ∷ bs)) t
 longest_sign b [] rest t other e end =
-    let m = mark_is (one_sign b) t (sym (sign_parts b [] other.letter other.digit other.quote) ∙ e) in
+    let m = symbol_is (one_sign b) t (sym (sign_parts b [] other.letter other.digit other.quote) ∙ e) in
     subst (λ w. IsLongest (b ∷ rest) 1 w) (sym m.2) (longest_one b rest m.0 other m.1 (λ lt. (end_first rest end (omega arith)).pair b))
 longest_sign b (c ∷ []) rest t other e end =
-    let m = mark_is (two_sign b c) t (sym (sign_parts b (c ∷ []) other.letter other.digit other.quote) ∙ e) in
+    let m = symbol_is (two_sign b c) t (sym (sign_parts b (c ∷ []) other.letter other.digit other.quote) ∙ e) in
     subst (λ w. IsLongest (b ∷ c ∷ rest) 2 w) (sym m.2) (two_at_front (b ∷ c ∷ rest) m.0 (omega arith) other m.1)
 longest_sign b (c ∷ d ∷ bs) rest t other e end = let none = sym (sign_parts b (c ∷ d ∷ bs) other.letter other.digit other.quote) ∙ e in absurd cc
 
@@ -233,8 +233,8 @@ longest_token (b ∷ bs) rest t e end = elim (decide (is_ascii_alphabetic b)) [
 -- ---- the first byte of a token is no blank
 
 no_sign : (b : ℕ) (bs : List ℕ) → is_ascii_alphabetic b ≡ false → is_ascii_digit b ≡ false → b ≢ 39 → one_sign b ≡ None → ((c : ℕ) → two_sign b c ≡ None) → token_of (b ∷ bs) ≡ None
-no_sign b [] letter digit quote one two = sign_parts b [] letter digit quote ∙ ap (option_map Mark) one
-no_sign b (c ∷ []) letter digit quote one two = sign_parts b (c ∷ []) letter digit quote ∙ ap (option_map Mark) (two c)
+no_sign b [] letter digit quote one two = sign_parts b [] letter digit quote ∙ ap (option_map Symbol) one
+no_sign b (c ∷ []) letter digit quote one two = sign_parts b (c ∷ []) letter digit quote ∙ ap (option_map Symbol) (two c)
 no_sign b (c ∷ d ∷ bs) letter digit quote one two = sign_parts b (c ∷ d ∷ bs) letter digit quote
 
 token_not_32 : (bs : List ℕ) → token_of (32 ∷ bs) ≡ None
@@ -313,35 +313,35 @@ says_written (b ∷ bs) rest t ts e end says =
     says_token b (bs ++ rest) (length (b ∷ bs)) t ts (not_blank b bs t e) (longest_token (b ∷ bs) rest t e end) (omega arith)
     (subst (λ r. Says r ts) (sym (drop_all (b ∷ bs) rest)) says)
 
-says_open : (rest : List ℕ) (ts : List What) → Says rest ts → Says (40 ∷ rest) (Mark sign.Open ∷ ts)
+says_open : (rest : List ℕ) (ts : List What) → Says rest ts → Says (40 ∷ rest) (Symbol sign.Open ∷ ts)
 unfolding one_sign two_sign
 says_open rest ts says =
-    says_token 40 rest 1 (Mark sign.Open) ts refl
+    says_token 40 rest 1 (Symbol sign.Open) ts refl
     (longest_one 40 rest sign.Open (record { letter = refl; digit = refl; quote = λ e. absurd (omega (arith, e)) }) refl (λ lt. refl)) (omega arith) says
 
-says_minus : (rest : List ℕ) (ts : List What) → Says rest ts → Says (45 ∷ rest) (Mark sign.Minus ∷ ts)
+says_minus : (rest : List ℕ) (ts : List What) → Says rest ts → Says (45 ∷ rest) (Symbol sign.Minus ∷ ts)
 unfolding one_sign two_sign
 says_minus rest ts says =
-    says_token 45 rest 1 (Mark sign.Minus) ts refl
+    says_token 45 rest 1 (Symbol sign.Minus) ts refl
     (longest_one 45 rest sign.Minus (record { letter = refl; digit = refl; quote = λ e. absurd (omega (arith, e)) }) refl (λ lt. refl)) (omega arith) says
 
 -- ---- lines
 
 end_sign : (ts : List What) (more : List ℕ) → IsEnd more → IsEnd (line AfterSign ts ++ more)
 end_sign [] more end = end
-end_sign (Mark sign.Open ∷ ts) more end = apart_blank
-end_sign (Mark sign.Close ∷ ts) more end = apart_close
-end_sign (Mark sign.Comma ∷ ts) more end = apart_comma
-end_sign (Mark sign.Semicolon ∷ ts) more end = apart_semicolon
-end_sign (Mark sign.Star ∷ ts) more end = apart_blank
-end_sign (Mark sign.Equal ∷ ts) more end = apart_blank
-end_sign (Mark sign.NotEqual ∷ ts) more end = apart_blank
-end_sign (Mark sign.Less ∷ ts) more end = apart_blank
-end_sign (Mark sign.LessEqual ∷ ts) more end = apart_blank
-end_sign (Mark sign.Greater ∷ ts) more end = apart_blank
-end_sign (Mark sign.GreaterEqual ∷ ts) more end = apart_blank
-end_sign (Mark sign.Plus ∷ ts) more end = apart_blank
-end_sign (Mark sign.Minus ∷ ts) more end = apart_blank
+end_sign (Symbol sign.Open ∷ ts) more end = apart_blank
+end_sign (Symbol sign.Close ∷ ts) more end = apart_close
+end_sign (Symbol sign.Comma ∷ ts) more end = apart_comma
+end_sign (Symbol sign.Semicolon ∷ ts) more end = apart_semicolon
+end_sign (Symbol sign.Star ∷ ts) more end = apart_blank
+end_sign (Symbol sign.Equal ∷ ts) more end = apart_blank
+end_sign (Symbol sign.NotEqual ∷ ts) more end = apart_blank
+end_sign (Symbol sign.Less ∷ ts) more end = apart_blank
+end_sign (Symbol sign.LessEqual ∷ ts) more end = apart_blank
+end_sign (Symbol sign.Greater ∷ ts) more end = apart_blank
+end_sign (Symbol sign.GreaterEqual ∷ ts) more end = apart_blank
+end_sign (Symbol sign.Plus ∷ ts) more end = apart_blank
+end_sign (Symbol sign.Minus ∷ ts) more end = apart_blank
 end_sign (Keyed k ∷ ts) more end = apart_blank
 end_sign (Name n ∷ ts) more end = apart_blank
 end_sign (Digits d ∷ ts) more end = apart_blank
@@ -350,19 +350,19 @@ end_sign (Stray ∷ ts) more end = apart_blank
 
 end_word : (ts : List What) (more : List ℕ) → IsEnd more → IsEnd (line Word ts ++ more)
 end_word [] more end = end
-end_word (Mark sign.Open ∷ ts) more end = apart_blank
-end_word (Mark sign.Close ∷ ts) more end = apart_close
-end_word (Mark sign.Comma ∷ ts) more end = apart_comma
-end_word (Mark sign.Semicolon ∷ ts) more end = apart_semicolon
-end_word (Mark sign.Star ∷ ts) more end = apart_blank
-end_word (Mark sign.Equal ∷ ts) more end = apart_blank
-end_word (Mark sign.NotEqual ∷ ts) more end = apart_blank
-end_word (Mark sign.Less ∷ ts) more end = apart_blank
-end_word (Mark sign.LessEqual ∷ ts) more end = apart_blank
-end_word (Mark sign.Greater ∷ ts) more end = apart_blank
-end_word (Mark sign.GreaterEqual ∷ ts) more end = apart_blank
-end_word (Mark sign.Plus ∷ ts) more end = apart_blank
-end_word (Mark sign.Minus ∷ ts) more end = apart_blank
+end_word (Symbol sign.Open ∷ ts) more end = apart_blank
+end_word (Symbol sign.Close ∷ ts) more end = apart_close
+end_word (Symbol sign.Comma ∷ ts) more end = apart_comma
+end_word (Symbol sign.Semicolon ∷ ts) more end = apart_semicolon
+end_word (Symbol sign.Star ∷ ts) more end = apart_blank
+end_word (Symbol sign.Equal ∷ ts) more end = apart_blank
+end_word (Symbol sign.NotEqual ∷ ts) more end = apart_blank
+end_word (Symbol sign.Less ∷ ts) more end = apart_blank
+end_word (Symbol sign.LessEqual ∷ ts) more end = apart_blank
+end_word (Symbol sign.Greater ∷ ts) more end = apart_blank
+end_word (Symbol sign.GreaterEqual ∷ ts) more end = apart_blank
+end_word (Symbol sign.Plus ∷ ts) more end = apart_blank
+end_word (Symbol sign.Minus ∷ ts) more end = apart_blank
 end_word (Keyed k ∷ ts) more end = apart_blank
 end_word (Name n ∷ ts) more end = apart_blank
 end_word (Digits d ∷ ts) more end = apart_blank
@@ -372,19 +372,19 @@ end_word (Stray ∷ ts) more end = apart_blank
 -- a token and what follows it on the line
 first_says : (before : Before) (t : What) (ts us : List What) (more : List ℕ) → IsWritten t → IsEnd more
     → Says (line (behind before t) ts ++ more) us → Says (token_text t ++ (line (behind before t) ts ++ more)) (t ∷ us)
-first_says before (Mark sign.Open) ts us more e end says = says_open (line Start ts ++ more) us says
-first_says before (Mark sign.Minus) ts us more e end says = says_minus (line (behind before (Mark sign.Minus)) ts ++ more) us says
-first_says before (Mark sign.Close) ts us more e end says = says_written (token_text (Mark sign.Close)) (line AfterSign ts ++ more) (Mark sign.Close) us e (end_sign ts more end) says
-first_says before (Mark sign.Comma) ts us more e end says = says_written (token_text (Mark sign.Comma)) (line AfterSign ts ++ more) (Mark sign.Comma) us e (end_sign ts more end) says
-first_says before (Mark sign.Semicolon) ts us more e end says = says_written (token_text (Mark sign.Semicolon)) (line AfterSign ts ++ more) (Mark sign.Semicolon) us e (end_sign ts more end) says
-first_says before (Mark sign.Star) ts us more e end says = says_written (token_text (Mark sign.Star)) (line AfterSign ts ++ more) (Mark sign.Star) us e (end_sign ts more end) says
-first_says before (Mark sign.Equal) ts us more e end says = says_written (token_text (Mark sign.Equal)) (line AfterSign ts ++ more) (Mark sign.Equal) us e (end_sign ts more end) says
-first_says before (Mark sign.NotEqual) ts us more e end says = says_written (token_text (Mark sign.NotEqual)) (line AfterSign ts ++ more) (Mark sign.NotEqual) us e (end_sign ts more end) says
-first_says before (Mark sign.Less) ts us more e end says = says_written (token_text (Mark sign.Less)) (line AfterSign ts ++ more) (Mark sign.Less) us e (end_sign ts more end) says
-first_says before (Mark sign.LessEqual) ts us more e end says = says_written (token_text (Mark sign.LessEqual)) (line AfterSign ts ++ more) (Mark sign.LessEqual) us e (end_sign ts more end) says
-first_says before (Mark sign.Greater) ts us more e end says = says_written (token_text (Mark sign.Greater)) (line AfterSign ts ++ more) (Mark sign.Greater) us e (end_sign ts more end) says
-first_says before (Mark sign.GreaterEqual) ts us more e end says = says_written (token_text (Mark sign.GreaterEqual)) (line AfterSign ts ++ more) (Mark sign.GreaterEqual) us e (end_sign ts more end) says
-first_says before (Mark sign.Plus) ts us more e end says = says_written (token_text (Mark sign.Plus)) (line AfterSign ts ++ more) (Mark sign.Plus) us e (end_sign ts more end) says
+first_says before (Symbol sign.Open) ts us more e end says = says_open (line Start ts ++ more) us says
+first_says before (Symbol sign.Minus) ts us more e end says = says_minus (line (behind before (Symbol sign.Minus)) ts ++ more) us says
+first_says before (Symbol sign.Close) ts us more e end says = says_written (token_text (Symbol sign.Close)) (line AfterSign ts ++ more) (Symbol sign.Close) us e (end_sign ts more end) says
+first_says before (Symbol sign.Comma) ts us more e end says = says_written (token_text (Symbol sign.Comma)) (line AfterSign ts ++ more) (Symbol sign.Comma) us e (end_sign ts more end) says
+first_says before (Symbol sign.Semicolon) ts us more e end says = says_written (token_text (Symbol sign.Semicolon)) (line AfterSign ts ++ more) (Symbol sign.Semicolon) us e (end_sign ts more end) says
+first_says before (Symbol sign.Star) ts us more e end says = says_written (token_text (Symbol sign.Star)) (line AfterSign ts ++ more) (Symbol sign.Star) us e (end_sign ts more end) says
+first_says before (Symbol sign.Equal) ts us more e end says = says_written (token_text (Symbol sign.Equal)) (line AfterSign ts ++ more) (Symbol sign.Equal) us e (end_sign ts more end) says
+first_says before (Symbol sign.NotEqual) ts us more e end says = says_written (token_text (Symbol sign.NotEqual)) (line AfterSign ts ++ more) (Symbol sign.NotEqual) us e (end_sign ts more end) says
+first_says before (Symbol sign.Less) ts us more e end says = says_written (token_text (Symbol sign.Less)) (line AfterSign ts ++ more) (Symbol sign.Less) us e (end_sign ts more end) says
+first_says before (Symbol sign.LessEqual) ts us more e end says = says_written (token_text (Symbol sign.LessEqual)) (line AfterSign ts ++ more) (Symbol sign.LessEqual) us e (end_sign ts more end) says
+first_says before (Symbol sign.Greater) ts us more e end says = says_written (token_text (Symbol sign.Greater)) (line AfterSign ts ++ more) (Symbol sign.Greater) us e (end_sign ts more end) says
+first_says before (Symbol sign.GreaterEqual) ts us more e end says = says_written (token_text (Symbol sign.GreaterEqual)) (line AfterSign ts ++ more) (Symbol sign.GreaterEqual) us e (end_sign ts more end) says
+first_says before (Symbol sign.Plus) ts us more e end says = says_written (token_text (Symbol sign.Plus)) (line AfterSign ts ++ more) (Symbol sign.Plus) us e (end_sign ts more end) says
 first_says before (Keyed k) ts us more e end says = says_written (token_text (Keyed k)) (line Word ts ++ more) (Keyed k) us e (end_word ts more end) says
 first_says before (Name n) ts us more e end says = says_written n (line Word ts ++ more) (Name n) us e (end_word ts more end) says
 first_says before (Digits d) ts us more e end says = says_written d (line Word ts ++ more) (Digits d) us e (end_word ts more end) says

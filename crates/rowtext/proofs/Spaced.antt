@@ -3,7 +3,7 @@ use Rattle.std.proofs.Common.{◌≡◌, ℕ, ◌<◌, List, [], ◌∷◌, ◌+
 use Rattle.std.proofs.lemmas.List.{append-nil}
 use Rattle.sqltokens.specs.declared.token.Keyword.TheVariants as keyword
 use Rattle.sqltokens.specs.declared.token.Sign.TheVariants as sign
-use Rattle.sqltokens.specs.What.{What, Word as Keyed, Mark}
+use Rattle.sqltokens.specs.What.{What, Word as Keyed, Symbol}
 use Rattle.sqltokens.specs.Classes.{digits, texts, dates}
 use Rattle.phrase.specs.Grammar.{spell_all, spell_some}
 use Rattle.sqlsyntax.specs.declared.forms.Operator.{Operator}
@@ -156,7 +156,7 @@ literals_end (l ∷ ls) =
 
 -- ---- comparisons
 
-operator_apart : (o : Operator) (ts : List What) → line Word (Mark (operator_sign o) ∷ ts) ≡ 32 ∷ sign_text (operator_sign o) ++ line Sign ts
+operator_apart : (o : Operator) (ts : List What) → line Word (Symbol (operator_sign o) ∷ ts) ≡ 32 ∷ sign_text (operator_sign o) ++ line Sign ts
 operator_apart operator.Equal ts = refl
 operator_apart operator.NotEqual ts = refl
 operator_apart operator.Less ts = refl
@@ -164,7 +164,7 @@ operator_apart operator.LessEqual ts = refl
 operator_apart operator.Greater ts = refl
 operator_apart operator.GreaterEqual ts = refl
 
-operator_ends : (o : Operator) (ts : List What) → behind_all Word (Mark (operator_sign o) ∷ ts) ≡ behind_all Sign ts
+operator_ends : (o : Operator) (ts : List What) → behind_all Word (Symbol (operator_sign o) ∷ ts) ≡ behind_all Sign ts
 operator_ends operator.Equal ts = refl
 operator_ends operator.NotEqual ts = refl
 operator_ends operator.Less ts = refl
@@ -173,7 +173,7 @@ operator_ends operator.Greater ts = refl
 operator_ends operator.GreaterEqual ts = refl
 
 pub comparison_line : (name : Bytes) (o : Operator) (l : LiteralForm)
-    → line Start (comparison.spell (name, (o, l))) ≡ name ++ (codes " " ++ (token_text (Mark (operator_sign o)) ++ (codes " " ++ literal_text l)))
+    → line Start (comparison.spell (name, (o, l))) ≡ name ++ (codes " " ++ (token_text (Symbol (operator_sign o)) ++ (codes " " ++ literal_text l)))
 unfolding comparison names operators
 comparison_line name o l =
     ap (λ t. name ++ t) (operator_apart o (literal.spell l))
@@ -245,13 +245,6 @@ assignments_line a rest =
     line_then Start (assignment.spell a) (spell_all another_assignment.spell rest) (assignment_ends Start a)
     ∙ ap (λ t. assignment_text a ++ t) (line_each another_assignment.spell (λ b. codes ", " ++ assignment_text b) another_assignment_ends another_assignment_line rest)
 
-assignments_end : (rest : List AssignmentForm) → behind_all Start (assignments.spell rest) ≡ Word
-unfolding assignments
-assignments_end [] = behind_then Start (assignment.spell assignment.example) [] (assignment_ends Start assignment.example)
-assignments_end (a ∷ rest) =
-    behind_then Start (assignment.spell a) (spell_all another_assignment.spell rest) (assignment_ends Start a)
-    ∙ behind_each another_assignment.spell another_assignment_ends rest
-
 -- ---- statements
 
 pub portion_line : (name from to : Bytes)
@@ -270,10 +263,10 @@ pub insert_line : (name : Bytes) (ns : List Bytes) (ls : List LiteralForm)
     → line Start (insert.spell (name, (ns, ls))) ≡ codes "INSERT INTO " ++ (name ++ (codes " (" ++ (line Start (name_list.spell ns) ++ (codes ") VALUES (" ++ (line Start (literals.spell ls) ++ codes ");")))))
 unfolding insert names
 insert_line name ns ls =
-    let last : List What = Mark sign.Close ∷ Mark sign.Semicolon ∷ [] in
-    let values : List What = (literals.spell ls ++ Mark sign.Close ∷ []) ++ Mark sign.Semicolon ∷ [] in
-    ap (λ t. codes "INSERT INTO " ++ (name ++ (codes " (" ++ t))) (line_then Start (name_list.spell ns) (Mark sign.Close ∷ Keyed keyword.Values ∷ Mark sign.Open ∷ values) (names_end ns))
-    ∙ ap (λ (ts : List What). codes "INSERT INTO " ++ (name ++ (codes " (" ++ (line Start (name_list.spell ns) ++ (codes ") VALUES (" ++ line Start ts))))) (append_assoc (literals.spell ls) (Mark sign.Close ∷ []) (Mark sign.Semicolon ∷ []))
+    let last : List What = Symbol sign.Close ∷ Symbol sign.Semicolon ∷ [] in
+    let values : List What = (literals.spell ls ++ Symbol sign.Close ∷ []) ++ Symbol sign.Semicolon ∷ [] in
+    ap (λ t. codes "INSERT INTO " ++ (name ++ (codes " (" ++ t))) (line_then Start (name_list.spell ns) (Symbol sign.Close ∷ Keyed keyword.Values ∷ Symbol sign.Open ∷ values) (names_end ns))
+    ∙ ap (λ (ts : List What). codes "INSERT INTO " ++ (name ++ (codes " (" ++ (line Start (name_list.spell ns) ++ (codes ") VALUES (" ++ line Start ts))))) (append_assoc (literals.spell ls) (Symbol sign.Close ∷ []) (Symbol sign.Semicolon ∷ []))
     ∙ ap (λ t. codes "INSERT INTO " ++ (name ++ (codes " (" ++ (line Start (name_list.spell ns) ++ (codes ") VALUES (" ++ t))))) (line_then Start (literals.spell ls) last (literals_end ls))
 
 conditions_end : (list : List ComparisonForm) → behind_all Word (condition.spell list) ≡ Word
@@ -282,15 +275,15 @@ conditions_end [] = behind_then Word (comparison.spell comparison.example) [] (c
 conditions_end (c ∷ rest) = behind_then Word (comparison.spell c) (spell_all another_comparison.spell rest) (comparison_ends Word c) ∙ behind_each another_comparison.spell more_ends rest
 
 -- the conditions, if there are any, and the end of the statement
-tail_line : (cs : Option (List ComparisonForm)) → line Word (spell_some condition cs ++ Mark sign.Semicolon ∷ []) ≡ line Word (spell_some condition cs) ++ codes ";"
+tail_line : (cs : Option (List ComparisonForm)) → line Word (spell_some condition cs ++ Symbol sign.Semicolon ∷ []) ≡ line Word (spell_some condition cs) ++ codes ";"
 tail_line None = refl
-tail_line (Some cs) = line_then Word (condition.spell cs) (Mark sign.Semicolon ∷ []) (conditions_end cs)
+tail_line (Some cs) = line_then Word (condition.spell cs) (Symbol sign.Semicolon ∷ []) (conditions_end cs)
 
 pub delete_line : (name : Bytes) (p : Option PortionForm) (cs : Option (List ComparisonForm))
     → line Start (delete.spell (name, (p, cs))) ≡ codes "DELETE FROM " ++ (name ++ (line Word (spell_some portion p) ++ (line Word (spell_some condition cs) ++ codes ";")))
 unfolding delete names
 delete_line name p cs =
-    ap (λ t. codes "DELETE FROM " ++ (name ++ t)) (line_then Word (spell_some portion p) (spell_some condition cs ++ Mark sign.Semicolon ∷ []) (portion_ends p))
+    ap (λ t. codes "DELETE FROM " ++ (name ++ t)) (line_then Word (spell_some portion p) (spell_some condition cs ++ Symbol sign.Semicolon ∷ []) (portion_ends p))
     ∙ ap (λ t. codes "DELETE FROM " ++ (name ++ (line Word (spell_some portion p) ++ t))) (tail_line cs)
 
 assignments_apart : (list : List AssignmentForm) → line Word (assignments.spell list) ≡ 32 ∷ line Start (assignments.spell list)
@@ -309,9 +302,9 @@ pub update_line : (name : Bytes) (p : Option PortionForm) (list : List Assignmen
     → line Start (update.spell (name, (p, (list, cs)))) ≡ codes "UPDATE " ++ (name ++ (line Word (spell_some portion p) ++ (codes " SET " ++ (line Start (assignments.spell list) ++ (line Word (spell_some condition cs) ++ codes ";")))))
 unfolding update names
 update_line name p list cs =
-    let rest : List What = assignments.spell list ++ (spell_some condition cs ++ Mark sign.Semicolon ∷ []) in
+    let rest : List What = assignments.spell list ++ (spell_some condition cs ++ Symbol sign.Semicolon ∷ []) in
     ap (λ t. codes "UPDATE " ++ (name ++ t)) (line_then Word (spell_some portion p) (Keyed keyword.Set ∷ rest) (portion_ends p))
     ∙ ap (λ t. codes "UPDATE " ++ (name ++ (line Word (spell_some portion p) ++ (codes " SET" ++ t))))
-    (line_then Word (assignments.spell list) (spell_some condition cs ++ Mark sign.Semicolon ∷ []) (assignments_end_word list)
-    ∙ ap (λ t. t ++ line Word (spell_some condition cs ++ Mark sign.Semicolon ∷ [])) (assignments_apart list)
+    (line_then Word (assignments.spell list) (spell_some condition cs ++ Symbol sign.Semicolon ∷ []) (assignments_end_word list)
+    ∙ ap (λ t. t ++ line Word (spell_some condition cs ++ Symbol sign.Semicolon ∷ [])) (assignments_apart list)
     ∙ ap (λ t. 32 ∷ (line Start (assignments.spell list) ++ t)) (tail_line cs))

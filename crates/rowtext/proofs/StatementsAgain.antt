@@ -12,7 +12,7 @@ use Rattle.schema.specs.Name.{same_name}
 use Rattle.schema.specs.Shape.{TableShape}
 use Rattle.sqltokens.specs.declared.token.Keyword.TheVariants as keyword
 use Rattle.sqltokens.specs.declared.token.Sign.TheVariants as sign
-use Rattle.sqltokens.specs.What.{What, Word as Keyed, Mark, Name, is_mark}
+use Rattle.sqltokens.specs.What.{What, Word as Keyed, Symbol, Name, is_symbol}
 use Rattle.sqltokens.specs.Syntax.{Spells}
 use Rattle.namesyntax.specs.Words.{is_name_text}
 use Rattle.namesyntax.specs.Names.{Bytes, names, another_name, name_list}
@@ -77,16 +77,6 @@ record OnTable (tables : Tables) (place : ℕ) (Reads : Bytes → TableShape →
   at : slice_get tables place ≡ Some entry
   again : Reads entry.0 entry.1
 
-names_fit : (list : List Bytes) → AllByRecursion names.fits list → AllByRecursion (λ n. is_name_text n ≡ true) list
-unfolding names
-names_fit [] fit = tt
-names_fit (n ∷ list) fit = (fit.0, names_fit list fit.1)
-
-fit_names : (list : List Bytes) → AllByRecursion (λ n. is_name_text n ≡ true) list → AllByRecursion names.fits list
-unfolding names
-fit_names [] fit = tt
-fit_names (n ∷ list) fit = (fit.0, fit_names list fit.1)
-
 names_written : (list : List Bytes) → AllByRecursion (λ n. AllByRecursion IsWritten (Name n ∷ [])) list → AllByRecursion (λ n. IsWritten (Name n)) list
 names_written [] all = tt
 names_written (n ∷ list) all = (all.0.0, names_written list all.1)
@@ -102,27 +92,27 @@ insert_again tables kept form s r =
     let t = in_table_is tables (λ p table. insert_into p table form) form.0 s r.let_through in
     let table = t.entry.1 in
     let name = name_again form.0 t.entry.0 t.is.same r.fits.0 r.written.1.1.0 in
-    let close : List What = Mark sign.Close ∷ [] in
-    let semicolon : List What = Mark sign.Semicolon ∷ [] in
-    let tail : List What = Mark sign.Close ∷ Keyed keyword.Values ∷ Mark sign.Open ∷ ((literals.spell form.1.1 ++ close) ++ semicolon) in
+    let close : List What = Symbol sign.Close ∷ [] in
+    let semicolon : List What = Symbol sign.Semicolon ∷ [] in
+    let tail : List What = Symbol sign.Close ∷ Keyed keyword.Values ∷ Symbol sign.Open ∷ ((literals.spell form.1.1 ++ close) ++ semicolon) in
     let name_tokens = all_before IsWritten (name_list.spell form.1.0) tail r.written.1.1.1.1 in
     let behind = (all_behind IsWritten (name_list.spell form.1.0) tail r.written.1.1.1.1).1.1.1 in
     let literal_tokens = all_before IsWritten (literals.spell form.1.1) close (all_before IsWritten (literals.spell form.1.1 ++ close) semicolon behind) in
-    let listed = fits_row (one names) another_name (is_mark sign.Comma) (λ a f. f) form.1.0 r.fits.1.0 in
-    let given = fits_row literal another_literal (is_mark sign.Comma) (λ a f. f) form.1.1 r.fits.1.1 in
-    let own : AreNames form.1.0 = record { fit = listed.1; written = names_written form.1.0 (all_row (one names) another_name (is_mark sign.Comma) IsWritten (λ a w. w.1) form.1.0 listed.0 name_tokens) } in
-    let values : AreForms literal form.1.1 = record { fit = given.1; written = all_row literal another_literal (is_mark sign.Comma) IsWritten (λ a w. w.1) form.1.1 given.0 literal_tokens } in
+    let listed = fits_row (one names) another_name (is_symbol sign.Comma) (λ a f. f) form.1.0 r.fits.1.0 in
+    let given = fits_row literal another_literal (is_symbol sign.Comma) (λ a f. f) form.1.1 r.fits.1.1 in
+    let own : AreNames form.1.0 = record { fit = listed.1; written = names_written form.1.0 (all_row (one names) another_name (is_symbol sign.Comma) IsWritten (λ a w. w.1) form.1.0 listed.0 name_tokens) } in
+    let values : AreForms literal form.1.1 = record { fit = given.1; written = all_row literal another_literal (is_symbol sign.Comma) IsWritten (λ a w. w.1) form.1.1 given.0 literal_tokens } in
     let again = insert_row_again t.place table form.1.0 form.1.1 s (kept t.place t.entry t.is.at) own values t.let_through in
     let columns = map (column_name table) (given_columns table) in
     let cells = map (cell_of table s) (given_columns table) in
     let some_columns : 0 < length columns = rw (length-map (given_columns table) (column_name table)) again.some in
     let some_cells : 0 < length cells = rw (length-map (given_columns table) (cell_of table s)) again.some in
-    let rest : List What = Mark sign.Close ∷ Keyed keyword.Values ∷ Mark sign.Open ∷ ((literals.spell cells ++ close) ++ semicolon) in
+    let rest : List What = Symbol sign.Close ∷ Keyed keyword.Values ∷ Symbol sign.Open ∷ ((literals.spell cells ++ close) ++ semicolon) in
     record {
       entry = t.entry;
       at = ap (slice_get tables) again.stands ∙ t.is.at;
       again = record {
-        fits = (name.0, (row_fits (one names) another_name (is_mark sign.Comma) (λ a f. f) columns some_columns again.names.fit, row_fits literal another_literal (is_mark sign.Comma) (λ a f. f) cells some_cells again.cells.fit));
+        fits = (name.0, (row_fits (one names) another_name (is_symbol sign.Comma) (λ a f. f) columns some_columns again.names.fit, row_fits literal another_literal (is_symbol sign.Comma) (λ a f. f) cells some_cells again.cells.fit));
         written = (
           keyword_written keyword.Insert,
           (
@@ -132,7 +122,7 @@ insert_again tables kept form s r =
               (
                 sign_written sign.Open,
                 all_both IsWritten (name_list.spell columns) rest
-                    (row_all (one names) another_name (is_mark sign.Comma) IsWritten (λ a w. (sign_written sign.Comma, w)) columns some_columns (written_names columns again.names.written)) (
+                    (row_all (one names) another_name (is_symbol sign.Comma) IsWritten (λ a w. (sign_written sign.Comma, w)) columns some_columns (written_names columns again.names.written)) (
                       sign_written sign.Close,
                       (
                         keyword_written keyword.Values,
@@ -140,7 +130,7 @@ insert_again tables kept form s r =
                           sign_written sign.Open,
                           all_both IsWritten (literals.spell cells ++ close) semicolon
                               (all_both IsWritten (literals.spell cells) close
-                              (row_all literal another_literal (is_mark sign.Comma) IsWritten (λ a w. (sign_written sign.Comma, w)) cells some_cells again.cells.written) (sign_written sign.Close, tt))
+                              (row_all literal another_literal (is_symbol sign.Comma) IsWritten (λ a w. (sign_written sign.Comma, w)) cells some_cells again.cells.written) (sign_written sign.Close, tt))
                               (sign_written sign.Semicolon, tt),
                         ),
                       ),
@@ -164,7 +154,7 @@ update_again tables form u r =
     let t = in_table_is tables (updates form) form.0 u r.let_through in
     let table = t.entry.1 in
     let name = name_again form.0 t.entry.0 t.is.same r.fits.0 r.written.1.0 in
-    let semicolon : List What = Mark sign.Semicolon ∷ [] in
+    let semicolon : List What = Symbol sign.Semicolon ∷ [] in
     let p = after_ok (if_given (portion_in table) form.1.0) (λ (p : Option Period). assignments_after table [] form.1.1.0 >>= λ a. all_given (comparisons_in table) form.1.1.1 >>= λ c. Ok (record { table = t.place; portion = p; assignments = a; conditions = c })) u t.let_through in
     let a = after_ok (assignments_after table [] form.1.1.0) (λ (a : List Assignment). all_given (comparisons_in table) form.1.1.1 >>= λ c. Ok (record { table = t.place; portion = p.0; assignments = a; conditions = c })) u p.2 in
     let c = after_ok (all_given (comparisons_in table) form.1.1.1) (λ (c : List Comparison). Ok (record { table = t.place; portion = p.0; assignments = a.0; conditions = c })) u a.2 in
@@ -213,7 +203,7 @@ delete_again tables form d r =
     let t = in_table_is tables (deletes form) form.0 d r.let_through in
     let table = t.entry.1 in
     let name = name_again form.0 t.entry.0 t.is.same r.fits.0 r.written.1.1.0 in
-    let semicolon : List What = Mark sign.Semicolon ∷ [] in
+    let semicolon : List What = Symbol sign.Semicolon ∷ [] in
     let p = after_ok (if_given (portion_in table) form.1.0) (λ (p : Option Period). all_given (comparisons_in table) form.1.1 >>= λ c. Ok (record { table = t.place; portion = p; conditions = c })) d t.let_through in
     let c = after_ok (all_given (comparisons_in table) form.1.1) (λ (c : List Comparison). Ok (record { table = t.place; portion = p.0; conditions = c })) d p.2 in
     let made : DeleteShape = record { table = t.place; portion = p.0; conditions = c.0 } in
@@ -321,24 +311,24 @@ statements_again tables kept forms list r =
 -- ---- the tokens of a text that spells statements
 
 abbrev Ends : List What → Type 0
-Ends ts = (front : List What) × (ts ≡ front ++ Mark sign.Semicolon ∷ [])
+Ends ts = (front : List What) × (ts ≡ front ++ Symbol sign.Semicolon ∷ [])
 
 ends_behind : (xs ys : List What) → Ends ys → Ends (xs ++ ys)
-ends_behind xs ys ends = (xs ++ ends.0, ap (λ (l : List What). xs ++ l) ends.1 ∙ sym (append_assoc xs ends.0 (Mark sign.Semicolon ∷ [])))
+ends_behind xs ys ends = (xs ++ ends.0, ap (λ (l : List What). xs ++ l) ends.1 ∙ sym (append_assoc xs ends.0 (Symbol sign.Semicolon ∷ [])))
 
 insert_ends : (form : InsertForm) → Ends (insert.spell form)
 unfolding insert names
 insert_ends (name, (ns, ls)) =
-    let values : List What = literals.spell ls ++ Mark sign.Close ∷ [] in
-    let opened : List What = Mark sign.Close ∷ Keyed keyword.Values ∷ Mark sign.Open ∷ [] in
-    let head : List What = Keyed keyword.Insert ∷ Keyed keyword.Into ∷ Name name ∷ Mark sign.Open ∷ [] in
-    let last : List What = values ++ Mark sign.Semicolon ∷ [] in
+    let values : List What = literals.spell ls ++ Symbol sign.Close ∷ [] in
+    let opened : List What = Symbol sign.Close ∷ Keyed keyword.Values ∷ Symbol sign.Open ∷ [] in
+    let head : List What = Keyed keyword.Insert ∷ Keyed keyword.Into ∷ Name name ∷ Symbol sign.Open ∷ [] in
+    let last : List What = values ++ Symbol sign.Semicolon ∷ [] in
     ends_behind head (name_list.spell ns ++ (opened ++ last)) (ends_behind (name_list.spell ns) (opened ++ last) (ends_behind opened last (values, refl)))
 
 update_ends : (form : UpdateForm) → Ends (update.spell form)
 unfolding update names
 update_ends (name, (p, (list, cs))) =
-    let semicolon : List What = Mark sign.Semicolon ∷ [] in
+    let semicolon : List What = Symbol sign.Semicolon ∷ [] in
     let tests : List What = spell_some condition cs ++ semicolon in
     let head : List What = Keyed keyword.Update ∷ Name name ∷ [] in
     let set : List What = Keyed keyword.Set ∷ [] in
@@ -349,7 +339,7 @@ update_ends (name, (p, (list, cs))) =
 delete_ends : (form : DeleteForm) → Ends (delete.spell form)
 unfolding delete names
 delete_ends (name, (p, cs)) =
-    let semicolon : List What = Mark sign.Semicolon ∷ [] in
+    let semicolon : List What = Symbol sign.Semicolon ∷ [] in
     let tests : List What = spell_some condition cs ++ semicolon in
     let head : List What = Keyed keyword.Delete ∷ Keyed keyword.From ∷ Name name ∷ [] in
     ends_behind head (spell_some portion p ++ tests) (ends_behind (spell_some portion p) tests (spell_some condition cs, refl))

@@ -39,9 +39,6 @@ pub after_ok : {A B : Type 0} (r : Result A Refusal) (f : A → Result B Refusal
 after_ok (Ok a) f b e = (a, refl, e)
 after_ok (Err x) f b e = absurd cc
 
-pub ok_after : {A B : Type 0} (r : Result A Refusal) (f : A → Result B Refusal) (a : A) (b : B) → r ≡ Ok a → f a ≡ Ok b → (r >>= f) ≡ Ok b
-ok_after {A} {B} r f a b e h = ap (λ (s : Result A Refusal). s >>= f) e ∙ h
-
 pub not_refused : {B : Type 0} (test : Bool) (x : Refusal) (r : Result B Refusal) (b : B) → (refuse_if test x >> r) ≡ Ok b → (test ≡ false) × (r ≡ Ok b)
 not_refused true x r b e = absurd cc
 not_refused false x r b e = (refl, e)

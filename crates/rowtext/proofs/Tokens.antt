@@ -10,12 +10,12 @@ use Rattle.sqltokens.specs.declared.token.Keyword.{Keyword}
 use Rattle.sqltokens.specs.declared.token.Keyword.TheVariants as keyword
 use Rattle.sqltokens.specs.declared.token.Sign.{Sign as SignToken}
 use Rattle.sqltokens.specs.declared.token.Sign.TheVariants as sign
-use Rattle.sqltokens.specs.What.{What, Piece, Word as Keyed, Mark, Name, Digits, Text, Stray}
+use Rattle.sqltokens.specs.What.{What, Piece, Word as Keyed, Symbol, Name, Digits, Text, Stray}
 use Rattle.sqltokens.specs.Lexing.{word_or_name, keyword_of, word_what, is_printable, closes, sign_of, one_sign, two_sign, token_of, IsTokens}
 use Rattle.sqltokens.specs.Syntax.{said}
 use Rattle.rowtext.specs.Again.{IsWritten}
 use Rattle.rowtext.proofs.Steps.{decided, both_true}
-use Rattle.rowtext.proofs.Lexing.{word_parts, digits_parts, text_parts, sign_parts, mark_is, no_token, take_all}
+use Rattle.rowtext.proofs.Lexing.{word_parts, digits_parts, text_parts, sign_parts, symbol_is, no_token, take_all}
 
 pub keyword_written : (k : Keyword) → IsWritten (Keyed k)
 unfolding token_of keyword_of
@@ -63,7 +63,7 @@ keyword_written keyword.Where = refl
 keyword_written keyword.With = refl
 keyword_written keyword.Without = refl
 
-pub sign_written : (s : SignToken) → IsWritten (Mark s)
+pub sign_written : (s : SignToken) → IsWritten (Symbol s)
 unfolding token_of one_sign two_sign
 sign_written sign.Open = refl
 sign_written sign.Close = refl
@@ -131,7 +131,7 @@ token_again (b ∷ bs) t e = elim (decided (is_ascii_alphabetic b)) [
     | inr no_digit ↦ elim (decided (eqb b 39)) [
       | inl quote ↦ of_text bs t (subst (λ (q : ℕ). token_of (q ∷ bs) ≡ Some t) (eqb-true b 39 quote) e)
       | inr other ↦
-          let m = mark_is (sign_of (b ∷ bs)) t (sym (sign_parts b bs no_letter no_digit (eqb-false b 39 other)) ∙ e) in
+          let m = symbol_is (sign_of (b ∷ bs)) t (sym (sign_parts b bs no_letter no_digit (eqb-false b 39 other)) ∙ e) in
           subst IsWritten (sym m.2) (sign_written m.0)
     ]
   ]
@@ -148,18 +148,18 @@ last_behind t [] v = refl
 last_behind t (u ∷ us) v = last_behind u us v
 
 -- a byte that begins no token could only be the last
-said_written : (text : List ℕ) (from : ℕ) (ts : List Piece) → IsTokens text from ts → last_of (Mark sign.Semicolon) (said ts) ≡ Mark sign.Semicolon → AllByRecursion IsWritten (said ts)
+said_written : (text : List ℕ) (from : ℕ) (ts : List Piece) → IsTokens text from ts → last_of (Symbol sign.Semicolon) (said ts) ≡ Symbol sign.Semicolon → AllByRecursion IsWritten (said ts)
 said_written text from [] h e = tt
 said_written text from (t ∷ ts) h e = elim h.1 [
   | inl found ↦ (token_again (take found.0 (drop t.at text)) t.what found.1.is, said_written text (t.at + found.0) ts found.2 (rest ts e))
-  | inr none ↦ absurd (stray none.1 (subst (λ (us : List Piece). last_of t.what (said us) ≡ Mark sign.Semicolon) none.2 e))
+  | inr none ↦ absurd (stray none.1 (subst (λ (us : List Piece). last_of t.what (said us) ≡ Symbol sign.Semicolon) none.2 e))
 ] where
-  rest : (us : List Piece) → last_of t.what (said us) ≡ Mark sign.Semicolon → last_of (Mark sign.Semicolon) (said us) ≡ Mark sign.Semicolon
+  rest : (us : List Piece) → last_of t.what (said us) ≡ Symbol sign.Semicolon → last_of (Symbol sign.Semicolon) (said us) ≡ Symbol sign.Semicolon
   rest [] f = refl
   rest (u ∷ us) f = f
 
-  stray : t.what ≡ Stray → t.what ≡ Mark sign.Semicolon → ⊥
+  stray : t.what ≡ Stray → t.what ≡ Symbol sign.Semicolon → ⊥
   stray f g = let never = sym f ∙ g in cc
 
-pub tokens_written : (text : List ℕ) (ts : List Piece) (front : List What) → IsTokens text 0 ts → said ts ≡ front ++ Mark sign.Semicolon ∷ [] → AllByRecursion IsWritten (said ts)
-tokens_written text ts front h e = said_written text 0 ts h (ap (last_of (Mark sign.Semicolon)) e ∙ last_behind (Mark sign.Semicolon) front (Mark sign.Semicolon))
+pub tokens_written : (text : List ℕ) (ts : List Piece) (front : List What) → IsTokens text 0 ts → said ts ≡ front ++ Symbol sign.Semicolon ∷ [] → AllByRecursion IsWritten (said ts)
+tokens_written text ts front h e = said_written text 0 ts h (ap (last_of (Symbol sign.Semicolon)) e ∙ last_behind (Symbol sign.Semicolon) front (Symbol sign.Semicolon))

@@ -7,7 +7,7 @@ use Rattle.model.specs.declared.value.Value.TheVariants as value
 use Rattle.model.specs.Texts.{doubled, value_text}
 use Rattle.period.specs.Day.{day_text}
 use Rattle.schema.specs.Shape.{TableShape}
-use Rattle.sqltokens.specs.What.{Mark}
+use Rattle.sqltokens.specs.What.{Symbol}
 use Rattle.namesyntax.specs.Names.{Bytes}
 use Rattle.sqlsyntax.specs.Shared.{literal, comparison, operator_sign}
 use Rattle.sqlsyntax.specs.Transactions.{assignment}
@@ -39,7 +39,7 @@ pub end_written : (table : TableShape) (row : InsertShape) (c : ℕ) → (c ≡ 
     → codes "DATE '" ++ (day_text row.period.end ++ codes "'") ≡ line Start (literal.spell (cell_of table row c))
 end_written table row c n e = rw (ne_eqb c table.start n, eq-eqb c table.end e) (sym (date_line (day_text row.period.end)))
 
-pub comparison_written : (table : TableShape) (c : Comparison) (name operator : Bytes) → name ≡ field_name table c.field → operator ≡ token_text (Mark (operator_sign c.operator))
+pub comparison_written : (table : TableShape) (c : Comparison) (name operator : Bytes) → name ≡ field_name table c.field → operator ≡ token_text (Symbol (operator_sign c.operator))
     → name ++ (32 ∷ (operator ++ (32 ∷ literal_text (literal_of c.value)))) ≡ line Start (comparison.spell (comparison_of table c))
 comparison_written table c name operator e f = rw (e, f) (sym (comparison_line (field_name table c.field) c.operator (literal_of c.value)))
 

@@ -7,7 +7,7 @@ use Rattle.sqltokens.specs.declared.token.Keyword.{Keyword}
 use Rattle.sqltokens.specs.declared.token.Sign.{Sign as SignToken}
 use Rattle.sqltokens.specs.declared.token.Sign.TheVariants as sign
 use Rattle.sqltokens.specs.declared.token.TheConstants.{KEYWORDS}
-use Rattle.sqltokens.specs.What.{What, Word as Keyed, Mark, Name, Digits, Text, Stray}
+use Rattle.sqltokens.specs.What.{What, Word as Keyed, Symbol, Name, Digits, Text, Stray}
 
 -- ---- tokens
 
@@ -33,7 +33,7 @@ sign_text sign.Minus = codes "-"
 -- the bytes of a token: of a text what stands between its quotes, which are 39
 abbrev pub token_text : What → List ℕ
 token_text (Keyed k) = word_text k
-token_text (Mark s) = sign_text s
+token_text (Symbol s) = sign_text s
 token_text (Name n) = n
 token_text (Digits d) = d
 token_text (Text t) = 39 ∷ t ++ 39 ∷ []
@@ -60,14 +60,14 @@ behind_sign before sign.Minus = behind_minus before
 behind_sign before s = Sign
 
 abbrev pub behind : Before → What → Before
-behind before (Mark s) = behind_sign before s
+behind before (Symbol s) = behind_sign before s
 behind before what = Word
 
 -- these follow what stands before them at once
 abbrev pub follows : What → Bool
-follows (Mark sign.Comma) = true
-follows (Mark sign.Semicolon) = true
-follows (Mark sign.Close) = true
+follows (Symbol sign.Comma) = true
+follows (Symbol sign.Semicolon) = true
+follows (Symbol sign.Close) = true
 follows what = false
 
 abbrev pub space : Before → What → List ℕ

@@ -3,7 +3,7 @@ ghost use Rattle.std.specs.Prelude.{◌≡◌, ◌<◌, ◌++◌, ◌∷◌, [],
 ghost use Rattle.std.specs.Option.{option_copied};
 ghost use Rattle.sqlchecks.specs.Columns.{field_at, kept_at};
 ghost use Rattle.sqltokens.specs.declared.token.Sign.TheVariants as sign;
-ghost use Rattle.sqltokens.specs.What.{What, Mark, Name};
+ghost use Rattle.sqltokens.specs.What.{What, Symbol, Name};
 ghost use Rattle.phrase.specs.Grammar.{Phrase, spell_some};
 ghost use Rattle.namesyntax.specs.Names.{name_list};
 ghost use Rattle.sqlsyntax.specs.Shared.{operator_sign, literal as literal_phrase, comparison as comparison_phrase, condition};
@@ -392,7 +392,7 @@ impl Part for Comparison {
 }
 
 fn operator_text(operator: Operator) -> &'static str
-    ensures { result.now ≡ token_text (Mark (operator_sign operator)) }
+    ensures { result.now ≡ token_text (Symbol (operator_sign operator)) }
 {
     match operator {
         Operator::Equal => "=",

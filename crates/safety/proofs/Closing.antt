@@ -9,7 +9,7 @@ use Rattle.model.specs.Stamps.{TIME_LAST, above, greater}
 use Rattle.model.specs.Logs.{last_entry, closed}
 use Rattle.fault.specs.declared.refusal.Refusal.{Refusal}
 use Rattle.fault.specs.declared.refusal.Refusal.TheVariants.{NotLeader, TimeFull, LogFull, TermFull}
-use Rattle.model.specs.Transactions.{Schema, Statement}
+use Rattle.model.specs.Transactions.{Language, Statement}
 use Rattle.model.specs.declared.entry.Entry.{Entry}
 use Rattle.model.specs.declared.entry.Request.{Request}
 use Rattle.model.specs.declared.member.SealedFloor.{SealedFloor}
@@ -30,7 +30,7 @@ use Rattle.safety.proofs.Lists.{if_there, cases, none_some, same_get, same_some,
 use Rattle.safety.proofs.Ghost.{Ghost, GoodGhost, GoodNode}
 use Rattle.safety.proofs.Lead.{stamp_low}
 use Rattle.safety.proofs.Seals.{waiting_either}
-use Rattle.safety.proofs.World.{Good, Opening, happens_ok}
+use Rattle.safety.proofs.World.{Good, Outset, happens_ok}
 use Rattle.safety.proofs.Runs.{run_append, reached}
 use Rattle.safety.proofs.Given.{nth_same}
 use Rattle.safety.proofs.Moments.{nth_other}
@@ -227,8 +227,8 @@ heard t x S X = cond_both (nat_lt x.term t) (in_term t x) x (Heard x)
     (λ p. record { sound = record { fits = S.fits; stamps = S.stamps }; closes = record { floor = X.floor; told = omega arith; apart = X.apart }; same = refl })
     (λ p. record { sound = S; closes = X; same = refl })
 
-pub message_holds : (schema : Schema) (n m : ℕ) (reading : ℤ) (p : Message) (x : Node) → Sound x → Closes x → EffectHolds (above x.sealed) (on_message schema n m reading p x)
-message_holds schema n m reading p x S X = cond_both (is_honest schema n m p) (on_body n m reading p.sender p.term p.body (hears p.term x)) Nothing (EffectHolds (above x.sealed))
+pub message_holds : (language : Language) (n m : ℕ) (reading : ℤ) (p : Message) (x : Node) → Sound x → Closes x → EffectHolds (above x.sealed) (on_message language n m reading p x)
+message_holds language n m reading p x S X = cond_both (is_honest language n m p) (on_body n m reading p.sender p.term p.body (hears p.term x)) Nothing (EffectHolds (above x.sealed))
     (λ h. let H = heard p.term x S X in
     body_holds n m (above x.sealed) (hears p.term x) H.sound H.closes (let q = ap above H.same in omega arith) reading p.sender p.term p.body (and_parts _ (floor_fits p.body) h).1)
     (λ h. tt)
@@ -243,7 +243,7 @@ record Onward (w v : World) : Type 0 where
   pub closing : ClosingWorld v
   pub rises : (m : ℕ) (x : Node) → nth w.nodes m ≡ Some x → (y : Node) × (nth v.nodes m ≡ Some y) × (x.up ≡ true → y.up ≡ true → above x.sealed ≤ above y.sealed)
 
-module _ (schema : Schema) (n : ℕ) (w : World) (W : ClosingWorld w) (sound : (m : ℕ) (x : Node) → nth w.nodes m ≡ Some x → Sound x) where
+module _ (language : Language) (n : ℕ) (w : World) (W : ClosingWorld w) (sound : (m : ℕ) (x : Node) → nth w.nodes m ≡ Some x → Sound x) where
   stays : Onward w w
   stays = record { closing = W; rises = λ m x l. (x, l, (λ u v. omega arith)) }
 
@@ -265,20 +265,20 @@ module _ (schema : Schema) (n : ℕ) (w : World) (W : ClosingWorld w) (sound : (
   unless_holds f (Ok ss) e h = h
   unless_holds f (Err refusal) e h = tt
 
-  handed : (m : ℕ) (i : Input) (x : Node) → Sound x → Closes x → EffectHolds (above x.sealed) (hand schema n m i x)
+  handed : (m : ℕ) (i : Input) (x : Node) → Sound x → Closes x → EffectHolds (above x.sealed) (hand language n m i x)
   handed m Timeout x S X = input_holds n m (above x.sealed) x S X (omega arith) Timeout
   handed m Beat x S X = input_holds n m (above x.sealed) x S X (omega arith) Beat
   handed m (Close reading) x S X = input_holds n m (above x.sealed) x S X (omega arith) (Close reading)
   handed m (Floor reading) x S X = input_holds n m (above x.sealed) x S X (omega arith) (Floor reading)
-  handed m (Submit reading request) x S X = unless_holds (above x.sealed) (schema.reads request.text) (on_input n m (Submit reading request) x) (input_holds n m (above x.sealed) x S X (omega arith) (Submit reading request))
+  handed m (Submit reading request) x S X = unless_holds (above x.sealed) (language.reads request.text) (on_input n m (Submit reading request) x) (input_holds n m (above x.sealed) x S X (omega arith) (Submit reading request))
 
-  effect_holds : (m : ℕ) (j : Job) (x : Node) → Sound x → Closes x → EffectHolds (above x.sealed) (effect schema n w m j x)
+  effect_holds : (m : ℕ) (j : Job) (x : Node) → Sound x → Closes x → EffectHolds (above x.sealed) (effect language n w m j x)
   effect_holds m (Local i) x S X = handed m i x S X
   effect_holds m (Delivery k reading) x S X = go (nth w.sent k)
     where
-      go : (o : Option Message) → EffectHolds (above x.sealed) (option_map_or (λ (p : Message). on_message schema n m reading p x) o Nothing)
+      go : (o : Option Message) → EffectHolds (above x.sealed) (option_map_or (λ (p : Message). on_message language n m reading p x) o Nothing)
       go None = tt
-      go (Some p) = message_holds schema n m reading p x S X
+      go (Some p) = message_holds language n m reading p x S X
 
   done_onward : (m : ℕ) (x : Node) (o : Effect) → nth w.nodes m ≡ Some x → EffectHolds (above x.sealed) o → Onward w (done w m o)
   done_onward m x Nothing l h = stays
@@ -291,17 +291,17 @@ module _ (schema : Schema) (n : ℕ) (w : World) (W : ClosingWorld w) (sound : (
   torn_onward m x (Refuses refusal) New l h = stops_with m x x l (W.node m x l).floor
   torn_onward m x Nothing New l h = stops_with m x x l (W.node m x l).floor
 
-  does_onward : (m : ℕ) (j : Job) → Onward w (does schema n w m j (nth w.nodes m))
-  does_onward m j = if_there (nth w.nodes m) _ w (Onward w) (λ x e. cond_both x.up _ w (Onward w) (λ p. done_onward m x (effect schema n w m j x) e (effect_holds m j x (sound m x e) (W.node m x e))) (λ p. stays)) stays
+  does_onward : (m : ℕ) (j : Job) → Onward w (does language n w m j (nth w.nodes m))
+  does_onward m j = if_there (nth w.nodes m) _ w (Onward w) (λ x e. cond_both x.up _ w (Onward w) (λ p. done_onward m x (effect language n w m j x) e (effect_holds m j x (sound m x e) (W.node m x e))) (λ p. stays)) stays
 
-  onward : (e : Event) → Onward w (happens schema n w e)
+  onward : (e : Event) → Onward w (happens language n w e)
   onward (Hand m i) = does_onward m (Local i)
   onward (Deliver k reading) = if_there (nth w.sent k) _ w (Onward w) (λ p e. does_onward p.addressee (Delivery k reading)) stays
   onward (Stop m) = if_there (nth w.nodes m) _ w (Onward w) (λ x e. cond_both x.up _ w (Onward w) (λ p. stops_with m x x e (W.node m x e).floor) (λ p. stays)) stays
   onward (Start m) = if_there (nth w.nodes m) _ w (Onward w) (λ x e. cond_both x.up w _ (Onward w) (λ p. stays)
       (λ p. stepped m x (record { node = started x; sent = [] }) e (record { floor = (W.node m x e).floor; told = omega arith; apart = λ s q. absurd (none_some None s refl q) }) (λ u v. absurd (let z = p in cc)))) stays
   onward (Torn m j left) = if_there (nth w.nodes m) _ w (Onward w) (λ x e. cond_both (x.up && is_for w m j) _ w (Onward w)
-      (λ p. torn_onward m x (effect schema n w m j x) left e (effect_holds m j x (sound m x e) (W.node m x e))) (λ p. stays)) stays
+      (λ p. torn_onward m x (effect language n w m j x) left e (effect_holds m j x (sound m x e) (W.node m x e))) (λ p. stays)) stays
   onward (Ask m q) = stays
 
 -- ---- runs
@@ -312,49 +312,49 @@ good_sound n m g x G X = record {
   stamps = λ j e p. ((G.reign e.term).rising).within j e (same_get j e (X.known.at j e p) (omega arith) p);
 }
 
-module _ (schema : Schema) (n : ℕ) where
-  event_onward : (g : Ghost) (w : World) → Good n g w → ClosingWorld w → (e : Event) → Onward w (happens schema n w e)
-  event_onward g w G W e = onward schema n w W (λ m x l. good_sound n m g x G.ghost (G.node m x l)) e
+module _ (language : Language) (n : ℕ) where
+  event_onward : (g : Ghost) (w : World) → Good n g w → ClosingWorld w → (e : Event) → Onward w (happens language n w e)
+  event_onward g w G W e = onward language n w W (λ m x l. good_sound n m g x G.ghost (G.node m x l)) e
 
-  run_closing : (es : List Event) (g : Ghost) (w : World) → Good n g w → ClosingWorld w → ClosingWorld (run schema n w es)
+  run_closing : (es : List Event) (g : Ghost) (w : World) → Good n g w → ClosingWorld w → ClosingWorld (run language n w es)
   run_closing [] g w G W = W
-  run_closing (e ∷ es) g w G W = let N = happens_ok schema n g w e G in run_closing es N.ghost (happens schema n w e) N.good (event_onward g w G W e).closing
+  run_closing (e ∷ es) g w G W = let N = happens_ok language n g w e G in run_closing es N.ghost (happens language n w e) N.good (event_onward g w G W e).closing
 
   rises_along : (es : List Event) (g : Ghost) (w : World) → Good n g w → ClosingWorld w → (m : ℕ) (x : Node) → nth w.nodes m ≡ Some x
-      → ((mid rest : List Event) (z : Node) → mid ++ rest ≡ es → nth (run schema n w mid).nodes m ≡ Some z → z.up ≡ true)
-      → (y : Node) × (nth (run schema n w es).nodes m ≡ Some y) × (above x.sealed ≤ above y.sealed)
+      → ((mid rest : List Event) (z : Node) → mid ++ rest ≡ es → nth (run language n w mid).nodes m ≡ Some z → z.up ≡ true)
+      → (y : Node) × (nth (run language n w es).nodes m ≡ Some y) × (above x.sealed ≤ above y.sealed)
   rises_along [] g w G W m x l U = (x, l, omega arith)
   rises_along (e ∷ es) g w G W m x l U =
-      let N = happens_ok schema n g w e G in
+      let N = happens_ok language n g w e G in
       let O = event_onward g w G W e in
       let R = O.rises m x l in
       let r = R.2 (U [] (e ∷ es) x refl l) (U (e ∷ []) es R.0 refl R.1) in
-      let H = rises_along es N.ghost (happens schema n w e) N.good O.closing m R.0 R.1 (λ mid rest z s q. U (e ∷ mid) rest z (ap (λ v. e ∷ v) s) q) in
+      let H = rises_along es N.ghost (happens language n w e) N.good O.closing m R.0 R.1 (λ mid rest z s q. U (e ∷ mid) rest z (ap (λ v. e ∷ v) s) q) in
       (H.0, H.1, (let h = H.2 in omega arith))
 
-module _ (schema : Schema) (n : ℕ) (opening : World) (O : Opening n opening) (start : ClosingWorld opening) where
-  closing : (events : List Event) → ClosingWorld (run schema n opening events)
-  closing events = run_closing schema n events O.ghost opening O.good start
+module _ (language : Language) (n : ℕ) (outset : World) (O : Outset n outset) (start : ClosingWorld outset) where
+  closing : (events : List Event) → ClosingWorld (run language n outset events)
+  closing events = run_closing language n events O.ghost outset O.good start
 
-  pub floors_in_time : FloorsInTime schema n opening
+  pub floors_in_time : FloorsInTime language n outset
   floors_in_time events m t x l e = instant_of x.floor t ((closing events).node m x l).floor e
 
-  pub waiting_unapplied : WaitingUnapplied schema n opening
+  pub waiting_unapplied : WaitingUnapplied language n outset
   waiting_unapplied events m s x l e = ((closing events).node m x l).apart s e
 
-  pub sealed_rises : SealedRises schema n opening
+  pub sealed_rises : SealedRises language n outset
   sealed_rises early late m t x y l k U s =
-      let N = reached schema n opening O early in
-      let joined : (es : List Event) → run schema n opening (early ++ es) ≡ run schema n (run schema n opening early) es = λ es. run_append schema n early es opening in
-      let H = rises_along schema n late N.ghost (run schema n opening early) N.good (closing early) m x l (λ mid rest z e q. U mid rest z e (subst (λ v. nth v.nodes m ≡ Some z) (sym (joined mid)) q)) in
-      let same : H.0 ≡ y = same_some (nth (run schema n opening (early ++ late)).nodes m) H.0 y (subst (λ v. nth v.nodes m ≡ Some H.0) (sym (joined late)) H.1) k in
+      let N = reached language n outset O early in
+      let joined : (es : List Event) → run language n outset (early ++ es) ≡ run language n (run language n outset early) es = λ es. run_append language n early es outset in
+      let H = rises_along language n late N.ghost (run language n outset early) N.good (closing early) m x l (λ mid rest z e q. U mid rest z e (subst (λ v. nth v.nodes m ≡ Some z) (sym (joined mid)) q)) in
+      let same : H.0 ≡ y = same_some (nth (run language n outset (early ++ late)).nodes m) H.0 y (subst (λ v. nth v.nodes m ≡ Some H.0) (sym (joined late)) H.1) k in
       at y.sealed refl (subst (λ (v : Node). above x.sealed ≤ above v.sealed) same H.2)
     where
       at : (o : Option ℕ) → y.sealed ≡ o → above x.sealed ≤ above y.sealed → (u : ℕ) × (y.sealed ≡ Some u) × (t ≤ u)
       at None e h = absurd (let a = ap above e in let b = ap above s in omega arith)
       at (Some u) e h = (u, e, (let a = ap above e in let b = ap above s in omega arith))
 
--- ---- the openings
+-- ---- the outsets
 
 fresh_closes : (term : ℕ) (vote : Option ℕ) → Closes (fresh term vote)
 fresh_closes term vote = record { floor = omega arith; told = omega arith; apart = λ s e. absurd (none_some None s refl e) }

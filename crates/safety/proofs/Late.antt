@@ -3,7 +3,7 @@ use Rattle.std.proofs.Common.{◌≡◌, ℕ, suc, ◌+◌, ◌<◌, ◌≤◌, 
 use Rattle.std.proofs.lemmas.List.Elements.{All-weaker}
 use Rattle.model.specs.Lists.{nth}
 use Rattle.model.specs.Tables.{Table, Row, IsRow}
-use Rattle.model.specs.Transactions.{Schema, State}
+use Rattle.model.specs.Transactions.{Language, State}
 use Rattle.model.specs.declared.entry.Entry.{Entry}
 use Rattle.model.specs.Logs.{state_at, state_after, closed, IsStamped}
 use Rattle.model.specs.Answers.{Query, Answer, Shown, IsAnswer, IsAnswerOver, IsAsked, IsShownEnd}
@@ -18,9 +18,9 @@ later_rest w t list rest R c h = later_from w rest (λ i e p. at i e p)
     at i e p = let l : t < e.stamp = past_closed list rest R t c (suc (length list + i)) e (omega arith) (get_append_right list rest i ∙ p) in omega arith
 
 -- the state at an instant is the same for every longer list in which all that comes later is stamped above it
-pub same_state : (schema : Schema) (w : ℕ) (list rest : List Entry) → Later w rest → state_at schema (list ++ rest) w ≡ state_at schema list w
+pub same_state : (language : Language) (w : ℕ) (list rest : List Entry) → Later w rest → state_at language (list ++ rest) w ≡ state_at language list w
 unfolding state_at
-same_state schema w list rest l = ap (λ es. state_after schema (reverse es)) (up_to_later w list rest l)
+same_state language w list rest l = ap (λ es. state_after language (reverse es)) (up_to_later w list rest l)
 
 -- two histories that agree up to the last instant of a query have the same answers
 asked_over : (old new : ℕ → Table) (q : Query) (row : Row) → ((w : ℕ) → w ≤ q.time.last → old w ≡ new w) → IsAsked old q row → IsAsked new q row
@@ -40,19 +40,19 @@ answer_over old new q a same h = record {
 }
 
 -- an answer to a query is its answer in every longer list in which all that comes later is stamped above its instants
-pub late_answer : (schema : Schema) (q : Query) (list rest : List Entry) (a : Answer) → ((w : ℕ) → w ≤ q.time.last → Later w rest) → IsAnswer schema q list a ↔ IsAnswer schema q (list ++ rest) a
-late_answer schema q list rest a l =
-    let table : List Entry → ℕ → Table = λ es w. state_at schema es w q.table in
-    let same : (w : ℕ) → w ≤ q.time.last → table (list ++ rest) w ≡ table list w = λ w b. ap (λ (x : State). x q.table) (same_state schema w list rest (l w b)) in
+pub late_answer : (language : Language) (q : Query) (list rest : List Entry) (a : Answer) → ((w : ℕ) → w ≤ q.time.last → Later w rest) → IsAnswer language q list a ↔ IsAnswer language q (list ++ rest) a
+late_answer language q list rest a l =
+    let table : List Entry → ℕ → Table = λ es w. state_at language es w q.table in
+    let same : (w : ℕ) → w ≤ q.time.last → table (list ++ rest) w ≡ table list w = λ w b. ap (λ (x : State). x q.table) (same_state language w list rest (l w b)) in
     (answer_over (table list) (table (list ++ rest)) q a (λ w b. sym (same w b)), answer_over (table (list ++ rest)) (table list) q a same)
 
 -- an answer to a query that is closed in a list is its answer in every longer one
-pub however_late : (schema : Schema) (q : Query) (t : ℕ) (list rest : List Entry) (a : Answer) → IsStamped (list ++ rest) → closed list ≡ Some t → q.time.last ≤ t →
-    IsAnswer schema q list a ↔ IsAnswer schema q (list ++ rest) a
-however_late schema q t list rest a s c l = late_answer schema q list rest a (λ w b. later_rest w t list rest (rising_stamped (list ++ rest) s) c (omega arith))
+pub however_late : (language : Language) (q : Query) (t : ℕ) (list rest : List Entry) (a : Answer) → IsStamped (list ++ rest) → closed list ≡ Some t → q.time.last ≤ t →
+    IsAnswer language q list a ↔ IsAnswer language q (list ++ rest) a
+however_late language q t list rest a s c l = late_answer language q list rest a (λ w b. later_rest w t list rest (rising_stamped (list ++ rest) s) c (omega arith))
 
 -- the same where what comes later is known by its index
-pub late_after : (schema : Schema) (q : Query) (t : ℕ) (list rest : List Entry) (a : Answer) → ((i : ℕ) (e : Entry) → length list < i → nth (list ++ rest) i ≡ Some e → t < e.stamp) → q.time.last ≤ t →
-    IsAnswer schema q list a ↔ IsAnswer schema q (list ++ rest) a
-late_after schema q t list rest a above l = late_answer schema q list rest a (λ w b. later_from w rest (λ i e p.
+pub late_after : (language : Language) (q : Query) (t : ℕ) (list rest : List Entry) (a : Answer) → ((i : ℕ) (e : Entry) → length list < i → nth (list ++ rest) i ≡ Some e → t < e.stamp) → q.time.last ≤ t →
+    IsAnswer language q list a ↔ IsAnswer language q (list ++ rest) a
+late_after language q t list rest a above l = late_answer language q list rest a (λ w b. later_from w rest (λ i e p.
     (let h : t < e.stamp = above (suc (length list + i)) e (omega arith) (get_append_right list rest i ∙ p) in omega arith)))

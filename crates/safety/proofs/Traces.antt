@@ -15,7 +15,7 @@ use Rattle.model.specs.declared.message.Body.{Body}
 use Rattle.model.specs.declared.message.Body.TheVariants.{RequestVote, Vote, Append, Reply, Seek, Stored, Seal}
 use Rattle.model.specs.declared.message.Input.{Input}
 use Rattle.model.specs.declared.message.Input.TheVariants.{Timeout, Beat, Close, Submit, Floor}
-use Rattle.model.specs.Transactions.{Schema}
+use Rattle.model.specs.Transactions.{Language}
 use Rattle.model.specs.Members.{Node, last_term, is_leader, is_candidate, is_majority, is_in, has_term, stands, agreed, others}
 use Rattle.model.specs.Steps.{Effect, Moves, Refuses, Nothing, After, append_to, append_to_all, tell_all, in_term, hears, stands_up, time_out, is_time_full, is_log_full, extended, append_own, next_floor, asking, ask_floor, on_input, grants, on_request_vote, counted, crowned, on_vote, is_applied, seal_floor, unapplied, learned, settled, accepted, cuts_below, continues, follows, takes_entries, on_append, noted, commits, on_reply_yes, on_reply_no, on_reply, stores, on_seek, asks_for, with_stored, on_stored, on_body, on_message, is_honest, TERM_LAST, LOG_LIMIT}
 use Rattle.safety.specs.Floors.{HadFloor, AskedFor, SealExists, IsSealedIn}
@@ -292,7 +292,7 @@ module _ (Was : ℕ → Node → Type 0) (n m f : ℕ) (x : Node) (X : TracedNod
   body_traced reading from T (Stored k t) B = stored_told from T k t B
   body_traced reading from T (Seal k t) B = calm _ same (learns Was n x (record { term = T; index = k; floor = t }) B X) none
 
-pub message_traced : (Was : ℕ → Node → Type 0) (schema : Schema) (n m : ℕ) (reading : ℤ) (p : Message) (x : Node) → TracedNode Was n x → TracedMessage Was n p → EffectTraces Was n m (above x.floor) (on_message schema n m reading p x)
-message_traced Was schema n m reading p x X P = cond_both (is_honest schema n m p) (on_body n m reading p.sender p.term p.body (hears p.term x)) Nothing (EffectTraces Was n m (above x.floor))
+pub message_traced : (Was : ℕ → Node → Type 0) (language : Language) (n m : ℕ) (reading : ℤ) (p : Message) (x : Node) → TracedNode Was n x → TracedMessage Was n p → EffectTraces Was n m (above x.floor) (on_message language n m reading p x)
+message_traced Was language n m reading p x X P = cond_both (is_honest language n m p) (on_body n m reading p.sender p.term p.body (hears p.term x)) Nothing (EffectTraces Was n m (above x.floor))
     (λ h. let H = heard Was n p.term x X in body_traced Was n m (above x.floor) (hears p.term x) H.0 (let q = ap above H.1 in omega arith) reading p.sender p.term p.body P.body)
     (λ h. tt)

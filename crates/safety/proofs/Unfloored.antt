@@ -9,7 +9,7 @@ use Rattle.model.specs.Stamps.{above, greater}
 use Rattle.model.specs.Logs.{closed}
 use Rattle.fault.specs.declared.refusal.Refusal.{Refusal}
 use Rattle.fault.specs.declared.refusal.Refusal.TheVariants.{NotLeader, TimeFull, LogFull, TermFull}
-use Rattle.model.specs.Transactions.{Schema, Statement}
+use Rattle.model.specs.Transactions.{Language, Statement}
 use Rattle.model.specs.declared.entry.Entry.{Entry}
 use Rattle.model.specs.declared.entry.Request.{Request}
 use Rattle.model.specs.declared.member.SealedFloor.{SealedFloor}
@@ -168,8 +168,8 @@ module _ (n m : ℕ) (x : Node) (X : Unfloored x) where
   body_spares reading from T (Stored k t) e = absurd (let z : false ≡ true = e in cc)
   body_spares reading from T (Seal k t) e = absurd (let z : false ≡ true = e in cc)
 
-message_spares : (schema : Schema) (n m : ℕ) (reading : ℤ) (p : Message) (x : Node) → Unfloored x → Floorless p → EffectSpares (on_message schema n m reading p x)
-message_spares schema n m reading p x X P = cond_both (is_honest schema n m p) (on_body n m reading p.sender p.term p.body (hears p.term x)) Nothing EffectSpares
+message_spares : (language : Language) (n m : ℕ) (reading : ℤ) (p : Message) (x : Node) → Unfloored x → Floorless p → EffectSpares (on_message language n m reading p x)
+message_spares language n m reading p x X P = cond_both (is_honest language n m p) (on_body n m reading p.sender p.term p.body (hears p.term x)) Nothing EffectSpares
     (λ h. body_spares n m (hears p.term x) (heard p.term x X) reading p.sender p.term p.body P.body) (λ h. tt)
 
 -- ---- worlds
@@ -194,7 +194,7 @@ all_nth xs (suc k) x A e = all_get xs k x A e
 unfloored_stopped : (x : Node) → Unfloored x → Unfloored (stopped x)
 unfloored_stopped x X = record { floor = X.floor; told = refl; sealed = refl; waiting = refl }
 
-module _ (schema : Schema) (n : ℕ) (w : World) (W : UnflooredWorld w) where
+module _ (language : Language) (n : ℕ) (w : World) (W : UnflooredWorld w) where
   stepped : (m : ℕ) (a : After) → Spares a → UnflooredWorld (with_node w m a.node a.sent)
   stepped m a S = record { node = get_with (λ k z. Unfloored z) w.nodes m a.node S.node (λ k z ne e. W.node k z e); sent = all_append w.sent a.sent W.sent S.sent }
 
@@ -205,20 +205,20 @@ module _ (schema : Schema) (n : ℕ) (w : World) (W : UnflooredWorld w) where
   unless_spares (Ok ss) e h = h
   unless_spares (Err refusal) e h = tt
 
-  handed : (m : ℕ) (i : Input) (x : Node) → Unfloored x → is_floor_input i ≡ false → EffectSpares (hand schema n m i x)
+  handed : (m : ℕ) (i : Input) (x : Node) → Unfloored x → is_floor_input i ≡ false → EffectSpares (hand language n m i x)
   handed m Timeout x X e = input_spares n m x X Timeout e
   handed m Beat x X e = input_spares n m x X Beat e
   handed m (Close reading) x X e = input_spares n m x X (Close reading) e
   handed m (Floor reading) x X e = input_spares n m x X (Floor reading) e
-  handed m (Submit reading request) x X e = unless_spares (schema.reads request.text) (on_input n m (Submit reading request) x) (input_spares n m x X (Submit reading request) e)
+  handed m (Submit reading request) x X e = unless_spares (language.reads request.text) (on_input n m (Submit reading request) x) (input_spares n m x X (Submit reading request) e)
 
-  effect_spares : (m : ℕ) (j : Job) (x : Node) → Unfloored x → is_floor_job j ≡ false → EffectSpares (effect schema n w m j x)
+  effect_spares : (m : ℕ) (j : Job) (x : Node) → Unfloored x → is_floor_job j ≡ false → EffectSpares (effect language n w m j x)
   effect_spares m (Local i) x X e = handed m i x X e
   effect_spares m (Delivery k reading) x X e = go (nth w.sent k) refl
     where
-      go : (o : Option Message) → nth w.sent k ≡ o → EffectSpares (option_map_or (λ (p : Message). on_message schema n m reading p x) o Nothing)
+      go : (o : Option Message) → nth w.sent k ≡ o → EffectSpares (option_map_or (λ (p : Message). on_message language n m reading p x) o Nothing)
       go None q = tt
-      go (Some p) q = message_spares schema n m reading p x X (all_nth w.sent k p W.sent q)
+      go (Some p) q = message_spares language n m reading p x X (all_nth w.sent k p W.sent q)
 
   done_unfloored : (m : ℕ) (o : Effect) → EffectSpares o → UnflooredWorld (done w m o)
   done_unfloored m Nothing S = W
@@ -231,27 +231,27 @@ module _ (schema : Schema) (n : ℕ) (w : World) (W : UnflooredWorld w) where
   torn_unfloored m x (Refuses refusal) New X S = changed m (stopped x) (unfloored_stopped x X)
   torn_unfloored m x Nothing New X S = changed m (stopped x) (unfloored_stopped x X)
 
-  does_unfloored : (m : ℕ) (j : Job) → is_floor_job j ≡ false → UnflooredWorld (does schema n w m j (nth w.nodes m))
-  does_unfloored m j f = if_there (nth w.nodes m) _ w UnflooredWorld (λ x e. cond_both x.up _ w UnflooredWorld (λ p. done_unfloored m (effect schema n w m j x) (effect_spares m j x (W.node m x e) f)) (λ p. W)) W
+  does_unfloored : (m : ℕ) (j : Job) → is_floor_job j ≡ false → UnflooredWorld (does language n w m j (nth w.nodes m))
+  does_unfloored m j f = if_there (nth w.nodes m) _ w UnflooredWorld (λ x e. cond_both x.up _ w UnflooredWorld (λ p. done_unfloored m (effect language n w m j x) (effect_spares m j x (W.node m x e) f)) (λ p. W)) W
 
-  happens_unfloored : (e : Event) → is_floor_event e ≡ false → UnflooredWorld (happens schema n w e)
+  happens_unfloored : (e : Event) → is_floor_event e ≡ false → UnflooredWorld (happens language n w e)
   happens_unfloored (Hand m i) f = does_unfloored m (Local i) f
   happens_unfloored (Deliver k reading) f = if_there (nth w.sent k) _ w UnflooredWorld (λ p e. does_unfloored p.addressee (Delivery k reading) f) W
   happens_unfloored (Stop m) f = if_there (nth w.nodes m) _ w UnflooredWorld (λ x e. cond_both x.up _ w UnflooredWorld (λ p. changed m (stopped x) (unfloored_stopped x (W.node m x e))) (λ p. W)) W
   happens_unfloored (Start m) f = if_there (nth w.nodes m) _ w UnflooredWorld (λ x e. cond_both x.up w _ UnflooredWorld (λ p. W)
       (λ p. let S = unfloored_stopped x (W.node m x e) in changed m (started x) (record { floor = S.floor; told = S.told; sealed = S.sealed; waiting = S.waiting }))) W
   happens_unfloored (Torn m j left) f = if_there (nth w.nodes m) _ w UnflooredWorld (λ x e. cond_both (x.up && is_for w m j) _ w UnflooredWorld
-      (λ p. torn_unfloored m x (effect schema n w m j x) left (W.node m x e) (effect_spares m j x (W.node m x e) f)) (λ p. W)) W
+      (λ p. torn_unfloored m x (effect language n w m j x) left (W.node m x e) (effect_spares m j x (W.node m x e) f)) (λ p. W)) W
   happens_unfloored (Ask m q) f = W
 
 not_true : (b : Bool) → not b ≡ true → b ≡ false
 not_true true e = absurd (let z : false ≡ true = e in cc)
 not_true false e = refl
 
-run_unfloored : (schema : Schema) (n : ℕ) (es : List Event) (w : World) → UnflooredWorld w → list_all (λ e. not (is_floor_event e)) es ≡ true → UnflooredWorld (run schema n w es)
-run_unfloored schema n [] w W f = W
-run_unfloored schema n (e ∷ es) w W f = let q = and_parts (not (is_floor_event e)) (list_all (λ v. not (is_floor_event v)) es) f in
-    run_unfloored schema n es (happens schema n w e) (happens_unfloored schema n w W e (not_true (is_floor_event e) q.0)) q.1
+run_unfloored : (language : Language) (n : ℕ) (es : List Event) (w : World) → UnflooredWorld w → list_all (λ e. not (is_floor_event e)) es ≡ true → UnflooredWorld (run language n w es)
+run_unfloored language n [] w W f = W
+run_unfloored language n (e ∷ es) w W f = let q = and_parts (not (is_floor_event e)) (list_all (λ v. not (is_floor_event v)) es) f in
+    run_unfloored language n es (happens language n w e) (happens_unfloored language n w W e (not_true (is_floor_event e) q.0)) q.1
 
 -- the words of the claim
 greater_none : (a b : Option ℕ) → b ≡ None → greater a b ≡ a
@@ -265,9 +265,9 @@ floorless x X = record {
   stamps = ap above (greater_none (closed x.log) x.floor X.floor);
 }
 
-pub no_floors : (schema : Schema) (n : ℕ) (opening : World) → UnflooredWorld opening → NoFloors schema n opening
-no_floors schema n opening O events f = let W = run_unfloored schema n events opening O f in
-    ((λ m x l. floorless x (W.node m x l)), (λ k p l. (all_nth (run schema n opening events).sent k p W.sent l).body))
+pub no_floors : (language : Language) (n : ℕ) (outset : World) → UnflooredWorld outset → NoFloors language n outset
+no_floors language n outset O events f = let W = run_unfloored language n events outset O f in
+    ((λ m x l. floorless x (W.node m x l)), (λ k p l. (all_nth (run language n outset events).sent k p W.sent l).body))
 
 unfloored_fresh : (term : ℕ) (vote : Option ℕ) → Unfloored (fresh term vote)
 unfloored_fresh term vote = record { floor = refl; told = refl; sealed = refl; waiting = refl }

@@ -24,9 +24,6 @@ pub record LeftAsAll {A : Type 0} (checks : List A → A → List Check) (xs : L
   pub same : first_failing (each_after (take i xs) checks (drop i xs)) ≡ first_failing (each checks xs)
 
 module _ {A : Type 0} (checks : List A → A → List Check) (xs : List A) where
-  pub left_first : LeftAsAll checks xs 0
-  left_first = record { same = refl }
-
   pub left_next : (i : ℕ) (x : A) → i < length xs → LeftAsAll checks xs i → x ≡ get_or xs i x → first_failing (checks (take i xs) x) ≡ None → LeftAsAll checks xs (i + 1)
   left_next i x h left is none = record { same = sym (ap first_failing (each_after-next checks xs i x h) ∙ passed (checks (take i xs) (get_or xs i x)) (each_after (take (i + 1) xs) checks (drop (i + 1) xs)) (ap (λ y. first_failing (checks (take i xs) y)) (sym is) ∙ none)) ∙ left.same }
 

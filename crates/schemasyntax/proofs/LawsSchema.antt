@@ -6,7 +6,7 @@ use Rattle.std.proofs.lemmas.List.{same_from_push}
 use Rattle.sqltokens.specs.declared.token.Keyword.TheVariants as keyword
 use Rattle.sqltokens.specs.declared.token.Keyword.TheVariants.{Integer, Varchar, Timestamp, Generated, Always, As, Row, Start, End, Period, For, SystemTime, Primary, Key, Without, Overlaps, Foreign, References, Create, With, System, Versioning}
 use Rattle.sqltokens.specs.declared.token.Sign.TheVariants.{Open, Close, Comma, Semicolon}
-use Rattle.sqltokens.specs.What.{What, Word, Mark, Name, Digits, Text, Stray, is_word, is_mark, word, sign}
+use Rattle.sqltokens.specs.What.{What, Word, Symbol, Name, Digits, Text, Stray, is_word, is_symbol, word, sign}
 use Rattle.sqltokens.specs.Classes.{has_shape, digits, is_name}
 use Rattle.phrase.specs.Reading.{with_front}
 use Rattle.phrase.specs.Grammar.{Phrase, expect, one, only, ◌▹◌, ◌◃◌, ◌▸◌, either, many, first_of}
@@ -14,7 +14,7 @@ use Rattle.namesyntax.specs.Names.{Bytes, names, another_name}
 use Rattle.schemasyntax.specs.Schemas.{is_six, six, column_type, column, column_comma, columns, ApplicationForm, application_period, SystemForm, system_period, KeyNamesForm, before_last, last_of, period_last, in_one, key_columns, key, name_comma, names_comma, key_names, ReferenceForm, reference, another_reference, table, tables}
 use Rattle.phrase.proofs.Laws.{bind_ok, ok_is, stops, IsFixed, IsLawful, Begins, Parts, Repeats, after_fixed, before_fixed, in_turn, only_fixed, one_of, repeated, named, in_row}
 use Rattle.sqltokens.proofs.Texts.{and_parts}
-use Rattle.sqltokens.proofs.Marks.{a_word, a_sign, digits_lawful, stops_nothing}
+use Rattle.sqltokens.proofs.Symbols.{a_word, a_sign, digits_lawful, stops_nothing}
 use Rattle.namesyntax.proofs.LawsNames.{names_lawful, name_then, another_name_lawful, another_name_begins, name_list_repeat}
 
 six_digits : (d : Bytes) → has_shape (codes "6") d ≡ true → d ≡ codes "6"
@@ -24,7 +24,7 @@ six_digits (b ∷ c ∷ bs) e = let h = (and_parts (eqb 54 b) false e).1 in absu
 
 six_only : (t : What) → is_six t ≡ true → t ≡ Digits (codes "6")
 six_only (Word j) e = absurd cc
-six_only (Mark s) e = absurd cc
+six_only (Symbol s) e = absurd cc
 six_only (Name n) e = absurd cc
 six_only (Digits d) e = ap Digits (six_digits d e)
 six_only (Text t) e = absurd cc
@@ -72,7 +72,7 @@ pub column_lawful : IsLawful column
 unfolding column
 column_lawful = name_then column_type column_type_lawful
 
-comma_ends : column.goes (Mark Comma) ≡ false
+comma_ends : column.goes (Symbol Comma) ≡ false
 unfolding column column_type
 comma_ends = refl
 
@@ -119,8 +119,8 @@ in_one_again (a, (b, cs)) = ap (λ (l : List Bytes). (a, first_of (last_of b cs)
 pub key_columns_lawful : IsLawful key_columns
 unfolding key_columns
 key_columns_lawful =
-    named period_last in_one (one names ▸ sign Comma ▹ one names ▸ many (is_mark Comma) another_name) in_one_again
-    (name_then _ (after_fixed (sign Comma) _ (a_sign Comma) (name_then _ (repeated (is_mark Comma) another_name another_name_begins name_list_repeat another_name_lawful))))
+    named period_last in_one (one names ▸ sign Comma ▹ one names ▸ many (is_symbol Comma) another_name) in_one_again
+    (name_then _ (after_fixed (sign Comma) _ (a_sign Comma) (name_then _ (repeated (is_symbol Comma) another_name another_name_begins name_list_repeat another_name_lawful))))
 
 -- the parts of names whose last is set apart
 pub parted : (a b : Bytes) (cs columns : List Bytes) (period : Bytes) → a ∷ b ∷ cs ≡ columns ++ period ∷ [] → period_last (a, (b, cs)) ≡ (columns, period)
@@ -130,12 +130,12 @@ parted a b cs columns period e =
 
 -- reading two names and more, where the last of all is set apart
 pub key_columns_read : (ts first comma second rest : List What) (a b period : Bytes) (all columns : List Bytes) →
-    (one names).read ts ≡ Ok (a, first) → expect (is_mark Comma) first ≡ Ok comma → (one names).read comma ≡ Ok (b, second) →
-    with_front (a ∷ b ∷ []) ((many (is_mark Comma) another_name).read second) ≡ Ok (all, rest) → all ≡ columns ++ period ∷ [] →
+    (one names).read ts ≡ Ok (a, first) → expect (is_symbol Comma) first ≡ Ok comma → (one names).read comma ≡ Ok (b, second) →
+    with_front (a ∷ b ∷ []) ((many (is_symbol Comma) another_name).read second) ≡ Ok (all, rest) → all ≡ columns ++ period ∷ [] →
     key_columns.read ts ≡ Ok ((columns, period), rest)
 unfolding key_columns
 key_columns_read ts first comma second rest a b period all columns e f g h parts =
-    let k = bind_ok ((many (is_mark Comma) another_name).read second) (λ (x : List Bytes × List What). Ok (a ∷ b ∷ x.0, x.1)) (all, rest) h in
+    let k = bind_ok ((many (is_symbol Comma) another_name).read second) (λ (x : List Bytes × List What). Ok (a ∷ b ∷ x.0, x.1)) (all, rest) h in
     let same = ok_is (a ∷ b ∷ k.0.0, k.0.1) (all, rest) k.2 in
     let names_are : a ∷ b ∷ k.0.0 ≡ columns ++ period ∷ [] = ap (λ (x : List Bytes × List What). x.0) same ∙ parts in
     let rest_is : k.0.1 ≡ rest = ap (λ (x : List Bytes × List What). x.1) same in
@@ -195,7 +195,7 @@ pub another_reference_lawful : IsLawful another_reference
 unfolding another_reference
 another_reference_lawful = after_fixed (sign Comma) _ (a_sign Comma) reference_lawful
 
-pub another_reference_begins : Begins (is_mark Comma) another_reference true
+pub another_reference_begins : Begins (is_symbol Comma) another_reference true
 unfolding another_reference
 another_reference_begins a rest f = refl
 
@@ -205,20 +205,20 @@ references_repeat b rest f = refl
 
 -- ---- tables
 
-references_close : (many (is_mark Comma) another_reference).goes (Mark Close) ≡ false
+references_close : (many (is_symbol Comma) another_reference).goes (Symbol Close) ≡ false
 unfolding another_reference reference key_names names_comma name_comma
 references_close = refl
 
 abbrev references_end : Phrase What (List ReferenceForm)
-references_end = many (is_mark Comma) another_reference ◃ sign Close ◃ word With ◃ word System ◃ word Versioning ◃ sign Semicolon
+references_end = many (is_symbol Comma) another_reference ◃ sign Close ◃ word With ◃ word System ◃ word Versioning ◃ sign Semicolon
 
 references_end_lawful : IsLawful references_end
 references_end_lawful =
-    before_fixed (many (is_mark Comma) another_reference ◃ sign Close ◃ word With ◃ word System ◃ word Versioning) (sign Semicolon) (a_sign Semicolon) refl
-    (before_fixed (many (is_mark Comma) another_reference ◃ sign Close ◃ word With ◃ word System) (word Versioning) (a_word Versioning) refl
-    (before_fixed (many (is_mark Comma) another_reference ◃ sign Close ◃ word With) (word System) (a_word System) refl
-    (before_fixed (many (is_mark Comma) another_reference ◃ sign Close) (word With) (a_word With) refl
-    (before_fixed (many (is_mark Comma) another_reference) (sign Close) (a_sign Close) references_close (repeated (is_mark Comma) another_reference another_reference_begins references_repeat another_reference_lawful)))))
+    before_fixed (many (is_symbol Comma) another_reference ◃ sign Close ◃ word With ◃ word System ◃ word Versioning) (sign Semicolon) (a_sign Semicolon) refl
+    (before_fixed (many (is_symbol Comma) another_reference ◃ sign Close ◃ word With ◃ word System) (word Versioning) (a_word Versioning) refl
+    (before_fixed (many (is_symbol Comma) another_reference ◃ sign Close ◃ word With) (word System) (a_word System) refl
+    (before_fixed (many (is_symbol Comma) another_reference ◃ sign Close) (word With) (a_word With) refl
+    (before_fixed (many (is_symbol Comma) another_reference) (sign Close) (a_sign Close) references_close (repeated (is_symbol Comma) another_reference another_reference_begins references_repeat another_reference_lawful)))))
 
 after_columns : (b : ApplicationForm × (SystemForm × (KeyNamesForm × List ReferenceForm))) (rest : List What) → stops columns.goes ((application_period ▸ sign Comma ▹ system_period ▸ sign Comma ▹ key ▸ references_end).spell b ++ rest) ≡ true
 unfolding columns column_comma application_period

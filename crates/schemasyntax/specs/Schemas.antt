@@ -12,7 +12,7 @@ use Rattle.schemasyntax.specs.declared.forms.SystemPeriod.{SystemPeriod}
 use Rattle.schemasyntax.specs.declared.forms.KeyNames.{KeyNames}
 use Rattle.schemasyntax.specs.declared.forms.ForeignKey.{ForeignKey}
 use Rattle.schemasyntax.specs.declared.forms.Table.{Table}
-use Rattle.sqltokens.specs.What.{What, Digits, is_word, is_mark, word, sign}
+use Rattle.sqltokens.specs.What.{What, Digits, is_word, is_symbol, word, sign}
 use Rattle.sqltokens.specs.Classes.{has_shape, digits, is_name}
 use Rattle.phrase.specs.Grammar.{Phrase, Fixed, one, only, ◌▹◌, ◌◃◌, ◌▸◌, either, many, made, first_of, row}
 use Rattle.namesyntax.specs.Names.{Bytes, names, name_of, names_of, another_name}
@@ -93,7 +93,7 @@ in_one (a ∷ more, period) = (a, first_of period (more ++ period ∷ []))
 
 -- name { "," name } "," name is spelled as name "," name { "," name }
 unfoldable pub key_columns : Phrase What KeyNamesForm
-key_columns = made period_last in_one (one names ▸ sign Comma ▹ one names ▸ many (is_mark Comma) another_name)
+key_columns = made period_last in_one (one names ▸ sign Comma ▹ one names ▸ many (is_symbol Comma) another_name)
 
 -- PRIMARY KEY "(" names "," name WITHOUT OVERLAPS ")"
 unfoldable pub key : Phrase What KeyNamesForm
@@ -128,7 +128,7 @@ abbrev pub TableForm : Type 0
 TableForm = Bytes × (List ColumnForm × (ApplicationForm × (SystemForm × (KeyNamesForm × List ReferenceForm))))
 
 unfoldable pub table : Phrase What TableForm
-table = word Create ▹ word keyword.Table ▹ one names ▸ sign Open ▹ columns ▸ application_period ▸ sign Comma ▹ system_period ▸ sign Comma ▹ key ▸ many (is_mark Comma) another_reference ◃ sign Close ◃ word With ◃ word System ◃ word Versioning ◃ sign Semicolon
+table = word Create ▹ word keyword.Table ▹ one names ▸ sign Open ▹ columns ▸ application_period ▸ sign Comma ▹ system_period ▸ sign Comma ▹ key ▸ many (is_symbol Comma) another_reference ◃ sign Close ◃ word With ◃ word System ◃ word Versioning ◃ sign Semicolon
 
 -- table { table }
 unfoldable pub tables : Phrase What (List TableForm)

@@ -1,7 +1,7 @@
 //! Schemas, read from the left.
 
 ghost use Rattle.std.specs.Prelude.{◌≡◌, Ok, map};
-ghost use Rattle.sqltokens.specs.What.{What, whats, is_word, is_mark};
+ghost use Rattle.sqltokens.specs.What.{What, whats, is_word, is_symbol};
 ghost use Rattle.sqltokens.specs.Classes.{is_name};
 ghost use Rattle.phrase.specs.Grammar.{expect, one};
 ghost use Rattle.phrase.specs.Reading.{Gives};
@@ -257,7 +257,7 @@ impl<'a> Repeated<'a> for AnotherReference {
 
     ghost form = { reference_form };
 
-    ghost begins = { is_mark Comma };
+    ghost begins = { is_symbol Comma };
 
     ghost reads = { another_reference.read };
 

@@ -1,6 +1,6 @@
 -- How many events a recovery brings.
-use Rattle.std.proofs.Common.{◌≡◌, ◌∙◌, ◌⊎◌, inl, inr, ℕ, zero, suc, ◌+◌, ◌*◌, ◌≤◌, Bool, true, false, List, ◌++◌, length, Option, Some, None, refl, sym, ap, subst, arith}
-use Rattle.std.specs.Prelude.{ℤ, if◌then◌else◌}
+use Rattle.std.proofs.Common.{◌≡◌, ◌∙◌, ℕ, zero, suc, ◌+◌, ◌*◌, ◌≤◌, Bool, true, false, ◌++◌, length, Option, Some, None, refl, ap, subst, arith}
+use Rattle.std.specs.Prelude.{if◌then◌else◌}
 use Rattle.std.proofs.Math.Nat.{suc-mul, add-mul}
 use Rattle.std.proofs.lemmas.List.{length-append}
 use Rattle.model.specs.Lists.{nth}
@@ -8,7 +8,7 @@ use Rattle.model.specs.Worlds as model
 use Rattle.model.specs.declared.message.Input.TheVariants as input
 use Rattle.sqlchecks.specs.Columns.{Tables}
 use Rattle.script.specs.declared.sent.Sent.{Sent}
-use Rattle.script.specs.Stage.{Stage, Played, nothing, followed, event_at, delivery, deliveries_from, reading_of, all_lost, starts, stirred, turn, turns, spread_or_said, led_on, all_led_on, recovery, events_in}
+use Rattle.script.specs.Stage.{Stage, Played, nothing, followed, event_at, delivery, deliveries_from, reading_of, all_lost, starts, stirred, turn, turns, spread_or_said, led_on, all_led_on, events_in}
 use Rattle.script.specs.Standing.{standing_at, ends_own, foremost, longest, is_well}
 use Rattle.script.specs.Laws.{RecoversSoon}
 use Rattle.script.proofs.Playing.{events_append}

@@ -3,3 +3,4 @@ pub mod Playing
 pub mod Rounds
 pub mod Recovering
 pub mod Counting
+pub mod BroughtSame

@@ -151,11 +151,6 @@ still_added a c xs ys zs is (le, none) = (
   subst (NoneLeft c) (sym (ap (lost_first a) is ∙ lost_append a xs ys le)) (none_append c (lost_first a xs) ys none),
 )
 
-pub none_within : (count : ℕ) (xs : List Sent) → NoneLeft count xs → count ≤ length xs
-none_within zero xs h = omega arith
-none_within (suc count) [] h = absurd h
-none_within (suc count) (x ∷ xs) h = omega (arith, none_within count xs h.1)
-
 pub none_fewer : (less count : ℕ) (xs : List Sent) → less ≤ count → NoneLeft count xs → NoneLeft less xs
 none_fewer zero count xs le h = tt
 none_fewer (suc less) zero xs le h = absurd (omega (arith, le))

@@ -1,15 +1,13 @@
 -- Lemmas on what lines bring and print.
-use Rattle.std.proofs.Common.{◌≡◌, ◌∙◌, ℕ, suc, ◌+◌, ◌-◌, ◌<◌, ℤ, Bool, true, false, List, [], ◌∷◌, ◌++◌, map, take, drop, length, Option, Some, None, Result, Ok, Err, ◌⊎◌, inl, inr, refl, sym, ap, subst, append_assoc, add-one, arith}
+use Rattle.std.proofs.Common.{◌≡◌, ◌∙◌, ℕ, suc, ◌+◌, ◌-◌, ◌<◌, ℤ, Bool, true, false, List, [], ◌∷◌, ◌++◌, map, take, drop, length, Option, Some, None, Result, Ok, Err, ◌⊎◌, inl, inr, refl, sym, ap, subst, append_assoc, add-one}
 use Rattle.std.specs.Prelude.{slice_get, slice_index_or, IfErr, IsErr, MatchResult, if◌then◌else◌, ◌&&◌}
 use Rattle.std.specs.List.{All, flat_map}
-use Rattle.std.specs.declared.vec.Vec.{Vec}
-use Rattle.std.specs.declared.alloc.Global.{Global}
 use Rattle.std.specs.Io.KnownBytes.{Appends}
-use Rattle.std.proofs.Math.Seq.{drop-append_seam, drop-cons}
-use Rattle.std.proofs.lemmas.List.{take_more, length-map, length-append, flat_map_more, take-append-drop}
+use Rattle.std.proofs.Math.Seq.{drop-append_seam}
+use Rattle.std.proofs.lemmas.List.{take_more, flat_map_more, take-append-drop}
 use Rattle.std.proofs.lemmas.Grind.{flat_map-append}
 use Rattle.model.specs.Lists.{nth}
-use Rattle.model.specs.Transactions.{Schema}
+use Rattle.model.specs.Transactions.{Language}
 use Rattle.model.specs.Steps.{Effect, Moves, Refuses, Nothing}
 use Rattle.model.specs.Members.{Node, closed_time}
 use Rattle.model.specs.declared.message.Message.{Message}
@@ -23,22 +21,17 @@ use Rattle.model.specs.declared.event.Job.{Job}
 use Rattle.model.specs.declared.event.Job.TheVariants.{Delivery, Local}
 use Rattle.model.specs.declared.event.Left.{Left}
 use Rattle.model.specs.Worlds as model
-use Rattle.model.specs.Worlds.{World, Event, Output, happens, run, new_world, Gives, GivesAll, numbered, done, effect_gives, tells, effect, IsGivenIn, does, step_gives, delivers, delivery_gives, tears, stops, starts, IsGivenAt, IsGivenBy}
+use Rattle.model.specs.Worlds.{World, Event, Output, happens, run, new_world, Gives, numbered, done, effect_gives, tells, effect, IsGivenIn, does, step_gives, delivers, delivery_gives, tears, stops, starts, IsGivenAt, IsGivenBy}
 use Rattle.answertext.specs.Sinks.{AppendsBeginning, WritesOrBegins}
 use Rattle.answertext.specs.Appending.{appends-nothing, appends-more, begins-nothing, begins-more, begins-longer, append-none}
 use Rattle.sqlchecks.specs.Columns.{Tables}
-use Rattle.sqlread.specs.Meaning.{schema_of, select_of}
+use Rattle.sqlread.specs.Meaning.{language_of, select_of}
 use Rattle.sqlread.specs.Shapes.{QueryShape}
 use Rattle.world.specs.declared.history.World.{World as Whole}
 use Rattle.world.specs.declared.output.Output.{Output as Out}
 use Rattle.world.specs.declared.output.Output.TheVariants.{Sent as SentOut, Applied as AppliedOut, Refused as RefusedOut, Answered as AnsweredOut}
-use Rattle.world.specs.Run.{tables_in, schema_in, members_in, events_of, now_of}
-use Rattle.world.specs.View.{event_of, outputs_of, HasColumns, ShowsColumns, EachShowsColumns}
-use Rattle.world.specs.declared.event.Event.{Event as Given}
-use Rattle.world.specs.declared.event.Job.{Job as WorldJob}
-use Rattle.lines.specs.declared.line.Job.{Job as TornJob}
-use Rattle.lines.specs.declared.line.Left.{Left as TornLeft}
-use Rattle.lines.specs.declared.line.Line.TheVariants.{Torn as TornLine}
+use Rattle.world.specs.Run.{tables_in, language_in, members_in, events_of, now_of}
+use Rattle.world.specs.View.{outputs_of, HasColumns}
 use Rattle.script.specs.declared.sent.Sent.{Sent}
 use Rattle.script.specs.declared.play.Play.{Play}
 use Rattle.script.specs.declared.run_fault.RunFault.{RunFault}
@@ -46,19 +39,19 @@ use Rattle.script.specs.declared.run_fault.RunFault.TheVariants.{Refused as Refu
 use Rattle.script.specs.Faults.{IsPlayFault}
 use Rattle.script.specs.Printing.{output_text}
 use Rattle.script.specs.Mail.{newly_sent, messages_in}
-use Rattle.script.specs.Stage.{Act, Happens, Asks, Refuses, Stage, Played, nothing, left_in, PrintsAct, Prints, IsPrinted, IsBegun, events_in, event_at, delivery, delivery_in_round, deliveries, delivered, reading_of, is_up, followed, torn_stage, job_at, tear_of, asked, played}
+use Rattle.script.specs.Stage.{Act, Happens, Asks, Refuses, Stage, Played, nothing, PrintsAct, Prints, IsPrinted, IsBegun, events_in, event_at, delivery, delivered, reading_of, followed, asked}
 use Rattle.script.specs.Plays.{stage_of, Moves as PlayMoves, Plays}
 
 -- ---- runs
 
-run_next : (s : Schema) (n : ℕ) (w : World) (es : List Event) (e : Event) → run s n w (es ++ e ∷ []) ≡ happens s n (run s n w es) e
+run_next : (s : Language) (n : ℕ) (w : World) (es : List Event) (e : Event) → run s n w (es ++ e ∷ []) ≡ happens s n (run s n w es) e
 run_next s n w [] e = refl
 run_next s n w (f ∷ es) e = run_next s n (happens s n w f) es e
 
 -- the world after one more event
-pub now_next : (old new : Whole) (e : Event) → schema_in new ≡ schema_in old → members_in new ≡ members_in old → events_of new ≡ events_of old ++ e ∷ [] → now_of new ≡ happens (schema_in old) (members_in old) (now_of old) e
+pub now_next : (old new : Whole) (e : Event) → language_in new ≡ language_in old → members_in new ≡ members_in old → events_of new ≡ events_of old ++ e ∷ [] → now_of new ≡ happens (language_in old) (members_in old) (now_of old) e
 now_next old new e schema members events =
-    (λ i. run (schema i) (members i) (new_world (members i)) (events i)) ∙ run_next (schema_in old) (members_in old) (new_world (members_in old)) (events_of old) e
+    (λ i. run (schema i) (members i) (new_world (members i)) (events i)) ∙ run_next (language_in old) (members_in old) (new_world (members_in old)) (events_of old) e
 
 -- ---- messages among outputs
 
@@ -88,21 +81,21 @@ none_applied m (x ∷ xs) = none_applied m xs
 same_sent : (w : World) (outs : List Output) → sent_in outs ≡ [] → w.sent ≡ w.sent ++ sent_in outs
 same_sent w outs none = sym (append-none w.sent) ∙ ap (λ ms. w.sent ++ ms) (sym none)
 
-done_sent : (s : Schema) (w : World) (m : ℕ) (x : Node) (e : Effect) → (done w m e).sent ≡ w.sent ++ sent_in (effect_gives s w m x e)
+done_sent : (s : Language) (w : World) (m : ℕ) (x : Node) (e : Effect) → (done w m e).sent ≡ w.sent ++ sent_in (effect_gives s w m x e)
 done_sent s w m x (Moves a) = ap (λ ms. w.sent ++ ms) (sym (sent_numbered (length w.sent) a.sent (tells s m x a.node) (none_applied m (filter_map (told_at s a.node.log) (range_with_len (x.commit + 1) (a.node.commit - x.commit))))))
 done_sent s w m x (Refuses r) = same_sent w (model.Refused m r ∷ []) refl
 done_sent s w m x Nothing = same_sent w [] refl
 
-done_sent_if : (s : Schema) (w : World) (m : ℕ) (x : Node) (e : Effect) (up : Bool) →
+done_sent_if : (s : Language) (w : World) (m : ℕ) (x : Node) (e : Effect) (up : Bool) →
     (if up then done w m e else w).sent ≡ w.sent ++ sent_in (if up then effect_gives s w m x e else (model.Refused m NodeDown ∷ []))
 done_sent_if s w m x e true = done_sent s w m x e
 done_sent_if s w m x e false = same_sent w (model.Refused m NodeDown ∷ []) refl
 
-does_sent : (s : Schema) (n : ℕ) (w : World) (m : ℕ) (job : Job) (o : Option Node) → (does s n w m job o).sent ≡ w.sent ++ sent_in (step_gives s n w m job o)
+does_sent : (s : Language) (n : ℕ) (w : World) (m : ℕ) (job : Job) (o : Option Node) → (does s n w m job o).sent ≡ w.sent ++ sent_in (step_gives s n w m job o)
 does_sent s n w m job None = same_sent w [] refl
 does_sent s n w m job (Some x) = done_sent_if s w m x (effect s n w m job x) x.up
 
-delivers_sent : (s : Schema) (n : ℕ) (w : World) (job : Job) (o : Option Message) → (delivers s n w job o).sent ≡ w.sent ++ sent_in (delivery_gives s n w job o)
+delivers_sent : (s : Language) (n : ℕ) (w : World) (job : Job) (o : Option Message) → (delivers s n w job o).sent ≡ w.sent ++ sent_in (delivery_gives s n w job o)
 delivers_sent s n w job None = same_sent w [] refl
 delivers_sent s n w job (Some message) = does_sent s n w message.addressee job (nth w.nodes message.addressee)
 
@@ -122,24 +115,24 @@ starts_sent : (w : World) (m : ℕ) (o : Option Node) → (starts w m o).sent �
 starts_sent w m None = refl
 starts_sent w m (Some x) = started_if w m (model.started x) x.up
 
-tears_sent : (s : Schema) (n : ℕ) (w : World) (m : ℕ) (job : Job) (left : Left) (o : Option Node) → (tears s n w m job left o).sent ≡ w.sent
+tears_sent : (s : Language) (n : ℕ) (w : World) (m : ℕ) (job : Job) (left : Left) (o : Option Node) → (tears s n w m job left o).sent ≡ w.sent
 tears_sent s n w m job left None = refl
 tears_sent s n w m job left (Some x) = kept_if w m (model.stopped (model.node_left left x (effect s n w m job x))) (x.up && model.is_for w m job)
 
-given_in : (s : Schema) (m : ℕ) (x : Node) (q : Option Query) (out : List Output) → IsGivenIn s m x q out → sent_in out ≡ []
+given_in : (s : Language) (m : ℕ) (x : Node) (q : Option Query) (out : List Output) → IsGivenIn s m x q out → sent_in out ≡ []
 given_in s m x None out h = ap sent_in h
 given_in s m x (Some q) out h = ap sent_in h.2
 
-given_by : (s : Schema) (m : ℕ) (q : Select) (x : Node) (up : Bool) (out : List Output) → IsGivenBy s m q x up out → sent_in out ≡ []
+given_by : (s : Language) (m : ℕ) (q : Select) (x : Node) (up : Bool) (out : List Output) → IsGivenBy s m q x up out → sent_in out ≡ []
 given_by s m q x false out h = ap sent_in h
 given_by s m q x true out h = given_in s m x (closed_query q (closed_time x)) out h
 
-given_at : (s : Schema) (m : ℕ) (q : Select) (o : Option Node) (out : List Output) → IsGivenAt s m q o out → sent_in out ≡ []
+given_at : (s : Language) (m : ℕ) (q : Select) (o : Option Node) (out : List Output) → IsGivenAt s m q o out → sent_in out ≡ []
 given_at s m q None out h = ap sent_in h
 given_at s m q (Some x) out h = given_by s m q x x.up out h
 
 -- the messages that an event gives are those that it sent
-sent_by : (s : Schema) (n : ℕ) (w : World) (e : Event) (out : List Output) → Gives s n w e out → (happens s n w e).sent ≡ w.sent ++ sent_in out
+sent_by : (s : Language) (n : ℕ) (w : World) (e : Event) (out : List Output) → Gives s n w e out → (happens s n w e).sent ≡ w.sent ++ sent_in out
 sent_by s n w (model.Hand m input) out h = does_sent s n w m (Local input) (nth w.nodes m) ∙ ap (λ o. w.sent ++ sent_in o) (sym h)
 sent_by s n w (model.Deliver k reading) out h = delivers_sent s n w (Delivery k reading) (nth w.sent k) ∙ ap (λ o. w.sent ++ sent_in o) (sym h)
 sent_by s n w (model.Stop m) out h = stops_sent w m (nth w.nodes m) ∙ same_sent w out (ap sent_in h)
@@ -147,7 +140,7 @@ sent_by s n w (model.Start m) out h = starts_sent w m (nth w.nodes m) ∙ same_s
 sent_by s n w (model.Torn m job left) out h = tears_sent s n w m job left (nth w.nodes m) ∙ same_sent w out (ap sent_in h)
 sent_by s n w (model.Ask m q) out h = same_sent w out (given_at s m q (nth w.nodes m) out h)
 
-pub sent_after : (s : Schema) (n : ℕ) (w : World) (e : Event) (outs : List Out) → Gives s n w e (outputs_of outs) → drop (length w.sent) (happens s n w e).sent ≡ messages_in outs
+pub sent_after : (s : Language) (n : ℕ) (w : World) (e : Event) (outs : List Out) → Gives s n w e (outputs_of outs) → drop (length w.sent) (happens s n w e).sent ≡ messages_in outs
 sent_after s n w e outs h = ap (drop (length w.sent)) (sent_by s n w e (outputs_of outs) h) ∙ drop-append_seam w.sent (sent_in (outputs_of outs)) ∙ sym (messages_are outs)
 
 -- ---- what is printed
@@ -176,6 +169,10 @@ quiet old new s c stage world live = (
 pub nothing_yet : (old : Whole) (new : Play) (fault : RunFault) (p : Played) (c : Option (List ℕ)) → IsPlayFault fault → Plays old (Err fault) new p c c
 nothing_yet old new fault p c is = (is, not_begun (tables_in old) (members_in old) (now_of old) p.acts c)
 
+-- an event for which memory was wanting
+pub unplayed : (old : Whole) (new : Play) (r : Result (Unit {0}) RunFault) (fault : RunFault) (p : Played) (c : Option (List ℕ)) → r ≡ Err fault → IsPlayFault fault → Plays old r new p c c
+unplayed old new r fault p c is fits = subst (λ x. Plays old x new p c c) (sym is) (nothing_yet old new fault p c fits)
+
 pub act_plays : (old : Whole) (new : Play) (r : Result (Unit {0}) RunFault) (act : Act) (s : Stage) (text : List ℕ) (c d : Option (List ℕ)) →
     PlayMoves old new (record { acts = act ∷ []; stage = s }) → PrintsAct (tables_in old) (members_in old) (now_of old) act text → WritesOrBegins c d r text → IfErr r IsPlayFault →
     Plays old r new (record { acts = act ∷ []; stage = s }) c d
@@ -203,37 +200,9 @@ delivers_at old mid new place reading message r c d world stage is read h =
     plays_from mid.world old.world r new _ _ c d world
     (event_from old mid (delivered (stage_of old) (suc place)) _ _ world stage e ∙ sym (ap (delivery (tables_in old.world) (members_in old.world) (stage_of old) (suc place)) is)) h
 
-module _ (old mid new : Play) (m : ℕ) (left : TornLeft) (job : TornJob) (world : mid.world ≡ old.world) where
-  pub tears_event : (about : WorldJob) (r : Result (Unit {0}) RunFault) (c d : Option (List ℕ)) →
-      is_up (now_of old.world) m ≡ true → stage_of mid ≡ torn_stage (tables_in old.world) (members_in old.world) (stage_of old) job →
-      Some about ≡ job_at (tables_in old.world) (members_in old.world) (stage_of old) m job →
-      Plays mid.world r new (event_at (tables_in mid.world) (members_in mid.world) (stage_of mid) (model.Torn m about (left_in left))) c d →
-      Plays old.world r new (played (tables_in old.world) (members_in old.world) (stage_of old) (TornLine m left job)) c d
-  tears_event about r c d up stage is h =
-      let t = tables_in old.world in
-      let n = members_in old.world in
-      let s = stage_of old in
-      plays_from mid.world old.world r new _ _ c d world
-      (event_from old mid (torn_stage t n s job) _ _ world stage refl
-      ∙ ap (tear_of t n s m (left_in left) job) is
-      ∙ ap (λ b. if b then tear_of t n s m (left_in left) job (job_at t n s m job) else nothing s) (sym up)) h
-
-  pub tears_nothing : (c : Option (List ℕ)) →
-      is_up (now_of old.world) m ≡ true → stage_of mid ≡ stage_of old → old.world.is_spent ≡ false →
-      None ≡ job_at (tables_in old.world) (members_in old.world) (stage_of old) m job →
-      Plays old.world (Ok tt) mid (played (tables_in old.world) (members_in old.world) (stage_of old) (TornLine m left job)) c c
-  tears_nothing c up stage live is =
-      let t = tables_in old.world in
-      let n = members_in old.world in
-      let s = stage_of old in
-      plays_from old.world old.world (Ok tt) mid _ _ c c refl
-      (ap (tear_of t n s m (left_in left) job) is
-      ∙ ap (λ b. if b then tear_of t n s m (left_in left) job (job_at t n s m job) else nothing s) (sym up))
-      (quiet old.world mid s c stage world live)
-
 -- ---- one after the other
 
-run_more : (s : Schema) (n : ℕ) (w : World) (es fs : List Event) → run s n w (es ++ fs) ≡ run s n (run s n w es) fs
+run_more : (s : Language) (n : ℕ) (w : World) (es fs : List Event) → run s n w (es ++ fs) ≡ run s n (run s n w es) fs
 run_more s n w [] fs = refl
 run_more s n w (e ∷ es) fs = run_more s n (happens s n w e) es fs
 
@@ -243,15 +212,15 @@ events_append (Happens e ∷ xs) ys = ap (λ es. e ∷ es) (events_append xs ys)
 events_append (Asks m q ∷ xs) ys = ap (λ es. model.Ask m (select_of q) ∷ es) (events_append xs ys)
 events_append (Refuses m r ∷ xs) ys = events_append xs ys
 
-now_after : (old new : Whole) (es : List Event) → tables_in new ≡ tables_in old → members_in new ≡ members_in old → events_of new ≡ events_of old ++ es → now_of new ≡ run (schema_of (tables_in old)) (members_in old) (now_of old) es
+now_after : (old new : Whole) (es : List Event) → tables_in new ≡ tables_in old → members_in new ≡ members_in old → events_of new ≡ events_of old ++ es → now_of new ≡ run (language_of (tables_in old)) (members_in old) (now_of old) es
 now_after old new es tables members events =
-    (λ i. run (schema_of (tables i)) (members i) (new_world (members i)) (events i)) ∙ run_more (schema_in old) (members_in old) (new_world (members_in old)) (events_of old) es
+    (λ i. run (language_of (tables i)) (members i) (new_world (members i)) (events i)) ∙ run_more (language_in old) (members_in old) (new_world (members_in old)) (events_of old) es
 
 module _ (tables : Tables) (n : ℕ) where
-  prints_more : (w : World) (acts more : List Act) (text rest : List ℕ) → Prints tables n w acts text → Prints tables n (run (schema_of tables) n w (events_in acts)) more rest → Prints tables n w (acts ++ more) (text ++ rest)
+  prints_more : (w : World) (acts more : List Act) (text rest : List ℕ) → Prints tables n w acts text → Prints tables n (run (language_of tables) n w (events_in acts)) more rest → Prints tables n w (acts ++ more) (text ++ rest)
   prints_more w [] more text rest none h = subst (λ (t : List ℕ). Prints tables n w more (t ++ rest)) (sym none) h
   prints_more w (Happens e ∷ acts) more text rest (one, others, is, first, later) h =
-      (one, others ++ rest, ap (λ t. t ++ rest) is ∙ append_assoc one others rest, first, prints_more (happens (schema_of tables) n w e) acts more others rest later h)
+      (one, others ++ rest, ap (λ t. t ++ rest) is ∙ append_assoc one others rest, first, prints_more (happens (language_of tables) n w e) acts more others rest later h)
   prints_more w (Asks m q ∷ acts) more text rest (one, others, is, first, later) h =
       (one, others ++ rest, ap (λ t. t ++ rest) is ∙ append_assoc one others rest, first, prints_more w acts more others rest later h)
   prints_more w (Refuses m r ∷ acts) more text rest (one, others, is, first, later) h =
@@ -280,9 +249,6 @@ so_far_nothing now p c live = record {
   acts_are = refl;
   stage_is = refl;
 }
-
-pub so_far_live : (old : Whole) (now : Play) (p rest : Played) (c d : Option (List ℕ)) → SoFar old now p rest c d → now.world.is_spent ≡ false
-so_far_live old now p rest c d h = h.moves.live
 
 printed_more : (old : Whole) (mid : Play) (acts more : List Act) (s : Stage) (c d e : Option (List ℕ)) → PlayMoves old mid (record { acts = acts; stage = s }) → IsPrinted (tables_in old) (members_in old) (now_of old) acts c d →
     IsPrinted (tables_in mid.world) (members_in mid.world) (now_of mid.world) more d e → IsPrinted (tables_in old) (members_in old) (now_of old) (acts ++ more) c e
@@ -355,33 +321,28 @@ wrote_part outs i o c d e so next lt is =
     let longer = begins-longer c e (flat_map output_text (take (i + 1) outs)) (flat_map output_text (drop (i + 1) outs)) (subst (λ (t : List ℕ). AppendsBeginning c e t) (sym (text_more outs i o lt is)) begun) in
     subst (λ (t : List ℕ). AppendsBeginning c e t) (sym (flat_map-append output_text (take (i + 1) outs) (drop (i + 1) outs)) ∙ ap (flat_map output_text) (take-append-drop (i + 1) outs)) longer
 
--- a text, and then another
-pub written_after : {E : Type 0} (r : Result (Unit {0}) E) (a b c : Option (List ℕ)) (x y : List ℕ) → Appends a b x → WritesOrBegins b c r y → WritesOrBegins a c r (x ++ y)
-written_after (Ok done) a b c x y p q = appends-more a b c x y p q
-written_after (Err e) a b c x y p q = begins-more a b c x y p q
-
 -- at a fault
 pub at_err : {T E : Type 0} (r : Result T E) (P Q : Type 0) → IsErr r → Q → MatchResult r (λ _. P) (λ _. Q)
 at_err (Ok x) P Q failed q = cc
 at_err (Err e) P Q failed q = q
 
 pub event_plays : (old new : Play) (event : Event) (outs : List Out) (r : Result (Unit {0}) RunFault) (c d : Option (List ℕ)) →
-    Gives (schema_in old.world) (members_in old.world) (now_of old.world) event (outputs_of outs) →
-    now_of new.world ≡ happens (schema_in old.world) (members_in old.world) (now_of old.world) event →
+    Gives (language_in old.world) (members_in old.world) (now_of old.world) event (outputs_of outs) →
+    now_of new.world ≡ happens (language_in old.world) (members_in old.world) (now_of old.world) event →
     events_of new.world ≡ events_of old.world ++ event ∷ [] →
     tables_in new.world ≡ tables_in old.world → members_in new.world ≡ members_in old.world → new.world.is_spent ≡ false →
     new.clocks.items ≡ old.clocks.items → new.mail ≡ old.mail ++ map newly_sent (messages_in outs) →
     WritesOrBegins c d r (flat_map output_text outs) → IfErr r IsPlayFault →
     Plays old.world r new (event_at (tables_in old.world) (members_in old.world) (stage_of old) event) c d
 event_plays old new event outs r c d gives now events tables members live clocks sent wrote err =
-    let after : new.mail ≡ old.mail ++ map newly_sent (drop (length (now_of old.world).sent) (happens (schema_in old.world) (members_in old.world) (now_of old.world) event).sent) =
-    sent ∙ ap (λ ms. old.mail ++ map newly_sent ms) (sym (sent_after (schema_in old.world) (members_in old.world) (now_of old.world) event outs gives)) in
+    let after : new.mail ≡ old.mail ++ map newly_sent (drop (length (now_of old.world).sent) (happens (language_in old.world) (members_in old.world) (now_of old.world) event).sent) =
+    sent ∙ ap (λ ms. old.mail ++ map newly_sent ms) (sym (sent_after (language_in old.world) (members_in old.world) (now_of old.world) event outs gives)) in
     act_plays old.world new r (Happens event) _ (flat_map output_text outs) c d
     (record { stage = λ i. record { clocks = clocks i; world = now i; sent = after i }; events = events; tables = tables; members = members; live = live })
     (outs, gives, refl) wrote err
 
 pub question_plays : (old new : Play) (m : ℕ) (query : QueryShape) (outs : List Out) (r : Result (Unit {0}) RunFault) (c d : Option (List ℕ)) →
-    Gives (schema_in old.world) (members_in old.world) (now_of old.world) (model.Ask m (select_of query)) (outputs_of outs) → All (HasColumns (tables_in old.world) query.table) outs →
+    Gives (language_in old.world) (members_in old.world) (now_of old.world) (model.Ask m (select_of query)) (outputs_of outs) → All (HasColumns (tables_in old.world) query.table) outs →
     now_of new.world ≡ now_of old.world → events_of new.world ≡ events_of old.world ++ model.Ask m (select_of query) ∷ [] →
     tables_in new.world ≡ tables_in old.world → members_in new.world ≡ members_in old.world → new.world.is_spent ≡ false →
     new.clocks.items ≡ old.clocks.items → new.mail ≡ old.mail → WritesOrBegins c d r (flat_map output_text outs) → IfErr r IsPlayFault →
@@ -412,25 +373,6 @@ refused_plays old m refusal answer r c d live (inr is) ends wrote err =
     let P : Result QueryShape Refusal → Type 0 = λ x. Plays old.world r old (asked (tables_in old.world) (members_in old.world) (stage_of old) m x) c d in
     subst P (sym is) (refusal_plays old m refusal r c d live wrote err)
 
--- or a question
-pub asked_plays : (old new : Play) (m : ℕ) (query : QueryShape) (answer : Result QueryShape Refusal) (r : Result (Unit {0}) RunFault) (c d : Option (List ℕ)) → answer ≡ Ok query →
-    Plays old.world r new (asked (tables_in old.world) (members_in old.world) (stage_of old) m (Ok query)) c d → Plays old.world r new (asked (tables_in old.world) (members_in old.world) (stage_of old) m answer) c d
-asked_plays old new m query answer r c d is h =
-    let P : Result QueryShape Refusal → Type 0 = λ x. Plays old.world r new (asked (tables_in old.world) (members_in old.world) (stage_of old) m x) c d in subst P (sym is) h
-
--- ---- what one event gives
-
-pub given_one : (s : Schema) (n : ℕ) (w : World) (e : Event) (outs : List (Vec Out Global)) → GivesAll s n w (e ∷ []) (map (λ o. outputs_of o.items) outs) → length outs ≡ 1
-given_one s n w e outs (out, rest, is, gives, none) = sym (length-map outs (λ (o : Vec Out Global). outputs_of o.items)) ∙ ap length is ∙ ap (λ (l : List (List Output)). suc (length l)) none
-
-one_item : {A : Type 0} (xs before : List A) (x : A) → length xs ≡ 1 → xs ≡ before ++ x ∷ [] → slice_get xs 0 ≡ Some x
-one_item xs [] x one is = ap (λ l. slice_get l 0) is
-one_item xs (y ∷ ys) x one is = absurd (omega (arith, sym one ∙ ap length is ∙ ap suc (length-append ys (x ∷ []))))
-
-pub columns_of_one : (tables : Tables) (s : Schema) (n : ℕ) (w : World) (e : Given) (outs before : List (Vec Out Global)) (o : Vec Out Global) →
-    GivesAll s n w (event_of e ∷ []) (map (λ o. outputs_of o.items) outs) → EachShowsColumns tables (e ∷ []) outs → outs ≡ before ++ o ∷ [] → ShowsColumns tables e o.items
-columns_of_one tables s n w e outs before o gives columns is = columns 0 e o refl (one_item outs before o (given_one s n w (event_of e) outs gives) is)
-
 module _ (old new : Play) (r : Result (Unit {0}) RunFault) (c d : Option (List ℕ)) where
   pub delivers_some : (place k : ℕ) → suc place ≡ k →
       Plays old.world r new (delivery (tables_in old.world) (members_in old.world) (stage_of old) (suc place) (nth old.mail (suc place))) c d →
@@ -438,44 +380,7 @@ module _ (old new : Play) (r : Result (Unit {0}) RunFault) (c d : Option (List �
   delivers_some place k is h =
       let P : ℕ → Type 0 = λ j. Plays old.world r new (delivery (tables_in old.world) (members_in old.world) (stage_of old) j (nth old.mail j)) c d in subst P is h
 
-  pub settles_up : (place k : ℕ) (message : Sent) → suc place ≡ k → slice_get old.mail place ≡ Some message → is_up (now_of old.world) message.addressee ≡ true →
-      Plays old.world r new (delivery (tables_in old.world) (members_in old.world) (stage_of old) (suc place) (nth old.mail (suc place))) c d →
-      Plays old.world r new (delivery_in_round (tables_in old.world) (members_in old.world) (stage_of old) k (nth old.mail k)) c d
-  settles_up place k message number is up h =
-      let t = tables_in old.world in
-      let n = members_in old.world in
-      let s = stage_of old in
-      let P : ℕ → Type 0 = λ j. Plays old.world r new (delivery_in_round t n s j (nth old.mail j)) c d in
-      subst P number (plays_from old.world old.world r new _ _ c d refl
-      (ap (delivery t n s (suc place)) is
-      ∙ ap (λ b. if b then delivery t n s (suc place) (Some message) else nothing (delivered s (suc place))) (sym up)
-      ∙ ap (delivery_in_round t n s (suc place)) (sym is)) h)
-
 pub delivers_none : (old : Play) (k : ℕ) (c : Option (List ℕ)) → nth old.mail k ≡ None → old.world.is_spent ≡ false →
     Plays old.world (Ok tt) old (delivery (tables_in old.world) (members_in old.world) (stage_of old) k (nth old.mail k)) c c
 delivers_none old k c none live =
     plays_from old.world old.world (Ok tt) old _ _ c c refl (ap (delivery (tables_in old.world) (members_in old.world) (stage_of old) k) (sym none)) (quiet old.world old (stage_of old) c refl refl live)
-
-pub settles_none : (old : Play) (k : ℕ) (c : Option (List ℕ)) → nth old.mail k ≡ None → old.world.is_spent ≡ false →
-    Plays old.world (Ok tt) old (delivery_in_round (tables_in old.world) (members_in old.world) (stage_of old) k (nth old.mail k)) c c
-settles_none old k c none live =
-    plays_from old.world old.world (Ok tt) old _ _ c c refl (ap (delivery_in_round (tables_in old.world) (members_in old.world) (stage_of old) k) (sym none)) (quiet old.world old (stage_of old) c refl refl live)
-
-pub settles_down : (old new : Play) (place k : ℕ) (message : Sent) (c : Option (List ℕ)) → suc place ≡ k → slice_get old.mail place ≡ Some message → is_up (now_of old.world) message.addressee ≡ false →
-    stage_of new ≡ delivered (stage_of old) (suc place) → new.world ≡ old.world → old.world.is_spent ≡ false →
-    Plays old.world (Ok tt) new (delivery_in_round (tables_in old.world) (members_in old.world) (stage_of old) k (nth old.mail k)) c c
-settles_down old new place k message c number is down stage world live =
-    let t = tables_in old.world in
-    let n = members_in old.world in
-    let s = stage_of old in
-    let P : ℕ → Type 0 = λ j. Plays old.world (Ok tt) new (delivery_in_round t n s j (nth old.mail j)) c c in
-    subst P number (plays_from old.world old.world (Ok tt) new _ _ c c refl
-    (ap (λ b. if b then delivery t n s (suc place) (Some message) else nothing (delivered s (suc place))) (sym down)
-    ∙ ap (delivery_in_round t n s (suc place)) (sym is)) (quiet old.world new (delivered s (suc place)) c stage world live))
-
--- numbers of messages, one more at a time
-pub deliveries_next : (t : Tables) (n : ℕ) (s : Stage) (ks : List ℕ) (i k : ℕ) → i < length ks → k ≡ slice_index_or ks i k →
-    deliveries t n (drop i ks) s ≡ followed (delivery_in_round t n s k (nth s.sent k)) (deliveries t n (drop (i + 1) ks))
-deliveries_next t n s ks i k lt is =
-    ap (λ list. deliveries t n list s) (drop-cons ks i k lt ∙ ap (λ x. x ∷ drop (suc i) ks) (sym is))
-    ∙ ap (λ j. followed (delivery_in_round t n s k (nth s.sent k)) (deliveries t n (drop j ks))) (sym (add-one i))

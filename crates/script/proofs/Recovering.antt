@@ -1,18 +1,17 @@
 -- Lemmas on parts of a line that follow each other, on what is only looked at, and on how a group recovers.
-use Rattle.std.proofs.Common.{◌≡◌, ◌∙◌, ℕ, zero, suc, ◌+◌, ◌-◌, ◌*◌, ◌<◌, ◌≤◌, Bool, true, false, List, [], ◌∷◌, ◌++◌, length, Option, Some, None, Result, Ok, Err, refl, sym, ap, subst, add-one, arith}
+use Rattle.std.proofs.Common.{◌≡◌, ◌∙◌, ℕ, zero, suc, ◌+◌, ◌-◌, ◌*◌, ◌<◌, ◌≤◌, Bool, true, false, List, length, Option, Some, None, Result, Ok, Err, refl, sym, ap, subst, add-one, arith}
 use Rattle.std.specs.Prelude.{ℤ, if◌then◌else◌, ◌&&◌, option_map, option_and_then}
 use Rattle.std.specs.Ordering.{ord_max, nat_cmp}
 use Rattle.model.specs.Lists.{nth}
 use Rattle.model.specs.Members.{Node, term_of}
 use Rattle.model.specs.Worlds as model
 use Rattle.model.specs.Worlds.{World}
-use Rattle.model.specs.declared.entry.Entry.{Entry}
 use Rattle.model.specs.declared.message.Input.TheVariants as input
 use Rattle.answertext.specs.Appending.{append-none}
 use Rattle.sqlchecks.specs.Columns.{Tables}
 use Rattle.world.specs.declared.history.World.{World as Whole}
 use Rattle.world.specs.Run.{tables_in, members_in}
-use Rattle.world.specs.View.{durable_of, stored_of, Stored}
+use Rattle.world.specs.View.{durable_of, stored_of, StoredState}
 use Rattle.script.specs.declared.play.Play.{Play}
 use Rattle.script.specs.declared.run_fault.RunFault.{RunFault}
 use Rattle.script.specs.declared.standing.Standing.{Standing}
@@ -95,20 +94,20 @@ module _ (old mid : Play) (live : old.world.is_spent ≡ false) (still : IsStill
 
 -- ---- how a member stands
 
-module _ (member : Option Node) (stored : Stored) (is : Some stored ≡ option_map (λ x. stored_of (durable_of x)) member) where
+module _ (member : Option Node) (stored : StoredState) (is : Some stored ≡ option_map (λ x. stored_of (durable_of x)) member) where
   pub term_some : stored.hard.term ≡ (standing_of member).term
   term_some = some_term member is
     where
       some_term : (o : Option Node) → Some stored ≡ option_map (λ x. stored_of (durable_of x)) o → stored.hard.term ≡ (standing_of o).term
       some_term None e = absurd (some_is_not_none (sym e))
-      some_term (Some x) e = ap (λ (s : Stored). s.hard.term) (some_same e)
+      some_term (Some x) e = ap (λ (s : StoredState). s.hard.term) (some_same e)
 
   pub length_some : stored.length ≡ (standing_of member).length
   length_some = some_length member is
     where
       some_length : (o : Option Node) → Some stored ≡ option_map (λ x. stored_of (durable_of x)) o → stored.length ≡ (standing_of o).length
       some_length None e = absurd (some_is_not_none (sym e))
-      some_length (Some x) e = ap (λ (s : Stored). s.length) (some_same e)
+      some_length (Some x) e = ap (λ (s : StoredState). s.length) (some_same e)
 
 pub term_none : (member : Option Node) → None ≡ option_map (λ x. stored_of (durable_of x)) member → 0 ≡ (standing_of member).term
 term_none None e = refl
@@ -145,11 +144,6 @@ starts_begin now members c live is =
     subst P (omega (arith, is)) (so_far_nothing now whole c live)
 
 module _ (old : Whole) (now : Play) (whole : Played) (c d : Option (List ℕ)) where
-  pub starts_end : (r m : ℕ) → SoFar old now whole (starts (tables_in old) (members_in old) r m (stage_of now)) c d → r ≡ 0 → Plays old (Ok tt) now whole c d
-  starts_end r m h none =
-      let P : ℕ → Type 0 = λ k. SoFar old now whole (starts (tables_in old) (members_in old) k m (stage_of now)) c d in
-      so_far_ends old now whole c d (subst P none h)
-
   module _ (r less m : ℕ) (one : r ≡ suc less) (h : SoFar old now whole (starts (tables_in old) (members_in old) r m (stage_of now)) c d) where
     start_first : SoFar old now whole (followed (event_at (tables_in old) (members_in old) (stage_of now) (model.Start m)) (starts (tables_in old) (members_in old) less (suc m))) c d
     start_first =
@@ -176,11 +170,6 @@ module _ (t : Tables) (n : ℕ) (s : Stage) where
       ∙ deliveries_past more (suc k) (omega (arith, lt))
 
 module _ (old : Whole) (now : Play) (whole : Played) (c d : Option (List ℕ)) where
-  pub deliveries_end : (r k : ℕ) → SoFar old now whole (deliveries_from (tables_in old) (members_in old) r k (stage_of now)) c d → r ≡ 0 → Plays old (Ok tt) now whole c d
-  deliveries_end r k h none =
-      let P : ℕ → Type 0 = λ j. SoFar old now whole (deliveries_from (tables_in old) (members_in old) j k (stage_of now)) c d in
-      so_far_ends old now whole c d (subst P none h)
-
   pub deliveries_stop : (r place : ℕ) → SoFar old now whole (deliveries_from (tables_in old) (members_in old) r (suc place) (stage_of now)) c d → length now.mail ≤ place → Plays old (Ok tt) now whole c d
   deliveries_stop r place h over =
       let P : Played → Type 0 = λ q. SoFar old now whole q c d in
@@ -220,11 +209,6 @@ turns_of_well t n zero m s well = refl
 turns_of_well t n (suc r) m s well = ap (λ b. if b then nothing s else followed (turn t n m s) (turns t n r m)) well
 
 module _ (old : Whole) (now : Play) (whole : Played) (c d : Option (List ℕ)) where
-  pub turns_end : (r m : ℕ) → SoFar old now whole (turns (tables_in old) (members_in old) r m (stage_of now)) c d → r ≡ 0 → Plays old (Ok tt) now whole c d
-  turns_end r m h none =
-      let P : ℕ → Type 0 = λ k. SoFar old now whole (turns (tables_in old) (members_in old) k m (stage_of now)) c d in
-      so_far_ends old now whole c d (subst P none h)
-
   module _ (r m : ℕ) (mid : Play) (still : IsStill now mid) (h : SoFar old now whole (turns (tables_in old) (members_in old) r m (stage_of now)) c d) where
     turns_here : SoFar old mid whole (turns (tables_in old) (members_in old) r m (stage_of mid)) c d
     turns_here =

@@ -10,7 +10,7 @@ use Rattle.model.specs.Worlds.{happens}
 use Rattle.answertext.specs.Appending.{append-none}
 use Rattle.lines.specs.declared.line.Line.{Line}
 use Rattle.sqlchecks.specs.Columns.{Tables}
-use Rattle.sqlread.specs.Meaning.{schema_of}
+use Rattle.sqlread.specs.Meaning.{language_of}
 use Rattle.world.specs.declared.history.World.{World as Whole}
 use Rattle.world.specs.Run.{tables_in, members_in}
 use Rattle.script.specs.declared.sent.Sent.{Sent}
@@ -32,13 +32,6 @@ take_first : (count : ℕ) (xs ys : List Sent) → count ≤ length xs → take 
 take_first zero xs ys le = refl
 take_first (suc count) [] ys le = absurd (omega (arith, le))
 take_first (suc count) (x ∷ xs) ys le = ap (λ zs. x ∷ zs) (take_first count xs ys (omega (arith, le)))
-
-drop_past : (count place : ℕ) (xs : List Sent) → count ≤ place → drop place (take count xs) ≡ []
-drop_past zero zero xs le = refl
-drop_past zero (suc place) xs le = refl
-drop_past (suc count) zero xs le = absurd (omega (arith, le))
-drop_past (suc count) (suc place) [] le = refl
-drop_past (suc count) (suc place) (x ∷ xs) le = drop_past count place xs (omega (arith, le))
 
 here : (count place : ℕ) (xs : List Sent) (m : Sent) → place < count → slice_get xs place ≡ Some m → drop place (take count xs) ≡ m ∷ drop (suc place) (take count xs)
 here count place [] m lt is = absurd (some_is_not_none is)
@@ -82,7 +75,7 @@ module _ (t : Tables) (n : ℕ) (s : Stage) (i : ℕ) (m : Sent) where
   turn_if : (up : Bool) → slice_get s.sent i ≡ Some m →
       (more : List Sent) × ((if up then delivery t n s (suc i) (Some m) else nothing (delivered s (suc i))).stage.sent ≡ slice_set s.sent i (as_delivered m) ++ more)
   turn_if true at =
-      let more = map newly_sent (drop (length s.world.sent) (happens (schema_of t) n s.world (model.Deliver (suc i) (reading_of s m.addressee))).sent) in
+      let more = map newly_sent (drop (length s.world.sent) (happens (language_of t) n s.world (model.Deliver (suc i) (reading_of s m.addressee))).sent) in
       (more, ap (λ o. changed_to as_delivered s.sent (suc i) o ++ more) at)
   turn_if false at = ([], ap (changed_to as_delivered s.sent (suc i)) at ∙ sym (append-none (slice_set s.sent i (as_delivered m))))
 
@@ -100,9 +93,6 @@ pub record InRound (old : Whole) (now : Play) (p : Played) (count place : ℕ) (
   pub so_far : SoFar old now p (deliveries (tables_in old) (members_in old) (left_from (suc place) (drop place (take count now.mail))) (stage_of now)) before after
   pub none : NoneLeft place now.mail
   pub within : count ≤ length now.mail
-
-pub round_live : (old : Whole) (now : Play) (p : Played) (count place : ℕ) (c d : Option (List ℕ)) → InRound old now p count place c d → now.world.is_spent ≡ false
-round_live old now p count place c d h = h.so_far.moves.live
 
 pub round_begins : (now : Play) (count place : ℕ) (c : Option (List ℕ)) → now.world.is_spent ≡ false → count ≡ length now.mail → NoneLeft place now.mail →
     InRound now.world now (round (tables_of now) (members_of now) (stage_of now)) count place c c
@@ -174,11 +164,6 @@ module _ (old : Whole) (now : Play) (p : Played) (count place : ℕ) (m : Sent) 
         Plays old (Err fault) after p c e
     round_fails fault new after e plays = so_far_fails old now new p this later c d e then_later fault after (said_of_old (Err fault) new e plays)
 
-pub round_ends : (old : Whole) (now : Play) (p : Played) (count place : ℕ) (c d : Option (List ℕ)) → InRound old now p count place c d → count ≤ place → Plays old (Ok tt) now p c d
-round_ends old now p count place c d h over =
-    let P : List ℕ → Type 0 = λ ks. SoFar old now p (deliveries (tables_in old) (members_in old) ks (stage_of now)) c d in
-    so_far_ends old now p c d (subst P (ap (left_from (suc place)) (drop_past count place now.mail over)) h.so_far)
-
 -- ---- rounds, and lines, one after the other
 
 module _ (t : Tables) (n : ℕ) where
@@ -188,11 +173,6 @@ module _ (t : Tables) (n : ℕ) where
   rounds_of_none (suc r) s none = ap (λ ks. followed (deliveries t n ks s) (rounds t n r)) none ∙ rounds_of_none r s none
 
 module _ (old : Whole) (now : Play) (p : Played) (c d : Option (List ℕ)) where
-  pub rounds_end : (r : ℕ) → SoFar old now p (rounds (tables_in old) (members_in old) r (stage_of now)) c d → r ≡ 0 → Plays old (Ok tt) now p c d
-  rounds_end r h none =
-      let P : ℕ → Type 0 = λ k. SoFar old now p (rounds (tables_in old) (members_in old) k (stage_of now)) c d in
-      so_far_ends old now p c d (subst P none h)
-
   pub rounds_settle : (r place : ℕ) → SoFar old now p (rounds (tables_in old) (members_in old) r (stage_of now)) c d → NoneLeft place now.mail → place ≡ length now.mail → Plays old (Ok tt) now p c d
   rounds_settle r place h none all =
       let P : Played → Type 0 = λ q. SoFar old now p q c d in

@@ -6,3 +6,4 @@ pub mod Faults
 pub mod Plays
 pub mod Player
 pub mod Laws
+pub mod Brought

@@ -1,6 +1,7 @@
 -- What the lines of a script bring to a group, and what is printed of it.
 use Rattle.std.specs.Prelude.{◌≡◌, ℕ, zero, suc, ◌+◌, ◌*◌, ℤ, pos, Bool, ◌==◌, if◌then◌else◌, is_some, unwrap_or, Option, Some, None, Result, Ok, Err, List, [], ◌∷◌, ◌++◌, map, drop, length, replicate}
 use Rattle.std.specs.List.{All, flat_map}
+use Rattle.std.specs.Option.{option_map_or}
 use Rattle.std.specs.Io.KnownBytes.{Appends}
 use Rattle.fault.specs.declared.refusal.Refusal.{Refusal}
 use Rattle.model.specs.Lists.{nth, nth_or, with_nth}
@@ -13,7 +14,7 @@ use Rattle.model.specs.declared.event.Left.TheVariants.{New, Old}
 use Rattle.model.specs.Worlds as model
 use Rattle.answertext.specs.Sinks.{AppendsBeginning}
 use Rattle.sqlchecks.specs.Columns.{Tables}
-use Rattle.sqlread.specs.Meaning.{schema_of, select_of}
+use Rattle.sqlread.specs.Meaning.{language_of, select_of}
 use Rattle.sqlread.specs.Shapes.{QueryShape}
 use Rattle.sqlread.specs.Texts.{query_in}
 use Rattle.world.specs.View.{if_up, outputs_of, HasColumns}
@@ -97,8 +98,8 @@ module _ (tables : Tables) (n : ℕ) where
     acts = Happens e ∷ [];
     stage = record {
       clocks = s.clocks;
-      world = happens (schema_of tables) n s.world e;
-      sent = s.sent ++ map newly_sent (drop (length s.world.sent) (happens (schema_of tables) n s.world e).sent);
+      world = happens (language_of tables) n s.world e;
+      sent = s.sent ++ map newly_sent (drop (length s.world.sent) (happens (language_of tables) n s.world e).sent);
     };
   }
 
@@ -194,8 +195,7 @@ module _ (tables : Tables) (n : ℕ) where
   torn_stage s (torn.Deliver k) = delivered s k
 
   abbrev pub tear_of : Stage → ℕ → Left → TornJob → Option Job → Played
-  tear_of s m left job None = nothing s
-  tear_of s m left job (Some about) = event_at (torn_stage s job) (model.Torn m about left)
+  tear_of s m left job found = option_map_or (λ about. event_at (torn_stage s job) (model.Torn m about left)) found (nothing s)
 
   -- a text that is no question is refused before the group is asked
   abbrev pub asked : Stage → ℕ → Result QueryShape Refusal → Played
@@ -229,14 +229,14 @@ module _ (tables : Tables) (n : ℕ) where
   -- ---- what is printed
 
   abbrev pub after_act : World → Act → World
-  after_act w (Happens e) = happens (schema_of tables) n w e
+  after_act w (Happens e) = happens (language_of tables) n w e
   after_act w (Asks m query) = w
   after_act w (Refuses m refusal) = w
 
   -- of an event, the text of what it gives; an answer has the columns of the table that was asked
   abbrev pub PrintsAct : World → Act → List ℕ → Type 0
-  PrintsAct w (Happens e) text = (outs : List Output) × Gives (schema_of tables) n w e (outputs_of outs) × (text ≡ flat_map output_text outs)
-  PrintsAct w (Asks m query) text = (outs : List Output) × Gives (schema_of tables) n w (model.Ask m (select_of query)) (outputs_of outs) × All (HasColumns tables query.table) outs × (text ≡ flat_map output_text outs)
+  PrintsAct w (Happens e) text = (outs : List Output) × Gives (language_of tables) n w e (outputs_of outs) × (text ≡ flat_map output_text outs)
+  PrintsAct w (Asks m query) text = (outs : List Output) × Gives (language_of tables) n w (model.Ask m (select_of query)) (outputs_of outs) × All (HasColumns tables query.table) outs × (text ≡ flat_map output_text outs)
   PrintsAct w (Refuses m refusal) text = text ≡ output_text (output.Refused m refusal)
 
   -- of acts, the texts in their order

@@ -1,11 +1,9 @@
 //! What the lines of scripts do to a group.
-ghost use Rattle.std.specs.Prelude.{◌≡◌, ◌+◌, ◌^◌, ◌++◌, ◌∷◌, [], suc, false, length, ◌<◌, ◌≤◌, IfOk, IfErr, OnOk, Some, slice_get};
-ghost use Rattle.model.specs.Worlds.{Gives, happens as happens_in};
-ghost use Rattle.sqlread.specs.Meaning.{schema_of};
+ghost use Rattle.std.specs.Prelude.{◌≡◌, ◌+◌, ◌^◌, [], suc, false, length, ◌<◌, ◌≤◌, IfOk, IfErr, Some, slice_get};
 ghost use Rattle.sqlread.specs.Shapes.{query_of};
 ghost use Rattle.model.specs.Lists.{nth};
 ghost use Rattle.world.specs.Run.{events_of};
-ghost use Rattle.world.specs.View.{event_of, outputs_of, ShowsColumns};
+ghost use Rattle.world.specs.View.{event_of};
 ghost use Rattle.script.specs.declared.sent.Sent.{Sent as AnySent};
 ghost use Rattle.script.specs.Faults.{IsFaultOf};
 ghost use Rattle.script.specs.Stage.{left_in};
@@ -25,7 +23,6 @@ use sqlread::query::{Query, read_query};
 use std::alloc::{AllocError, Global};
 use world::event::{self, Event};
 use world::history::World;
-use world::output::Output;
 
 // How many rounds a `settle` plays that names none.
 const ROUNDS_MOST: u8 = 100;
@@ -81,25 +78,6 @@ impl Play {
         self.world.commit(node).is_some()
     }
 
-    // Lets an event happen, and gives what comes of it.
-    fn happens(&mut self, event: Event) -> Result<Vec<Output>, AllocError>
-        requires live { self.old.world.is_spent ≡ false }
-        ensures gives { IfOk result (λ outs. Gives (schema_of (tables_of self.old)) (members_of self.old) (stage_of self.old).world (event_of event) (outputs_of outs.items)) }
-        ensures world { OnOk result ((stage_of self.new).world ≡ happens_in (schema_of (tables_of self.old)) (members_of self.old) (stage_of self.old).world (event_of event)) }
-        ensures columns { IfOk result (λ outs. ShowsColumns (tables_of self.old) event outs.items) }
-        ensures events { OnOk result (events_of self.new.world ≡ events_of self.old.world ++ event_of event ∷ []) }
-        ensures same { (self.new.clocks.items ≡ self.old.clocks.items) × (self.new.mail ≡ self.old.mail) }
-        ensures tables { tables_of self.new ≡ tables_of self.old }
-        ensures members { members_of self.new ≡ members_of self.old }
-        ensures live { OnOk result (self.new.world.is_spent ≡ false) }
-    {
-        let mut outs = self.world.run(&[event])?;
-        Ok(match outs.pop() {
-            Some(outputs) => outputs,
-            None => Vec::new(self.alloc),
-        })
-    }
-
     // Lets an event happen, and prints what it gives.
     #[tactic(auto, using(crate::proofs::Playing::nothing_yet))]
     pub(crate) fn happen<P: Printer>(
@@ -111,7 +89,7 @@ impl Play {
         ensures plays { Plays self.old.world result self.new (event_at (tables_of self.old) (members_of self.old) (stage_of self.old) (event_of event)) (P.printed printer.old) (P.printed printer.new) }
         ensures whose { IfErr result (IsFaultOf P.fails printer.new) }
     {
-        let outputs = self.happens(event)?;
+        let outputs = self.world.step(&event)?;
         self.mail.note_all(&outputs)?;
         print_outputs(self.alloc, &outputs, printer)
     }
@@ -128,7 +106,7 @@ impl Play {
         ensures plays { Plays self.old.world result self.new (asked (tables_of self.old) (members_of self.old) (stage_of self.old) node (Ok (query_of question))) (P.printed printer.old) (P.printed printer.new) }
         ensures whose { IfErr result (IsFaultOf P.fails printer.new) }
     {
-        let outputs = self.happens(Event::Ask(node, question))?;
+        let outputs = self.world.step(&Event::Ask(node, question))?;
         print_outputs(self.alloc, &outputs, printer)
     }
 

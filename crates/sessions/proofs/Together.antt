@@ -2,7 +2,7 @@
 use Rattle.std.proofs.Common.{◌≡◌, ℕ, zero, suc, ◌+◌, ◌-◌, ◌<◌, ◌⊎◌, inl, inr, Some, List, [], ◌∷◌, ◌++◌, map, length, replicate, slice_get, refl, sym, ap, ◌∙◌, subst, arith, length-append}
 use Rattle.std.proofs.lemmas.List.{length-map, length-replicate}
 use Rattle.model.specs.Lists.{nth}
-use Rattle.model.specs.Transactions.{Schema}
+use Rattle.model.specs.Transactions.{Language}
 use Rattle.model.specs.declared.entry.Entry.{Entry}
 use Rattle.model.specs.declared.entry.Request.{Request}
 use Rattle.model.specs.declared.entry.Told.{Told}
@@ -59,11 +59,11 @@ stop_only zero p e h = absurd (none_some (slice_get {X = Event} [] p) e refl h)
 stop_only (suc n) zero e h = (suc n, same_some (Some e) e (Stop (suc n)) refl (sym h))
 stop_only (suc n) (suc p) e h = stop_only n p e h
 
-gives_length : (schema : Schema) (n : ℕ) (es : List Event) (w : World) (outs : List (List Output)) → GivesAll schema n w es outs → length outs ≡ length es
-gives_length schema n [] w outs p = ap length p
-gives_length schema n (e ∷ es) w outs (out, rest, p, g, more) = ap length p ∙ ap suc (gives_length schema n es (happens schema n w e) rest more)
+gives_length : (language : Language) (n : ℕ) (es : List Event) (w : World) (outs : List (List Output)) → GivesAll language n w es outs → length outs ≡ length es
+gives_length language n [] w outs p = ap length p
+gives_length language n (e ∷ es) w outs (out, rest, p, g, more) = ap length p ∙ ap suc (gives_length language n es (happens language n w e) rest more)
 
-module _ (schema : Schema) (n : ℕ) where
+module _ (language : Language) (n : ℕ) where
   -- where the event of number k of the session of number i stands, all counted from 0
   abbrev spot : List Session → ℕ → ℕ → ℕ
   spot [] i k = 0
@@ -76,37 +76,37 @@ module _ (schema : Schema) (n : ℕ) where
       let b = length-map (events_of s) (later (length w.sent)) in
       let c = stop_length n in omega arith
 
-  event_at : (ss : List Session) (w : World) (i k : ℕ) (s : Session) (e : Event) → slice_get ss i ≡ Some s → slice_get (events_of s) k ≡ Some e → (c : ℕ) × (slice_get (joined schema n w ss) (spot ss i k) ≡ Some (later c e))
+  event_at : (ss : List Session) (w : World) (i k : ℕ) (s : Session) (e : Event) → slice_get ss i ≡ Some s → slice_get (events_of s) k ≡ Some e → (c : ℕ) × (slice_get (joined language n w ss) (spot ss i k) ≡ Some (later c e))
   event_at [] w i k s e p q = absurd (none_some (slice_get {X = Session} [] i) s refl p)
   event_at (t ∷ ts) w zero k s e p q =
       let c = length w.sent in
-      let rest = joined schema n (run schema n w (in_run n w t)) ts in
+      let rest = joined language n (run language n w (in_run n w t)) ts in
       let h : slice_get (events_of t) k ≡ Some e = subst (λ z. slice_get (events_of z) k ≡ Some e) (same_some (Some t) s t p refl) q in
       (c, in_front (in_run n w t) rest (n + k) (later c e) (ap (λ z. slice_get (in_run n w t) (z + k)) (sym (stop_length n)) ∙ further (stop_all n) (map (later c) (events_of t)) k ∙ get_map (later c) (events_of t) k e h))
   event_at (t ∷ ts) w (suc i) k s e p q =
-      let v = run schema n w (in_run n w t) in
+      let v = run language n w (in_run n w t) in
       let r = event_at ts v i k s e p q in
-      (r.0, ap (λ z. slice_get (joined schema n w (t ∷ ts)) (z + spot ts i k)) (sym (run_long w t)) ∙ further (in_run n w t) (joined schema n v ts) (spot ts i k) ∙ r.1)
+      (r.0, ap (λ z. slice_get (joined language n w (t ∷ ts)) (z + spot ts i k)) (sym (run_long w t)) ∙ further (in_run n w t) (joined language n v ts) (spot ts i k) ∙ r.1)
 
-  gave_at : (ss : List Session) (found : List Node) (w : World) → AreSessions schema n found ss → (i k : ℕ) (s : Session) (out : List Output) → slice_get ss i ≡ Some s → slice_get s.gave k ≡ Some out →
-      (c : ℕ) × (slice_get (joined_gave schema n w ss) (spot ss i k) ≡ Some (map (later_output c) out))
+  gave_at : (ss : List Session) (found : List Node) (w : World) → AreSessions language n found ss → (i k : ℕ) (s : Session) (out : List Output) → slice_get ss i ≡ Some s → slice_get s.gave k ≡ Some out →
+      (c : ℕ) × (slice_get (joined_gave language n w ss) (spot ss i k) ≡ Some (map (later_output c) out))
   gave_at [] found w A i k s out p q = absurd (none_some (slice_get {X = Session} [] i) s refl p)
   gave_at (t ∷ ts) found w (T, A) zero k s out p q =
       let c = length w.sent in
-      let rest = joined_gave schema n (run schema n w (in_run n w t)) ts in
+      let rest = joined_gave language n (run language n w (in_run n w t)) ts in
       let mine = map (map (later_output c)) t.gave in
       let none : List (List Output) = replicate n [] in
       let h : slice_get t.gave k ≡ Some out = subst (λ z. slice_get z.gave k ≡ Some out) (same_some (Some t) s t p refl) q in
       (c, in_front (none ++ mine) rest (n + k) (map (later_output c) out) (ap (λ z. slice_get (none ++ mine) (z + k)) (sym (length-replicate n [])) ∙ further none mine k ∙ get_map (map (later_output c)) t.gave k out h))
   gave_at (t ∷ ts) found w (T, A) (suc i) k s out p q =
       let c = length w.sent in
-      let v = run schema n w (in_run n w t) in
+      let v = run language n w (in_run n w t) in
       let mine = map (map (later_output c)) t.gave in
       let none : List (List Output) = replicate n [] in
       let r = gave_at ts t.left v A i k s out p q in
       let long : length (none ++ mine) ≡ n + length (events_of t) =
-      length-append none mine ∙ ap (λ z. z + length mine) (length-replicate n []) ∙ ap (λ z. n + z) (length-map t.gave (map (later_output c)) ∙ gives_length schema n (events_of t) (opened found) t.gave T.gives) in
-      (r.0, ap (λ z. slice_get (joined_gave schema n w (t ∷ ts)) (z + spot ts i k)) (sym long) ∙ further (none ++ mine) (joined_gave schema n v ts) (spot ts i k) ∙ r.1)
+      length-append none mine ∙ ap (λ z. z + length mine) (length-replicate n []) ∙ ap (λ z. n + z) (length-map t.gave (map (later_output c)) ∙ gives_length language n (events_of t) (opened found) t.gave T.gives) in
+      (r.0, ap (λ z. slice_get (joined_gave language n w (t ∷ ts)) (z + spot ts i k)) (sym long) ∙ further (none ++ mine) (joined_gave language n v ts) (spot ts i k) ∙ r.1)
 
   -- an event of the run that is one of a session
   record Located (ss : List Session) (p : ℕ) (e : Event) : Type 0 where
@@ -123,12 +123,12 @@ module _ (schema : Schema) (n : ℕ) where
   abbrev Found : List Session → ℕ → Event → Type 0
   Found ss p e = ((m : ℕ) × (e ≡ Stop m)) ⊎ Located ss p e
 
-  locate : (ss : List Session) (w : World) (p : ℕ) (e : Event) → slice_get (joined schema n w ss) p ≡ Some e → Found ss p e
+  locate : (ss : List Session) (w : World) (p : ℕ) (e : Event) → slice_get (joined language n w ss) p ≡ Some e → Found ss p e
   locate [] w p e h = absurd (none_some (slice_get {X = Event} [] p) e refl h)
-  locate (t ∷ ts) w p e h = go (λ q s. locate ts (run schema n w (in_run n w t)) q e s) (in_either (in_run n w t) (joined schema n (run schema n w (in_run n w t)) ts) p e h)
+  locate (t ∷ ts) w p e h = go (λ q s. locate ts (run language n w (in_run n w t)) q e s) (in_either (in_run n w t) (joined language n (run language n w (in_run n w t)) ts) p e h)
     where
       v : World
-      v = run schema n w (in_run n w t)
+      v = run language n w (in_run n w t)
 
       c : ℕ
       c = length w.sent
@@ -153,7 +153,7 @@ module _ (schema : Schema) (n : ℕ) where
         place = ap (λ z. n + length (events_of t) + z) L.place ∙ ap (λ z. z + q) (sym (run_long w t)) ∙ l;
       })
 
-      go : ((q : ℕ) → slice_get (joined schema n v ts) q ≡ Some e → Found ts q e) → (slice_get (in_run n w t) p ≡ Some e) ⊎ ((q : ℕ) × (length (in_run n w t) + q ≡ p) × (slice_get (joined schema n v ts) q ≡ Some e)) → Found (t ∷ ts) p e
+      go : ((q : ℕ) → slice_get (joined language n v ts) q ≡ Some e → Found ts q e) → (slice_get (in_run n w t) p ≡ Some e) ⊎ ((q : ℕ) × (length (in_run n w t) + q ≡ p) × (slice_get (joined language n v ts) q ≡ Some e)) → Found (t ∷ ts) p e
       go more (inl s) = mine (in_either (stop_all n) (map (later c) (events_of t)) p e s)
       go more (inr (q, l, s)) = next q l (more q s)
 
@@ -175,32 +175,32 @@ module _ (schema : Schema) (n : ℕ) where
 
 -- ---- what the run's list says of the sessions
 
-module _ (schema : Schema) (n : ℕ) (sessions : List Session) (A : AreSessions schema n (new_databases n) sessions) (list : List Entry)
-    (X : Explains schema (joined schema n (new_world n) sessions) (joined_gave schema n (new_world n) sessions) list)
-    (O : IsInOrder schema (joined schema n (new_world n) sessions) (joined_gave schema n (new_world n) sessions) list) where
+module _ (language : Language) (n : ℕ) (sessions : List Session) (A : AreSessions language n (new_databases n) sessions) (list : List Entry)
+    (X : Explains language (joined language n (new_world n) sessions) (joined_gave language n (new_world n) sessions) list)
+    (O : IsInOrder language (joined language n (new_world n) sessions) (joined_gave language n (new_world n) sessions) list) where
   abbrev events : List Event
-  events = joined schema n (new_world n) sessions
+  events = joined language n (new_world n) sessions
 
   abbrev outs : List (List Output)
-  outs = joined_gave schema n (new_world n) sessions
+  outs = joined_gave language n (new_world n) sessions
 
   -- the place of an event, all counted from 1
   abbrev place : ℕ → ℕ → ℕ
   place zero k = 0
   place (suc i) zero = 0
-  place (suc i) (suc k) = suc (spot schema n sessions i k)
+  place (suc i) (suc k) = suc (spot language n sessions i k)
 
   gave_in : (i k : ℕ) (s : Session) (o : Output) → nth sessions i ≡ Some s → Gave s.gave k o → (c : ℕ) × Gave outs (place i k) (later_output c o)
   gave_in zero k s o p g = absurd (none_some (nth sessions 0) s refl p)
   gave_in (suc i) zero s o p (out, q, h) = absurd (none_some (nth s.gave 0) out refl q)
   gave_in (suc i) (suc k) s o p (out, q, h) =
-      let G = gave_at schema n sessions (new_databases n) (new_world n) A i k s out p q in
+      let G = gave_at language n sessions (new_databases n) (new_world n) A i k s out p q in
       (G.0, (map (later_output G.0) out, G.1, contains_map (later_output G.0) out o h))
 
   event_in : (i k : ℕ) (s : Session) (e : Event) → nth sessions i ≡ Some s → nth (events_of s) k ≡ Some e → (c : ℕ) × (nth events (place i k) ≡ Some (later c e))
   event_in zero k s e p q = absurd (none_some (nth sessions 0) s refl p)
   event_in (suc i) zero s e p q = absurd (none_some (nth (events_of s) 0) e refl q)
-  event_in (suc i) (suc k) s e p q = event_at schema n sessions (new_world n) i k s e p q
+  event_in (suc i) (suc k) s e p q = event_at language n sessions (new_world n) i k s e p q
 
   tells_in : (i k m : ℕ) (told : Told) → TellsAt sessions i k m told → Gave outs (place i k) (Applied m told)
   tells_in i k m told (s, p, g) = (gave_in i k s (Applied m told) p g).1
@@ -217,19 +217,19 @@ module _ (schema : Schema) (n : ℕ) (sessions : List Session) (A : AreSessions 
 
   submitted_in : (p : ℕ) (r : Request) → IsSubmitted events p r → Submitted p r
   submitted_in zero r (m, e, q, b) = absurd (none_some (nth events 0) e refl q)
-  submitted_in (suc p) r (m, e, q, b) = go (locate schema n sessions (new_world n) p e q)
+  submitted_in (suc p) r (m, e, q, b) = go (locate language n sessions (new_world n) p e q)
     where
-      go : Found schema n sessions p e → Submitted (suc p) r
+      go : Found language n sessions p e → Submitted (suc p) r
       go (inl (k, s)) = absurd (stop_brings_none m k r (subst (Brings r m) s b))
       go (inr L) = record { i = L.i; k = L.k; submits = (L.session, L.at, (m, L.event, L.here, brings_later L.sent m r L.event (subst (Brings r m) (sym L.same) b))); there = ap suc L.place }
 
   -- how many events a session has
-  gave_short : (ss : List Session) (found : List Node) → AreSessions schema n found ss → (i k : ℕ) (s : Session) (out : List Output) → slice_get ss i ≡ Some s → slice_get s.gave k ≡ Some out → k < length (events_of s)
+  gave_short : (ss : List Session) (found : List Node) → AreSessions language n found ss → (i k : ℕ) (s : Session) (out : List Output) → slice_get ss i ≡ Some s → slice_get s.gave k ≡ Some out → k < length (events_of s)
   gave_short [] found B i k s out p q = absurd (none_some (slice_get {X = Session} [] i) s refl p)
   gave_short (t ∷ ts) found (T, B) zero k s out p q =
       let e : s ≡ t = same_some (Some t) s t p refl in
       let h = get_short s.gave k out q in
-      let l = gives_length schema n (events_of t) (opened found) t.gave T.gives in
+      let l = gives_length language n (events_of t) (opened found) t.gave T.gives in
       let a = ap (λ z. length z.gave) e in
       let b = ap (λ z. length (events_of z)) e in omega (arith, h, l, a, b)
   gave_short (t ∷ ts) found (T, B) (suc i) k s out p q = gave_short ts t.left B i k s out p q
@@ -239,7 +239,7 @@ module _ (schema : Schema) (n : ℕ) (sessions : List Session) (A : AreSessions 
   new_in (suc i) zero s o r p (out, q, h) new = absurd (none_some (nth s.gave 0) out refl q)
   new_in (suc i) (suc k) s o r p (out, q, h) new = λ j l S.
       let L = submitted_in j r S in
-      new (suc L.i) (suc L.k) (go L.i L.k (spot_before schema n sessions i k L.i L.k s p (gave_short sessions (new_databases n) A i k s out p q) (let e = L.there in omega (arith, e, l)))) L.submits
+      new (suc L.i) (suc L.k) (go L.i L.k (spot_before language n sessions i k L.i L.k s p (gave_short sessions (new_databases n) A i k s out p q) (let e = L.there in omega (arith, e, l)))) L.submits
     where
       go : (a b : ℕ) → (a < i) ⊎ ((a ≡ i) × (b < k)) → IsBefore (suc a) (suc b) (suc i) (suc k)
       go a b (inl x) = inl (omega (arith, x))
@@ -250,21 +250,21 @@ module _ (schema : Schema) (n : ℕ) (sessions : List Session) (A : AreSessions 
   unstopped_in (suc i) m zero k s o u p l (out, q, c) h U = absurd (none_some (nth s.gave 0) out refl q)
   unstopped_in (suc i) m (suc j) zero s o u p l g h U = absurd (omega (arith, l))
   unstopped_in (suc i) m (suc j) (suc k) s o u p l g (out, q, c) U =
-      let a = spot_from schema n sessions i j s p in
-      let b = spot_from schema n sessions i k s p in
+      let a = spot_from language n sessions i j s p in
+      let b = spot_from language n sessions i k s p in
       (omega (arith, a, b, l), go)
     where
-      go : IsUnstopped events m (suc (spot schema n sessions i j)) (suc (spot schema n sessions i k))
+      go : IsUnstopped events m (suc (spot language n sessions i j)) (suc (spot language n sessions i k))
       go zero e x y z stops = absurd (omega (arith, x))
       go (suc t) e x y z stops =
-          let a = spot_from schema n sessions i j s p in
-          let b = spot_from schema n sessions i k s p in
-          let d = t - spot schema n sessions i 0 in
-          let f : spot schema n sessions i 0 + d ≡ t = omega (arith, a, x) in
-          let at : spot schema n sessions i d ≡ t = spot_from schema n sessions i d s p ∙ f in
+          let a = spot_from language n sessions i j s p in
+          let b = spot_from language n sessions i k s p in
+          let d = t - spot language n sessions i 0 in
+          let f : spot language n sessions i 0 + d ≡ t = omega (arith, a, x) in
+          let at : spot language n sessions i d ≡ t = spot_from language n sessions i d s p ∙ f in
           let short = gave_short sessions (new_databases n) A i k s out p q in
           let E = get_there (events_of s) d (omega (arith, f, b, y, short)) in
-          let W = event_at schema n sessions (new_world n) i d s E.0 p E.1 in
+          let W = event_at language n sessions (new_world n) i d s E.0 p E.1 in
           let same : e ≡ later W.0 E.0 = same_some (slice_get events t) e (later W.0 E.0) z (subst (λ v. slice_get events v ≡ Some (later W.0 E.0)) {y = t} at W.1) in
           U (suc d) E.0 (omega (arith, f, a, x)) (omega (arith, f, b, y)) E.1 (stops_later W.0 m E.0 (subst (Stops m) {y = later W.0 E.0} same stops))
 
@@ -278,7 +278,7 @@ module _ (schema : Schema) (n : ℕ) (sessions : List Session) (A : AreSessions 
       let M = submitted_in (X.brought.submitted s S).0 s (X.brought.submitted s S).1 in
       X.brought.apart r s R S (sym L.there ∙ ap (λ z. place z (suc L.k)) p ∙ ap (place (suc M.i)) q ∙ M.there)
 
-  pub explains_sessions : ExplainsSessions schema sessions list
+  pub explains_sessions : ExplainsSessions language sessions list
   explains_sessions = record {
     stamped = X.stamped;
     told = λ i k m told T. X.told (place i k) m told (tells_in i k m told T);
@@ -297,12 +297,12 @@ module _ (schema : Schema) (n : ℕ) (sessions : List Session) (A : AreSessions 
         O.answered_then_asked (place i j) (place i k) m q r a b V.0 (answers_in i j m q a T) (answers_in i k m r b S) t V.1;
   }
 
-pub one_list_explains_sessions : (schema : Schema) (n : ℕ) → OneListExplainsSessions schema n
-one_list_explains_sessions schema n =
-    let all = one_list_explains_all schema n in
+pub one_list_explains_sessions : (language : Language) (n : ℕ) → OneListExplainsSessions language n
+one_list_explains_sessions language n =
+    let all = one_list_explains_all language n in
     record {
       list = all.list;
-      explains = λ sessions A. explains_sessions schema n sessions A (all.list sessions) (all.explains sessions A) (all.in_order sessions A);
+      explains = λ sessions A. explains_sessions language n sessions A (all.list sessions) (all.explains sessions A) (all.in_order sessions A);
       goes_on = all.goes_on;
       goes_on_within = all.goes_on_within;
     }

@@ -2,7 +2,7 @@
 -- sessions together are one run. What the file of each session says happened goes into it, with a stop of all before each.
 use Rattle.std.specs.Prelude.{◌≡◌, ℕ, zero, suc, ◌+◌, List, [], ◌∷◌, ◌++◌, map, length, replicate}
 use Rattle.model.specs.Lists.{IsBeginning}
-use Rattle.model.specs.Transactions.{Schema}
+use Rattle.model.specs.Transactions.{Language}
 use Rattle.model.specs.declared.message.Message.{Message}
 use Rattle.model.specs.Members.{Node}
 use Rattle.model.specs.Agreement.{Agree}
@@ -29,25 +29,25 @@ abbrev pub events_of : Session → List Event
 events_of s = s.filed ++ read_end s.moment
 
 -- It ran from these databases. Its messages are numbered from 1.
-pub record IsSession (schema : Schema) (n : ℕ) (found : List Node) (s : Session) : Type 0 where
-  pub leaves : Leaves schema n (run schema n (opened found) s.filed) s.moment s.left
-  pub gives : GivesAll schema n (opened found) (events_of s) s.gave
+pub record IsSession (language : Language) (n : ℕ) (found : List Node) (s : Session) : Type 0 where
+  pub leaves : Leaves language n (run language n (opened found) s.filed) s.moment s.left
+  pub gives : GivesAll language n (opened found) (events_of s) s.gave
 
 -- each session finds what the one before it left
-abbrev pub AreSessions : Schema → ℕ → List Node → List Session → Type 0
-AreSessions schema n found [] = Unit {0}
-AreSessions schema n found (s ∷ ss) = IsSession schema n found s × AreSessions schema n s.left ss
+abbrev pub AreSessions : Language → ℕ → List Node → List Session → Type 0
+AreSessions language n found [] = Unit {0}
+AreSessions language n found (s ∷ ss) = IsSession language n found s × AreSessions language n s.left ss
 
 -- Likewise of a process that writes ahead: it came so far by `Reaches`, and then it was killed. What it printed came of the
 -- first of its events.
-pub record IsProcess (schema : Schema) (n : ℕ) (found : List Node) (s : Session) : Type 0 where
+pub record IsProcess (language : Language) (n : ℕ) (found : List Node) (s : Session) : Type 0 where
   pub printed : List Event
-  pub reaches : Reaches schema n found s.filed s.moment s.left printed
-  pub gives : GivesAll schema n (opened found) (events_of s) s.gave
+  pub reaches : Reaches language n found s.filed s.moment s.left printed
+  pub gives : GivesAll language n (opened found) (events_of s) s.gave
 
-abbrev pub AreProcesses : Schema → ℕ → List Node → List Session → Type 0
-AreProcesses schema n found [] = Unit {0}
-AreProcesses schema n found (s ∷ ss) = IsProcess schema n found s × AreProcesses schema n s.left ss
+abbrev pub AreProcesses : Language → ℕ → List Node → List Session → Type 0
+AreProcesses language n found [] = Unit {0}
+AreProcesses language n found (s ∷ ss) = IsProcess language n found s × AreProcesses language n s.left ss
 
 -- what is found after these sessions
 abbrev pub found_after : List Node → List Session → List Node
@@ -88,48 +88,48 @@ abbrev pub in_run : ℕ → World → Session → List Event
 in_run n w s = stop_all n ++ map (later (length w.sent)) (events_of s)
 
 -- all sessions as one list of events, after the world w
-abbrev pub joined : Schema → ℕ → World → List Session → List Event
-joined schema n w [] = []
-joined schema n w (s ∷ ss) = in_run n w s ++ joined schema n (run schema n w (in_run n w s)) ss
+abbrev pub joined : Language → ℕ → World → List Session → List Event
+joined language n w [] = []
+joined language n w (s ∷ ss) = in_run n w s ++ joined language n (run language n w (in_run n w s)) ss
 
 -- what these events gave: a stop gives nothing
-abbrev pub joined_gave : Schema → ℕ → World → List Session → List (List Output)
-joined_gave schema n w [] = []
-joined_gave schema n w (s ∷ ss) = (replicate n [] ++ map (map (later_output (length w.sent))) s.gave) ++ joined_gave schema n (run schema n w (in_run n w s)) ss
+abbrev pub joined_gave : Language → ℕ → World → List Session → List (List Output)
+joined_gave language n w [] = []
+joined_gave language n w (s ∷ ss) = (replicate n [] ++ map (map (later_output (length w.sent))) s.gave) ++ joined_gave language n (run language n w (in_run n w s)) ss
 
 -- the world in which the next session begins
-abbrev pub so_far : Schema → ℕ → List Session → World
-so_far schema n sessions = run schema n (new_world n) (joined schema n (new_world n) sessions)
+abbrev pub so_far : Language → ℕ → List Session → World
+so_far language n sessions = run language n (new_world n) (joined language n (new_world n) sessions)
 
 -- All sessions are one run.
-pub record AreOneRun (schema : Schema) (n : ℕ) (sessions : List Session) : Type 0 where
+pub record AreOneRun (language : Language) (n : ℕ) (sessions : List Session) : Type 0 where
   -- 1. before each session, after a stop of all, every member is what the databases hold that the session found
   pub begins : (before after : List Session) → before ++ after ≡ sessions →
-      (run schema n (so_far schema n before) (stop_all n)).nodes ≡ found_after (new_databases n) before
+      (run language n (so_far language n before) (stop_all n)).nodes ≡ found_after (new_databases n) before
   -- 2. and at each moment of the session it is what it is in the session by itself
   pub goes : (before after : List Session) (s : Session) → before ++ s ∷ after ≡ sessions → (early late : List Event) → early ++ late ≡ events_of s →
-      (run schema n (so_far schema n before) (stop_all n ++ map (later (length (so_far schema n before).sent)) early)).nodes ≡ (run schema n (opened (found_after (new_databases n) before)) early).nodes
+      (run language n (so_far language n before) (stop_all n ++ map (later (length (so_far language n before).sent)) early)).nodes ≡ (run language n (opened (found_after (new_databases n) before)) early).nodes
   -- 3. the events of the run give what the sessions' events gave
-  pub gives : GivesAll schema n (new_world n) (joined schema n (new_world n) sessions) (joined_gave schema n (new_world n) sessions)
+  pub gives : GivesAll language n (new_world n) (joined language n (new_world n) sessions) (joined_gave language n (new_world n) sessions)
   -- 4. all members agree in it
-  pub agree : Agree schema n (new_world n) (joined schema n (new_world n) sessions)
+  pub agree : Agree language n (new_world n) (joined language n (new_world n) sessions)
 
 -- What was sent before a session is nothing to it: with its messages counted on, its members do the same, it gives what it gives
 -- by itself, and nothing else.
-pub record IsAlone (schema : Schema) (n : ℕ) (before : List Message) (found : List Node) (events : List Event) : Type 0 where
-  pub same : (run schema n (record { nodes = found; sent = before }) (map (later (length before)) events)).nodes ≡ (run schema n (opened found) events).nodes
-  pub gives : (outs : List (List Output)) → GivesAll schema n (opened found) events outs →
-      GivesAll schema n (record { nodes = found; sent = before }) (map (later (length before)) events) (map (map (later_output (length before))) outs)
-  pub no_more : (outs : List (List Output)) → GivesAll schema n (record { nodes = found; sent = before }) (map (later (length before)) events) outs →
-      (own : List (List Output)) × GivesAll schema n (opened found) events own × (outs ≡ map (map (later_output (length before))) own)
+pub record IsAlone (language : Language) (n : ℕ) (before : List Message) (found : List Node) (events : List Event) : Type 0 where
+  pub same : (run language n (record { nodes = found; sent = before }) (map (later (length before)) events)).nodes ≡ (run language n (opened found) events).nodes
+  pub gives : (outs : List (List Output)) → GivesAll language n (opened found) events outs →
+      GivesAll language n (record { nodes = found; sent = before }) (map (later (length before)) events) (map (map (later_output (length before))) outs)
+  pub no_more : (outs : List (List Output)) → GivesAll language n (record { nodes = found; sent = before }) (map (later (length before)) events) outs →
+      (own : List (List Output)) × GivesAll language n (opened found) events own × (outs ≡ map (map (later_output (length before))) own)
 
 -- One list explains all that was told and answered in all sessions; and with each session it goes on, and within one too: what
 -- a session's file has so far may be seen as a session that is killed now.
-pub record OneListExplainsAll (schema : Schema) (n : ℕ) : Type 0 where
+pub record OneListExplainsAll (language : Language) (n : ℕ) : Type 0 where
   pub list : List Session → List Entry
-  pub explains : (sessions : List Session) → AreSessions schema n (new_databases n) sessions →
-      Explains schema (joined schema n (new_world n) sessions) (joined_gave schema n (new_world n) sessions) (list sessions)
-  pub in_order : (sessions : List Session) → AreSessions schema n (new_databases n) sessions →
-      IsInOrder schema (joined schema n (new_world n) sessions) (joined_gave schema n (new_world n) sessions) (list sessions)
+  pub explains : (sessions : List Session) → AreSessions language n (new_databases n) sessions →
+      Explains language (joined language n (new_world n) sessions) (joined_gave language n (new_world n) sessions) (list sessions)
+  pub in_order : (sessions : List Session) → AreSessions language n (new_databases n) sessions →
+      IsInOrder language (joined language n (new_world n) sessions) (joined_gave language n (new_world n) sessions) (list sessions)
   pub goes_on : (sessions more : List Session) → IsBeginning (list sessions) (list (sessions ++ more))
   pub goes_on_within : (sessions more : List Session) (s t : Session) → IsBeginning (events_of s) (events_of t) → IsBeginning (list (sessions ++ s ∷ [])) (list (sessions ++ t ∷ more))

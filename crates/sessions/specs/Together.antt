@@ -2,7 +2,7 @@
 -- of each and what they gave; (i, k) is the k-th event of the i-th session. What no file has is not spoken of: nobody was told it.
 use Rattle.std.specs.Prelude.{◌≡◌, ℕ, ◌<◌, ◌≤◌, ◌⊎◌, Some, None, List, [], ◌∷◌, ◌++◌}
 use Rattle.model.specs.Lists.{nth, IsBeginning}
-use Rattle.model.specs.Transactions.{Schema}
+use Rattle.model.specs.Transactions.{Language}
 use Rattle.model.specs.declared.entry.Entry.{Entry}
 use Rattle.model.specs.declared.entry.Request.{Request}
 use Rattle.model.specs.declared.entry.Told.{Told}
@@ -43,13 +43,13 @@ StaysUpAt sessions i m j k = (s : Session) → nth sessions i ≡ Some s → IsU
 -- ---- one list
 
 -- The list explains what was told and answered in these sessions.
-pub record ExplainsSessions (schema : Schema) (sessions : List Session) (list : List Entry) : Type 0 where
+pub record ExplainsSessions (language : Language) (sessions : List Session) (list : List Entry) : Type 0 where
   -- 1. its instants rise
   pub stamped : IsStamped list
   -- 2. each request that a member told of in any session stands in the list, with the outcome that was told
-  pub told : (i k m : ℕ) (told : Told) → TellsAt sessions i k m told → IsTold schema list told
+  pub told : (i k m : ℕ) (told : Told) → TellsAt sessions i k m told → IsTold language list told
   -- 3. each answer of any session is the one that the list has; to a question without system time, AS OF the instant that the answer names
-  pub answered : (i k m : ℕ) (q : Select) (a : Answer) → AnswersAt sessions i k m q a → IsAnswer schema (read_at a.last q) list a
+  pub answered : (i k m : ℕ) (q : Select) (a : Answer) → AnswersAt sessions i k m q a → IsAnswer language (read_at a.last q) list a
   -- 4. each request in the list was submitted in some session, by an event of its own that its file has
   pub submitted : (r : Request) → HasRequest list r → (i : ℕ) × (k : ℕ) × SubmitsAt sessions i k r
   pub apart : (r s : Request) (R : HasRequest list r) (S : HasRequest list s) → (submitted r R).0 ≡ (submitted s S).0 → (submitted r R).1 ≡ (submitted s S).1 → R.index ≡ S.index
@@ -58,15 +58,15 @@ pub record ExplainsSessions (schema : Schema) (sessions : List Session) (list : 
   -- 6. one that is first submitted after a member answered has an instant above the one that the answer names
   pub answered_then_submitted : (i k m : ℕ) (q : Select) (a : Answer) (r : Request) (R : HasRequest list r) → AnswersAt sessions i k m q a → IsNewAt sessions i k r → a.last < R.entry.stamp
   -- 7. within a session, a question without system time that a member answers after it told of a request, and was not stopped in between, is answered AS OF that request's instant or a later one
-  pub told_then_asked : (i j k m : ℕ) (told : Told) (T : IsTold schema list told) (q : Select) (a : Answer) → j < k → TellsAt sessions i j m told → AnswersAt sessions i k m q a → q.time ≡ None →
+  pub told_then_asked : (i j k m : ℕ) (told : Told) (T : IsTold language list told) (q : Select) (a : Answer) → j < k → TellsAt sessions i j m told → AnswersAt sessions i k m q a → q.time ≡ None →
       StaysUpAt sessions i m j k → T.entry.stamp ≤ a.last
   -- 8. and after another answer AS OF the instant that this one names, or a later one
   pub answered_then_asked : (i j k m : ℕ) (q r : Select) (a b : Answer) → j < k → AnswersAt sessions i j m q a → AnswersAt sessions i k m r b → r.time ≡ None → StaysUpAt sessions i m j k → a.last ≤ b.last
 
 -- All sessions have one list that explains them; and with each further session it goes on, and within one too: what a session's
 -- file has so far may be seen as a session that is killed now.
-pub record OneListExplainsSessions (schema : Schema) (n : ℕ) : Type 0 where
+pub record OneListExplainsSessions (language : Language) (n : ℕ) : Type 0 where
   pub list : List Session → List Entry
-  pub explains : (sessions : List Session) → AreSessions schema n (new_databases n) sessions → ExplainsSessions schema sessions (list sessions)
+  pub explains : (sessions : List Session) → AreSessions language n (new_databases n) sessions → ExplainsSessions language sessions (list sessions)
   pub goes_on : (sessions more : List Session) → IsBeginning (list sessions) (list (sessions ++ more))
   pub goes_on_within : (sessions more : List Session) (s t : Session) → IsBeginning (events_of s) (events_of t) → IsBeginning (list (sessions ++ s ∷ [])) (list (sessions ++ t ∷ more))

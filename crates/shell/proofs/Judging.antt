@@ -1,10 +1,10 @@
 -- Lemmas on what is audited.
-use Rattle.std.proofs.Common.{◌≡◌, ◌≢◌, ◌≤◌, ◌<◌, ◌+◌, ◌∙◌, ℕ, suc, inl, inr, List, [], ◌∷◌, ◌++◌, length, get_or, map, take, ap, sym, subst, arith, append_assoc}
+use Rattle.std.proofs.Common.{◌≡◌, ◌≤◌, ◌∙◌, ℕ, inl, inr, List, [], length, get_or, map, ap, sym, subst, arith}
 use Rattle.std.specs.Prelude.{Option, Result, Ok, Err, IfErr, IfOk, ◌⊎◌, string_bytes}
 use Rattle.std.specs.declared.vec.Vec.{Vec}
 use Rattle.std.specs.declared.string.String.{String}
 use Rattle.std.specs.declared.alloc.Global.{Global}
-use Rattle.std.proofs.lemmas.List.{append-nil, length-map, length-take-le, take_more}
+use Rattle.std.proofs.lemmas.List.{length-map}
 use Rattle.fault.specs.declared.refusal.Refusal.{Refusal}
 use Rattle.fault.specs.declared.refusal.Refusal.TheVariants.{NoMemory, BadFlight}
 use Rattle.flight.specs.Contents.{FlightContents, in_life}
@@ -15,32 +15,10 @@ use Rattle.flight.specs.declared.flight.Version.{Version}
 use Rattle.flight.specs.declared.flight.Version.TheVariants.{Two}
 use Rattle.flight.specs.declared.life.Life.{Life}
 use Rattle.sqlchecks.specs.Columns.{Tables}
-use Rattle.moments.specs.Behind.{Records}
-use Rattle.moments.specs.Faults.{NoneAre}
 use Rattle.moments.specs.declared.recorded.AuditFault.{AuditFault}
-use Rattle.moments.specs.declared.recorded.AuditFault.TheVariants.{NoMemory as NoMemoryLeft}
-use Rattle.auditor.specs.Audited.{Explains, IsFirst}
-use Rattle.auditor.specs.Faults.{IsOrderFault, OfRun}
-use Rattle.shell.specs.Audit.{judged_of, judged_from, records_of, IsFaultOf, IsJudged, IsSaid}
+use Rattle.shell.specs.Audit.{records_of, IsJudged, IsSaid}
 use Rattle.shell.specs.Group.{IsNoGroup, IsRunIn}
 use Rattle.shell.specs.Reported.{IsVerdict}
-
-judged_append : (node : ℕ) (xs : List (Vec Recorded Global)) (own : Vec Recorded Global) → judged_from node (xs ++ own ∷ []) ≡ judged_from node xs ++ map (judged_of (length xs + node)) own.items
-judged_append node [] own =
-    let same : node ≡ 0 + node = omega arith in
-    append-nil (map (judged_of node) own.items) ∙ ap (λ m. map (judged_of m) own.items) same
-judged_append node (x ∷ xs) own =
-    let rest : judged_from (suc node) (xs ++ own ∷ []) ≡ judged_from (suc node) xs ++ map (judged_of (length xs + suc node)) own.items = judged_append (suc node) xs own in
-    let at : length xs + suc node ≡ suc (length xs) + node = omega arith in
-    ap (λ ys. map (judged_of node) x.items ++ ys) rest ∙ (ap (λ m. map (judged_of node) x.items ++ (judged_from (suc node) xs ++ map (judged_of m) own.items)) at ∙ sym (append_assoc (map (judged_of node) x.items) (judged_from (suc node) xs) (map (judged_of (suc (length xs) + node)) own.items)))
-
--- one node more
-pub judged_more : (xs : List (Vec Recorded Global)) (i : ℕ) (own : Vec Recorded Global) → i < length xs → own ≡ get_or xs i own
-    → judged_from 1 (take (i + 1) xs) ≡ judged_from 1 (take i xs) ++ map (judged_of (i + 1)) own.items
-judged_more xs i own less is =
-    let less' : i ≤ length xs = omega (arith, less) in
-    let grown : take (i + 1) xs ≡ take i xs ++ own ∷ [] = take_more xs i own less ∙ ap (λ x. take i xs ++ x ∷ []) (sym is) in
-    ap (judged_from 1) grown ∙ (judged_append 1 (take i xs) own ∙ ap (λ n. judged_from 1 (take i xs) ++ map (judged_of (n + 1)) own.items) (length-take-le i xs less'))
 
 -- flight files that were read are of 3 to 7 nodes
 pub run_size : (texts : List (List ℕ)) (version : Version) (tables : Tables) (lives : List (Vec Life Global)) (answers : List (Vec Recorded Global)) → IsRunIn texts version tables lives answers
@@ -63,12 +41,6 @@ never_another_group (Err e) texts version tables lives answers run (inr (h, none
     absurd (none size.0 size.1)
 
 -- ---- what is said
-
--- what is known of a fault
-pub fault_told : {T : Type 0} (r : Records) (a : Result T AuditFault) → IfErr a (IsOrderFault r.lives) → IfErr a (OfRun (λ _. NoneAre (Explains r))) → IfErr a (OfRun (IsFirst r))
-    → IfErr a (λ fault. fault ≢ NoMemoryLeft → IsFaultOf r fault)
-fault_told r (Ok v) order none first = order
-fault_told r (Err fault) order none first = λ found. record { found = found; order = order; none = none; first = first }
 
 pub said_same : {E : Type 0} (r : Result (ℕ × String Global) E) (version : Version) (tables : Tables) (led lives : List (Vec Life Global)) (a b : List Judged) → led ≡ lives → a ≡ b
     → IfOk r (λ said. IsSaid (record { version = version; tables = tables; lives = led; answers = a }) said.0 (string_bytes said.1))

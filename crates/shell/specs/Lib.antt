@@ -2,6 +2,7 @@ pub mod Audit
 pub mod CommandLine
 pub mod Group
 pub mod Live
+pub mod Pilots
 pub mod Reading
 pub mod Reported
 pub mod Showing

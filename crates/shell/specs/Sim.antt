@@ -9,14 +9,15 @@ use Rattle.fault.specs.declared.refusal.Refusal.{Refusal}
 use Rattle.fault.specs.declared.refusal.Refusal.TheVariants.{NoMemory, BadScript}
 use Rattle.lines.specs.declared.line.Line.{Line}
 use Rattle.lines.specs.Script.{HasBadSchema, HasLines, IsBadAt}
-use Rattle.model.specs.Agreement.{Agree}
+use Rattle.believed.specs.Agreement.{Agree}
+use Rattle.believed.specs.Explained.{IsExplained}
 use Rattle.model.specs.Worlds.{new_world}
-use Rattle.onelist.specs.Explained.{IsExplained}
 use Rattle.script.specs.declared.run_fault.RunFault.{RunFault}
 use Rattle.script.specs.declared.run_fault.RunFault.TheVariants.{Refused, Output}
-use Rattle.script.specs.Stage.{Act, opening_stage, played_all, events_in, IsPrinted, IsBegun}
+use Rattle.script.specs.Brought.{played_all, IsPrinted, IsBegun}
+use Rattle.script.specs.Stage.{Act, opening_stage, events_in}
 use Rattle.sqlchecks.specs.Columns.{Tables}
-use Rattle.sqlread.specs.Meaning.{schema_of}
+use Rattle.sqlread.specs.Meaning.{language_of}
 
 -- what lines bring to a group of so many members with these tables, from its opening on
 abbrev pub acts_of : ℕ → Tables → List Line → List Act
@@ -43,8 +44,8 @@ IsBadScript bytes refusal = ((¬ IsUtf8 bytes) × (refusal ≡ BadScript 0)) ⊎
 abbrev pub PrintsScript : List ℕ → Option (List ℕ) → Option (List ℕ) → Type 0
 PrintsScript bytes old new = (members : ℕ) × (schema : Tables) × (lines : List Line) × IsScript bytes members schema lines
     × IsPrinted schema members (new_world members) (acts_of members schema lines) old new
-    × Agree (schema_of schema) members (new_world members) (events_in (acts_of members schema lines))
-    × IsExplained (schema_of schema) members (new_world members) (events_in (acts_of members schema lines))
+    × Agree (language_of schema) members (new_world members) (events_in (acts_of members schema lines))
+    × IsExplained (language_of schema) members (new_world members) (events_in (acts_of members schema lines))
 
 -- the bytes are a script, and known bytes grow by a beginning of what its lines print
 abbrev pub BeginsScript : List ℕ → Option (List ℕ) → Option (List ℕ) → Type 0

@@ -1,80 +1,30 @@
 //! The command `audit`, and the audit at the end of `live`.
-ghost use Rattle.std.specs.Prelude.{◌≡◌, ◌≢◌, ◌≤◌, ◌++◌, ◌⊎◌, ℕ, List, length, map, string_bytes, Err, IfOk, IfErr, OnErr, OnOk};
+ghost use Rattle.std.specs.Prelude.{◌≡◌, ◌≤◌, ◌⊎◌, ℕ, List, length, map, string_bytes, Err, IfOk, IfErr, OnErr, OnOk};
 ghost use Rattle.std.specs.Io.KnownBytes.{Appends};
 ghost use Rattle.std.specs.declared.io.Error.{Error};
-ghost use Rattle.moments.specs.declared.recorded.AuditFault.TheVariants.{NoMemory as NoMemoryLeft};
 ghost use Rattle.fault.specs.declared.refusal.Refusal.TheVariants.{NoMemory, BadFlight};
 ghost use Rattle.fault.specs.declared.refusal.Refusal.{Refusal as AnyRefusal};
-ghost use Rattle.shell.specs.Audit.{BeginsJudged, IsExplained, IsFaultOf, IsJudged, IsSaid, judged_of, judged_from, line_of, records_of};
+ghost use Rattle.shell.specs.Audit.{BeginsJudged, IsJudged, IsSaid, line_of, records_of};
 ghost use Rattle.shell.specs.Group.{IsNoGroup};
 ghost use Rattle.answertext.specs.Outlets.{IsLastError};
 
 use crate::group::read_run;
 use answertext::outlet::{Outlet, tell};
-use auditor::{AuditFault, Recorded as Judged, audit};
+use auditor::{AuditFault, Recorded as Judged, explain};
 use fault::Refusal;
-use flight::flight::{Recorded, Version};
+use flight::flight::Version;
 use flight::life::Life;
 use folder::Flown;
-use model::member::Member;
+use moments::all_answers;
 use schema::Schema;
 use script::run_fault::RunFault;
 use std::alloc::{AllocError, Global};
-
-// The answers of a node, as an audit takes them.
-fn add_answers(
-    judged: &mut Vec<Judged>,
-    node: Member,
-    answers: &[Recorded],
-) -> Result<(), AllocError>
-    ensures { OnOk result (judged.new.items ≡ judged.old.items ++ map (judged_of node) answers.now) }
-{
-    for answer in answers {
-        judged.push(Judged {
-            node,
-            mark: answer.mark,
-            query: answer.query.clone()?,
-            answer: answer.answer.clone()?,
-        })?;
-    }
-    Ok(())
-}
-
-pub(crate) fn all_answers(
-    alloc: Global,
-    answers: &[Vec<Recorded>],
-) -> Result<Vec<Judged>, AllocError>
-    ensures { IfOk result (λ all. all.items ≡ judged_from 1 answers.now) }
-{
-    let mut judged = Vec::new(alloc);
-    for (at, given) in answers.iter().enumerate() {
-        add_answers(&mut judged, at + 1, given.as_slice())?;
-    }
-    Ok(judged)
-}
 
 fn fault_line(alloc: Global, fault: AuditFault) -> Result<String, AllocError>
     ensures { IfOk result (λ line. string_bytes line ≡ line_of fault) }
 {
     let refusal = Refusal::from(fault);
     format!(in alloc; "audit: {refusal}\n")
-}
-
-// Whether the events of one run explain all lives and answers of a group of 3 to 7 nodes.
-pub(crate) fn explain(
-    alloc: Global,
-    version: Version,
-    schema: &Schema,
-    lives: &[Vec<Life>],
-    answers: &[Judged],
-) -> Result<(), AuditFault>
-    requires least { 3 ≤ length lives.now }
-    requires most { length lives.now ≤ 7 }
-    ensures yes { OnOk result (IsExplained (record { version = version; tables = schema.now; lives = lives.now; answers = answers.now })) }
-    ensures no { IfErr result (λ fault. fault ≢ NoMemoryLeft → IsFaultOf (record { version = version; tables = schema.now; lives = lives.now; answers = answers.now }) fault) }
-{
-    let _events = audit(alloc, version, schema, lives, answers)?;
-    Ok(())
 }
 
 // The exit status and the line to print of an audit of a group of 3 to 7 nodes. The error is want of memory.

@@ -1,12 +1,14 @@
 //! Who plays a script's lines on nodes, and gives what they recorded.
-ghost use Rattle.std.specs.Prelude.{List, ⊤, IfOk};
+ghost use Rattle.std.specs.Prelude.{◌≡◌, List, map, IfOk};
 ghost use Rattle.std.specs.declared.vec.Vec.{Vec as AnyVec};
 ghost use Rattle.std.specs.declared.alloc.Global.{Global as AnyGlobal};
 ghost use Rattle.flight.specs.declared.flight.Recorded.{Recorded as AnyRecorded};
 ghost use Rattle.flight.specs.declared.life.Life.{Life as AnyLife};
 ghost use Rattle.lines.specs.declared.line.Line.{Line as AnyLine};
 ghost use Rattle.live.specs.Saying.{IsSaidOf};
+ghost use Rattle.live.specs.Stations.{stations_of};
 ghost use Rattle.live.specs.declared.said.Said.{Said as AnySaid};
+ghost use Rattle.shell.specs.Pilots.{answers_in};
 
 use fault::Refusal;
 use flight::flight::Recorded;
@@ -40,7 +42,7 @@ pub trait Pilot {
 impl Pilot for Driver {
     ghost plays = { λ _ line said _. IsSaidOf line said };
 
-    ghost recorded = { λ _ _ _. ⊤ };
+    ghost recorded = { λ driver _ answers. answers ≡ map answers_in (stations_of driver) };
 
     fn play<R: Wait>(&mut self, rt: &R, line: &Line) -> Result<Said, Refusal> {
         Driver::play(self, rt, line)
@@ -58,7 +60,9 @@ impl Pilot for Driver {
 }
 
 // What the stations' views answered.
-fn answers_of(alloc: Global, stations: Vec<Station>) -> Result<Vec<Vec<Recorded>>, AllocError> {
+fn answers_of(alloc: Global, stations: Vec<Station>) -> Result<Vec<Vec<Recorded>>, AllocError>
+    ensures { IfOk result (λ answers. answers.items ≡ map answers_in stations.items) }
+{
     let mut answers = Vec::new(alloc);
     for station in stations {
         answers.push(station.answers)?;

@@ -14,13 +14,13 @@ ghost use Rattle.shell.specs.Group.{IsNoGroup};
 ghost use Rattle.answertext.specs.Outlets.{IsLastError};
 ghost use Rattle.shell.specs.Reported.{BeginsReported, IsPrinted, IsReported, IsReportOn, IsVerdict, status_of, verdict_line};
 
-use crate::audit::all_answers;
 use crate::group::{read_group, run_of};
 use answertext::outlet::{Outlet, tell};
 use auditor::{AuditFault, audit};
 use fault::Refusal;
 use flight::flight::Version;
 use folder::Flown;
+use moments::all_answers;
 use report::difference::{Difference, difference_of};
 use report::files::{File, files_of};
 use report::machine::report_as_json;
@@ -90,8 +90,8 @@ fn verdict_on(
 }
 
 // The status with which an audit ends.
-pub(crate) fn status_of(fault: Option<AuditFault>) -> u8
-    ensures { result ≡ status_of fault }
+pub(crate) fn status_of(fault: &Option<AuditFault>) -> u8
+    ensures { result ≡ status_of fault.now }
 {
     if fault.is_none() { 0 } else { 1 }
 }
@@ -201,7 +201,7 @@ fn reported(
 {
     let report = judge(alloc, names, texts)?;
     let text = printed(alloc, &report, is_json)?;
-    Ok((status_of(report.fault), text))
+    Ok((status_of(&report.fault), text))
 }
 
 /// Judges the flights in the files of these names, whose texts these are, as `run_audit` does, and prints a report: the line of the verdict,

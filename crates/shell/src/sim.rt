@@ -4,8 +4,8 @@ ghost use Rattle.std.specs.declared.io.Error.{Error};
 ghost use Rattle.fault.specs.declared.refusal.Refusal.TheVariants.{NoMemory, BadScript};
 ghost use Rattle.fault.specs.declared.refusal.Refusal.{Refusal as AnyRefusal};
 ghost use Rattle.model.specs.Worlds.{new_world};
+ghost use Rattle.script.specs.Brought.{IsBegun, IsPrinted};
 ghost use Rattle.script.specs.Faults.{IsFaultOf};
-ghost use Rattle.script.specs.Stage.{IsBegun, IsPrinted};
 ghost use Rattle.shell.specs.Sim.{acts_of, EndsScript, IsBadScript, IsNoScript, IsScript, IsToldAs};
 
 use crate::source::Source;
@@ -44,8 +44,7 @@ pub fn play_text<O: Outlet>(alloc: Global, bytes: &[u8], outlet: &mut O) -> Resu
     ensures { EndsScript O.holds O.fails O.is_sent bytes.now outlet.old result outlet.new }
 {
     // Their contracts say that all members agree about whatever happens, and that one list explains it.
-    safety::agreement();
-    onelist::one_list_explains();
+    believed::promises();
     let script = script_of(alloc, bytes)?;
     let Script {
         members,

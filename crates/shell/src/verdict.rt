@@ -8,14 +8,16 @@ ghost use Rattle.shell.specs.Audit.{IsSaid, records_of};
 ghost use Rattle.shell.specs.Reported.{IsVerdict, status_of as status_with};
 ghost use Rattle.shell.specs.Showing.{IsVerdictBeside, IsVerdictIn};
 
-use crate::audit::{all_answers, audit_line, explain};
+use crate::audit::audit_line;
+use crate::report_run::status_of;
 use crate::showing::{Printed, text_of};
-use auditor::{AuditFault, Recorded};
+use auditor::{AuditFault, Recorded, explain};
 use fault::Refusal;
 use flight::flight::Version;
 use flight::life::Life;
 use folder::Flown;
 use forms::Form;
+use moments::all_answers;
 use report::machine::verdict_as_json;
 use schema::Schema;
 use std::alloc::{AllocError, Global};
@@ -63,7 +65,7 @@ fn object_with(alloc: Global, fault: Option<AuditFault>) -> Result<(u8, Printed)
     ensures printed { IfOk result (λ said. string_bytes said.1.text ≡ line_of (object (verdict_tokens fault))) }
     ensures beside { IfOk result (λ said. string_bytes said.1.beside ≡ []) }
 {
-    let status = if fault.is_none() { 0 } else { 1 };
+    let status = status_of(&fault);
     let text = as_json(alloc, fault)?;
     let beside = String::new(alloc);
     Ok((status, Printed { text, beside }))

@@ -1,4 +1,4 @@
--- What a schema's texts are read as is what they spell.
+-- What a language's texts are read as is what they spell.
 use Rattle.std.proofs.Common.{◌≡◌, ℕ, ◌<◌, ◌≤◌, Bool, true, false, nat_lt, List, length, Result, Ok, Err, refl, sym, ap, ◌∙◌}
 use Rattle.std.specs.Prelude.{◌↔◌}
 use Rattle.std.proofs.lemmas.Bool.{ltb-true, ltb-false}
@@ -13,8 +13,8 @@ use Rattle.sqlchecks.specs.Answering.{◌>>=◌}
 use Rattle.sqlchecks.specs.Columns.{Tables}
 use Rattle.sqlread.specs.Changes.{statements_in}
 use Rattle.sqlread.specs.Texts.{transaction_in}
-use Rattle.sqlread.specs.Meaning.{meanings, schema_of}
-use Rattle.sqlread.specs.Reading.{IsReading, TooLong, Spelled, Wrong, IsSchema}
+use Rattle.sqlread.specs.Meaning.{meanings, language_of}
+use Rattle.sqlread.specs.Reading.{IsReading, TooLong, Spelled, Wrong, IsLanguage}
 use Rattle.sqlread.proofs.Saying.{transaction_short, transaction_bounded}
 
 abbrev Reading : Type 0
@@ -48,9 +48,9 @@ so_read told spells wrong tables text r e = by (nat_lt 4096 (length text)) refl 
   by true is = let lt : 4096 < length text = ltb-true 4096 (length text) is in TooLong lt (sym e ∙ ap meanings (transaction_bounded tables text lt))
   by false is = parse (spelled_in statements text) (ltb-false 4096 (length text) is) refl
 
-pub is_schema : IsTold statements → SpellsAlike → WrongAlike → (tables : Tables) → IsSchema tables (schema_of tables)
-unfolding schema_of
-is_schema told spells wrong tables = record {
+pub is_language : IsTold statements → SpellsAlike → WrongAlike → (tables : Tables) → IsLanguage tables (language_of tables)
+unfolding language_of
+is_language told spells wrong tables = record {
   count = refl;
   name = λ n. refl;
   references = refl;

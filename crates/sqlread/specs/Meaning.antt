@@ -8,8 +8,8 @@ use Rattle.fault.specs.declared.refusal.Refusal.{Refusal}
 use Rattle.model.specs.declared.value.Value.{Value as RowValue}
 use Rattle.model.specs.declared.value.Value.TheVariants as value
 use Rattle.model.specs.Tables.{Period, Row, days, inside}
-use Rattle.model.specs.Transactions.{Change, Statement, Reference, Schema}
-use Rattle.model.specs.Transactions as change
+use Rattle.model.specs.Transactions.{Action, Statement, Reference, Language}
+use Rattle.model.specs.Transactions as action
 use Rattle.model.specs.Answers.{Select}
 use Rattle.schema.specs.Shape.{TableShape, ReferenceShape}
 use Rattle.sqlsyntax.specs.declared.forms.Relation.{Relation}
@@ -55,10 +55,10 @@ set_of assignments old = set_from assignments 0 old
 abbrev pub all_days : Period
 all_days = record { start = 0; end = days }
 
-abbrev pub change_of : StatementShape → Change
-change_of (Insert s) = change.Insert s.key s.values s.period
-change_of (Update s) = change.Update (passes_all s.conditions) (unwrap_or s.portion all_days) (set_of s.assignments)
-change_of (Delete s) = change.Delete (passes_all s.conditions) (unwrap_or s.portion all_days)
+abbrev pub action_of : StatementShape → Action
+action_of (Insert s) = action.Insert s.key s.values s.period
+action_of (Update s) = action.Update (passes_all s.conditions) (unwrap_or s.portion all_days) (set_of s.assignments)
+action_of (Delete s) = action.Delete (passes_all s.conditions) (unwrap_or s.portion all_days)
 
 abbrev pub table_of : StatementShape → ℕ
 table_of (Insert s) = s.table
@@ -66,7 +66,7 @@ table_of (Update s) = s.table
 table_of (Delete s) = s.table
 
 abbrev pub meaning : StatementShape → Statement
-meaning s = record { table = table_of s; change = change_of s }
+meaning s = record { table = table_of s; action = action_of s }
 
 -- ---- queries: X is the row's period, and Y the predicate's
 
@@ -87,7 +87,7 @@ term_passes (Relates r p) row = relates r row.period p
 abbrev pub select_of : QueryShape → Select
 select_of q = record { table = q.table; time = q.time; passes = λ row. list_all (λ t. term_passes t row) q.terms }
 
--- ---- the schema
+-- ---- the language
 
 -- the values of the columns at these places, of a row with this key and these values
 abbrev pub values_at : TableShape → List ℕ → List RowValue → List RowValue → List RowValue
@@ -107,5 +107,5 @@ name_of tables place = option_map_or (λ t. t.0) (slice_get tables place) []
 abbrev pub meanings : Result (List StatementShape) Refusal → Result (List Statement) Refusal
 meanings read = result_map_both (map meaning) (λ refusal. refusal) read
 
-unfoldable pub schema_of : Tables → Schema
-schema_of tables = record { tables = length tables; name = name_of tables; references = references_from 0 tables; reads = λ text. meanings (transaction_in tables text) }
+unfoldable pub language_of : Tables → Language
+language_of tables = record { tables = length tables; name = name_of tables; references = references_from 0 tables; reads = λ text. meanings (transaction_in tables text) }

@@ -3,8 +3,8 @@ ghost use Rattle.sqlchecks.specs.Columns.{Tables};
 ghost use Rattle.sqlread.specs.Calendar.{LiteralsInCalendar};
 ghost use Rattle.sqlread.specs.Laws.{SaysTransaction, SaysQuery, IsBounded};
 ghost use Rattle.sqlread.specs.Texts.{transaction_in, query_in};
-ghost use Rattle.sqlread.specs.Meaning.{schema_of};
-ghost use Rattle.sqlread.specs.Reading.{IsSchema};
+ghost use Rattle.sqlread.specs.Meaning.{language_of};
+ghost use Rattle.sqlread.specs.Reading.{IsLanguage};
 
 /// `read_transaction` answers by the grammar of transactions and the checks of statements.
 pub fn transaction_says()
@@ -22,9 +22,9 @@ pub fn query_says()
     sqlsyntax::laws::forms_told();
 }
 
-/// The schema of some tables reads each text as what it spells.
-pub fn schema_is_spelled()
-    ensures { (tables : Tables) → IsSchema tables (schema_of tables) }
+/// The language of some tables reads each text as what it spells.
+pub fn language_is_spelled()
+    ensures { (tables : Tables) → IsLanguage tables (language_of tables) }
 {
     sqlsyntax::laws::forms_told();
     sqlsyntax::laws::transactions_spelled();

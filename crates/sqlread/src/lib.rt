@@ -1,8 +1,8 @@
 //! Reading transactions and queries.
 #![tactic(auto)]
 
+mod action;
 mod assignment;
-mod change;
 mod given;
 mod insert;
 pub mod laws;

@@ -2,11 +2,11 @@
 ghost use Rattle.std.specs.Prelude.{◌≡◌, map, IfOk};
 ghost use Rattle.namesyntax.specs.Parsing.{GivesInMemory};
 ghost use Rattle.model.specs.Transactions.{misreading};
-ghost use Rattle.sqlread.specs.Meaning.{schema_of};
+ghost use Rattle.sqlread.specs.Meaning.{language_of};
 ghost use Rattle.sqlread.specs.Shapes.{statement_of};
 ghost use Rattle.sqlread.specs.Texts.{transaction_in};
 
-use crate::change::statements;
+use crate::action::statements;
 use crate::statement::Transaction;
 use fault::Refusal;
 use schema::Schema;
@@ -62,9 +62,9 @@ pub fn read_transaction(alloc: Global, schema: &Schema, text: &str) -> Result<Tr
 
 /// Why the text is no transaction, as `read_transaction` refuses it, or none where it is one. An error is want of
 /// memory, and says nothing of the text.
-#[tactic(auto, unfolding(crate::specs::Meaning::schema_of))]
+#[tactic(auto, unfolding(crate::specs::Meaning::language_of))]
 pub fn misreading(alloc: Global, schema: &Schema, text: &str) -> Result<Option<Refusal>, AllocError>
-    ensures { IfOk result (λ r. r ≡ misreading ((schema_of schema.now).reads text.now)) }
+    ensures { IfOk result (λ r. r ≡ misreading ((language_of schema.now).reads text.now)) }
 {
     match read_transaction(alloc, schema, text) {
         Ok(_) => Ok(None),

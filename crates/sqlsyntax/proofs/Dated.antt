@@ -8,7 +8,7 @@ use Rattle.std.proofs.lemmas.Bool.Decides.{nat_tests}
 use Rattle.sqltokens.specs.declared.token.Keyword.{Keyword}
 use Rattle.sqltokens.specs.declared.token.Keyword.TheVariants.{Date}
 use Rattle.sqltokens.specs.declared.token.Sign.{Sign}
-use Rattle.sqltokens.specs.What.{What, Word, Mark, Name, Digits, Text, Piece, is_word}
+use Rattle.sqltokens.specs.What.{What, Word, Symbol, Name, Digits, Text, Piece, is_word}
 use Rattle.sqltokens.specs.Classes.{has_shape}
 use Rattle.sqltokens.specs.Lexing.{word_or_name, keyword_of, word_what, is_word_byte, closes, sign_of, token_of, IsTokens}
 use Rattle.sqltokens.specs.Syntax.{said}
@@ -138,9 +138,9 @@ of_word : (b : ℕ) (bs : List ℕ) (o : Option Keyword) (t : What) → is_name_
 of_word b bs (Some k) t h e = subst IsNamed e tt
 of_word b bs None t h e = subst IsNamed e h
 
-of_sign : (o : Option Sign) (t : What) → option_map Mark o ≡ Some t → IsNamed t
+of_sign : (o : Option Sign) (t : What) → option_map Symbol o ≡ Some t → IsNamed t
 of_sign None t e = absurd cc
-of_sign (Some s) t e = let is : Mark s ≡ t = cc in subst IsNamed is tt
+of_sign (Some s) t e = let is : Symbol s ≡ t = cc in subst IsNamed is tt
 
 is_some : (u t : What) → Some u ≡ Some t → u ≡ t
 is_some u t e = cc

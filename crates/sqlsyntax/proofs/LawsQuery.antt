@@ -4,19 +4,19 @@ use Rattle.std.specs.Prelude.{◌⊎◌}
 use Rattle.sqltokens.specs.declared.token.Keyword.{Keyword}
 use Rattle.sqltokens.specs.declared.token.Keyword.TheVariants.{Select, From, For, SystemTime, As, Of, To, Between, And, Where, Period, Contains, Overlaps, Equals, Precedes, Succeeds, Immediately, Timestamp}
 use Rattle.sqltokens.specs.declared.token.Sign.TheVariants.{Star, Semicolon, Open, Close, Comma}
-use Rattle.sqltokens.specs.What.{What, Mark, is_word, word, sign}
+use Rattle.sqltokens.specs.What.{What, Symbol, is_word, word, sign}
 use Rattle.phrase.specs.Grammar.{Phrase, one, only, ◌▹◌, ◌◃◌, ◌▸◌, optional, either}
 use Rattle.namesyntax.specs.Names.{Bytes, names}
 use Rattle.sqlsyntax.specs.Shared.{operators, is_operator, date, literal}
-use Rattle.sqlsyntax.specs.Queries.{SpanForm, span, RelationForm, relation, predicate, TermForm, term, another_term, terms, condition, stamp, time, query}
+use Rattle.sqlsyntax.specs.Queries.{SpanForm, span, RelationForm, relation, predicate, TermForm, term, another_term, terms, condition, point, time, query}
 use Rattle.phrase.proofs.Laws.{stops, IsLawful, Begins, Parts, Repeats, after_fixed, before_fixed, in_turn, only_fixed, left_out, one_of, in_row}
-use Rattle.sqltokens.proofs.Marks.{a_word, a_sign, stamps_lawful, stops_nothing}
+use Rattle.sqltokens.proofs.Symbols.{a_word, a_sign, points_lawful, stops_nothing}
 use Rattle.namesyntax.proofs.LawsNames.{name_then}
 use Rattle.sqlsyntax.proofs.LawsShared.{operator_begins, date_lawful, date_then, operation_lawful}
 
 -- ---- spans
 
-date_closes : date.goes (Mark Close) ≡ false
+date_closes : date.goes (Symbol Close) ≡ false
 unfolding date
 date_closes = refl
 
@@ -146,19 +146,19 @@ condition_begins a rest f = refl
 
 -- ---- system time
 
-pub stamp_lawful : IsLawful stamp
-unfolding stamp
-stamp_lawful = after_fixed (word Timestamp) _ (a_word Timestamp) stamps_lawful
+pub point_lawful : IsLawful point
+unfolding point
+point_lawful = after_fixed (word Timestamp) _ (a_word Timestamp) points_lawful
 
-stamp_ends : (rest : List What) → stops stamp.goes rest ≡ true
-unfolding stamp
-stamp_ends rest = stops_nothing rest
+point_ends : (rest : List What) → stops point.goes rest ≡ true
+unfolding point
+point_ends rest = stops_nothing rest
 
-two_stamps : (k : Keyword) → IsLawful (stamp ▸ word k ▹ stamp)
-two_stamps k = in_turn stamp (word k ▹ stamp) (λ b rest f s t. stamp_ends ((word k ▹ stamp).spell b ++ rest)) stamp_lawful (after_fixed (word k) stamp (a_word k) stamp_lawful)
+two_points : (k : Keyword) → IsLawful (point ▸ word k ▹ point)
+two_points k = in_turn point (word k ▹ point) (λ b rest f s t. point_ends ((word k ▹ point).spell b ++ rest)) point_lawful (after_fixed (word k) point (a_word k) point_lawful)
 
 abbrev from_or_between : Phrase What ((Bytes × Bytes) ⊎ (Bytes × Bytes))
-from_or_between = either (is_word From) (word From ▹ stamp ▸ word To ▹ stamp) (word Between ▹ stamp ▸ word And ▹ stamp)
+from_or_between = either (is_word From) (word From ▹ point ▸ word To ▹ point) (word Between ▹ point ▸ word And ▹ point)
 
 no_as : Begins (is_word As) from_or_between false
 no_as (inl x) rest f = refl
@@ -168,11 +168,11 @@ pub time_lawful : IsLawful time
 unfolding time
 time_lawful =
     after_fixed (word For) _ (a_word For) (after_fixed (word SystemTime) _ (a_word SystemTime)
-    (one_of (is_word As) (word As ▹ word Of ▹ stamp) from_or_between (λ a rest f. refl) no_as
-    (after_fixed (word As) _ (a_word As) (after_fixed (word Of) stamp (a_word Of) stamp_lawful))
-    (one_of (is_word From) (word From ▹ stamp ▸ word To ▹ stamp) (word Between ▹ stamp ▸ word And ▹ stamp) (λ a rest f. refl) (λ b rest f. refl)
-    (after_fixed (word From) _ (a_word From) (two_stamps To))
-    (after_fixed (word Between) _ (a_word Between) (two_stamps And)))))
+    (one_of (is_word As) (word As ▹ word Of ▹ point) from_or_between (λ a rest f. refl) no_as
+    (after_fixed (word As) _ (a_word As) (after_fixed (word Of) point (a_word Of) point_lawful))
+    (one_of (is_word From) (word From ▹ point ▸ word To ▹ point) (word Between ▹ point ▸ word And ▹ point) (λ a rest f. refl) (λ b rest f. refl)
+    (after_fixed (word From) _ (a_word From) (two_points To))
+    (after_fixed (word Between) _ (a_word Between) (two_points And)))))
 
 time_begins : Begins (is_word For) time true
 unfolding time
@@ -180,13 +180,13 @@ time_begins a rest f = refl
 
 -- ---- queries
 
-semicolon_ends : (optional (is_word Where) condition).goes (Mark Semicolon) ≡ false
+semicolon_ends : (optional (is_word Where) condition).goes (Symbol Semicolon) ≡ false
 unfolding condition terms term another_term predicate literal date span relation
 semicolon_ends = refl
 
 -- what follows the system time does not go on with it
 end_divides : (b : Option (List TermForm)) (rest : List What) → stops (optional (is_word For) time).goes ((optional (is_word Where) condition ◃ sign Semicolon).spell b ++ rest) ≡ true
-unfolding time condition stamp
+unfolding time condition point
 end_divides None rest = refl
 end_divides (Some c) rest = refl
 

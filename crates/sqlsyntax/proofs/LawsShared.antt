@@ -6,13 +6,13 @@ use Rattle.sqltokens.specs.declared.token.Sign.{Sign}
 use Rattle.sqltokens.specs.declared.token.Sign.TheVariants as sign'
 use Rattle.sqlsyntax.specs.declared.forms.Operator.{Operator}
 use Rattle.sqlsyntax.specs.declared.forms.Operator.TheVariants as operator
-use Rattle.sqltokens.specs.What.{What, Word, Mark, Name, Digits, Text, Stray, is_word, is_mark, word, sign}
+use Rattle.sqltokens.specs.What.{What, Word, Symbol, Name, Digits, Text, Stray, is_word, is_symbol, word, sign}
 use Rattle.sqltokens.specs.Classes.{digits, texts, dates, is_text}
 use Rattle.phrase.specs.Grammar.{Phrase, one, only, ◌▸◌, next, optional, either}
 use Rattle.namesyntax.specs.Names.{Bytes}
 use Rattle.sqlsyntax.specs.Shared.{operator_of, operator_in, operator_sign, operators, is_operator, date, literal, comparison, another_comparison, comparisons, condition}
 use Rattle.phrase.proofs.Laws.{stops, IsClass, IsLawful, Begins, Parts, Repeats, after_fixed, in_turn, one_token, only_fixed, left_out, one_of, in_row}
-use Rattle.sqltokens.proofs.Marks.{a_word, a_sign, digits_lawful, texts_lawful, dates_lawful, stops_nothing}
+use Rattle.sqltokens.proofs.Symbols.{a_word, a_sign, digits_lawful, texts_lawful, dates_lawful, stops_nothing}
 use Rattle.namesyntax.proofs.LawsNames.{name_then}
 
 -- ---- operators
@@ -37,9 +37,9 @@ operator_sign_is sign'.Greater o e = ap operator_sign (some_is operator.Greater 
 operator_sign_is sign'.GreaterEqual o e = ap operator_sign (some_is operator.GreaterEqual o e)
 operator_sign_is s o e = absurd cc
 
-operator_only : (t : What) (o : Operator) → operator_in t ≡ Some o → t ≡ Mark (operator_sign o)
+operator_only : (t : What) (o : Operator) → operator_in t ≡ Some o → t ≡ Symbol (operator_sign o)
 operator_only (Word j) o e = absurd cc
-operator_only (Mark s) o e = ap Mark (operator_sign_is s o e)
+operator_only (Symbol s) o e = ap Symbol (operator_sign_is s o e)
 operator_only (Name n) o e = absurd cc
 operator_only (Digits d) o e = absurd cc
 operator_only (Text t) o e = absurd cc
@@ -75,7 +75,7 @@ pub date_then : {B : Type 0} (q : Phrase What B) → IsLawful q → IsLawful (da
 date_then q Q = in_turn date q (λ b rest f s t. date_ends (q.spell b ++ rest)) date_lawful Q
 
 abbrev number : Phrase What (Option (Unit {0}) × Bytes)
-number = optional (is_mark sign'.Minus) (only (sign sign'.Minus)) ▸ one digits
+number = optional (is_symbol sign'.Minus) (only (sign sign'.Minus)) ▸ one digits
 
 no_date : (b : Bytes ⊎ (Option (Unit {0}) × Bytes)) (rest : List What) → next (is_word keyword.Date) ((either is_text (one texts) number).spell b ++ rest) ≡ false
 unfolding texts digits
@@ -90,8 +90,8 @@ no_text (Some u, d) rest = refl
 
 number_lawful : IsLawful number
 unfolding digits
-number_lawful = in_turn (optional (is_mark sign'.Minus) (only (sign sign'.Minus))) (one digits) (λ b rest f s t. refl)
-    (left_out (is_mark sign'.Minus) (only (sign sign'.Minus)) (λ a rest f. refl) (only_fixed (sign sign'.Minus) (a_sign sign'.Minus))) digits_lawful
+number_lawful = in_turn (optional (is_symbol sign'.Minus) (only (sign sign'.Minus))) (one digits) (λ b rest f s t. refl)
+    (left_out (is_symbol sign'.Minus) (only (sign sign'.Minus)) (λ a rest f. refl) (only_fixed (sign sign'.Minus) (a_sign sign'.Minus))) digits_lawful
 
 text_begins : (t : Bytes) (rest : List What) → next is_text ((one texts).spell t ++ rest) ≡ true
 unfolding texts

@@ -3,14 +3,14 @@ use Rattle.std.proofs.Common.{◌≡◌, true, false, List, ◌∷◌, ◌++◌,
 use Rattle.std.specs.Prelude.{◌⊎◌}
 use Rattle.sqltokens.specs.declared.token.Keyword.TheVariants as keyword
 use Rattle.sqltokens.specs.declared.token.Sign.TheVariants.{Semicolon, Open, Close, Comma, Equal, Plus, Minus}
-use Rattle.sqltokens.specs.What.{What, Word, Mark, is_word, is_mark, word, sign}
+use Rattle.sqltokens.specs.What.{What, Word, Symbol, is_word, is_symbol, word, sign}
 use Rattle.sqltokens.specs.Classes.{digits, texts, is_name}
 use Rattle.phrase.specs.Grammar.{Phrase, one, only, ◌▹◌, ◌◃◌, ◌▸◌, optional, either}
 use Rattle.namesyntax.specs.Names.{Bytes, names, another_name, name_list}
 use Rattle.sqlsyntax.specs.Shared.{date, literal, comparison, another_comparison, comparisons, ComparisonForm, condition}
 use Rattle.sqlsyntax.specs.Transactions.{another_literal, literals, PortionForm, portion, new_value, assignment, another_assignment, assignments, insert, update, delete, statement, is_statement, statements}
 use Rattle.phrase.proofs.Laws.{stops, IsLawful, Begins, Parts, Repeats, after_fixed, before_fixed, in_turn, only_fixed, left_out, one_of, in_row}
-use Rattle.sqltokens.proofs.Marks.{a_word, a_sign, digits_lawful}
+use Rattle.sqltokens.proofs.Symbols.{a_word, a_sign, digits_lawful}
 use Rattle.namesyntax.proofs.LawsNames.{name_then, name_list_lawful}
 use Rattle.sqlsyntax.proofs.LawsShared.{date_lawful, date_then, literal_lawful, condition_lawful, condition_begins}
 
@@ -20,7 +20,7 @@ pub another_literal_lawful : IsLawful another_literal
 unfolding another_literal
 another_literal_lawful = after_fixed (sign Comma) _ (a_sign Comma) literal_lawful
 
-pub another_literal_begins : Begins (is_mark Comma) another_literal true
+pub another_literal_begins : Begins (is_symbol Comma) another_literal true
 unfolding another_literal
 another_literal_begins a rest f = refl
 
@@ -34,7 +34,7 @@ literals_repeat b rest f = refl
 
 pub literals_lawful : IsLawful literals
 unfolding literals
-literals_lawful = in_row literal (is_mark Comma) another_literal another_literal_begins literals_part literals_repeat literal_lawful another_literal_lawful
+literals_lawful = in_row literal (is_symbol Comma) another_literal another_literal_begins literals_part literals_repeat literal_lawful another_literal_lawful
 
 -- ---- portions
 
@@ -56,10 +56,10 @@ asked_lawful = left_out (is_word keyword.For) portion portion_begins portion_law
 -- ---- assignments
 
 abbrev sides : Phrase What (Unit {0} ⊎ Unit {0})
-sides = either (is_mark Plus) (only (sign Plus)) (only (sign Minus))
+sides = either (is_symbol Plus) (only (sign Plus)) (only (sign Minus))
 
 sides_lawful : IsLawful sides
-sides_lawful = one_of (is_mark Plus) (only (sign Plus)) (only (sign Minus)) (λ a rest f. refl) (λ a rest f. refl) (only_fixed (sign Plus) (a_sign Plus)) (only_fixed (sign Minus) (a_sign Minus))
+sides_lawful = one_of (is_symbol Plus) (only (sign Plus)) (only (sign Minus)) (λ a rest f. refl) (λ a rest f. refl) (only_fixed (sign Plus) (a_sign Plus)) (only_fixed (sign Minus) (a_sign Minus))
 
 abbrev changed : Phrase What (Bytes × ((Unit {0} ⊎ Unit {0}) × Bytes))
 changed = one names ▸ sides ▸ one digits
@@ -90,7 +90,7 @@ pub another_assignment_lawful : IsLawful another_assignment
 unfolding another_assignment
 another_assignment_lawful = after_fixed (sign Comma) _ (a_sign Comma) assignment_lawful
 
-pub another_assignment_begins : Begins (is_mark Comma) another_assignment true
+pub another_assignment_begins : Begins (is_symbol Comma) another_assignment true
 unfolding another_assignment
 another_assignment_begins a rest f = refl
 
@@ -104,14 +104,14 @@ assignments_repeat b rest f = refl
 
 pub assignments_lawful : IsLawful assignments
 unfolding assignments
-assignments_lawful = in_row assignment (is_mark Comma) another_assignment another_assignment_begins assignments_part assignments_repeat assignment_lawful another_assignment_lawful
+assignments_lawful = in_row assignment (is_symbol Comma) another_assignment another_assignment_begins assignments_part assignments_repeat assignment_lawful another_assignment_lawful
 
 -- ---- the end of a statement
 
 abbrev end : Phrase What (Option (List ComparisonForm))
 end = optional (is_word keyword.Where) condition ◃ sign Semicolon
 
-semicolon_ends : (optional (is_word keyword.Where) condition).goes (Mark Semicolon) ≡ false
+semicolon_ends : (optional (is_word keyword.Where) condition).goes (Symbol Semicolon) ≡ false
 unfolding condition comparisons comparison another_comparison literal date
 semicolon_ends = refl
 
@@ -130,11 +130,11 @@ assignments_end (Some c) rest = refl
 
 -- ---- statements
 
-names_close : (rest : List What) → stops name_list.goes (Mark Close ∷ rest) ≡ true
+names_close : (rest : List What) → stops name_list.goes (Symbol Close ∷ rest) ≡ true
 unfolding name_list another_name
 names_close rest = refl
 
-literals_close : literals.goes (Mark Close) ≡ false
+literals_close : literals.goes (Symbol Close) ≡ false
 unfolding literals another_literal literal date
 literals_close = refl
 

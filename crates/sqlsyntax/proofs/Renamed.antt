@@ -7,7 +7,7 @@ use Rattle.std.proofs.lemmas.List.{map-append}
 use Rattle.sqltokens.specs.declared.token.Keyword.{Keyword}
 use Rattle.sqltokens.specs.declared.token.Keyword.TheVariants as keyword
 use Rattle.sqltokens.specs.declared.token.Sign.TheVariants.{Open, Close, Comma, Semicolon, Equal}
-use Rattle.sqltokens.specs.What.{What, Word, Mark, Name, Digits, Text, Stray}
+use Rattle.sqltokens.specs.What.{What, Word, Symbol, Name, Digits, Text, Stray}
 use Rattle.namesyntax.specs.Words.{is_name_text}
 use Rattle.namesyntax.specs.Names.{Bytes}
 use Rattle.sqlsyntax.specs.Shared.{operator_sign, LiteralForm, ComparisonForm}
@@ -47,7 +47,7 @@ all_named (w ∷ ts) = (one w, all_named ts) where
   one : (w : What) → IsNamed (renamed w)
   one (Name n) = a_name_is n
   one (Word k) = tt
-  one (Mark s) = tt
+  one (Symbol s) = tt
   one (Digits d) = tt
   one (Text t) = tt
   one Stray = tt
@@ -58,7 +58,7 @@ as_named (w ∷ ts) h = ap (λ (l : List What). renamed w ∷ l) (as_named ts h.
   one : (w : What) → IsNamed w → renamed w ≡ w
   one (Name n) h = ap Name (a_name_same n h)
   one (Word k) h = refl
-  one (Mark s) h = refl
+  one (Symbol s) h = refl
   one (Digits d) h = refl
   one (Text t) h = refl
   one Stray h = refl
@@ -120,7 +120,7 @@ join_is {A} f sep g e s (x ∷ xs) =
 
 comparison_is : (c : ComparisonForm) → map renamed (comparison c) ≡ comparison (comparison_named c)
 unfolding comparison_named
-comparison_is (n, (o, l)) = ap (λ (ts : List What). renamed (Name n) ∷ Mark (operator_sign o) ∷ ts) (literal_is l)
+comparison_is (n, (o, l)) = ap (λ (ts : List What). renamed (Name n) ∷ Symbol (operator_sign o) ∷ ts) (literal_is l)
 
 condition_is : (c : Option (List ComparisonForm)) → map renamed (condition c) ≡ condition (option_map (map comparison_named) c)
 condition_is None = refl
@@ -139,7 +139,7 @@ value_is (inr l) = literal_is l
 
 assignment_is : (x : AssignmentForm) → map renamed (assignment x) ≡ assignment (assignment_named x)
 unfolding assignment_named
-assignment_is (n, v) = ap (λ (ts : List What). renamed (Name n) ∷ Mark Equal ∷ ts) (value_is v)
+assignment_is (n, v) = ap (λ (ts : List What). renamed (Name n) ∷ Symbol Equal ∷ ts) (value_is v)
 
 record IsRenamed (ts us : List What) : Type 0 where
   is : map renamed ts ≡ us
@@ -153,18 +153,18 @@ fixed xs = record { is = refl }
 statement_is : (s : StatementForm) → IsRenamed (statement s) (statement (statement_named s))
 unfolding statement_named
 statement_is (inl (t, (ns, ls))) =
-    let columns : IsRenamed (join_by (λ n. Name n ∷ []) (Mark Comma ∷ []) ns) (join_by (λ n. Name n ∷ []) (Mark Comma ∷ []) (map a_name ns)) = record { is = join_is (λ n. Name n ∷ []) (Mark Comma ∷ []) a_name refl (λ n. refl) ns } in
-    let values : IsRenamed (join_by literal (Mark Comma ∷ []) ls) (join_by literal (Mark Comma ∷ []) ls) = record { is = join_is literal (Mark Comma ∷ []) (λ l. l) refl literal_is ls ∙ ap (join_by literal (Mark Comma ∷ [])) (map-id ls) } in
-    both (both (both (fixed (Word keyword.Insert ∷ Word keyword.Into ∷ Name t ∷ Mark Open ∷ [])) columns) (both (fixed (Mark Close ∷ Word keyword.Values ∷ Mark Open ∷ [])) values)) (fixed (Mark Close ∷ Mark Semicolon ∷ []))
+    let columns : IsRenamed (join_by (λ n. Name n ∷ []) (Symbol Comma ∷ []) ns) (join_by (λ n. Name n ∷ []) (Symbol Comma ∷ []) (map a_name ns)) = record { is = join_is (λ n. Name n ∷ []) (Symbol Comma ∷ []) a_name refl (λ n. refl) ns } in
+    let values : IsRenamed (join_by literal (Symbol Comma ∷ []) ls) (join_by literal (Symbol Comma ∷ []) ls) = record { is = join_is literal (Symbol Comma ∷ []) (λ l. l) refl literal_is ls ∙ ap (join_by literal (Symbol Comma ∷ [])) (map-id ls) } in
+    both (both (both (fixed (Word keyword.Insert ∷ Word keyword.Into ∷ Name t ∷ Symbol Open ∷ [])) columns) (both (fixed (Symbol Close ∷ Word keyword.Values ∷ Symbol Open ∷ [])) values)) (fixed (Symbol Close ∷ Symbol Semicolon ∷ []))
 statement_is (inr (inl (t, (p, (xs, c))))) =
     let days : IsRenamed (portion p) (portion (option_map portion_named p)) = record { is = portion_is p } in
-    let set : IsRenamed (join_by assignment (Mark Comma ∷ []) xs) (join_by assignment (Mark Comma ∷ []) (map assignment_named xs)) = record { is = join_is assignment (Mark Comma ∷ []) assignment_named refl assignment_is xs } in
+    let set : IsRenamed (join_by assignment (Symbol Comma ∷ []) xs) (join_by assignment (Symbol Comma ∷ []) (map assignment_named xs)) = record { is = join_is assignment (Symbol Comma ∷ []) assignment_named refl assignment_is xs } in
     let rows : IsRenamed (condition c) (condition (option_map (map comparison_named) c)) = record { is = condition_is c } in
-    both (both (both (both (fixed (Word keyword.Update ∷ Name t ∷ [])) days) (both (fixed (Word keyword.Set ∷ [])) set)) rows) (fixed (Mark Semicolon ∷ []))
+    both (both (both (both (fixed (Word keyword.Update ∷ Name t ∷ [])) days) (both (fixed (Word keyword.Set ∷ [])) set)) rows) (fixed (Symbol Semicolon ∷ []))
 statement_is (inr (inr (t, (p, c)))) =
     let days : IsRenamed (portion p) (portion (option_map portion_named p)) = record { is = portion_is p } in
     let rows : IsRenamed (condition c) (condition (option_map (map comparison_named) c)) = record { is = condition_is c } in
-    both (both (both (fixed (Word keyword.Delete ∷ Word keyword.From ∷ Name t ∷ [])) days) rows) (fixed (Mark Semicolon ∷ []))
+    both (both (both (fixed (Word keyword.Delete ∷ Word keyword.From ∷ Name t ∷ [])) days) rows) (fixed (Symbol Semicolon ∷ []))
 
 pub statements_are : (xs : List StatementForm) → map renamed (flat_map statement xs) ≡ flat_map statement (map statement_named xs)
 statements_are xs = all_is statement statement_named (λ s. (statement_is s).is) xs

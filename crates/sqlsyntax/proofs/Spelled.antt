@@ -4,7 +4,7 @@ use Rattle.std.specs.Prelude.{◌≢◌}
 use Rattle.std.specs.List.{AllByRecursion, flat_map, join_by, list_any}
 use Rattle.sqltokens.specs.declared.token.Keyword.TheVariants as keyword
 use Rattle.sqltokens.specs.declared.token.Sign.TheVariants.{Open, Close, Comma, Semicolon, Equal, Minus}
-use Rattle.sqltokens.specs.What.{What, Word, Mark, Name, Digits, Text, is_word, is_mark}
+use Rattle.sqltokens.specs.What.{What, Word, Symbol, Name, Digits, Text, is_word, is_symbol}
 use Rattle.sqltokens.specs.Classes.{digits, texts, dates}
 use Rattle.phrase.specs.Grammar.{Phrase, one, spell_all, optional, row}
 use Rattle.namesyntax.specs.Names.{names, another_name, name_list}
@@ -82,9 +82,9 @@ name_matches : Matches (one names) (λ n. Name n ∷ []) Whole
 unfolding names
 name_matches = record { same = λ n h. refl; full = λ n h. tt; dated = λ n h. adds_plain (Name n ∷ []) refl; fits = λ n h r. right_name n [] r }
 
-name_list_matches : Matches name_list (join_by (λ n. Name n ∷ []) (Mark Comma ∷ [])) (λ ns. ns ≢ [])
+name_list_matches : Matches name_list (join_by (λ n. Name n ∷ []) (Symbol Comma ∷ [])) (λ ns. ns ≢ [])
 unfolding name_list another_name
-name_list_matches = whole_row name_list _ (row_matches (one names) another_name (is_mark Comma) (λ n. Name n ∷ []) (Mark Comma ∷ []) Whole refl (λ n. refl) (λ n h. h) (λ n h. h) name_matches)
+name_list_matches = whole_row name_list _ (row_matches (one names) another_name (is_symbol Comma) (λ n. Name n ∷ []) (Symbol Comma ∷ []) Whole refl (λ n. refl) (λ n h. h) (λ n h. h) name_matches)
 
 literal_matches : Matches grammar.literal literal Whole
 unfolding grammar.literal date dates texts digits
@@ -99,7 +99,7 @@ literal_matches = record { same = same; full = λ l h. tt; dated = dated; fits =
   dated (inl d) h = adds_date d h
   dated (inr (inl t)) h = adds_plain (Text t ∷ []) refl
   dated (inr (inr (None, d))) h = adds_plain (Digits d ∷ []) refl
-  dated (inr (inr (Some u, d))) h = adds_plain (Mark Minus ∷ Digits d ∷ []) refl
+  dated (inr (inr (Some u, d))) h = adds_plain (Symbol Minus ∷ Digits d ∷ []) refl
 
   fits : (l : LiteralForm) → Whole l → IsRight (literal l) → grammar.literal.fits l
   fits (inl d) h r = right_date d [] r
@@ -107,9 +107,9 @@ literal_matches = record { same = same; full = λ l h. tt; dated = dated; fits =
   fits (inr (inr (None, d))) h r = (tt, tt)
   fits (inr (inr (Some u, d))) h r = (tt, tt)
 
-literals_matches : Matches literals (join_by literal (Mark Comma ∷ [])) (λ ls. ls ≢ [])
+literals_matches : Matches literals (join_by literal (Symbol Comma ∷ [])) (λ ls. ls ≢ [])
 unfolding literals another_literal
-literals_matches = whole_row literals _ (row_matches grammar.literal another_literal (is_mark Comma) literal (Mark Comma ∷ []) Whole refl (λ l. refl) (λ l h. h) (λ l h. h) literal_matches)
+literals_matches = whole_row literals _ (row_matches grammar.literal another_literal (is_symbol Comma) literal (Symbol Comma ∷ []) Whole refl (λ l. refl) (λ l h. h) (λ l h. h) literal_matches)
 
 -- ---- comparisons
 
@@ -194,46 +194,46 @@ value_matches = record { same = same; full = λ v h. tt; dated = dated; fits = f
 assignment_matches : Matches grammar'.assignment assignment Whole
 unfolding grammar'.assignment names
 assignment_matches = record {
-  same = λ a h. ap (λ (l : List What). Name a.0 ∷ Mark Equal ∷ l) (value_matches.same a.1 tt);
+  same = λ a h. ap (λ (l : List What). Name a.0 ∷ Symbol Equal ∷ l) (value_matches.same a.1 tt);
   full = λ a h. tt;
-  dated = λ a h. adds_both (Name a.0 ∷ Mark Equal ∷ []) (new_value a.1) (adds_plain _ refl) (value_matches.dated a.1 h.1);
-  fits = λ a h r. (right_name a.0 _ r, value_matches.fits a.1 tt (right_back (Name a.0 ∷ Mark Equal ∷ []) (new_value a.1) r));
+  dated = λ a h. adds_both (Name a.0 ∷ Symbol Equal ∷ []) (new_value a.1) (adds_plain _ refl) (value_matches.dated a.1 h.1);
+  fits = λ a h r. (right_name a.0 _ r, value_matches.fits a.1 tt (right_back (Name a.0 ∷ Symbol Equal ∷ []) (new_value a.1) r));
 }
 
-assignments_matches : Matches assignments (join_by assignment (Mark Comma ∷ [])) (λ xs. xs ≢ [])
+assignments_matches : Matches assignments (join_by assignment (Symbol Comma ∷ [])) (λ xs. xs ≢ [])
 unfolding assignments another_assignment
-assignments_matches = whole_row assignments _ (row_matches grammar'.assignment another_assignment (is_mark Comma) assignment (Mark Comma ∷ []) Whole refl (λ a. refl) (λ a h. h) (λ a h. h) assignment_matches)
+assignments_matches = whole_row assignments _ (row_matches grammar'.assignment another_assignment (is_symbol Comma) assignment (Symbol Comma ∷ []) Whole refl (λ a. refl) (λ a h. h) (λ a h. h) assignment_matches)
 
 -- ---- statements
 
 -- a statement's tokens, the first of its parts outermost
 abbrev nested : StatementForm → List What
-nested (inl (t, (ns, ls))) = Word keyword.Insert ∷ Word keyword.Into ∷ Name t ∷ Mark Open ∷ (join_by (λ n. Name n ∷ []) (Mark Comma ∷ []) ns ++ Mark Close ∷ Word keyword.Values ∷ Mark Open ∷ (join_by literal (Mark Comma ∷ []) ls ++ Mark Close ∷ Mark Semicolon ∷ []))
-nested (inr (inl (t, (p, (xs, c))))) = Word keyword.Update ∷ Name t ∷ (portion p ++ Word keyword.Set ∷ (join_by assignment (Mark Comma ∷ []) xs ++ (condition c ++ Mark Semicolon ∷ [])))
-nested (inr (inr (t, (p, c)))) = Word keyword.Delete ∷ Word keyword.From ∷ Name t ∷ (portion p ++ (condition c ++ Mark Semicolon ∷ []))
+nested (inl (t, (ns, ls))) = Word keyword.Insert ∷ Word keyword.Into ∷ Name t ∷ Symbol Open ∷ (join_by (λ n. Name n ∷ []) (Symbol Comma ∷ []) ns ++ Symbol Close ∷ Word keyword.Values ∷ Symbol Open ∷ (join_by literal (Symbol Comma ∷ []) ls ++ Symbol Close ∷ Symbol Semicolon ∷ []))
+nested (inr (inl (t, (p, (xs, c))))) = Word keyword.Update ∷ Name t ∷ (portion p ++ Word keyword.Set ∷ (join_by assignment (Symbol Comma ∷ []) xs ++ (condition c ++ Symbol Semicolon ∷ [])))
+nested (inr (inr (t, (p, c)))) = Word keyword.Delete ∷ Word keyword.From ∷ Name t ∷ (portion p ++ (condition c ++ Symbol Semicolon ∷ []))
 
 nested_is : (s : StatementForm) → nested s ≡ statement s
 nested_is (inl (t, (ns, ls))) = simp append_assoc
 nested_is (inr (inl (t, (p, (xs, c))))) = simp append_assoc
 nested_is (inr (inr (t, (p, c)))) = simp append_assoc
 
-closed : (ls : List LiteralForm) → ls ≢ [] → (literals.spell ls ++ Mark Close ∷ []) ++ Mark Semicolon ∷ [] ≡ join_by literal (Mark Comma ∷ []) ls ++ Mark Close ∷ Mark Semicolon ∷ []
-closed ls h = append_assoc (literals.spell ls) (Mark Close ∷ []) (Mark Semicolon ∷ []) ∙ ap (λ (l : List What). l ++ Mark Close ∷ Mark Semicolon ∷ []) (literals_matches.same ls h)
+closed : (ls : List LiteralForm) → ls ≢ [] → (literals.spell ls ++ Symbol Close ∷ []) ++ Symbol Semicolon ∷ [] ≡ join_by literal (Symbol Comma ∷ []) ls ++ Symbol Close ∷ Symbol Semicolon ∷ []
+closed ls h = append_assoc (literals.spell ls) (Symbol Close ∷ []) (Symbol Semicolon ∷ []) ∙ ap (λ (l : List What). l ++ Symbol Close ∷ Symbol Semicolon ∷ []) (literals_matches.same ls h)
 
 nested_matches : Matches grammar'.statement nested IsFull
 unfolding grammar'.statement insert update delete names
 nested_matches = record { same = same; full = full; dated = dated; fits = fits } where
   same : (s : StatementForm) → IsFull s → grammar'.statement.spell s ≡ nested s
-  same (inl (t, (ns, ls))) h = ap (λ (l : List What). Word keyword.Insert ∷ Word keyword.Into ∷ Name t ∷ Mark Open ∷ l) (
-      ap (λ (l : List What). l ++ Mark Close ∷ Word keyword.Values ∷ Mark Open ∷ ((literals.spell ls ++ Mark Close ∷ []) ++ Mark Semicolon ∷ [])) (name_list_matches.same ns h.0)
-      ∙ ap (λ (l : List What). join_by (λ n. Name n ∷ []) (Mark Comma ∷ []) ns ++ Mark Close ∷ Word keyword.Values ∷ Mark Open ∷ l) (closed ls h.1))
+  same (inl (t, (ns, ls))) h = ap (λ (l : List What). Word keyword.Insert ∷ Word keyword.Into ∷ Name t ∷ Symbol Open ∷ l) (
+      ap (λ (l : List What). l ++ Symbol Close ∷ Word keyword.Values ∷ Symbol Open ∷ ((literals.spell ls ++ Symbol Close ∷ []) ++ Symbol Semicolon ∷ [])) (name_list_matches.same ns h.0)
+      ∙ ap (λ (l : List What). join_by (λ n. Name n ∷ []) (Symbol Comma ∷ []) ns ++ Symbol Close ∷ Word keyword.Values ∷ Symbol Open ∷ l) (closed ls h.1))
   same (inr (inl (t, (p, (xs, c))))) h = ap (λ (l : List What). Word keyword.Update ∷ Name t ∷ l) (
-      ap (λ (l : List What). l ++ Word keyword.Set ∷ (assignments.spell xs ++ (given.spell c ++ Mark Semicolon ∷ []))) (portion_matches.same p tt)
+      ap (λ (l : List What). l ++ Word keyword.Set ∷ (assignments.spell xs ++ (given.spell c ++ Symbol Semicolon ∷ []))) (portion_matches.same p tt)
       ∙ ap (λ (l : List What). portion p ++ Word keyword.Set ∷ l) (
-      ap (λ (l : List What). l ++ (given.spell c ++ Mark Semicolon ∷ [])) (assignments_matches.same xs h.0)
-      ∙ ap (λ (l : List What). join_by assignment (Mark Comma ∷ []) xs ++ (l ++ Mark Semicolon ∷ [])) (condition_matches.same c h.1)))
+      ap (λ (l : List What). l ++ (given.spell c ++ Symbol Semicolon ∷ [])) (assignments_matches.same xs h.0)
+      ∙ ap (λ (l : List What). join_by assignment (Symbol Comma ∷ []) xs ++ (l ++ Symbol Semicolon ∷ [])) (condition_matches.same c h.1)))
   same (inr (inr (t, (p, c)))) h = ap (λ (l : List What). Word keyword.Delete ∷ Word keyword.From ∷ Name t ∷ l) (
-      ap (λ (l : List What). l ++ (given.spell c ++ Mark Semicolon ∷ [])) (portion_matches.same p tt) ∙ ap (λ (l : List What). portion p ++ (l ++ Mark Semicolon ∷ [])) (condition_matches.same c h))
+      ap (λ (l : List What). l ++ (given.spell c ++ Symbol Semicolon ∷ [])) (portion_matches.same p tt) ∙ ap (λ (l : List What). portion p ++ (l ++ Symbol Semicolon ∷ [])) (condition_matches.same c h))
 
   full : (s : StatementForm) → grammar'.statement.fits s → IsFull s
   full (inl (t, (ns, ls))) f = (name_list_matches.full ns f.1.0, literals_matches.full ls f.1.1)
@@ -241,24 +241,24 @@ nested_matches = record { same = same; full = full; dated = dated; fits = fits }
   full (inr (inr (t, (p, c)))) f = condition_matches.full c f.1.1
 
   dated : (s : StatementForm) → grammar'.statement.fits s → Adds (nested s)
-  dated (inl (t, (ns, ls))) f = adds_both (Word keyword.Insert ∷ Word keyword.Into ∷ Name t ∷ Mark Open ∷ []) _ (adds_plain _ refl) (adds_both (join_by (λ n. Name n ∷ []) (Mark Comma ∷ []) ns) _ (name_list_matches.dated ns f.1.0) (
-      adds_both (Mark Close ∷ Word keyword.Values ∷ Mark Open ∷ []) _ (adds_plain _ refl) (adds_both (join_by literal (Mark Comma ∷ []) ls) (Mark Close ∷ Mark Semicolon ∷ []) (literals_matches.dated ls f.1.1) (adds_plain _ refl))))
+  dated (inl (t, (ns, ls))) f = adds_both (Word keyword.Insert ∷ Word keyword.Into ∷ Name t ∷ Symbol Open ∷ []) _ (adds_plain _ refl) (adds_both (join_by (λ n. Name n ∷ []) (Symbol Comma ∷ []) ns) _ (name_list_matches.dated ns f.1.0) (
+      adds_both (Symbol Close ∷ Word keyword.Values ∷ Symbol Open ∷ []) _ (adds_plain _ refl) (adds_both (join_by literal (Symbol Comma ∷ []) ls) (Symbol Close ∷ Symbol Semicolon ∷ []) (literals_matches.dated ls f.1.1) (adds_plain _ refl))))
   dated (inr (inl (t, (p, (xs, c))))) f = adds_both (Word keyword.Update ∷ Name t ∷ []) _ (adds_plain _ refl) (adds_both (portion p) _ (portion_matches.dated p f.1.0) (
-      adds_both (Word keyword.Set ∷ []) _ (adds_plain _ refl) (adds_both (join_by assignment (Mark Comma ∷ []) xs) _ (assignments_matches.dated xs f.1.1.0) (adds_both (condition c) (Mark Semicolon ∷ []) (condition_matches.dated c f.1.1.1) (adds_plain _ refl)))))
-  dated (inr (inr (t, (p, c)))) f = adds_both (Word keyword.Delete ∷ Word keyword.From ∷ Name t ∷ []) _ (adds_plain _ refl) (adds_both (portion p) _ (portion_matches.dated p f.1.0) (adds_both (condition c) (Mark Semicolon ∷ []) (condition_matches.dated c f.1.1) (adds_plain _ refl)))
+      adds_both (Word keyword.Set ∷ []) _ (adds_plain _ refl) (adds_both (join_by assignment (Symbol Comma ∷ []) xs) _ (assignments_matches.dated xs f.1.1.0) (adds_both (condition c) (Symbol Semicolon ∷ []) (condition_matches.dated c f.1.1.1) (adds_plain _ refl)))))
+  dated (inr (inr (t, (p, c)))) f = adds_both (Word keyword.Delete ∷ Word keyword.From ∷ Name t ∷ []) _ (adds_plain _ refl) (adds_both (portion p) _ (portion_matches.dated p f.1.0) (adds_both (condition c) (Symbol Semicolon ∷ []) (condition_matches.dated c f.1.1) (adds_plain _ refl)))
 
   fits : (s : StatementForm) → IsFull s → IsRight (nested s) → grammar'.statement.fits s
   fits (inl (t, (ns, ls))) h r =
       let named = right_back (Word keyword.Insert ∷ Word keyword.Into ∷ []) _ r in
-      let columns = right_back (Name t ∷ Mark Open ∷ []) _ named in
-      let values = right_back (Mark Close ∷ Word keyword.Values ∷ Mark Open ∷ []) _ (right_back (join_by (λ n. Name n ∷ []) (Mark Comma ∷ []) ns) _ columns) in
-      (right_name t _ named, (name_list_matches.fits ns h.0 (right_front _ _ columns), literals_matches.fits ls h.1 (right_front (join_by literal (Mark Comma ∷ []) ls) (Mark Close ∷ Mark Semicolon ∷ []) values)))
+      let columns = right_back (Name t ∷ Symbol Open ∷ []) _ named in
+      let values = right_back (Symbol Close ∷ Word keyword.Values ∷ Symbol Open ∷ []) _ (right_back (join_by (λ n. Name n ∷ []) (Symbol Comma ∷ []) ns) _ columns) in
+      (right_name t _ named, (name_list_matches.fits ns h.0 (right_front _ _ columns), literals_matches.fits ls h.1 (right_front (join_by literal (Symbol Comma ∷ []) ls) (Symbol Close ∷ Symbol Semicolon ∷ []) values)))
   fits (inr (inl (t, (p, (xs, c))))) h r =
       let named = right_back (Word keyword.Update ∷ []) _ r in
       let asks = right_back (Name t ∷ []) _ named in
       let sets = right_back (Word keyword.Set ∷ []) _ (right_back (portion p) _ asks) in
-      let ends = right_back (join_by assignment (Mark Comma ∷ []) xs) _ sets in
-      (right_name t _ named, (portion_matches.fits p tt (right_front (portion p) _ asks), (assignments_matches.fits xs h.0 (right_front (join_by assignment (Mark Comma ∷ []) xs) _ sets), condition_matches.fits c h.1 (right_front (condition c) _ ends))))
+      let ends = right_back (join_by assignment (Symbol Comma ∷ []) xs) _ sets in
+      (right_name t _ named, (portion_matches.fits p tt (right_front (portion p) _ asks), (assignments_matches.fits xs h.0 (right_front (join_by assignment (Symbol Comma ∷ []) xs) _ sets), condition_matches.fits c h.1 (right_front (condition c) _ ends))))
   fits (inr (inr (t, (p, c)))) h r =
       let named = right_back (Word keyword.Delete ∷ Word keyword.From ∷ []) _ r in
       let asks = right_back (Name t ∷ []) _ named in

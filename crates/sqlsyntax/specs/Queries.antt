@@ -15,7 +15,7 @@ use Rattle.sqlsyntax.specs.declared.forms.SystemTime as system
 use Rattle.sqlsyntax.specs.declared.forms.SystemTime.TheVariants as times
 use Rattle.sqlsyntax.specs.declared.forms.Query.{Query}
 use Rattle.sqltokens.specs.What.{What, is_word, word, sign}
-use Rattle.sqltokens.specs.Classes.{stamps}
+use Rattle.sqltokens.specs.Classes.{points}
 use Rattle.phrase.specs.Grammar.{Phrase, one, only, ◌▹◌, ◌◃◌, ◌▸◌, optional, either, row}
 use Rattle.namesyntax.specs.Names.{Bytes, names, name_of}
 use Rattle.sqlsyntax.specs.Shared.{operators, is_operator, date, LiteralForm, literal, literal_form}
@@ -69,19 +69,19 @@ unfoldable pub condition : Phrase What (List TermForm)
 condition = word Where ▹ terms
 
 -- what stands between the quotes behind TIMESTAMP
-unfoldable pub stamp : Phrase What Bytes
-stamp = word Timestamp ▹ one stamps
+unfoldable pub point : Phrase What Bytes
+point = word Timestamp ▹ one points
 
 -- as of a timestamp, from one to another, or between two
 abbrev pub TimeForm : Type 0
 TimeForm = Bytes ⊎ ((Bytes × Bytes) ⊎ (Bytes × Bytes))
 
--- FOR SYSTEM_TIME ( AS OF stamp | FROM stamp TO stamp | BETWEEN stamp AND stamp )
+-- FOR SYSTEM_TIME ( AS OF point | FROM point TO point | BETWEEN point AND point )
 unfoldable pub time : Phrase What TimeForm
 time = word For ▹ word SystemTime ▹
-    either (is_word As) (word As ▹ word Of ▹ stamp)
-    (either (is_word From) (word From ▹ stamp ▸ word To ▹ stamp)
-    (word Between ▹ stamp ▸ word And ▹ stamp))
+    either (is_word As) (word As ▹ word Of ▹ point)
+    (either (is_word From) (word From ▹ point ▸ word To ▹ point)
+    (word Between ▹ point ▸ word And ▹ point))
 
 -- the table's name, the system time and the terms
 abbrev pub QueryForm : Type 0

@@ -9,7 +9,7 @@ use Rattle.sqlsyntax.specs.declared.forms.Operator.TheVariants as operator
 use Rattle.sqlsyntax.specs.declared.forms.Literal.{Literal}
 use Rattle.sqlsyntax.specs.declared.forms.Literal.TheVariants as literals
 use Rattle.sqlsyntax.specs.declared.forms.Comparison.{Comparison}
-use Rattle.sqltokens.specs.What.{What, Mark, is_word, is_mark, word, sign}
+use Rattle.sqltokens.specs.What.{What, Symbol, is_word, is_symbol, word, sign}
 use Rattle.sqltokens.specs.Classes.{Always, digits, texts, dates, is_text}
 use Rattle.phrase.specs.Grammar.{Phrase, Class, one, only, ◌▹◌, ◌▸◌, optional, either, row}
 use Rattle.namesyntax.specs.Names.{Bytes, names, name_of}
@@ -26,7 +26,7 @@ operator_of sign'.GreaterEqual = Some operator.GreaterEqual
 operator_of s = None
 
 abbrev pub operator_in : What → Option Operator
-operator_in (Mark s) = operator_of s
+operator_in (Symbol s) = operator_of s
 operator_in w = None
 
 abbrev pub is_operator : What → Bool
@@ -41,7 +41,7 @@ operator_sign operator.Greater = sign'.Greater
 operator_sign operator.GreaterEqual = sign'.GreaterEqual
 
 unfoldable pub operators : Class What Operator
-operators = record { fits = Always; what = λ o. Mark (operator_sign o); of = operator_in; example = operator.Equal }
+operators = record { fits = Always; what = λ o. Symbol (operator_sign o); of = operator_in; example = operator.Equal }
 
 -- ---- dates, literals and comparisons
 
@@ -55,7 +55,7 @@ LiteralForm = Bytes ⊎ (Bytes ⊎ (Option (Unit {0}) × Bytes))
 
 -- date | text | [ "-" ] digits
 unfoldable pub literal : Phrase What LiteralForm
-literal = either (is_word keyword.Date) date (either is_text (one texts) (optional (is_mark sign'.Minus) (only (sign sign'.Minus)) ▸ one digits))
+literal = either (is_word keyword.Date) date (either is_text (one texts) (optional (is_symbol sign'.Minus) (only (sign sign'.Minus)) ▸ one digits))
 
 abbrev pub ComparisonForm : Type 0
 ComparisonForm = Bytes × (Operator × LiteralForm)

@@ -5,7 +5,7 @@ use Rattle.std.specs.Option.{option_map_or}
 use mathlib.Core.Logic.{inl, inr}
 use Rattle.sqltokens.specs.declared.token.Keyword.TheVariants.{Date, Where, And, For, Portion, Of, From, To, Insert, Into, Values, Update, Set, Delete}
 use Rattle.sqltokens.specs.declared.token.Sign.TheVariants.{Open, Close, Comma, Semicolon, Equal, Plus, Minus}
-use Rattle.sqltokens.specs.What.{What, Word, Mark, Name, Digits, Text, Piece}
+use Rattle.sqltokens.specs.What.{What, Word, Symbol, Name, Digits, Text, Piece}
 use Rattle.sqltokens.specs.Lexing.{IsTokens}
 use Rattle.sqltokens.specs.Classes.{has_shape}
 use Rattle.sqlsyntax.specs.Shared.{operator_sign, LiteralForm, ComparisonForm}
@@ -15,10 +15,10 @@ abbrev pub literal : LiteralForm → List What
 literal (inl date) = Word Date ∷ Text date ∷ []
 literal (inr (inl text)) = Text text ∷ []
 literal (inr (inr (None, digits))) = Digits digits ∷ []
-literal (inr (inr (Some minus, digits))) = Mark Minus ∷ Digits digits ∷ []
+literal (inr (inr (Some minus, digits))) = Symbol Minus ∷ Digits digits ∷ []
 
 abbrev pub comparison : ComparisonForm → List What
-comparison (column, (operator, value)) = Name column ∷ Mark (operator_sign operator) ∷ literal value
+comparison (column, (operator, value)) = Name column ∷ Symbol (operator_sign operator) ∷ literal value
 
 abbrev pub condition : Option (List ComparisonForm) → List What
 condition None = []
@@ -29,18 +29,18 @@ portion None = []
 portion (Some (period, (from, to))) = Word For ∷ Word Portion ∷ Word Of ∷ Name period ∷ Word From ∷ Word Date ∷ Text from ∷ Word To ∷ Word Date ∷ Text to ∷ []
 
 abbrev pub new_value : ValueForm → List What
-new_value (inl (column, (inl plus, digits))) = Name column ∷ Mark Plus ∷ Digits digits ∷ []
-new_value (inl (column, (inr minus, digits))) = Name column ∷ Mark Minus ∷ Digits digits ∷ []
+new_value (inl (column, (inl plus, digits))) = Name column ∷ Symbol Plus ∷ Digits digits ∷ []
+new_value (inl (column, (inr minus, digits))) = Name column ∷ Symbol Minus ∷ Digits digits ∷ []
 new_value (inr value) = literal value
 
 abbrev pub assignment : AssignmentForm → List What
-assignment (column, value) = Name column ∷ Mark Equal ∷ new_value value
+assignment (column, value) = Name column ∷ Symbol Equal ∷ new_value value
 
 abbrev pub statement : StatementForm → List What
 statement (inl (table, (columns, values))) =
-    Word Insert ∷ Word Into ∷ Name table ∷ Mark Open ∷ join_by (λ column. Name column ∷ []) (Mark Comma ∷ []) columns ++ Mark Close ∷ Word Values ∷ Mark Open ∷ join_by literal (Mark Comma ∷ []) values ++ Mark Close ∷ Mark Semicolon ∷ []
-statement (inr (inl (table, (days, (assignments, comparisons))))) = Word Update ∷ Name table ∷ portion days ++ Word Set ∷ join_by assignment (Mark Comma ∷ []) assignments ++ condition comparisons ++ Mark Semicolon ∷ []
-statement (inr (inr (table, (days, comparisons)))) = Word Delete ∷ Word From ∷ Name table ∷ portion days ++ condition comparisons ++ Mark Semicolon ∷ []
+    Word Insert ∷ Word Into ∷ Name table ∷ Symbol Open ∷ join_by (λ column. Name column ∷ []) (Symbol Comma ∷ []) columns ++ Symbol Close ∷ Word Values ∷ Symbol Open ∷ join_by literal (Symbol Comma ∷ []) values ++ Symbol Close ∷ Symbol Semicolon ∷ []
+statement (inr (inl (table, (days, (assignments, comparisons))))) = Word Update ∷ Name table ∷ portion days ++ Word Set ∷ join_by assignment (Symbol Comma ∷ []) assignments ++ condition comparisons ++ Symbol Semicolon ∷ []
+statement (inr (inr (table, (days, comparisons)))) = Word Delete ∷ Word From ∷ Name table ∷ portion days ++ condition comparisons ++ Symbol Semicolon ∷ []
 
 -- ---- texts
 

@@ -13,7 +13,7 @@ use Rattle.sqlsyntax.specs.declared.forms.Update.{Update}
 use Rattle.sqlsyntax.specs.declared.forms.Delete.{Delete}
 use Rattle.sqlsyntax.specs.declared.forms.Statement.{Statement}
 use Rattle.sqlsyntax.specs.declared.forms.Statement.TheVariants as kinds
-use Rattle.sqltokens.specs.What.{What, is_word, is_mark, word, sign}
+use Rattle.sqltokens.specs.What.{What, is_word, is_symbol, word, sign}
 use Rattle.sqltokens.specs.Classes.{digits, is_name}
 use Rattle.phrase.specs.Grammar.{Phrase, one, only, ◌▹◌, ◌◃◌, ◌▸◌, optional, either, row}
 use Rattle.namesyntax.specs.Names.{Bytes, names, name_of, names_of, name_list}
@@ -24,7 +24,7 @@ another_literal = sign Comma ▹ literal
 
 -- literal { "," literal }
 unfoldable pub literals : Phrase What (List LiteralForm)
-literals = row literal (is_mark Comma) another_literal
+literals = row literal (is_symbol Comma) another_literal
 
 -- the period's name and the two dates
 abbrev pub PortionForm : Type 0
@@ -40,7 +40,7 @@ ValueForm = (Bytes × ((Unit {0} ⊎ Unit {0}) × Bytes)) ⊎ LiteralForm
 
 -- name ( "+" | "-" ) digits | literal
 unfoldable pub new_value : Phrase What ValueForm
-new_value = either is_name (one names ▸ either (is_mark Plus) (only (sign Plus)) (only (sign Minus)) ▸ one digits) literal
+new_value = either is_name (one names ▸ either (is_symbol Plus) (only (sign Plus)) (only (sign Minus)) ▸ one digits) literal
 
 abbrev pub AssignmentForm : Type 0
 AssignmentForm = Bytes × ValueForm
@@ -54,7 +54,7 @@ another_assignment = sign Comma ▹ assignment
 
 -- assignment { "," assignment }
 unfoldable pub assignments : Phrase What (List AssignmentForm)
-assignments = row assignment (is_mark Comma) another_assignment
+assignments = row assignment (is_symbol Comma) another_assignment
 
 -- the table's name, the column list and the literals
 abbrev pub InsertForm : Type 0

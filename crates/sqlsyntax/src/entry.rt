@@ -32,12 +32,12 @@ fn whole_query<'a>(alloc: Global, tokens: &[Token<'a>]) -> Result<Query<'a>, Rea
 /// regard to case:
 ///
 /// ```text
-/// SELECT "*" FROM name [ FOR SYSTEM_TIME ( AS OF stamp | FROM stamp TO stamp | BETWEEN stamp AND stamp ) ]
+/// SELECT "*" FROM name [ FOR SYSTEM_TIME ( AS OF point | FROM point TO point | BETWEEN point AND point ) ]
 ///     [ WHERE term { AND term } ] ";"
 /// term  = name operator literal | name CONTAINS ( date | span ) | name relation span
 /// relation = OVERLAPS | EQUALS | PRECEDES | SUCCEEDS | IMMEDIATELY PRECEDES | IMMEDIATELY SUCCEEDS
 /// span  = PERIOD "(" date "," date ")"
-/// stamp = TIMESTAMP text of the shape dddd-dd-dd dd:dd:dd.dddddd
+/// point = TIMESTAMP text of the shape dddd-dd-dd dd:dd:dd.dddddd
 /// ```
 ///
 /// with names, operators, literals and dates as in a transaction.

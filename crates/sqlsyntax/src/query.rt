@@ -2,17 +2,17 @@
 
 ghost use Rattle.std.specs.Prelude.{◌≡◌, Ok, map};
 ghost use Rattle.std.specs.Option.{option_map};
-ghost use Rattle.sqltokens.specs.What.{What, whats, is_word, is_mark};
+ghost use Rattle.sqltokens.specs.What.{What, whats, is_word, is_symbol};
 ghost use Rattle.phrase.specs.Grammar.{next, one, optional};
 ghost use Rattle.phrase.specs.Reading.{Gives};
-ghost use Rattle.sqlsyntax.specs.Queries.{span, span_form, relation, relation_form, predicate, predicate_form, term, term_form, another_term, terms, condition, stamp, time, time_form, query, query_form};
+ghost use Rattle.sqlsyntax.specs.Queries.{span, span_form, relation, relation_form, predicate, predicate_form, term, term_form, another_term, terms, condition, point, time, time_form, query, query_form};
 
 use crate::forms::{Predicate, Query, Relation, Span, SystemTime, Term};
 use crate::shared::{date, literal, next_is_operator, operator};
 use namesyntax::lists::{Repeated, row};
 use namesyntax::names::name;
 use phrase::ReadError;
-use sqltokens::{Cursor, Keyword, Quoted, Sign, next_is, sign, stamp_text, word};
+use sqltokens::{Cursor, Keyword, Quoted, Sign, next_is, point_text, sign, word};
 use std::alloc::Global;
 
 #[tactic(auto, unfolding(crate::specs::Queries::span))]
@@ -138,12 +138,12 @@ fn condition<'a>(
     Ok(Some(terms(alloc, cursor)?))
 }
 
-#[tactic(auto, unfolding(crate::specs::Queries::stamp))]
-fn stamp<'a>(cursor: &mut Cursor<'_, 'a>) -> Result<Quoted<'a>, ReadError>
-    ensures { Gives (λ x. (x.source.now, whats cursor.new.rest.now)) result (stamp.read (whats cursor.old.rest.now)) }
+#[tactic(auto, unfolding(crate::specs::Queries::point))]
+fn point<'a>(cursor: &mut Cursor<'_, 'a>) -> Result<Quoted<'a>, ReadError>
+    ensures { Gives (λ x. (x.source.now, whats cursor.new.rest.now)) result (point.read (whats cursor.old.rest.now)) }
 {
     word(cursor, Keyword::Timestamp)?;
-    stamp_text(cursor)
+    point_text(cursor)
 }
 
 #[tactic(auto, unfolding(crate::specs::Queries::time))]
@@ -155,18 +155,18 @@ fn time<'a>(cursor: &mut Cursor<'_, 'a>) -> Result<SystemTime<'a>, ReadError>
     if next_is(cursor, Keyword::As) {
         word(cursor, Keyword::As)?;
         word(cursor, Keyword::Of)?;
-        Ok(SystemTime::AsOf(stamp(cursor)?))
+        Ok(SystemTime::AsOf(point(cursor)?))
     } else if next_is(cursor, Keyword::From) {
         word(cursor, Keyword::From)?;
-        let from = stamp(cursor)?;
+        let from = point(cursor)?;
         word(cursor, Keyword::To)?;
-        let to = stamp(cursor)?;
+        let to = point(cursor)?;
         Ok(SystemTime::FromTo { from, to })
     } else {
         word(cursor, Keyword::Between)?;
-        let from = stamp(cursor)?;
+        let from = point(cursor)?;
         word(cursor, Keyword::And)?;
-        let to = stamp(cursor)?;
+        let to = point(cursor)?;
         Ok(SystemTime::Between { from, to })
     }
 }

@@ -2,7 +2,7 @@
 
 ghost use Rattle.std.specs.Prelude.{◌≡◌, Ok, map};
 ghost use Rattle.std.specs.Option.{option_map};
-ghost use Rattle.sqltokens.specs.What.{What, whats, is_word, is_mark};
+ghost use Rattle.sqltokens.specs.What.{What, whats, is_word, is_symbol};
 ghost use Rattle.phrase.specs.Grammar.{next, one, optional};
 ghost use Rattle.phrase.specs.Reading.{Gives};
 ghost use Rattle.sqlsyntax.specs.Shared.{operator_of, is_operator, operators, date, literal, literal_form, comparison, comparison_form, another_comparison, comparisons, condition};

@@ -2,7 +2,7 @@
 
 ghost use Rattle.std.specs.Prelude.{◌≡◌, Ok, map};
 ghost use Rattle.std.specs.Option.{option_map};
-ghost use Rattle.sqltokens.specs.What.{What, whats, is_word, is_mark};
+ghost use Rattle.sqltokens.specs.What.{What, whats, is_word, is_symbol};
 ghost use Rattle.phrase.specs.Grammar.{next, one, optional};
 ghost use Rattle.phrase.specs.Reading.{Gives};
 ghost use Rattle.sqlsyntax.specs.Shared.{literal_form, comparison_form, condition};
@@ -31,7 +31,7 @@ impl<'a> Repeated<'a> for AnotherLiteral {
 
     ghost form = { literal_form };
 
-    ghost begins = { is_mark Comma };
+    ghost begins = { is_symbol Comma };
 
     ghost reads = { another_literal.read };
 
@@ -123,7 +123,7 @@ impl<'a> Repeated<'a> for AnotherAssignment {
 
     ghost form = { assignment_form };
 
-    ghost begins = { is_mark Comma };
+    ghost begins = { is_symbol Comma };
 
     ghost reads = { another_assignment.read };
 

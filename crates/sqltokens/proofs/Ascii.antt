@@ -24,10 +24,6 @@ ascii_cons b bs lt rest (suc k) = rest k
 ascii_nil : IsAscii []
 ascii_nil k = omega arith
 
-ascii_all : (p : ℕ → Bool) → ((b : ℕ) → p b ≡ true → b < 128) → (bs : List ℕ) → list_all p bs ≡ true → IsAscii bs
-ascii_all p low [] e = ascii_nil
-ascii_all p low (b ∷ bs) e = let k = and_parts (p b) (list_all p bs) e in ascii_cons b bs (low b k.0) (ascii_all p low bs k.1)
-
 ascii_take : (k : ℕ) (bs : List ℕ) → IsAscii bs → IsAscii (take k bs)
 ascii_take zero bs h = ascii_nil
 ascii_take (suc k) [] h = ascii_nil
@@ -65,6 +61,3 @@ all_digits bs n le first each = all_true is_ascii_digit bs n le each_digit where
   each_digit : (k : ℕ) → k < n → is_ascii_digit (get_or bs k 0) ≡ true
   each_digit zero lt = first
   each_digit (suc k) lt = each (suc k) (omega arith) lt
-
-pub digits_ascii : (bs : List ℕ) → list_all is_ascii_digit bs ≡ true → IsAscii bs
-digits_ascii = ascii_all is_ascii_digit (λ b e. grind (arith, nat_tests))

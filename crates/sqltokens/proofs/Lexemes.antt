@@ -7,7 +7,7 @@ use Rattle.std.specs.Option.{option_map}
 use Rattle.std.proofs.lemmas.List.{length-take-le, take-take}
 use Rattle.std.proofs.lemmas.Bool.{ne_eqb, le-leb, lt-leb, ltb-true, ltb-false}
 use Rattle.sqltokens.specs.declared.token.Sign.{Sign}
-use Rattle.sqltokens.specs.What.{Mark, Digits, Text}
+use Rattle.sqltokens.specs.What.{Symbol, Digits, Text}
 use Rattle.sqltokens.specs.Lexing.{is_word_byte, word_what, closes, sign_of, one_sign, two_sign, token_of, IsLongest, BeginsNone, longest_text, IsOther}
 use Rattle.std.proofs.lemmas.Bool.Decides.{nat_tests}
 use Rattle.sqltokens.proofs.Texts.{decide, is_most, closing}
@@ -58,10 +58,6 @@ word_longest (b ∷ bs) (suc n) some alpha within each ends = record {
 }
 
 -- ---- digits
-
--- a digit is no letter, and neither is a quote
-digit_not_letter : (b : ℕ) → is_ascii_digit b ≡ true → is_ascii_alphabetic b ≡ false
-digit_not_letter b e = grind (arith, nat_tests)
 
 digits_is : (b : ℕ) (bs : List ℕ) → is_ascii_alphabetic b ≡ false → is_ascii_digit b ≡ true → list_all is_ascii_digit bs ≡ true → token_of (b ∷ bs) ≡ Some (Digits (b ∷ bs))
 unfolding token_of
@@ -141,14 +137,14 @@ no_text (b ∷ bs) some q e = subst (λ (c : ℕ). BeginsNone (c ∷ bs)) (sym q
 
 -- ---- signs
 
-sign_token : (b : ℕ) (bs : List ℕ) → IsOther b → token_of (b ∷ bs) ≡ option_map Mark (sign_of (b ∷ bs))
+sign_token : (b : ℕ) (bs : List ℕ) → IsOther b → token_of (b ∷ bs) ≡ option_map Symbol (sign_of (b ∷ bs))
 unfolding token_of
 sign_token b bs o = rw (o.letter, o.digit, ne_eqb b 39 o.quote) refl
 
-pub two_longest : (bytes : List ℕ) (b c : ℕ) (bs : List ℕ) (s : Sign) → bytes ≡ b ∷ c ∷ bs → IsOther b → two_sign b c ≡ Some s → IsLongest bytes 2 (Mark s)
-two_longest bytes b c bs s parts o e = subst (λ (l : List ℕ). IsLongest l 2 (Mark s)) (sym parts) (record {
+pub two_longest : (bytes : List ℕ) (b c : ℕ) (bs : List ℕ) (s : Sign) → bytes ≡ b ∷ c ∷ bs → IsOther b → two_sign b c ≡ Some s → IsLongest bytes 2 (Symbol s)
+two_longest bytes b c bs s parts o e = subst (λ (l : List ℕ). IsLongest l 2 (Symbol s)) (sym parts) (record {
   within = omega arith;
-  is = sign_token b (c ∷ []) o ∙ ap (option_map Mark) e;
+  is = sign_token b (c ∷ []) o ∙ ap (option_map Symbol) e;
   longest = more b c bs o;
 }) where
   more : (b c : ℕ) (bs : List ℕ) → IsOther b → (m : ℕ) → 2 < m → m ≤ length (b ∷ c ∷ bs) → token_of (take m (b ∷ c ∷ bs)) ≡ None
@@ -167,26 +163,26 @@ longer : (b : ℕ) (bs : List ℕ) → IsOther b → NoPair b bs → (m : ℕ) �
 longer b bs o unpaired zero lt le = absurd (omega arith)
 longer b bs o unpaired (suc zero) lt le = absurd (omega arith)
 longer b [] o unpaired (suc (suc m)) lt le = absurd (omega arith)
-longer b (c ∷ bs) o unpaired (suc (suc zero)) lt le = sign_token b (c ∷ []) o ∙ ap (option_map Mark) unpaired
+longer b (c ∷ bs) o unpaired (suc (suc zero)) lt le = sign_token b (c ∷ []) o ∙ ap (option_map Symbol) unpaired
 longer b (c ∷ []) o unpaired (suc (suc (suc m))) lt le = absurd (omega arith)
 longer b (c ∷ d ∷ ds) o unpaired (suc (suc (suc m))) lt le = sign_token b (c ∷ d ∷ take m ds) o
 
-pub one_longest : (bytes : List ℕ) (b : ℕ) (bs : List ℕ) (s : Sign) → bytes ≡ b ∷ bs → IsOther b → NoPair b bs → one_sign b ≡ Some s → IsLongest bytes 1 (Mark s)
-one_longest bytes b bs s parts o unpaired e = subst (λ (l : List ℕ). IsLongest l 1 (Mark s)) (sym parts) (record {
+pub one_longest : (bytes : List ℕ) (b : ℕ) (bs : List ℕ) (s : Sign) → bytes ≡ b ∷ bs → IsOther b → NoPair b bs → one_sign b ≡ Some s → IsLongest bytes 1 (Symbol s)
+one_longest bytes b bs s parts o unpaired e = subst (λ (l : List ℕ). IsLongest l 1 (Symbol s)) (sym parts) (record {
   within = omega arith;
-  is = sign_token b [] o ∙ ap (option_map Mark) e;
+  is = sign_token b [] o ∙ ap (option_map Symbol) e;
   longest = longer b bs o unpaired;
 })
 
 no_sign_at : (b : ℕ) (bs : List ℕ) → IsOther b → NoPair b bs → one_sign b ≡ None → (m : ℕ) → m ≤ length (b ∷ bs) → token_of (take m (b ∷ bs)) ≡ None
 no_sign_at b bs o unpaired e zero le = none_front
-no_sign_at b bs o unpaired e (suc zero) le = sign_token b [] o ∙ ap (option_map Mark) e
+no_sign_at b bs o unpaired e (suc zero) le = sign_token b [] o ∙ ap (option_map Symbol) e
 no_sign_at b bs o unpaired e (suc (suc m)) le = longer b bs o unpaired (suc (suc m)) (omega arith) le
 
 pub no_sign : (bytes : List ℕ) (b : ℕ) (bs : List ℕ) → bytes ≡ b ∷ bs → IsOther b → NoPair b bs → one_sign b ≡ None → BeginsNone bytes
 no_sign bytes b bs parts o unpaired e = subst BeginsNone (sym parts) (no_sign_at b bs o unpaired e)
 
-pub two_at_front : (bytes : List ℕ) (s : Sign) → 1 < length bytes → IsOther (get_or bytes 0 0) → two_sign (get_or bytes 0 0) (get_or bytes 1 0) ≡ Some s → IsLongest bytes 2 (Mark s)
+pub two_at_front : (bytes : List ℕ) (s : Sign) → 1 < length bytes → IsOther (get_or bytes 0 0) → two_sign (get_or bytes 0 0) (get_or bytes 1 0) ≡ Some s → IsLongest bytes 2 (Symbol s)
 two_at_front [] s lt o e = absurd (omega arith)
 two_at_front (b ∷ []) s lt o e = absurd (omega arith)
 two_at_front (b ∷ c ∷ bs) s lt o e = two_longest (b ∷ c ∷ bs) b c bs s refl o e
@@ -195,7 +191,7 @@ pair_free : (b : ℕ) (bs : List ℕ) → (1 < length (b ∷ bs) → two_sign b 
 pair_free b [] h = tt
 pair_free b (c ∷ bs) h = h (omega arith)
 
-pub one_at_front : (bytes : List ℕ) (s : Sign) → 0 < length bytes → IsOther (get_or bytes 0 0) → (1 < length bytes → two_sign (get_or bytes 0 0) (get_or bytes 1 0) ≡ None) → one_sign (get_or bytes 0 0) ≡ Some s → IsLongest bytes 1 (Mark s)
+pub one_at_front : (bytes : List ℕ) (s : Sign) → 0 < length bytes → IsOther (get_or bytes 0 0) → (1 < length bytes → two_sign (get_or bytes 0 0) (get_or bytes 1 0) ≡ None) → one_sign (get_or bytes 0 0) ≡ Some s → IsLongest bytes 1 (Symbol s)
 one_at_front [] s lt o h e = absurd (omega arith)
 one_at_front (b ∷ bs) s lt o h e = one_longest (b ∷ bs) b bs s refl o (pair_free b bs h) e
 

@@ -3,7 +3,7 @@ pub mod Lexemes
 pub mod Ascii
 pub mod Cuts
 pub mod Shapes
-pub mod Marks
+pub mod Symbols
 pub mod Whole
 pub mod Functions
 pub mod Told

@@ -8,7 +8,7 @@ use Rattle.sqltokens.specs.declared.token.Keyword.{Keyword}
 use Rattle.sqltokens.specs.declared.token.Sign.{Sign}
 use Rattle.sqltokens.specs.declared.token.Sign.TheVariants.{Open, Close, Comma, Semicolon, Star, Equal, NotEqual, Less, LessEqual, Greater, GreaterEqual, Plus, Minus}
 use Rattle.sqltokens.specs.declared.token.TheConstants.{KEYWORDS}
-use Rattle.sqltokens.specs.What.{What, Word, Mark, Name, Digits, Text, Stray, Piece}
+use Rattle.sqltokens.specs.What.{What, Word, Symbol, Name, Digits, Text, Stray, Piece}
 
 abbrev pub is_blank : ℕ → Bool
 is_blank b = b == 32 || b == 9 || b == 10 || b == 13
@@ -75,7 +75,7 @@ token_of (b ∷ bs) =
     if is_ascii_alphabetic b then (if list_all is_word_byte bs && nat_le (length bs) 31 then Some (word_what (b ∷ bs)) else None)
     else if is_ascii_digit b then (if list_all is_ascii_digit bs then Some (Digits (b ∷ bs)) else None)
     else if b == 39 then (if closes bs then Some (Text (take (length bs - 1) bs)) else None)
-    else option_map Mark (sign_of (b ∷ bs))
+    else option_map Symbol (sign_of (b ∷ bs))
 
 -- the first n bytes are this token, and no more bytes are one
 pub record IsLongest (bytes : List ℕ) (n : ℕ) (what : What) : Type 0 where

@@ -12,7 +12,7 @@ use Rattle.phrase.specs.Grammar.{Fixed}
 
 pub data What : Type 0 where
   Word : Keyword → What
-  Mark : Sign → What
+  Symbol : Sign → What
   Name : List ℕ → What
   Digits : List ℕ → What
   Text : List ℕ → What
@@ -20,7 +20,7 @@ pub data What : Type 0 where
 
 abbrev pub what_of : Kind → What
 what_of (kind.Keyword k) = Word k
-what_of (kind.Sign s) = Mark s
+what_of (kind.Sign s) = Symbol s
 what_of (kind.Name n) = Name n.now
 what_of (kind.Digits d) = Digits d.digits.now
 what_of (kind.Text t) = Text t.source.now
@@ -36,15 +36,15 @@ abbrev pub is_word : Keyword → What → Bool
 is_word k (Word j) = sameb keywords.the_type j k
 is_word k w = false
 
-abbrev pub is_mark : Sign → What → Bool
-is_mark s (Mark j) = sameb signs.the_type j s
-is_mark s w = false
+abbrev pub is_symbol : Sign → What → Bool
+is_symbol s (Symbol j) = sameb signs.the_type j s
+is_symbol s w = false
 
 abbrev pub word : Keyword → Fixed What
 word k = record { what = Word k; is = is_word k }
 
 abbrev pub sign : Sign → Fixed What
-sign s = record { what = Mark s; is = is_mark s }
+sign s = record { what = Symbol s; is = is_symbol s }
 
 -- a token, and where it begins
 pub record Piece : Type 0 where

@@ -1,10 +1,10 @@
 //! The tokens of a text taken from the left.
 
 ghost use Rattle.std.specs.Prelude.{◌≡◌, Ok};
-ghost use Rattle.sqltokens.specs.What.{what_of, whats, is_word, is_mark};
+ghost use Rattle.sqltokens.specs.What.{what_of, whats, is_word, is_symbol};
 ghost use Rattle.phrase.specs.Grammar.{expect, next, one};
 ghost use Rattle.phrase.specs.Reading.{Gives};
-ghost use Rattle.sqltokens.specs.Classes.{digits, texts, dates, stamps, has_shape, is_text};
+ghost use Rattle.sqltokens.specs.Classes.{digits, texts, dates, points, has_shape, is_text};
 
 use crate::token::{Digits, Keyword, Kind, Quoted, Sign, Token};
 use phrase::ReadError;
@@ -25,7 +25,7 @@ fn is_word(kind: Kind, keyword: Keyword) -> bool
 }
 
 fn is_sign(kind: Kind, sign: Sign) -> bool
-    ensures { result ≡ is_mark sign (what_of kind.entry) }
+    ensures { result ≡ is_symbol sign (what_of kind.entry) }
 {
     match kind {
         Kind::Sign(s) => s == sign,
@@ -48,7 +48,7 @@ pub fn word(cursor: &mut Cursor, keyword: Keyword) -> Result<(), ReadError>
 
 /// Passes a sign. Another token is wrong.
 pub fn sign(cursor: &mut Cursor, sign: Sign) -> Result<(), ReadError>
-    ensures { Gives (λ _. whats cursor.new.rest.now) result (expect (is_mark sign) (whats cursor.old.rest.now)) }
+    ensures { Gives (λ _. whats cursor.new.rest.now) result (expect (is_symbol sign) (whats cursor.old.rest.now)) }
 {
     if let [first, rest @ ..] = cursor.rest {
         if is_sign(first.kind, sign) {
@@ -71,7 +71,7 @@ pub fn next_is(cursor: &Cursor, keyword: Keyword) -> bool
 
 /// Whether the next token is this sign.
 pub fn next_is_sign(cursor: &Cursor, sign: Sign) -> bool
-    ensures { result ≡ next (is_mark sign) (whats cursor.now.rest.now) }
+    ensures { result ≡ next (is_symbol sign) (whats cursor.now.rest.now) }
 {
     match cursor.rest {
         [first, ..] => is_sign(first.kind, sign),
@@ -156,9 +156,9 @@ pub fn date_text<'a>(cursor: &mut Cursor<'_, 'a>) -> Result<Quoted<'a>, ReadErro
 }
 
 /// Takes a text of the shape dddd-dd-dd dd:dd:dd.dddddd. Another token is wrong.
-#[tactic(auto, unfolding(crate::specs::Classes::stamps))]
-pub fn stamp_text<'a>(cursor: &mut Cursor<'_, 'a>) -> Result<Quoted<'a>, ReadError>
-    ensures { Gives (λ x. (x.source.now, whats cursor.new.rest.now)) result ((one stamps).read (whats cursor.old.rest.now)) }
+#[tactic(auto, unfolding(crate::specs::Classes::points))]
+pub fn point_text<'a>(cursor: &mut Cursor<'_, 'a>) -> Result<Quoted<'a>, ReadError>
+    ensures { Gives (λ x. (x.source.now, whats cursor.new.rest.now)) result ((one points).read (whats cursor.old.rest.now)) }
 {
     if let [first, rest @ ..] = cursor.rest {
         if let Kind::Text(text) = first.kind {

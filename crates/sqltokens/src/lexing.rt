@@ -4,7 +4,7 @@ ghost use Rattle.std.specs.Prelude.{◌≡◌, ℕ, ◌+◌, ◌<◌, ◌≤◌,
 ghost use Rattle.std.specs.Char.{is_ascii_digit};
 ghost use Rattle.std.specs.Str.{IsAscii, str_eq_ignore_ascii_case};
 ghost use Rattle.std.specs.List.{list_all};
-ghost use Rattle.sqltokens.specs.What.{what_of, pieces, Mark};
+ghost use Rattle.sqltokens.specs.What.{what_of, pieces, Symbol};
 ghost use Rattle.sqltokens.specs.Lexing.{is_blank, is_word_byte, is_printable, keyword_in, keyword_of, word_what, sign_of, one_sign, two_sign, longest_text, IsLongest, BeginsNone, IsTokens, IsOther};
 
 use crate::token::{Digits, KEYWORDS, Keyword, Kind, Quoted, Sign, Token};
@@ -146,7 +146,7 @@ fn two_sign(b: u8, c: u8) -> Option<Sign>
 fn sign_at(bytes: &[u8]) -> Option<(Sign, usize)>
     requires some { 0 < length bytes.now }
     requires other { IsOther (slice_index bytes.now 0) }
-    ensures found { IfSome result (λ x. (x.1 ≤ length bytes.now) × (0 < x.1) × IsLongest bytes.now x.1 (Mark x.0)) }
+    ensures found { IfSome result (λ x. (x.1 ≤ length bytes.now) × (0 < x.1) × IsLongest bytes.now x.1 (Symbol x.0)) }
     ensures none { IfNone result (BeginsNone bytes.now) }
 {
     if bytes.len() > 1 {

@@ -1,15 +1,15 @@
 //! A text cut into tokens, and the tokens taken from the left.
 #![tactic(auto)]
 
-mod answer;
 mod cursor;
 mod lexing;
+mod places;
 mod token;
 
-pub use answer::place;
 pub use cursor::{
-    Cursor, date_text, digits, has_shape, next_is, next_is_sign, next_is_text, sign, stamp_text,
+    Cursor, date_text, digits, has_shape, next_is, next_is_sign, next_is_text, point_text, sign,
     text, word,
 };
 pub use lexing::tokens;
+pub use places::place;
 pub use token::{Digits, KEYWORDS, Keyword, Kind, Quoted, Sign, Token};

@@ -10,11 +10,6 @@ use Rattle.store.specs.declared.scribe.Scribe.{Scribe}
 use Rattle.store.specs.Writing.{AppendsPart, IsWritten, IsLastWritten, with_line}
 use Rattle.store.specs.Journals.{IsAdded, IsFlushed, EndsWith, HasLast, IsLonger, IsOpened}
 
--- nothing of it is there
-pub part_none : (old : Option (List ℕ)) (bytes : List ℕ) → AppendsPart old old bytes
-part_none None bytes = ([], bytes, refl, refl)
-part_none (Some held) bytes = ([], bytes, refl, ap (λ (x : List ℕ). Some x) (sym (append-nil held)))
-
 -- a beginning of a block that was made of this buffer
 pub part_of_block : (old new : Option (List ℕ)) (sum : ℕ) (buffer text none block made : List ℕ) → text ≡ buffer → none ≡ [] → block ≡ made → Adds none made (block_text sum text)
     → AppendsPart old new block → AppendsPart old new (block_text sum buffer [])
@@ -75,12 +70,6 @@ on_told contents (Ok x) s t u line told same added flushed = subst (λ (l : Line
 on_told contents (Err e) s t u line told same added flushed = tt
 
 -- ---- a journal that begins
-
--- what was added is the last line of the buffer
-pub has_last : {J : Type 0} (s t : Option (Scribe J)) (line : Line) → IsAdded s t line → HasLast t line
-has_last None t line added = absurd added
-has_last (Some s) None line added = absurd added
-has_last (Some s) (Some t) line added = (string_bytes s.buffer, line_added (string_bytes s.buffer) (string_bytes t.buffer) line added.0)
 
 pub longer_none : {J : Type 0} (s : Option (Scribe J)) → IsLonger s s
 longer_none None = refl

@@ -1,4 +1,5 @@
 pub mod Announcing
+pub mod Applied
 pub mod Asking
 pub mod Chains
 pub mod Journals

@@ -4,7 +4,7 @@ ghost use Rattle.std.specs.Option.{ForSome};
 ghost use Rattle.keep.specs.Durable.{Durable, IsBeforeOrAfter, after, one_more};
 ghost use Rattle.keep.specs.Errors.{IsAnswered};
 ghost use Rattle.keep.specs.Log.{IsLog, IsSmall};
-ghost use Rattle.model.specs.Transactions.{Schema as Tables};
+ghost use Rattle.model.specs.Transactions.{Language};
 ghost use Rattle.journal.specs.Digests.{summary_of};
 ghost use Rattle.store.specs.Chains.{links_of};
 ghost use Rattle.store.specs.Announcing.{HasAnnounced};
@@ -12,7 +12,7 @@ ghost use Rattle.store.specs.Announcing.{HasAnnounced};
 use crate::device::Device;
 pub use crate::voice::Voice;
 use durable::SqlKeeper;
-use keep::{Change, Keeper, Shelf, State, StoreError};
+use keep::{Change, Keeper, LogReader, State, StoreError};
 use model::entry::Entry;
 use schema::Schema;
 use sqlite::Alter;
@@ -21,7 +21,7 @@ use std::alloc::Global;
 /// A keeper that judges what it opens, and owes it to nobody.
 pub trait Judging: Keeper {
     /// It takes every image.
-    ghost takes_all: { (image : Self.Image) (members : ℕ) (tables : Tables) → Self.Keeper.suits image members tables };
+    ghost takes_all: { (image : Self.Image) (members : ℕ) (language : Language) → Self.Keeper.suits image members language };
 }
 
 impl<S: Alter + Drop> Judging for SqlKeeper<S> {
@@ -35,23 +35,23 @@ pub trait Announces: Keeper {
     /// Lends a voice, whose chain has to be that of the log that is stored. What is stored, and all else that contracts see of it,
     /// stays.
     fn lend(&mut self, voice: Voice<Self::Journal>)
-        requires { Self.Shelf.is_honest self.old → voice.chain.links.items ≡ links_of (Self.Shelf.stored self.old).log }
-        ensures stored { Self.Shelf.stored self.new ≡ Self.Shelf.stored self.old }
-        ensures honest { (Self.Shelf.is_honest self.new → Self.Shelf.is_honest self.old) × (Self.Shelf.is_honest self.old → Self.Shelf.is_honest self.new) }
-        ensures up { Self.Shelf.is_up self.new ≡ Self.Shelf.is_up self.old }
-        ensures serves { (members : ℕ) (tables : Tables) → Self.Shelf.serves self.old members tables → Self.Shelf.serves self.new members tables };
+        requires { Self.LogReader.is_honest self.old → voice.chain.links.items ≡ links_of (Self.LogReader.stored self.old).log }
+        ensures stored { Self.LogReader.stored self.new ≡ Self.LogReader.stored self.old }
+        ensures honest { (Self.LogReader.is_honest self.new → Self.LogReader.is_honest self.old) × (Self.LogReader.is_honest self.old → Self.LogReader.is_honest self.new) }
+        ensures up { Self.LogReader.is_up self.new ≡ Self.LogReader.is_up self.old }
+        ensures serves { (members : ℕ) (language : Language) → Self.LogReader.serves self.old members language → Self.LogReader.serves self.new members language };
 
     /// Takes the voice back, if one was lent: while it is up its chain is that of the log that is stored. What is stored, and all
     /// else that contracts see of it, stays.
     fn take_back(&mut self) -> Option<Voice<Self::Journal>>
-        ensures links { IfSome result (λ v. Self.Shelf.is_up self.old ≡ true → Self.Shelf.is_honest self.old → v.chain.links.items ≡ links_of (Self.Shelf.stored self.old).log) }
-        ensures stored { Self.Shelf.stored self.new ≡ Self.Shelf.stored self.old }
-        ensures honest { (Self.Shelf.is_honest self.new → Self.Shelf.is_honest self.old) × (Self.Shelf.is_honest self.old → Self.Shelf.is_honest self.new) }
-        ensures up { Self.Shelf.is_up self.new ≡ Self.Shelf.is_up self.old }
-        ensures serves { (members : ℕ) (tables : Tables) → Self.Shelf.serves self.old members tables → Self.Shelf.serves self.new members tables };
+        ensures links { IfSome result (λ v. Self.LogReader.is_up self.old ≡ true → Self.LogReader.is_honest self.old → v.chain.links.items ≡ links_of (Self.LogReader.stored self.old).log) }
+        ensures stored { Self.LogReader.stored self.new ≡ Self.LogReader.stored self.old }
+        ensures honest { (Self.LogReader.is_honest self.new → Self.LogReader.is_honest self.old) × (Self.LogReader.is_honest self.old → Self.LogReader.is_honest self.new) }
+        ensures up { Self.LogReader.is_up self.new ≡ Self.LogReader.is_up self.old }
+        ensures serves { (members : ℕ) (language : Language) → Self.LogReader.serves self.old members language → Self.LogReader.serves self.new members language };
 
     /// It takes every image.
-    ghost takes_all: { (image : Self.Image) (members : ℕ) (tables : Tables) → Self.Keeper.suits image members tables };
+    ghost takes_all: { (image : Self.Image) (members : ℕ) (language : Language) → Self.Keeper.suits image members language };
 }
 
 // Announces a change, where a voice was lent.
@@ -99,7 +99,7 @@ impl<K: Keeper, J: Device> Announcing<K, J> {
     }
 }
 
-impl<K: Keeper, J: Device> Shelf for Announcing<K, J> {
+impl<K: Keeper, J: Device> LogReader for Announcing<K, J> {
     ghost stored = { λ k. K.stored k.keeper };
 
     ghost is_honest = { λ k. K.is_honest k.keeper };
@@ -116,7 +116,7 @@ impl<K: Keeper, J: Device> Shelf for Announcing<K, J> {
 
     ghost may_hold = { λ k d. K.may_hold k.keeper d };
 
-    ghost serves = { λ k members tables. K.serves k.keeper members tables };
+    ghost serves = { λ k members language. K.serves k.keeper members language };
 
     ghost only_honest = { λ k d h. K.only_honest k.keeper d h };
 
@@ -124,9 +124,9 @@ impl<K: Keeper, J: Device> Shelf for Announcing<K, J> {
 
     ghost holds_stored = { λ k honest. K.holds_stored k.keeper honest };
 
-    ghost served_once = { λ k members tables. K.served_once k.keeper members tables };
+    ghost served_once = { λ k members language. K.served_once k.keeper members language };
 
-    ghost only_logs = { λ k members tables s h. K.only_logs k.keeper members tables s h };
+    ghost only_logs = { λ k members language s h. K.only_logs k.keeper members language s h };
 
     fn entry(&mut self, alloc: Global, i: usize) -> Result<Option<Entry>, StoreError> {
         self.asked = self.asked.saturating_add(1);
@@ -160,9 +160,9 @@ impl<K: Keeper, J: Device> Keeper for Announcing<K, J> {
 
     ghost holds = { λ i d. K.holds i d };
 
-    ghost suits = { λ i members tables. K.suits i members tables };
+    ghost suits = { λ i members language. K.suits i members language };
 
-    ghost is_bad = { λ i members tables. K.is_bad i members tables };
+    ghost is_bad = { λ i members language. K.is_bad i members language };
 
     ghost is_sound = { λ i. K.is_sound i };
 
@@ -172,7 +172,7 @@ impl<K: Keeper, J: Device> Keeper for Announcing<K, J> {
 
     ghost holds_one = { λ i d e p q. K.holds_one i d e p q };
 
-    ghost never_bad = { λ i members tables d h forms bad. K.never_bad i members tables d h forms bad };
+    ghost never_bad = { λ i members language d h forms bad. K.never_bad i members language d h forms bad };
 
     fn open(
         alloc: Global,
@@ -209,7 +209,7 @@ impl<K: Keeper, J: Device> Keeper for Announcing<K, J> {
     fn save(&mut self, alloc: Global, change: &Change) -> Result<(), StoreError>
         requires kept { K.is_honest self.old.keeper → self.old.is_up ≡ true → change.now.kept ≤ length (K.stored self.old.keeper).log }
         requires small { IsSmall change.now }
-        requires log { (members : ℕ) × ((tables : Tables) × (K.serves self.old.keeper members tables × (K.is_honest self.old.keeper → self.old.is_up ≡ true → IsLog members tables (after change.now (K.stored self.old.keeper))))) }
+        requires log { (members : ℕ) × ((language : Language) × (K.serves self.old.keeper members language × (K.is_honest self.old.keeper → self.old.is_up ≡ true → IsLog members language (after change.now (K.stored self.old.keeper))))) }
         ensures announced { OnOk result (K.is_honest self.old.keeper → ForSome self.old.voice (λ v. HasAnnounced J.contents v self.new.voice (summary_of (after change.now (K.stored self.old.keeper))))) }
         ensures before { (self.new.keeper ≡ self.old.keeper) ⊎ (K.is_honest self.old.keeper → ForSome self.old.voice (λ v. HasAnnounced J.contents v self.new.voice (summary_of (after change.now (K.stored self.old.keeper))))) }
         ensures ok { OnOk result (K.is_honest self.new.keeper → K.stored self.new.keeper ≡ after change.now (K.stored self.old.keeper)) }
@@ -219,7 +219,7 @@ impl<K: Keeper, J: Device> Keeper for Announcing<K, J> {
         ensures torn { OnErr result (self.old.is_up ≡ true → K.is_honest self.new.keeper → IsBeforeOrAfter (K.stored self.old.keeper) (after change.now (K.stored self.old.keeper)) (K.stored self.new.keeper)) }
         ensures still { self.old.is_up ≡ false → K.is_honest self.new.keeper → K.stored self.new.keeper ≡ K.stored self.old.keeper }
         ensures late { self.old.is_up ≡ false → (d : Durable) → K.may_hold self.new.keeper d → K.may_hold self.old.keeper d }
-        ensures serves { (members : ℕ) (tables : Tables) → K.serves self.old.keeper members tables → (K.is_honest self.old.keeper → self.old.is_up ≡ true → IsLog members tables (after change.now (K.stored self.old.keeper))) → K.serves self.new.keeper members tables }
+        ensures serves { (members : ℕ) (language : Language) → K.serves self.old.keeper members language → (K.is_honest self.old.keeper → self.old.is_up ≡ true → IsLog members language (after change.now (K.stored self.old.keeper))) → K.serves self.new.keeper members language }
         ensures asks { self.new.asked ≡ self.old.asked }
         ensures saves { self.new.saved ≡ one_more self.old.saved }
         ensures limit { K.limit self.new.keeper ≡ K.limit self.old.keeper }
@@ -250,14 +250,14 @@ impl<K: Keeper, J: Device> Keeper for Announcing<K, J> {
 impl<K: Judging, J: Device> Announces for Announcing<K, J> {
     type Journal = J;
 
-    ghost takes_all = { λ image members tables. K.takes_all image members tables };
+    ghost takes_all = { λ image members language. K.takes_all image members language };
 
     fn lend(&mut self, voice: Voice<J>)
         requires { K.is_honest self.old.keeper → voice.chain.links.items ≡ links_of (K.stored self.old.keeper).log }
         ensures stored { K.stored self.new.keeper ≡ K.stored self.old.keeper }
         ensures honest { (K.is_honest self.new.keeper → K.is_honest self.old.keeper) × (K.is_honest self.old.keeper → K.is_honest self.new.keeper) }
         ensures up { self.new.is_up ≡ self.old.is_up }
-        ensures serves { (members : ℕ) (tables : Tables) → K.serves self.old.keeper members tables → K.serves self.new.keeper members tables }
+        ensures serves { (members : ℕ) (language : Language) → K.serves self.old.keeper members language → K.serves self.new.keeper members language }
     {
         self.voice = Some(voice);
     }
@@ -268,7 +268,7 @@ impl<K: Judging, J: Device> Announces for Announcing<K, J> {
         ensures stored { K.stored self.new.keeper ≡ K.stored self.old.keeper }
         ensures honest { (K.is_honest self.new.keeper → K.is_honest self.old.keeper) × (K.is_honest self.old.keeper → K.is_honest self.new.keeper) }
         ensures up { self.new.is_up ≡ self.old.is_up }
-        ensures serves { (members : ℕ) (tables : Tables) → K.serves self.old.keeper members tables → K.serves self.new.keeper members tables }
+        ensures serves { (members : ℕ) (language : Language) → K.serves self.old.keeper members language → K.serves self.new.keeper members language }
     {
         self.voice.take()
     }

@@ -13,6 +13,7 @@ pub mod refusal;
 mod requests;
 pub mod scribe;
 mod seat;
+pub mod since;
 mod standing;
 pub mod status;
 mod steps;

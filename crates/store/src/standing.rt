@@ -1,5 +1,5 @@
 //! How members stand, and are stopped and started.
-ghost use Rattle.std.specs.Prelude.{◌≡◌, ◌⊎◌, IsErr, OnErr};
+ghost use Rattle.std.specs.Prelude.{◌≡◌, ◌≢◌, ◌⊎◌, ◌-◌, ℕ, IsErr, OnErr, slice_get};
 ghost use Rattle.store.specs.Journals.{IsSpent};
 
 use crate::announcing::Announces;
@@ -20,6 +20,7 @@ where
 {
     /// A member goes down, and keeps what it has stored. 41 where it is not up.
     pub fn stop(&mut self, member: Member) -> Result<(), StoreRefusal>
+        ensures others { (at : ℕ) → at ≢ member - 1 → slice_get self.new.seats.items at ≡ slice_get self.old.seats.items at }
         ensures fails { OnErr result (IsSpent self.new.scribe ⊎ (self.new ≡ self.old)) }
         ensures spent { IsSpent self.old.scribe → IsErr result × (self.new ≡ self.old) }
     {

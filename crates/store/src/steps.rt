@@ -1,5 +1,5 @@
 //! Steps of the members, and what comes of them.
-ghost use Rattle.std.specs.Prelude.{IfErr, OnOk, OnErr};
+ghost use Rattle.std.specs.Prelude.{◌≡◌, ◌≢◌, ◌-◌, ℕ, IfErr, OnOk, OnErr, slice_get};
 ghost use Rattle.store.specs.Journals.{IsSpent, HasLast};
 ghost use Rattle.store.specs.Refusals.{IsOfJournal};
 
@@ -190,12 +190,22 @@ where
         }
     }
 
+    // Stops a member's node.
+    fn stop_node(&mut self, member: Member)
+        ensures { (at : ℕ) → at ≢ member - 1 → slice_get self.new.seats.items at ≡ slice_get self.old.seats.items at }
+    {
+        let Some(at) = self.place_of(member) else {
+            return;
+        };
+        let seat = &mut self.seats[at];
+        seat.stop();
+    }
+
     // A member is down.
-    pub(crate) fn fall(&mut self, member: Member) {
-        if let Some(at) = self.place_of(member) {
-            let seat = &mut self.seats[at];
-            seat.stop();
-        }
+    pub(crate) fn fall(&mut self, member: Member)
+        ensures { (at : ℕ) → at ≢ member - 1 → slice_get self.new.seats.items at ≡ slice_get self.old.seats.items at }
+    {
+        self.stop_node(member);
         if self.leader == Some(member) {
             self.leader = None;
         }

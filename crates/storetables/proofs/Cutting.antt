@@ -61,10 +61,6 @@ below k i low = above_by k i ∙ ap is_gt (value_cmp-Int (pos i) (pos k)) ∙ gr
 
 -- ---- the numbers that the DELETE finds
 
-numbers : ℕ → List Item → List ℤ
-numbers i [] = []
-numbers i (e ∷ es) = pos i ∷ numbers (i + 1) es
-
 found : ℕ → List Row → List ℤ
 found k rows = ids_of (map (λ (o : Output). o.1) (map (output delete_query) (flat_map (λ r. matches_as Null (λ _. []) delete_query.filter Rattle.sqlite_sql.specs.Query.end ((Int (pos k) ∷ []) ∷ r ∷ [])) rows)))
 

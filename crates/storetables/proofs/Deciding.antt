@@ -1,19 +1,18 @@
 -- From the rows to the log, and back.
-use Rattle.std.proofs.Common.{MatchOption, ◌≡◌, ℕ, suc, ◌+◌, ◌<◌, ◌≤◌, true, false, Option, Some, None, List, [], ◌∷◌, length, map, arith, refl, sym, ap, subst, ◌∙◌}
+use Rattle.std.proofs.Common.{MatchOption, ◌≡◌, ℕ, suc, ◌+◌, ◌<◌, ◌≤◌, true, Option, Some, None, List, [], ◌∷◌, length, map, arith, refl, sym, ap, subst, ◌∙◌}
 use Rattle.std.proofs.lemmas.List.{length-map}
 use Rattle.sqlite.specs.Order.{Row}
 use Rattle.sqlite.specs.Effect.{Database, IsDatabase}
 use Rattle.sqlite_catalog.specs.Listing.{IsSound}
-use Rattle.model.specs.Transactions.{Schema as Tables}
+use Rattle.model.specs.Transactions.{Language}
 use Rattle.model.specs.Steps.{is_floor, TERM_LAST}
 use Rattle.keep.specs.Durable.{Durable}
 use Rattle.keep.specs.Log.{is_vote}
 use Rattle.storetables.specs.Contents.{Item, items_of, contents_of, number_of_vote, vote_in}
 use Rattle.storetables.specs.Tables.{schema, meta, floor}
 use Rattle.storetables.specs.Rows.{meta_row, meta_values, shown_meta, floor_row, floor_values, shown_floor, Holds, shown_entry, shown_log, log_rows, in_order}
-use Rattle.storetables.specs.Judging.{Forms, HasHard, HasNoHard, IsNoLog, IsFound}
+use Rattle.storetables.specs.Judging.{Forms, HasHard, IsNoLog, IsFound}
 use Rattle.storetables.specs.declared.judging.Meta.{Meta}
-use Rattle.storetables.proofs.Settling.{vote_back}
 use Rattle.std.specs.List.Sorted.{IsPermutation}
 use Rattle.sqlite.proofs.Callers.{one_permutation}
 use Rattle.keep.specs.declared.hard_state.HardState.{HardState}
@@ -24,7 +23,7 @@ shown_count : (i : ℕ) (es : List Item) → length (shown_log i es) ≡ length 
 shown_count i [] = refl
 shown_count i (e ∷ es) = ap suc (shown_count (i + 1) es)
 
-pub found_log : (db : Database) (members : ℕ) (tables : Tables) (h : HardState) (rows : List Row) → db.schema ≡ schema → IsDatabase db → HasHard db h → is_vote members h.vote ≡ true → IsPermutation (map shown_entry (db.trees 1)) rows → length rows ≤ 100000
+pub found_log : (db : Database) (members : ℕ) (tables : Language) (h : HardState) (rows : List Row) → db.schema ≡ schema → IsDatabase db → HasHard db h → is_vote members h.vote ≡ true → IsPermutation (map shown_entry (db.trees 1)) rows → length rows ≤ 100000
     → Forms tables h.term 1 0 0 rows → IsFound db members tables (length rows)
 found_log db members tables h rows has sound hard vote shown short forms =
     let all = log_of tables h.term 1 0 0 rows forms in
@@ -45,16 +44,7 @@ found_log db members tables h rows has sound hard vote shown short forms =
 same_meta : (t v t' v' : ℕ) → ◌≡◌ {A = List Row} (meta_row t v ∷ []) (meta_row t' v' ∷ []) → (t ≡ t') × (v ≡ v')
 same_meta t v t' v' is = (cc, cc)
 
-pub no_hard : (db : Database) (members : ℕ) (tables : Tables) → HasNoHard db → IsNoLog db members tables
-no_hard db members tables none d holds forms texts = none d.hard.term (number_of_vote d.hard.vote) d.hard.floor holds.meta holds.floor forms.term forms.floor
-
-module _ (db : Database) (members : ℕ) (tables : Tables) (h : HardState) (hard : HasHard db h) where
-  pub no_vote : is_vote members h.vote ≡ false → IsNoLog db members tables
-  no_vote other d holds forms texts =
-      let numbers = (same_meta d.hard.term (number_of_vote d.hard.vote) h.term (number_of_vote h.vote) (sym holds.meta ∙ hard.meta)).1 in
-      let same : d.hard.vote ≡ h.vote = sym (vote_back members d.hard.vote forms.vote) ∙ ap vote_in numbers ∙ hard.vote in
-      absurd (let yes = sym (ap (is_vote members) same) ∙ forms.vote in cc)
-
+module _ (db : Database) (members : ℕ) (tables : Language) (h : HardState) (hard : HasHard db h) where
   module _ (rows : List Row) (shown : (es : List Item) → in_order (db.trees 1) ≡ log_rows 1 es → rows ≡ shown_log 1 es) where
     listed : (d : Durable) → Holds db (contents_of d) → rows ≡ shown_log 1 (items_of d.log)
     listed d holds = shown (items_of d.log) holds.log

@@ -1,16 +1,16 @@
 -- Rows that form a log, and the log that they form.
-use Rattle.std.proofs.Common.{drop-cons, add-one, ◌≡◌, ◌↔◌, ℕ, suc, ◌+◌, ◌<◌, ◌≤◌, ℤ, pos, negsuc, Bool, true, false, ◌&&◌, nat_lt, nat_le, Option, Some, None, option_map, is_ok, Result, Ok, Err, List, [], ◌∷◌, length, drop, get_or, arith, refl, sym, ap, subst, ◌∙◌}
+use Rattle.std.proofs.Common.{drop-cons, add-one, ◌≡◌, ◌↔◌, ℕ, suc, ◌+◌, ◌<◌, ◌≤◌, Bool, true, false, ◌&&◌, nat_lt, nat_le, Option, Some, None, option_map, is_ok, Result, Ok, Err, List, [], ◌∷◌, length, drop, get_or, arith, refl, sym, ap, subst, ◌∙◌}
 use Rattle.std.specs.List.{list_all}
 use Rattle.std.proofs.lemmas.Bool.Decides.{nat_tests}
 use Rattle.sqlite.specs.Order.{Row}
 use Rattle.fault.specs.declared.refusal.Refusal.{Refusal}
 use Rattle.model.specs.declared.entry.Entry.{Entry}
-use Rattle.model.specs.Stamps.{above, TIME_LAST}
-use Rattle.model.specs.Transactions.{Schema, Statement, misreading}
+use Rattle.model.specs.Stamps.{above}
+use Rattle.model.specs.Transactions.{Language, Statement, misreading}
 use Rattle.model.specs.Members.{term_of}
-use Rattle.model.specs.Steps.{go_on, is_floor}
+use Rattle.model.specs.Steps.{go_on}
 use Rattle.keep.specs.Log.{is_numbered, is_entry}
-use Rattle.storetables.specs.Contents.{Item, item_of, items_of, entry_in, number_of_floor}
+use Rattle.storetables.specs.Contents.{item_of, items_of, entry_in}
 use Rattle.storetables.specs.Rows.{entry_values, shown_log}
 use Rattle.storetables.specs.Stored.{AreTexts}
 use Rattle.storetables.specs.Judging.{Follows, Go, Forms}
@@ -28,9 +28,6 @@ spelled (Err e) false h = refl
 pub same_entry : (i j : ℕ) (a b : Entry) → entry_values i (item_of a) ≡ entry_values j (item_of b) → is_numbered a.request ≡ true → is_numbered b.request ≡ true → a ≡ b
 same_entry i j a b is p q = sym (entry_numbered a p) ∙ ap entry_in (same_item i j (item_of a) (item_of b) is) ∙ entry_numbered b q
 
-pub same_index : (i j : ℕ) (a b : Item) → entry_values i a ≡ entry_values j b → i ≡ j
-same_index i j a b is = cc
-
 le_true : (m n : ℕ) → m ≤ n → nat_le m n ≡ true
 le_true m n h = grind (arith, nat_tests)
 
@@ -43,42 +40,31 @@ le_from m n h = grind (arith, nat_tests)
 lt_from : (m n : ℕ) → nat_lt m n ≡ true → m < n
 lt_from m n h = grind (arith, nat_tests)
 
--- a number stands for no floor
-pub no_floor : (n : ℤ) (f : Option ℕ) → (n ≡ negsuc 0 → ⊥) → ((t : ℕ) → n ≡ pos t → t ≤ TIME_LAST → ⊥) → n ≡ number_of_floor f → is_floor f ≡ true → ⊥
-no_floor n None not_none no_time is fits = not_none is
-no_floor n (Some t) not_none no_time is fits = no_time t is (le_from _ _ fits)
-
 -- ---- one step of the loop
 
 dropped : (i : ℕ) (rows : List Row) (r : Row) → i < length rows → r ≡ get_or rows i r → drop i rows ≡ r ∷ drop (i + 1) rows
 dropped i rows r low is = drop-cons rows i r low ∙ ap (λ x. x ∷ drop (suc i) rows) (sym is) ∙ ap (λ n. r ∷ drop n rows) (sym (add-one i))
 
-pub forms_next : (tables : Schema) (top at term least i : ℕ) (rows : List Row) (r : Row) (e : Entry) → i < length rows → r ≡ get_or rows i r → r ≡ entry_values at (item_of e) → Follows tables top term least e
+pub forms_next : (tables : Language) (top at term least i : ℕ) (rows : List Row) (r : Row) (e : Entry) → i < length rows → r ≡ get_or rows i r → r ≡ entry_values at (item_of e) → Follows tables top term least e
     → Forms tables top (at + 1) e.term (e.stamp + 1) (drop (i + 1) rows) → Forms tables top at term least (drop i rows)
 forms_next tables top at term least i rows r e low is shown fits rest = subst (Forms tables top at term least) (sym (dropped i rows r low is)) (e, shown, fits, rest)
 
-pub forms_rest : (tables : Schema) (top at term least i : ℕ) (rows : List Row) (r : Row) (e : Entry) → i < length rows → r ≡ get_or rows i r → r ≡ entry_values at (item_of e) → Follows tables top term least e
+pub forms_rest : (tables : Language) (top at term least i : ℕ) (rows : List Row) (r : Row) (e : Entry) → i < length rows → r ≡ get_or rows i r → r ≡ entry_values at (item_of e) → Follows tables top term least e
     → Forms tables top at term least (drop i rows) → Forms tables top (at + 1) e.term (e.stamp + 1) (drop (i + 1) rows)
 forms_rest tables top at term least i rows r e low is shown fits all =
     let both_rows = subst (Forms tables top at term least) (dropped i rows r low is) all in
     let same : both_rows.0 ≡ e = same_entry at at both_rows.0 e (sym both_rows.1 ∙ shown) both_rows.2.in_range fits.in_range in
     subst (λ x. Forms tables top (at + 1) x.term (x.stamp + 1) (drop (i + 1) rows)) same both_rows.3
 
-pub forms_here : (tables : Schema) (top at term least i : ℕ) (rows : List Row) (r : Row) → i < length rows → r ≡ get_or rows i r
-    → Forms tables top at term least (drop i rows) → (e : Entry) × (r ≡ entry_values at (item_of e)) × Follows tables top term least e
-forms_here tables top at term least i rows r low is all =
-    let both_rows = subst (Forms tables top at term least) (dropped i rows r low is) all in
-    (both_rows.0, both_rows.1, both_rows.2)
-
 -- ---- the log that they form
 
-pub log_of : (tables : Schema) (top at term least : ℕ) (rows : List Row) → Forms tables top at term least rows → (es : List Entry) × (rows ≡ shown_log at (items_of es)) × Go tables top term least es
+pub log_of : (tables : Language) (top at term least : ℕ) (rows : List Row) → Forms tables top at term least rows → (es : List Entry) × (rows ≡ shown_log at (items_of es)) × Go tables top term least es
 log_of tables top at term least [] forms = ([], refl, tt)
 log_of tables top at term least (r ∷ rs) forms =
     let rest = log_of tables top (at + 1) (forms.0).term ((forms.0).stamp + 1) rs forms.3 in
     (forms.0 ∷ rest.0, ap (λ x. x ∷ rs) forms.1 ∙ ap (λ xs. entry_values at (item_of forms.0) ∷ xs) rest.1, (forms.2, rest.2))
 
-pub forms_of : (tables : Schema) (top at term least : ℕ) (rows : List Row) (es : List Entry) → rows ≡ shown_log at (items_of es) → Go tables top term least es → Forms tables top at term least rows
+pub forms_of : (tables : Language) (top at term least : ℕ) (rows : List Row) (es : List Entry) → rows ≡ shown_log at (items_of es) → Go tables top term least es → Forms tables top at term least rows
 forms_of tables top at term least [] [] is go = tt
 forms_of tables top at term least [] (e ∷ es) is go = absurd cc
 forms_of tables top at term least (r ∷ rs) [] is go = absurd cc
@@ -91,20 +77,20 @@ all_true : (a b : Bool) → a ≡ true → b ≡ true → (a && b) ≡ true
 all_true true b p q = q
 all_true false b p q = p
 
-pub goes : (tables : Schema) (top : ℕ) (prev : Option Entry) (es : List Entry) → Go tables top (term_of prev) (above (option_map (λ d. d.stamp) prev)) es → go_on prev top es ≡ true
+pub goes : (tables : Language) (top : ℕ) (prev : Option Entry) (es : List Entry) → Go tables top (term_of prev) (above (option_map (λ d. d.stamp) prev)) es → go_on prev top es ≡ true
 goes tables top prev [] go = refl
 goes tables top prev (e ∷ es) go =
     let f = go.0 in
     all_true _ _ (all_true _ _ (all_true _ _ (all_true _ _ (lt_true _ _ f.first) (le_true _ _ f.falls_not)) (le_true _ _ f.below)) (le_true _ _ f.later)) (goes tables top (Some e) es go.1)
 
-pub all_entries : (tables : Schema) (top term least : ℕ) (es : List Entry) → Go tables top term least es → (list_all (is_entry tables) es ≡ true) × AreTexts es
+pub all_entries : (tables : Language) (top term least : ℕ) (es : List Entry) → Go tables top term least es → (list_all (is_entry tables) es ≡ true) × AreTexts es
 all_entries tables top term least [] go = (refl, tt)
 all_entries tables top term least (e ∷ es) go =
     let f = go.0 in
     let rest = all_entries tables top e.term (e.stamp + 1) es go.1 in
     (all_true _ _ (all_true _ _ (le_true _ _ f.instant) (all_true _ _ f.in_range f.reads)) rest.0, (f.text, rest.1))
 
-pub go_from : (tables : Schema) (top : ℕ) (prev : Option Entry) (es : List Entry) → go_on prev top es ≡ true → list_all (is_entry tables) es ≡ true → AreTexts es → Go tables top (term_of prev) (above (option_map (λ d. d.stamp) prev)) es
+pub go_from : (tables : Language) (top : ℕ) (prev : Option Entry) (es : List Entry) → go_on prev top es ≡ true → list_all (is_entry tables) es ≡ true → AreTexts es → Go tables top (term_of prev) (above (option_map (λ d. d.stamp) prev)) es
 go_from tables top prev [] rises entries texts = tt
 go_from tables top prev (e ∷ es) rises entries texts =
     let r = both _ _ rises in

@@ -2,14 +2,14 @@
 use Rattle.std.proofs.Common.{◌≡◌, ℕ, false, Option, None, Some, Ok, Err, Result, MatchOption, IfOk, OnOk}
 use Rattle.sqlite.specs.declared.error.Error.{Error}
 use Rattle.sqlite.specs.State.{State, HasCleanDisk, IsUnchanged}
-use Rattle.model.specs.Transactions.{Schema as Tables}
+use Rattle.model.specs.Transactions.{Language}
 use Rattle.keep.specs.Durable.{Durable}
 use Rattle.storetables.specs.Tables.{schema}
 use Rattle.storetables.specs.Stored.{Offers, IsBad, IsOpened, IsReady}
 use Rattle.storetables.specs.Judging.{IsNoLog, IsFound}
 use Rattle.storetables.proofs.Settling.{found_opens, opened_from, no_log_found}
 
-pub judged_opens : (old mid new : State) (members : ℕ) (tables : Tables) (r : Result (Option ℕ) Error) → HasCleanDisk mid → mid.in_transaction ≡ false → IsReady mid → ((d : Durable) → Offers mid d → Offers old d) → OnOk r (mid.now.schema ≡ schema → IsUnchanged mid new)
+pub judged_opens : (old mid new : State) (members : ℕ) (tables : Language) (r : Result (Option ℕ) Error) → HasCleanDisk mid → mid.in_transaction ≡ false → IsReady mid → ((d : Durable) → Offers mid d → Offers old d) → OnOk r (mid.now.schema ≡ schema → IsUnchanged mid new)
     → IfOk r (λ o. mid.now.schema ≡ schema → MatchOption o (IsNoLog mid.now members tables) (IsFound mid.now members tables))
     → IfOk r (λ o. MatchOption o (IsBad new members tables) (IsOpened old new members tables))
 judged_opens old mid new members tables (Err e) clean out ready left same ok = tt

@@ -8,12 +8,11 @@ use Rattle.sqlite.specs.declared.types.Value.TheVariants.{Null, Int}
 use Rattle.sqlite.specs.Order.{value_cmp}
 use Rattle.sqlite.specs.Ops.{unary}
 use Rattle.sqlite.specs.Tree.{put_row}
-use Rattle.sqlite.specs.Cast.{cast, cast_row}
+use Rattle.sqlite.specs.Cast.{cast}
 use Rattle.sqlite.specs.Kind.TheVariants.{Integer}
 use Rattle.sqlite_value.proofs.OrderLemmas.{value_cmp-Int}
 use Rattle.storetables.specs.Contents.{Item}
-use Rattle.storetables.specs.Tables.{meta, log}
-use Rattle.storetables.specs.Rows.{meta_row, entry_row, log_rows}
+use Rattle.storetables.specs.Rows.{entry_row, log_rows}
 
 pub lower_id : (m n : ℕ) → m < n → value_cmp (Int (pos m)) (Int (pos n)) ≡ Less
 lower_id m n h = value_cmp-Int (pos m) (pos n) ∙ grind (arith, ints, nat_tests)
@@ -39,12 +38,6 @@ pub cast_whole : (n : ℤ) → cast Integer (Int n) ≡ Int n
 unfolding unary
 cast_whole (pos n) = either _ _
 cast_whole (negsuc n) = either _ _
-
-pub cast_entry : (i : ℕ) (e : Item) → cast_row log (entry_row i e) ≡ entry_row i e
-cast_entry i e = simp (cast_int, cast_null)
-
-pub cast_meta : (t v : ℕ) → cast_row meta (meta_row t v) ≡ meta_row t v
-cast_meta t v = simp (cast_int, cast_null)
 
 pub zero_one : (◌≡◌ {A = ℕ} 0 1) → ⊥
 zero_one e = absurd (omega arith)

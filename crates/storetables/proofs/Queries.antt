@@ -24,8 +24,7 @@ use Rattle.sqlite.specs.Effect.{Database}
 use Rattle.sqlite.specs.State.{State, IsUnchanged, IsRolledBack, KeepsCommit, IsNotRun, FailsToQuery, Shown}
 use Rattle.sqlite.proofs.Callers.{IsPlain, reads_as, one_permutation}
 use Rattle.sqlite_value.proofs.OrderLemmas.{value_cmp-Int}
-use Rattle.model.specs.declared.entry.Entry.{Entry}
-use Rattle.storetables.specs.Contents.{Item, Contents, item_of, entry_in}
+use Rattle.storetables.specs.Contents.{Item, Contents}
 use Rattle.storetables.specs.Tables.{schema}
 use Rattle.storetables.specs.Rows.{entry_row, entry_values, log_rows, in_order, Holds}
 use Rattle.std.proofs.lemmas.List.Sorted.{IsPermutation-map, IsPermutation-sym, IsPermutation-trans}
@@ -90,9 +89,6 @@ picked (suc m) j i (e ∷ es) is =
 abbrev pub shown_rows : ℕ → Option Item → List Row
 shown_rows j None = []
 shown_rows j (Some e) = entry_values j e ∷ []
-
-same_some : {X : Type 0} {a b : X} → ◌≡◌ {A = Option X} (Some a) (Some b) → a ≡ b
-same_some e = cc
 
 -- the values of an INSERT tell the entry
 pub same_item : (i j : ℕ) (a b : Item) → entry_values i a ≡ entry_values j b → a ≡ b
@@ -161,14 +157,3 @@ last_of j o before out n long some is = go o before out n long some is (sym (len
     go (Some e) [] (Some r) n long some is sum = cc
     go (Some e) (b ∷ bs) None n long some is sum = absurd (let it = some.1 (omega (arith, long)) in cc)
     go (Some e) (b ∷ bs) (Some r) n long some is sum = absurd (omega (arith, sum))
-
--- the entry of the row that was found
-pub found_entry : (j : ℕ) (o : Option Item) (r : Row) (i : ℕ) (e : Entry) → ◌≡◌ {A = Option Row} (Some r) (option_map (entry_values j) o) → r ≡ entry_values i (item_of e) → entry_in (item_of e) ≡ e → ◌≡◌ {A = Option Entry} (Some e) (option_map entry_in o)
-found_entry j None r i e is shown back = absurd cc
-found_entry j (Some x) r i e is shown back =
-    let rows : entry_values i (item_of e) ≡ entry_values j x = sym shown ∙ same_some is in
-    ap Some (sym back ∙ ap entry_in (same_item i j (item_of e) x rows))
-
-pub no_entry : (j : ℕ) (o : Option Item) → ◌≡◌ {A = Option Row} None (option_map (entry_values j) o) → ◌≡◌ {A = Option Entry} None (option_map entry_in o)
-no_entry j None is = refl
-no_entry j (Some x) is = absurd cc

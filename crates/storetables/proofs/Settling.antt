@@ -6,17 +6,16 @@ use Rattle.sqlite.specs.Effect.{Database}
 use Rattle.sqlite.specs.State.{State, HasCleanDisk, IsUnchanged, KeepsCommit}
 use Rattle.model.specs.declared.entry.Entry.{Entry}
 use Rattle.model.specs.declared.entry.Request.{Request}
-use Rattle.model.specs.Transactions.{Schema as Tables}
+use Rattle.model.specs.Transactions.{Language}
 use Rattle.keep.specs.Durable.{Durable, blank}
 use Rattle.keep.specs.Log.{IsLog, is_vote, is_numbered, is_entry}
 use Rattle.storetables.specs.Contents.{Contents, none_yet, number_of_vote, client_of, number_of, body_of, item_of, items_of, contents_of, vote_in, request_in, entry_in, entries_in, durable_in}
-use Rattle.storetables.specs.Tables.{schema, old_schema, no_schema}
+use Rattle.storetables.specs.Tables.{schema, no_schema}
 use Rattle.storetables.specs.Rows.{Holds, HoldsOld}
 use Rattle.storetables.specs.Stored.{stored_in, IsSettled, AreTexts, IsIn, Offers, IsBad, IsOpened, IsReady, IsSound}
 use Rattle.storetables.specs.Found.{read_back, no_tables, offers_stored}
-use Rattle.storetables.specs.Steps.{IsKept, IsMade, IsBlank, IsRaised, HasFloor}
+use Rattle.storetables.specs.Steps.{IsMade, IsBlank}
 use Rattle.storetables.specs.Judging.{IsNoLog, IsFound}
-use Rattle.storetables.proofs.Floors.{raised_back, raised_holds}
 
 -- ---- what is read is what was written
 
@@ -38,10 +37,10 @@ request_back (Some r) h = some_back r.client r.number r.text (both _ _ h).0
 pub entry_numbered : (e : Entry) → is_numbered e.request ≡ true → entry_in (item_of e) ≡ e
 entry_numbered e h = ap (λ r. record { term = e.term; stamp = e.stamp; request = r }) (request_back e.request h)
 
-pub entry_back : (schema : Tables) (e : Entry) → is_entry schema e ≡ true → entry_in (item_of e) ≡ e
+pub entry_back : (schema : Language) (e : Entry) → is_entry schema e ≡ true → entry_in (item_of e) ≡ e
 entry_back tables e h = ap (λ r. record { term = e.term; stamp = e.stamp; request = r }) (request_back e.request (both _ _ (both _ _ h).1).0)
 
-pub log_back : (schema : Tables) (es : List Entry) → list_all (is_entry schema) es ≡ true → entries_in (items_of es) ≡ es
+pub log_back : (schema : Language) (es : List Entry) → list_all (is_entry schema) es ≡ true → entries_in (items_of es) ≡ es
 log_back tables [] h = refl
 log_back tables (e ∷ es) h =
     let two = both _ _ h in
@@ -52,7 +51,7 @@ vote_back members None h = refl
 vote_back members (Some zero) h = absurd cc
 vote_back members (Some (suc v)) h = refl
 
-pub log_plain : (members : ℕ) (schema : Tables) (d : Durable) → IsLog members schema d → durable_in (contents_of d) ≡ d
+pub log_plain : (members : ℕ) (schema : Language) (d : Durable) → IsLog members schema d → durable_in (contents_of d) ≡ d
 log_plain members tables d forms =
     ap (λ v. record { hard = record { term = d.hard.term; vote = v; floor = d.hard.floor }; log = entries_in (items_of d.log) }) (vote_back members d.hard.vote forms.vote)
     ∙ ap (λ l. record { hard = d.hard; log = l }) (log_back tables d.log forms.entries)
@@ -85,33 +84,6 @@ made_left old new d clean out settled none it offer =
       found = inr (inr (ap (λ (b : Database). b.schema) (sym (settled it.was_open)) ∙ none, offers_stored new d all.0 offer ∙ all.1));
     }
 
--- an open finds the same with and without the table for the floor, where that was made
-pub raised_left : (old new : State) (d : Durable) → HasCleanDisk old → old.in_transaction ≡ false → (IsTrue old.is_open → old.now ≡ old.committed) → old.now.schema ≡ old_schema → IsMade old new IsRaised → Offers new d → Offers old d
-raised_left old new d clean out settled has it offer =
-    let one = it.made has in
-    let tables : new.committed.schema ≡ schema = ap (λ (b : Database). b.schema) it.committed ∙ one.tables in
-    record {
-      clean = clean;
-      is_open = it.was_open;
-      autocommit = out;
-      texts = offer.texts;
-      found = elim offer.found [
-        | inl held ↦ inr (inl (subst (λ db. HoldsOld db (contents_of d)) (settled it.was_open) (raised_back old.now new.now (contents_of d) has one (subst (λ db. Holds db (contents_of d)) it.committed held.0)), held.1))
-        | inr rest ↦ absurd (not_ours new.committed d tables rest)
-      ];
-    }
-
-pub kept_back : (old new : State) (d : Durable) → HasCleanDisk old → old.in_transaction ≡ false → IsKept old new → Offers new d → Offers old d
-kept_back old new d clean out it offer =
-    let same = it.committed offer.is_open in
-    record {
-      clean = clean;
-      is_open = it.was_open offer.is_open;
-      autocommit = out;
-      texts = offer.texts;
-      found = subst (λ db. IsIn db d) same offer.found;
-    }
-
 -- ---- where nothing is committed
 
 pub keeps_offers : (old new : State) (d : Durable) → HasCleanDisk old → old.in_transaction ≡ false → KeepsCommit old new → Offers new d → Offers old d
@@ -125,7 +97,7 @@ keeps_offers old new d clean out it offer = record {
 
 -- ---- an open of tables that are there
 
-pub found_opens : (old new : State) (members : ℕ) (tables : Tables) (n : ℕ) → HasCleanDisk old → old.in_transaction ≡ false → IsReady old → IsUnchanged old new → IsFound old.now members tables n → IsOpened old new members tables n
+pub found_opens : (old new : State) (members : ℕ) (tables : Language) (n : ℕ) → HasCleanDisk old → old.in_transaction ≡ false → IsReady old → IsUnchanged old new → IsFound old.now members tables n → IsOpened old new members tables n
 found_opens old new members tables n clean out ready same found =
     let d = found.d in
     let plain = log_plain members tables d found.forms in
@@ -151,24 +123,12 @@ found_opens old new members tables n clean out ready same found =
       counted = found.counted ∙ sym (ap (λ (c : Contents). length c.log) read ∙ length-map d.log item_of);
     }
 
-pub opened_from : (old mid new : State) (members : ℕ) (tables : Tables) (n : ℕ) → ((d : Durable) → Offers mid d → Offers old d) → IsOpened mid new members tables n → IsOpened old new members tables n
+pub opened_from : (old mid new : State) (members : ℕ) (tables : Language) (n : ℕ) → ((d : Durable) → Offers mid d → Offers old d) → IsOpened mid new members tables n → IsOpened old new members tables n
 opened_from old mid new members tables n left it = record { settled = it.settled; offers = left _ it.offers; forms = it.forms; counted = it.counted }
 
 -- ---- where nothing is found
 
--- what is committed in a connection with another schema is no log
-pub other_schema : (s : State) (d : Durable) → (IsTrue s.is_open → s.now ≡ s.committed) → (s.now.schema ≡ schema → ⊥) → (s.now.schema ≡ old_schema → ⊥) → (s.now.schema ≡ no_schema → ⊥) → Offers s d → ⊥
-other_schema s d settled theirs older some offer =
-    let same = ap (λ (b : Database). b.schema) (settled offer.is_open) in
-    elim offer.found [
-      | inl has ↦ theirs (same ∙ has.0.tables)
-      | inr rest ↦ elim rest [
-        | inl old ↦ older (same ∙ old.0.tables)
-        | inr none ↦ some (same ∙ none.0)
-      ]
-    ]
-
-pub no_log_found : (old new : State) (members : ℕ) (tables : Tables) → IsReady old → IsUnchanged old new → IsNoLog old.now members tables → IsBad new members tables
+pub no_log_found : (old new : State) (members : ℕ) (tables : Language) → IsReady old → IsUnchanged old new → IsNoLog old.now members tables → IsBad new members tables
 no_log_found old new members tables ready same none d offer forms =
     let was : new.committed ≡ old.now = same.0.committed_is ∙ sym (ready.committed same.0.was_open) in
     elim offer.found [
@@ -178,17 +138,8 @@ no_log_found old new members tables ready same none d offer forms =
 
 -- ---- an open finds no less
 
-old_ours : (db : Database) (c : Contents) → HoldsOld db c → db.schema ≡ schema → ⊥
-old_ours db c has is = absurd (let e = ap (λ s. s.tables) (sym has.tables ∙ is) in cc)
-
 old_none : (db : Database) (c : Contents) → HoldsOld db c → db.schema ≡ no_schema → ⊥
 old_none db c has is = absurd (let e = ap (λ s. s.tables) (sym has.tables ∙ is) in cc)
-
-holds_old : (db : Database) (c : Contents) → Holds db c → db.schema ≡ old_schema → ⊥
-holds_old db c has is = absurd (let e = ap (λ s. s.tables) (sym has.tables ∙ is) in cc)
-
-none_old : (db : Database) → db.schema ≡ no_schema → db.schema ≡ old_schema → ⊥
-none_old db none is = absurd (let e = ap (λ s. s.tables) (sym none ∙ is) in cc)
 
 made_in : (db made : Database) (d : Durable) → db.schema ≡ no_schema → Holds made none_yet → IsIn db d → IsIn made d
 made_in db made d none has it = elim it [
@@ -196,15 +147,6 @@ made_in db made d none has it = elim it [
   | inr rest ↦ elim rest [
     | inl old ↦ absurd (old_none db (contents_of d) old.0 none)
     | inr blanked ↦ inl (subst (λ x. Holds made (contents_of x) × (durable_in (contents_of x) ≡ x)) (sym blanked.1) (has, refl))
-  ]
-]
-
-raised_in : (db made : Database) (d : Durable) → db.schema ≡ old_schema → HasFloor db made → IsIn db d → IsIn made d
-raised_in db made d older has it = elim it [
-  | inl held ↦ absurd (holds_old db (contents_of d) held.0 older)
-  | inr rest ↦ elim rest [
-    | inl old ↦ inl (raised_holds db made (contents_of d) old.0 has, old.1)
-    | inr blanked ↦ absurd (none_old db blanked.0 older)
   ]
 ]
 
@@ -227,15 +169,4 @@ made_on old new d sound out settled none it offer =
       autocommit = out;
       texts = offer.texts;
       found = subst (λ db. IsIn db d) (sym it.committed) (made_in old.now new.now d none (it.made none) (subst (λ db. IsIn db d) (sym was) offer.found));
-    }
-
-pub raised_on : (old new : State) (d : Durable) → IsSound new → new.in_transaction ≡ false → (IsTrue old.is_open → old.now ≡ old.committed) → old.now.schema ≡ old_schema → IsMade old new IsRaised → Offers old d → Offers new d
-raised_on old new d sound out settled older it offer =
-    let was = settled offer.is_open in
-    record {
-      clean = sound.clean;
-      is_open = sound.is_open;
-      autocommit = out;
-      texts = offer.texts;
-      found = subst (λ db. IsIn db d) (sym it.committed) (raised_in old.now new.now d older (it.made older) (subst (λ db. IsIn db d) (sym was) offer.found));
     }

@@ -4,7 +4,7 @@ use Rattle.std.proofs.lemmas.List.Folds.{list_all_at}
 use Rattle.std.proofs.lemmas.Bool.{cases_Bool}
 use Rattle.std.proofs.lemmas.Bool.Decides.{nat_tests}
 use Rattle.model.specs.Steps.{TERM_LAST}
-use Rattle.std.proofs.Common.{nat_le, ◌^◌, ◌≡◌, inl, inr, ℕ, suc, ◌+◌, ◌<◌, ◌≤◌, List, [], ◌∷◌, ◌++◌, length, take, get_or, Bool, true, false, Ok, Err, Result, IsTrue, sym, ap, subst, ◌∙◌, refl, arith, append_assoc, append-nil, length-append}
+use Rattle.std.proofs.Common.{nat_le, ◌^◌, ◌≡◌, inl, inr, ℕ, suc, ◌+◌, ◌<◌, ◌≤◌, Option, List, [], ◌∷◌, ◌++◌, length, take, get_or, Bool, true, false, Ok, Err, Result, IsTrue, sym, ap, subst, ◌∙◌, refl, arith, append_assoc, length-append}
 use Rattle.std.proofs.lemmas.List.{map_more, length-map, length-take-le}
 use Rattle.sqlite.specs.Effect.{Database}
 use Rattle.sqlite.specs.State.{Survives, IsRolledBack, KeepsCommit}
@@ -18,6 +18,7 @@ use Rattle.sqlite.specs.declared.error.Error.{Error}
 use Rattle.sqlite.specs.State.{State, Executes, ExecutesInside}
 use Rattle.storetables.specs.Contents.{Contents}
 use Rattle.storetables.specs.Rows.{Holds, log_rows}
+use Rattle.storetables.specs.Found.{read_back}
 use Rattle.storetables.specs.Steps.{Goes, IsKept}
 
 true_of : (b : Bool) → b ≡ true → IsTrue b
@@ -65,17 +66,24 @@ goes_on a b c f h one two = record {
   holds = λ d has. two.holds (f d) (one.holds d has);
 }
 
-with_log : (d : Contents) (a b : List Item) → a ≡ b → ◌≡◌ {A = Contents} (record d { log = a }) (record d { log = b })
+pub with_meta : (d : Contents) (t v : ℕ) → t ≡ d.term → v ≡ d.vote → ◌≡◌ {A = Contents} (record d { term = t; vote = v }) d
+with_meta d t v term vote = λ i. record { term = term i; vote = vote i; floor = d.floor; log = d.log }
+
+pub with_floor : (d : Contents) (f : Option ℕ) → f ≡ d.floor → ◌≡◌ {A = Contents} (record d { floor = f }) d
+with_floor d f floor = λ i. record { term = d.term; vote = d.vote; floor = floor i; log = d.log }
+
+pub with_log : (d : Contents) (a b : List Item) → a ≡ b → ◌≡◌ {A = Contents} (record d { log = a }) (record d { log = b })
 with_log d a b = ap (λ l. record d { log = l })
 
-pub goes_none : (s : State) → IsTrue s.is_open → IsTrue s.in_transaction → Goes s s (λ d. record d { log = d.log ++ [] })
-goes_none s opened inside = record {
+-- what would change nothing need not be stated
+pub goes_still : (s : State) (d : Contents) (made : Contents → Contents) → IsTrue s.is_open → IsTrue s.in_transaction → Holds s.now d → made d ≡ d → Goes s s made
+goes_still s d made opened inside has same = record {
   was_open = opened;
   is_open = opened;
   was_in = inside;
   is_in = inside;
   committed = refl;
-  holds = λ d has. subst (Holds s.now) (with_log d d.log (d.log ++ []) (sym (append-nil d.log))) has;
+  holds = λ e held. subst (Holds s.now) (sym same ∙ ap made (sym (read_back s.now d has) ∙ read_back s.now e held)) has;
 }
 
 pub goes_further : (a b c : State) (xs : List Entry) (i : ℕ) (x : Entry) → i < length xs → x ≡ get_or xs i x → Goes a b (λ d. record d { log = d.log ++ items_of (take i xs) })

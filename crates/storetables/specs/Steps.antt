@@ -1,7 +1,8 @@
 -- A step inside a transaction.
-use Rattle.std.specs.Prelude.{◌≡◌, ℕ, None, List, [], ◌∷◌, Ok, IsTrue}
+use Rattle.std.specs.Prelude.{◌≡◌, ℕ, Option, Some, None, List, [], ◌∷◌, length, Ok, IsTrue}
 use Rattle.sqlite.specs.State.{State, ExecutesInside}
-use Rattle.storetables.specs.Contents.{Contents, none_yet}
+use Rattle.keep.specs.declared.hard_state.HardState.{HardState}
+use Rattle.storetables.specs.Contents.{Contents, none_yet, number_of_vote}
 use Rattle.storetables.specs.Rows.{Holds, HoldsOld, floor_row}
 use Rattle.storetables.specs.Tables.{schema, old_schema, no_schema}
 use Rattle.sqlite.specs.Effect.{Database}
@@ -15,6 +16,22 @@ pub record Goes (old new : State) (made : Contents → Contents) : Type 0 where
   pub is_in : IsTrue new.in_transaction
   pub committed : new.committed ≡ old.committed
   pub holds : (d : Contents) → Holds old.now d → Holds new.now (made d)
+
+-- the term and the vote are those of the hard state, if there is one
+abbrev pub IsMeta : Option HardState → ℕ → ℕ → Type 0
+IsMeta None term vote = Unit {0}
+IsMeta (Some h) term vote = (h.term ≡ term) × (number_of_vote h.vote ≡ vote)
+
+-- the floor is that of the hard state, if there is one
+abbrev pub IsFloor : Option HardState → Option ℕ → Type 0
+IsFloor None floor = Unit {0}
+IsFloor (Some h) floor = h.floor ≡ floor
+
+-- what is known before a step, the length of the log and maybe the hard state, is so
+pub record IsKnown (known : Option HardState) (count : ℕ) (d : Contents) : Type 0 where
+  pub meta : IsMeta known d.term d.vote
+  pub floor : IsFloor known d.floor
+  pub counted : count ≡ length d.log
 
 -- nothing is changed, unless the store was shut
 pub record IsKept (old new : State) : Type 0 where

@@ -10,7 +10,7 @@ use Rattle.model.specs.declared.entry.Entry.{Entry}
 use Rattle.model.specs.declared.entry.Request.{Request}
 use Rattle.keep.specs.Durable.{Durable, blank}
 use Rattle.keep.specs.Log.{IsLog}
-use Rattle.model.specs.Transactions.{Schema as Tables}
+use Rattle.model.specs.Transactions.{Language}
 use Rattle.storetables.specs.Contents.{Item, Contents, contents_of, durable_in}
 use Rattle.storetables.specs.Tables.{no_schema, schema}
 use Rattle.storetables.specs.Rows.{Holds, HoldsOld, in_order}
@@ -104,11 +104,11 @@ pub record IsStored (db : Database) : Type 0 where
   pub texts : ∥ AreTexts (stored_in db).log ∥₁
 
 -- no open of it finds a state of such a member
-abbrev pub IsBad : State → ℕ → Tables → Type 0
+abbrev pub IsBad : State → ℕ → Language → Type 0
 IsBad s members tables = (d : Durable) → Offers s d → IsLog members tables d → ⊥
 
 -- an open found a log of such a member with so many entries, and what an open had found before is that
-pub record IsOpened (old new : State) (members : ℕ) (tables : Tables) (count : ℕ) : Type 0 where
+pub record IsOpened (old new : State) (members : ℕ) (tables : Language) (count : ℕ) : Type 0 where
   pub settled : IsSettled new
   pub offers : Offers old (stored_in new.now)
   pub forms : IsLog members tables (stored_in new.now)

@@ -3,7 +3,7 @@ ghost use Rattle.std.specs.Prelude.{◌≡◌, ◌+◌, ◌-◌, ◌<◌, ◌≤
 ghost use Rattle.std.specs.List.Sorted.{IsPermutation};
 ghost use Rattle.sqlite.specs.State.{HasCleanDisk, IsUnchanged, KeepsCommit};
 ghost use Rattle.sqlite.specs.Held.{state};
-ghost use Rattle.sqlread.specs.Meaning.{schema_of};
+ghost use Rattle.sqlread.specs.Meaning.{language_of};
 ghost use Rattle.model.specs.Steps.{is_floor, TERM_LAST};
 ghost use Rattle.keep.specs.Durable.{Durable, tail_of};
 ghost use Rattle.keep.specs.Log.{is_vote};
@@ -138,7 +138,7 @@ fn judge<S: Alter>(
     members: usize,
     schema: &Schema,
 ) -> Result<Option<usize>, Error>
-    ensures ok { HasCleanDisk (state S.Store conn.new) → IfOk result (λ o. (state S.Store conn.old).now.schema ≡ ours → MatchOption o (IsNoLog (state S.Store conn.old).now members (schema_of schema.now)) (IsFound (state S.Store conn.old).now members (schema_of schema.now))) }
+    ensures ok { HasCleanDisk (state S.Store conn.new) → IfOk result (λ o. (state S.Store conn.old).now.schema ≡ ours → MatchOption o (IsNoLog (state S.Store conn.old).now members (language_of schema.now)) (IsFound (state S.Store conn.old).now members (language_of schema.now))) }
     ensures short { IfOk result (λ o. MatchOption o (Unit {0}) (λ n. n ≤ 100000)) }
     ensures same { HasCleanDisk (state S.Store conn.new) → OnOk result ((state S.Store conn.old).now.schema ≡ ours → IsUnchanged (state S.Store conn.old) (state S.Store conn.new)) }
     ensures keeps { HasCleanDisk (state S.Store conn.new) → (state S.Store conn.old).now.schema ≡ ours → KeepsCommit (state S.Store conn.old) (state S.Store conn.new) }
@@ -175,7 +175,7 @@ pub fn find_log<S: Alter>(
 ) -> Result<Option<usize>, Error>
     requires out { conn.old.in_transaction ≡ false }
     requires settled { IsTrue (state S.Store conn.old).is_open → (state S.Store conn.old).now ≡ (state S.Store conn.old).committed }
-    ensures ok { HasCleanDisk (state S.Store conn.new) → IfOk result (λ o. MatchOption o (IsBad (state S.Store conn.new) members (schema_of schema.now)) (IsOpened (state S.Store conn.old) (state S.Store conn.new) members (schema_of schema.now))) }
+    ensures ok { HasCleanDisk (state S.Store conn.new) → IfOk result (λ o. MatchOption o (IsBad (state S.Store conn.new) members (language_of schema.now)) (IsOpened (state S.Store conn.old) (state S.Store conn.new) members (language_of schema.now))) }
     ensures short { IfOk result (λ o. MatchOption o (Unit {0}) (λ n. n ≤ 100000)) }
     ensures autocommit { conn.new.in_transaction ≡ false }
     ensures clean { HasCleanDisk (state S.Store conn.new) → HasCleanDisk (state S.Store conn.old) }

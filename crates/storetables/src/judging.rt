@@ -2,7 +2,7 @@
 ghost use Rattle.std.specs.Prelude.{◌≡◌, ◌≢◌, ◌↔◌, ◌+◌, ◌<◌, ◌≤◌, ◌^◌, ◌∷◌, [], Some, None, Option, ℕ, false, true, pos, length, IfOk, OnOk, IsTrue, MatchOption};
 ghost use Rattle.model.specs.declared.entry.Entry.{Entry as Kept};
 ghost use Rattle.model.specs.Steps.{is_floor, spells, TERM_LAST};
-ghost use Rattle.sqlread.specs.Meaning.{schema_of};
+ghost use Rattle.sqlread.specs.Meaning.{language_of};
 ghost use Rattle.storetables.specs.Contents.{item_of, number_of_vote, number_of_floor, vote_in};
 ghost use Rattle.storetables.specs.Rows.{entry_values, floor_values, meta_values};
 ghost use Rattle.storetables.specs.Judging.{Follows, Forms};
@@ -20,7 +20,7 @@ use std::alloc::{AllocError, Global};
 /// Whether the text of a request spells a transaction.
 #[tactic(auto, using(crate::proofs::Judged::spelled))]
 fn spells(alloc: Global, schema: &Schema, request: &Option<Request>) -> Result<bool, AllocError>
-    ensures { IfOk result (λ b. b ≡ spells (schema_of schema.now) request.now) }
+    ensures { IfOk result (λ b. b ≡ spells (language_of schema.now) request.now) }
 {
     match request {
         None => Ok(true),
@@ -42,7 +42,7 @@ fn next_entry(
     least: u64,
     row: &Row,
 ) -> Result<Option<Entry>, Error>
-    ensures { IfOk result (λ o. MatchOption o ((e : Kept) → row.now ≡ entry_values at (item_of e) → Follows (schema_of schema.now) top term least e → ⊥) (λ e. (row.now ≡ entry_values at (item_of e)) × Follows (schema_of schema.now) top term least e)) }
+    ensures { IfOk result (λ o. MatchOption o ((e : Kept) → row.now ≡ entry_values at (item_of e) → Follows (language_of schema.now) top term least e → ⊥) (λ e. (row.now ≡ entry_values at (item_of e)) × Follows (language_of schema.now) top term least e)) }
 {
     let Some(found) = entry_shown(row)? else {
         return Ok(None);
@@ -66,7 +66,7 @@ fn next_entry(
 /// Whether the rows of the log form one, in a member of the term `top`.
 pub fn forms_log(alloc: Global, schema: &Schema, top: u64, rows: &[Row]) -> Result<bool, Error>
     requires { length rows.now ≤ 100000 }
-    ensures { IfOk result (λ b. IsTrue b ↔ Forms (schema_of schema.now) top 1 0 0 rows.now) }
+    ensures { IfOk result (λ b. IsTrue b ↔ Forms (language_of schema.now) top 1 0 0 rows.now) }
 {
     let mut at = 1;
     let mut term = 0;

@@ -6,12 +6,12 @@ ghost use Rattle.sqlite.specs.Held.{state};
 ghost use Rattle.model.specs.Steps.{TERM_LAST};
 ghost use Rattle.keep.specs.Log.{IsSmall};
 ghost use Rattle.storetables.specs.Contents.{Contents, item_of, items_of, changed, number_of_vote, client_of, number_of, body_of};
-ghost use Rattle.storetables.specs.Steps.{Goes};
+ghost use Rattle.storetables.specs.Steps.{Goes, IsKnown, IsMeta, IsFloor};
 ghost use Rattle.storetables.specs.Rows.{Holds};
 ghost use Rattle.storetables.specs.Stored.{IsText, AreTexts};
 
 use crate::whole::{Floor, Whole};
-use keep::Change;
+use keep::{Change, HardState};
 use model::entry::{Entry, Request};
 use model::member::Member;
 use model::stamp::Stamp;
@@ -128,6 +128,64 @@ pub fn cut_log<S: Alter>(tx: &mut Transaction<'_, S>, kept: Whole) -> Result<(),
     Ok(())
 }
 
+/// Sets the term and the vote, unless they are known to be stored.
+fn renew_meta<S: Alter>(
+    tx: &mut Transaction<'_, S>,
+    term: Whole,
+    vote: Whole,
+    known: &Option<HardState>,
+) -> Result<(), Error>
+    requires inside { HasCleanDisk (state S.Store tx.old.conn.now) → IsTrue (state S.Store tx.old.conn.now).is_open × IsTrue (state S.Store tx.old.conn.now).in_transaction }
+    requires known { HasCleanDisk (state S.Store tx.old.conn.now) → (d : Contents) × Holds (state S.Store tx.old.conn.now).now d × IsMeta known.now d.term d.vote }
+    ensures same_reference { tx.new.conn.ghost_name ≡ tx.old.conn.ghost_name }
+    ensures ok { HasCleanDisk (state S.Store tx.new.conn.now) → OnOk result (Goes (state S.Store tx.old.conn.now) (state S.Store tx.new.conn.now) (λ d. record d { term = term.value; vote = vote.value })) }
+    ensures keeps { HasCleanDisk (state S.Store tx.new.conn.now) → KeepsCommit (state S.Store tx.old.conn.now) (state S.Store tx.new.conn.now) }
+    ensures survives { Survives (state S.Store tx.old.conn.now) (state S.Store tx.new.conn.now) (λ _. ⊥) }
+{
+    match known {
+        Some(hard) if hard.term == term.value && number_of_vote(hard.vote) == vote.value => Ok(()),
+        _ => set_meta(tx, term, vote),
+    }
+}
+
+/// Sets the floor, unless it is known to be stored.
+fn renew_floor<S: Alter>(
+    tx: &mut Transaction<'_, S>,
+    floor: Option<Stamp>,
+    known: &Option<HardState>,
+) -> Result<(), Error>
+    requires inside { HasCleanDisk (state S.Store tx.old.conn.now) → IsTrue (state S.Store tx.old.conn.now).is_open × IsTrue (state S.Store tx.old.conn.now).in_transaction }
+    requires known { HasCleanDisk (state S.Store tx.old.conn.now) → (d : Contents) × Holds (state S.Store tx.old.conn.now).now d × IsFloor known.now d.floor }
+    ensures same_reference { tx.new.conn.ghost_name ≡ tx.old.conn.ghost_name }
+    ensures ok { HasCleanDisk (state S.Store tx.new.conn.now) → OnOk result (Goes (state S.Store tx.old.conn.now) (state S.Store tx.new.conn.now) (λ d. record d { floor = floor })) }
+    ensures keeps { HasCleanDisk (state S.Store tx.new.conn.now) → KeepsCommit (state S.Store tx.old.conn.now) (state S.Store tx.new.conn.now) }
+    ensures survives { Survives (state S.Store tx.old.conn.now) (state S.Store tx.new.conn.now) (λ _. ⊥) }
+{
+    match known {
+        Some(hard) if hard.floor == floor => Ok(()),
+        _ => set_floor(tx, floor),
+    }
+}
+
+/// Keeps the first entries of a log that has so many.
+fn shorten_log<S: Alter>(
+    tx: &mut Transaction<'_, S>,
+    kept: Whole,
+    count: usize,
+) -> Result<(), Error>
+    requires inside { HasCleanDisk (state S.Store tx.old.conn.now) → IsTrue (state S.Store tx.old.conn.now).is_open × IsTrue (state S.Store tx.old.conn.now).in_transaction }
+    requires counted { HasCleanDisk (state S.Store tx.old.conn.now) → (d : Contents) × Holds (state S.Store tx.old.conn.now).now d × (count ≡ length d.log) }
+    ensures same_reference { tx.new.conn.ghost_name ≡ tx.old.conn.ghost_name }
+    ensures ok { HasCleanDisk (state S.Store tx.new.conn.now) → OnOk result (Goes (state S.Store tx.old.conn.now) (state S.Store tx.new.conn.now) (λ d. record d { log = take kept.value d.log })) }
+    ensures keeps { HasCleanDisk (state S.Store tx.new.conn.now) → KeepsCommit (state S.Store tx.old.conn.now) (state S.Store tx.new.conn.now) }
+    ensures survives { Survives (state S.Store tx.old.conn.now) (state S.Store tx.new.conn.now) (λ _. ⊥) }
+{
+    if count as u64 <= kept.value {
+        return Ok(());
+    }
+    cut_log(tx, kept)
+}
+
 /// Appends entries, the first with this number.
 pub fn append_all<S: Alter>(
     tx: &mut Transaction<'_, S>,
@@ -152,10 +210,18 @@ pub fn append_all<S: Alter>(
     Ok(())
 }
 
-/// Makes a change of what the tables hold.
-pub fn write_change<S: Alter>(tx: &mut Transaction<'_, S>, change: &Change) -> Result<(), Error>
+/// Makes a change of what the tables hold. It states only what changes where a hard state is known to be stored, and all
+/// of the new one where none is; `count` is how many entries the log has.
+pub fn write_change<S: Alter>(
+    tx: &mut Transaction<'_, S>,
+    change: &Change,
+    known: &Option<HardState>,
+    count: usize,
+) -> Result<(), Error>
     requires small { IsSmall change.now }
+    requires inside { HasCleanDisk (state S.Store tx.old.conn.now) → IsTrue (state S.Store tx.old.conn.now).is_open × IsTrue (state S.Store tx.old.conn.now).in_transaction }
     requires held { HasCleanDisk (state S.Store tx.old.conn.now) → (d : Contents) × Holds (state S.Store tx.old.conn.now).now d × (change.now.kept ≤ length d.log) }
+    requires known { HasCleanDisk (state S.Store tx.old.conn.now) → (d : Contents) → Holds (state S.Store tx.old.conn.now).now d → IsKnown known.now count d }
     ensures same_reference { tx.new.conn.ghost_name ≡ tx.old.conn.ghost_name }
     ensures ok { HasCleanDisk (state S.Store tx.new.conn.now) → OnOk result (Goes (state S.Store tx.old.conn.now) (state S.Store tx.new.conn.now) (changed change.now)) }
     ensures texts { OnOk result (AreTexts change.now.entries.items) }
@@ -168,10 +234,10 @@ pub fn write_change<S: Alter>(tx: &mut Transaction<'_, S>, change: &Change) -> R
     let vote = Whole {
         value: number_of_vote(change.hard.vote),
     };
-    set_meta(tx, term, vote)?;
-    set_floor(tx, change.hard.floor)?;
+    renew_meta(tx, term, vote, known)?;
+    renew_floor(tx, change.hard.floor, known)?;
     let kept = change.kept as u64;
-    cut_log(tx, Whole { value: kept })?;
+    shorten_log(tx, Whole { value: kept }, count)?;
     append_all(tx, Whole { value: kept + 1 }, &change.entries)?;
     Ok(())
 }

@@ -27,11 +27,6 @@ picked vs (p ∷ ps) = pick (slice_get vs p) (picked vs ps)
 
 -- ---- places in order
 
--- the places ascend from n on
-abbrev Up : ℕ → List ℕ → Type 0
-Up n [] = Unit {0}
-Up n (p ∷ ps) = (n ≤ p) × Up (suc n) ps
-
 abbrev Ascends : ℕ → List ℕ → Type 0
 Ascends n [] = Unit {0}
 Ascends n (p ∷ ps) = (n ≤ p) × Ascends (suc p) ps

@@ -170,9 +170,6 @@ get_within [] place v e = cc
 get_within (x ∷ vs) zero v e = omega arith
 get_within (x ∷ vs) (suc place) v e = let l = get_within vs place v e in omega (arith, l)
 
-kept_true : (a b : Bool) → a ≡ b → b ≡ true → a ≡ true
-kept_true a b e h = e ∙ h
-
 reached_here : (reach : ℕ) (r : Row) → r.period.end ≤ r.period.start + reach → r.period.start + r.period.start + reach ≤ r.period.end + r.period.end → is_reached reach r.period.start (opened r) ≡ true
 reached_here reach r covers short =
     let same : (r.period.start == r.period.start) ≡ true = eq-eqb r.period.start r.period.start refl in

@@ -121,5 +121,5 @@ le_itself : (n : ℕ) → n ≤ n
 le_itself n = omega arith
 
 pub answer_in_log : HoldsAfter → KeepsAfter → VersionsAnswer
-answer_in_log holds keeps schema q list s fine some =
-    answer_is (versions_after schema q.table (reverse list)) (λ u. state_at schema list u q.table) q.time.last (keeps schema list q.table q.time.last s fine) (holds schema list q.table s fine).apart q some (le_itself q.time.last)
+answer_in_log holds keeps language q list s fine some =
+    answer_is (versions_after language q.table (reverse list)) (λ u. state_at language list u q.table) q.time.last (keeps language list q.table q.time.last s fine) (holds language list q.table s fine).apart q some (le_itself q.time.last)

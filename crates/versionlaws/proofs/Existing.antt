@@ -31,37 +31,37 @@ no_rows history q none = record {
 -- ---- the laws
 
 pub answer_in_each : VersionsAnswer → SomeAnswer
-answer_in_each gives schema q list stamped fine = elim (has_or_not q.time) [
-  | inl some ↦ (answer_from q (versions_after schema q.table (reverse list)), gives schema q list stamped fine some)
-  | inr none ↦ (record { last = q.time.last; rows = [] }, no_rows (λ u. state_at schema list u q.table) q none)
+answer_in_each gives language q list stamped fine = elim (has_or_not q.time) [
+  | inl some ↦ (answer_from q (versions_after language q.table (reverse list)), gives language q list stamped fine some)
+  | inr none ↦ (record { last = q.time.last; rows = [] }, no_rows (λ u. state_at language list u q.table) q none)
 ]
 
 pub closed_has_one : HoweverLate → OneAnswer → SomeAnswer → ClosedAnswer
-closed_has_one late one some schema q list stamped fine is_closed =
+closed_has_one late one some language q list stamped fine is_closed =
     let t : ℕ = is_closed.0 in
-    let found = some schema (read_at t q) list stamped fine in
+    let found = some language (read_at t q) list stamped fine in
     record {
       now = t;
       answer = found.0;
       at = is_closed.1;
       is = found.1;
-      only = λ later a s. let stays = late schema (read_at t q) t list later a s is_closed.1 is_closed.2 in (
-        (λ h. one schema (read_at t q) list a found.0 (stays.1 h) found.1),
-        (λ e. stays.0 (subst (IsAnswer schema (read_at t q) list) (sym e) found.1)),
+      only = λ later a s. let stays = late language (read_at t q) t list later a s is_closed.1 is_closed.2 in (
+        (λ h. one language (read_at t q) list a found.0 (stays.1 h) found.1),
+        (λ e. stays.0 (subst (IsAnswer language (read_at t q) list) (sym e) found.1)),
       );
     }
 
 pub sealed_has_one : HoweverSealed → OneAnswer → SomeAnswer → SealedAnswer
-sealed_has_one sealed one some schema q list time stamped fine is_closed =
+sealed_has_one sealed one some language q list time stamped fine is_closed =
     let t : ℕ = is_closed.0 in
-    let found = some schema (read_at t q) list stamped fine in
+    let found = some language (read_at t q) list stamped fine in
     record {
       now = t;
       answer = found.0;
       at = is_closed.1;
       is = found.1;
-      only = λ later a s. let stays = sealed schema (read_at t q) t list later a s is_closed.2 in (
-        (λ h. one schema (read_at t q) list a found.0 (stays.1 h) found.1),
-        (λ e. stays.0 (subst (IsAnswer schema (read_at t q) list) (sym e) found.1)),
+      only = λ later a s. let stays = sealed language (read_at t q) t list later a s is_closed.2 in (
+        (λ h. one language (read_at t q) list a found.0 (stays.1 h) found.1),
+        (λ e. stays.0 (subst (IsAnswer language (read_at t q) list) (sym e) found.1)),
       );
     }

@@ -3,7 +3,7 @@ use Rattle.std.proofs.Common.{◌≡◌, ℕ, ◌+◌, ◌<◌, ◌≤◌, inl, 
 use Rattle.std.proofs.lemmas.Bool.{cases_lt}
 use Rattle.std.proofs.lemmas.List.{reverse-append}
 use Rattle.model.specs.Tables.{Table, Row, IsRow, empty_table}
-use Rattle.model.specs.Transactions.{Schema}
+use Rattle.model.specs.Transactions.{Language}
 use Rattle.model.specs.declared.entry.Entry.{Entry}
 use Rattle.model.specs.Stamps.{above}
 use Rattle.model.specs.Logs.{state_at, state_after, least_stamp, IsStamped}
@@ -17,13 +17,13 @@ use Rattle.versionlaws.proofs.Committed.{holds_next, held_on, held_kept}
 
 -- ---- fine logs
 
-fine_more : (schema : Schema) (xs : List Entry) (x : Entry) → AllFine schema xs → IsFineRequest schema x.request → AllFine schema (xs ++ x ∷ [])
-fine_more schema [] x a f = (f, tt)
-fine_more schema (y ∷ ys) x a f = (a.0, fine_more schema ys x a.1 f)
+fine_more : (language : Language) (xs : List Entry) (x : Entry) → AllFine language xs → IsFineRequest language x.request → AllFine language (xs ++ x ∷ [])
+fine_more language [] x a f = (f, tt)
+fine_more language (y ∷ ys) x a f = (a.0, fine_more language ys x a.1 f)
 
-fine_reverse : (schema : Schema) (xs : List Entry) → AllFine schema xs → AllFine schema (reverse xs)
-fine_reverse schema [] f = tt
-fine_reverse schema (x ∷ xs) f = subst (λ ys. AllFine schema ys) (sym (reverse-append (x ∷ []) xs)) (fine_more schema (reverse xs) x (fine_reverse schema xs f.1) f.0)
+fine_reverse : (language : Language) (xs : List Entry) → AllFine language xs → AllFine language (reverse xs)
+fine_reverse language [] f = tt
+fine_reverse language (x ∷ xs) f = subst (λ ys. AllFine language ys) (sym (reverse-append (x ∷ []) xs)) (fine_more language (reverse xs) x (fine_reverse language xs f.1) f.0)
 
 -- ---- the bound of a list from the newest entry back
 
@@ -79,15 +79,15 @@ no_versions_hold history = record {
   over = λ v e h. absurd h;
 }
 
-module _ (schema : Schema) (n : ℕ) where
+module _ (language : Language) (n : ℕ) where
   abbrev table : List Entry → Table
-  table es = state_after schema es n
+  table es = state_after language es n
 
   -- the table at each instant, by the entries from the newest back
   abbrev history : List Entry → ℕ → Table
   history before u = table (up_to u before)
 
-  holds_entry : (e : Entry) (before : List Entry) (versions : List Version) (removed added : List Row) → LogsFollow → AllFine schema (e ∷ before) → Falling (e ∷ before) →
+  holds_entry : (e : Entry) (before : List Entry) (versions : List Version) (removed added : List Row) → LogsFollow → AllFine language (e ∷ before) → Falling (e ∷ before) →
       Holds versions (history before) (bound before) (table before) → IsTouched (table before) (table (e ∷ before)) removed added →
       Holds (committed e.stamp removed added versions) (history (e ∷ before)) (e.stamp + 1) (table (e ∷ before))
   holds_entry e before versions removed added follows fine falls held touch =
@@ -95,43 +95,43 @@ module _ (schema : Schema) (n : ℕ) where
       (λ u l. let b = bound_less e before falls in ap table (none_later u e before (omega arith)))
       (λ u g l. ap table (none_later u e before l ∙ all_kept u before (λ f h. let s = below_bound u before falls.1 g f h in omega arith)))
       (ap table (all_kept e.stamp (e ∷ before) (λ f h. let s = below_bound (e.stamp + 1) (e ∷ before) falls (omega arith) f h in omega arith)))
-      touch (follows schema e before fine n)
+      touch (follows language e before fine n)
 
   nothing_yet : table [] ≡ empty_table
   unfolding state_after
   nothing_yet = refl
 
-  holds_before : (before : List Entry) → LogsOnRows → LogsFollow → Touched → AllFine schema before → Falling before → Holds (versions_after schema n before) (history before) (bound before) (table before)
+  holds_before : (before : List Entry) → LogsOnRows → LogsFollow → Touched → AllFine language before → Falling before → Holds (versions_after language n before) (history before) (bound before) (table before)
   unfolding versions_after
   holds_before [] listed follows touched fine falls = subst (λ (t : Table). Holds [] (history []) 0 t) (sym nothing_yet) (no_versions_hold (history []))
   holds_before (e ∷ before) listed follows touched fine falls =
-      let old : List Row = rows_after schema before n in
-      let new : List Row = rows_after schema (e ∷ before) n in
-      holds_entry e before (versions_after schema n before) (rows_without old new) (rows_without new old) follows fine falls (holds_before before listed follows touched fine.1 falls.1)
-      (touched old new (table before) (table (e ∷ before)) (listed schema before fine.1 n) (listed schema (e ∷ before) fine n))
+      let old : List Row = rows_after language before n in
+      let new : List Row = rows_after language (e ∷ before) n in
+      holds_entry e before (versions_after language n before) (rows_without old new) (rows_without new old) follows fine falls (holds_before before listed follows touched fine.1 falls.1)
+      (touched old new (table before) (table (e ∷ before)) (listed language before fine.1 n) (listed language (e ∷ before) fine n))
 
-  older : (before : List Entry) → LogsFollow → AllFine schema before → AreOlder table before
+  older : (before : List Entry) → LogsFollow → AllFine language before → AreOlder table before
   older [] follows fine = tt
-  older (e ∷ before) follows fine = (follows schema e before fine n, older before follows fine.1)
+  older (e ∷ before) follows fine = (follows language e before fine n, older before follows fine.1)
 
   -- ---- the state at an instant
 
-  at : (list : List Entry) (u : ℕ) → IsStamped list → state_at schema list u n ≡ history (reverse list) u
+  at : (list : List Entry) (u : ℕ) → IsStamped list → state_at language list u n ≡ history (reverse list) u
   unfolding state_at
-  at list u s = ap (λ (es : List Entry). state_after schema es n) (sym (filter-reverse (λ (e : Entry). nat_le e.stamp u) list))
+  at list u s = ap (λ (es : List Entry). state_after language es n) (sym (filter-reverse (λ (e : Entry). nat_le e.stamp u) list))
 
   -- from its bound on the table stays
-  stays_from : (list : List Entry) (u : ℕ) → IsStamped list → least_stamp list ≤ u → state_at schema list u n ≡ table (reverse list)
+  stays_from : (list : List Entry) (u : ℕ) → IsStamped list → least_stamp list ≤ u → state_at language list u n ≡ table (reverse list)
   stays_from list u s le =
       let b = bound_least list in
       at list u s ∙ ap table (all_kept u (reverse list) (λ f h. let l = below_bound u (reverse list) (falling list s) (omega arith) f h in omega arith))
 
-  held : (list : List Entry) (versions : List Version) → IsStamped list → Holds versions (history (reverse list)) (bound (reverse list)) (table (reverse list)) → Holds versions (λ u. state_at schema list u n) (least_stamp list) (table (reverse list))
+  held : (list : List Entry) (versions : List Version) → IsStamped list → Holds versions (history (reverse list)) (bound (reverse list)) (table (reverse list)) → Holds versions (λ u. state_at language list u n) (least_stamp list) (table (reverse list))
   held list versions s h =
       let x : Holds versions (history (reverse list)) (least_stamp list) (table (reverse list)) = subst (λ k. Holds versions (history (reverse list)) k (table (reverse list))) (bound_least list) h in
       subst (λ (f : ℕ → Table). Holds versions f (least_stamp list) (table (reverse list))) (λ i u. sym (at list u s) i) x
 
-  held_back : (list : List Entry) (versions : List Version) → IsStamped list → Holds versions (λ u. state_at schema list u n) (least_stamp list) (table (reverse list)) → Holds versions (history (reverse list)) (bound (reverse list)) (table (reverse list))
+  held_back : (list : List Entry) (versions : List Version) → IsStamped list → Holds versions (λ u. state_at language list u n) (least_stamp list) (table (reverse list)) → Holds versions (history (reverse list)) (bound (reverse list)) (table (reverse list))
   held_back list versions s h =
       let x : Holds versions (history (reverse list)) (least_stamp list) (table (reverse list)) = subst (λ (f : ℕ → Table). Holds versions f (least_stamp list) (table (reverse list))) (λ i u. at list u s i) h in
       subst (λ k. Holds versions (history (reverse list)) k (table (reverse list))) (sym (bound_least list)) x
@@ -139,47 +139,47 @@ module _ (schema : Schema) (n : ℕ) where
 -- ---- the laws
 
 pub commit_entry_holds : LogsFollow → CommitEntry
-commit_entry_holds follows schema n list e versions removed added s fine h touch =
+commit_entry_holds follows language n list e versions removed added s fine h touch =
     let before : List Entry = reverse list in
     let more : reverse (list ++ e ∷ []) ≡ e ∷ before = reverse-append list (e ∷ []) in
-    let was = held_back schema n list versions (stamped_beginning list (e ∷ []) s) h in
-    let fine_now : AllFine schema (e ∷ before) = subst (λ es. AllFine schema es) more (fine_reverse schema (list ++ e ∷ []) fine) in
+    let was = held_back language n list versions (stamped_beginning list (e ∷ []) s) h in
+    let fine_now : AllFine language (e ∷ before) = subst (λ es. AllFine language es) more (fine_reverse language (list ++ e ∷ []) fine) in
     let falls_now : Falling (e ∷ before) = subst (λ es. Falling es) more (falling (list ++ e ∷ []) s) in
-    let touched_now = subst (λ es. IsTouched (state_after schema before n) (state_after schema es n) removed added) more touch in
-    let next = holds_entry schema n e before versions removed added follows fine_now falls_now was touched_now in
-    held schema n (list ++ e ∷ []) (committed e.stamp removed added versions) s
-    (subst (λ es. Holds (committed e.stamp removed added versions) (history schema n es) (bound es) (state_after schema es n)) (sym more) next)
+    let touched_now = subst (λ es. IsTouched (state_after language before n) (state_after language es n) removed added) more touch in
+    let next = holds_entry language n e before versions removed added follows fine_now falls_now was touched_now in
+    held language n (list ++ e ∷ []) (committed e.stamp removed added versions) s
+    (subst (λ es. Holds (committed e.stamp removed added versions) (history language n es) (bound es) (state_after language es n)) (sym more) next)
 
 pub entry_stays_held : EntryStays
-entry_stays_held schema n list e versions s h stays =
+entry_stays_held language n list e versions s h stays =
     let was = stamped_beginning list (e ∷ []) s in
     let more : reverse (list ++ e ∷ []) ≡ e ∷ reverse list = reverse-append list (e ∷ []) in
     let falls : Falling (e ∷ reverse list) = subst (λ es. Falling es) more (falling (list ++ e ∷ []) s) in
     let bound_is = bound_least list in
     let next_is = least_more list e in
     let less = bound_less e (reverse list) falls in
-    let now : (u : ℕ) → state_at schema (list ++ e ∷ []) u n ≡ history schema n (e ∷ reverse list) u = λ u. at schema n (list ++ e ∷ []) u s ∙ ap (λ es. history schema n es u) more in
-    let on = held_on versions (λ u. state_at schema list u n) (λ u. state_at schema (list ++ e ∷ []) u n) (least_stamp list) (least_stamp (list ++ e ∷ [])) (state_after schema (reverse list) n) h (omega arith)
-    (λ u l. now u ∙ ap (λ es. state_after schema es n) (none_later u e (reverse list) (omega arith)) ∙ sym (at schema n list u was))
+    let now : (u : ℕ) → state_at language (list ++ e ∷ []) u n ≡ history language n (e ∷ reverse list) u = λ u. at language n (list ++ e ∷ []) u s ∙ ap (λ es. history language n es u) more in
+    let on = held_on versions (λ u. state_at language list u n) (λ u. state_at language (list ++ e ∷ []) u n) (least_stamp list) (least_stamp (list ++ e ∷ [])) (state_after language (reverse list) n) h (omega arith)
+    (λ u l. now u ∙ ap (λ es. state_after language es n) (none_later u e (reverse list) (omega arith)) ∙ sym (at language n list u was))
     (λ u g l. elim (cases_lt u e.stamp) [
-      | inl k ↦ now u ∙ ap (λ es. state_after schema es n) (none_later u e (reverse list) k) ∙ sym (at schema n list u was) ∙ stays_from schema n list u was g
-      | inr k ↦ now u ∙ ap (λ es. state_after schema es n) (all_kept u (e ∷ reverse list) (λ f m. let x = below_bound (e.stamp + 1) (e ∷ reverse list) falls (omega arith) f m in omega arith) ∙ sym more) ∙ stays
+      | inl k ↦ now u ∙ ap (λ es. state_after language es n) (none_later u e (reverse list) k) ∙ sym (at language n list u was) ∙ stays_from language n list u was g
+      | inr k ↦ now u ∙ ap (λ es. state_after language es n) (all_kept u (e ∷ reverse list) (λ f m. let x = below_bound (e.stamp + 1) (e ∷ reverse list) falls (omega arith) f m in omega arith) ∙ sym more) ∙ stays
     ]) in
-    subst (λ (t : Table). Holds versions (λ u. state_at schema (list ++ e ∷ []) u n) (least_stamp (list ++ e ∷ [])) t) (sym stays) on
+    subst (λ (t : Table). Holds versions (λ u. state_at language (list ++ e ∷ []) u n) (least_stamp (list ++ e ∷ [])) t) (sym stays) on
 
 pub kept_later : KeptLater
-kept_later schema n list versions now s h =
-    held_kept versions (λ u. state_at schema list u n) (least_stamp list) now (state_after schema (reverse list) n) h (λ u g le. stays_from schema n list u s g)
+kept_later language n list versions now s h =
+    held_kept versions (λ u. state_at language list u n) (least_stamp list) now (state_after language (reverse list) n) h (λ u g le. stays_from language n list u s g)
 
 pub lasts_in_log : LogsFollow → Lasts
-lasts_in_log follows schema list n t w row s fine le b h =
-    subst (λ x. IsRow x row) (sym (at schema n list w s))
-    (lasts (λ es. state_after schema es n) w t (reverse list) row (older schema n (reverse list) follows (fine_reverse schema list fine)) (falling list s) le b (subst (λ x. IsRow x row) (at schema n list t s) h))
+lasts_in_log follows language list n t w row s fine le b h =
+    subst (λ x. IsRow x row) (sym (at language n list w s))
+    (lasts (λ es. state_after language es n) w t (reverse list) row (older language n (reverse list) follows (fine_reverse language list fine)) (falling list s) le b (subst (λ x. IsRow x row) (at language n list t s) h))
 
 pub holds_in_log : LogsOnRows → LogsFollow → Touched → HoldsAfter
-holds_in_log listed follows touched schema list n s fine =
-    held schema n list (versions_after schema n (reverse list)) s (holds_before schema n (reverse list) listed follows touched (fine_reverse schema list fine) (falling list s))
+holds_in_log listed follows touched language list n s fine =
+    held language n list (versions_after language n (reverse list)) s (holds_before language n (reverse list) listed follows touched (fine_reverse language list fine) (falling list s))
 
 pub keeps_in_log : LogsOnRows → LogsFollow → Touched → KeepsAfter
-keeps_in_log listed follows touched schema list n now s fine =
-    kept_later schema n list (versions_after schema n (reverse list)) now s (holds_in_log listed follows touched schema list n s fine)
+keeps_in_log listed follows touched language list n now s fine =
+    kept_later language n list (versions_after language n (reverse list)) now s (holds_in_log listed follows touched language list n s fine)

@@ -17,7 +17,7 @@ use Rattle.model.specs.Logs.{IsStamped, state_at, state_after, executed}
 use Rattle.model.specs.Answers.{Answer, IsAnswer, row_cmp, read_at}
 use Rattle.rowlaws.specs.Rows.{Has}
 use Rattle.rowlaws.proofs.Contents.{contains_has}
-use Rattle.versionlaws.specs.Unanswered.{key, period_said, schema, said, log, question, NoAnswer}
+use Rattle.versionlaws.specs.Unanswered.{key, period_said, language, said, log, question, NoAnswer}
 
 -- ---- the tables
 
@@ -56,16 +56,16 @@ few_rows table keys stop =
     let less : length found ≤ 2 - 0 = few (begins table key) 2 stop 0 days in
     le-ltb 20000 (row_count table) (omega arith)
 
-empty_day : (table : Table) (d : ℕ) → table.cell key d ≡ None → begins table key d ≡ false
+empty_day : (table : Table) (d : ℕ) → table.fact key d ≡ None → begins table key d ≡ false
 empty_day table d e = rw e refl
 
-first_cell : (d : ℕ) → 2 ≤ d → first.cell key d ≡ None
+first_fact : (d : ℕ) → 2 ≤ d → first.fact key d ≡ None
 unfolding inserted same_key key_cmp empty_table
-first_cell d h = rw (le-ltb d 2 h, le-leb 0 d (omega arith)) refl
+first_fact d h = rw (le-ltb d 2 h, le-leb 0 d (omega arith)) refl
 
-second_cell : (d : ℕ) → 2 ≤ d → second.cell key d ≡ None
+second_fact : (d : ℕ) → 2 ≤ d → second.fact key d ≡ None
 unfolding inserted same_key key_cmp empty_table
-second_cell d h = rw (le-ltb d 1 (omega arith), le-leb 1 d (omega arith)) (first_cell d h)
+second_fact d h = rw (le-ltb d 1 (omega arith), le-leb 1 d (omega arith)) (first_fact d h)
 
 -- ---- the states
 
@@ -73,12 +73,12 @@ no_one : (f : Place → Bool) (xs : List Place) → ((x : Place) → f x ≡ fal
 no_one f [] h = refl
 no_one f (x ∷ xs) h = rw (h x) (no_one f xs h)
 
-no_orphan : (state : State) → first_orphan schema state ≡ None
+no_orphan : (state : State) → first_orphan language state ≡ None
 unfolding first_orphan
-no_orphan state = no_one (is_orphan schema state) (places schema state) (λ x. refl)
+no_orphan state = no_one (is_orphan language state) (places language state) (λ x. refl)
 
 ran : (t : ℕ) (text : List ℕ) (state : State) → insert_overlaps key (period_said text) (state 0) ≡ false → nat_lt 20000 (row_count (inserted key [] (period_said text) t (state 0))) ≡ false →
-    executed_text schema t text state ≡ Ok (with_table 0 state (inserted key [] (period_said text) t (state 0)))
+    executed_text language t text state ≡ Ok (with_table 0 state (inserted key [] (period_said text) t (state 0)))
 unfolding executed_text transacted changed
 ran t text state o few = rw (o, few, no_orphan (with_table 0 state (inserted key [] (period_said text) t (state 0)))) refl
 
@@ -101,15 +101,15 @@ free_again : insert_overlaps key none first ≡ false
 unfolding insert_overlaps
 free_again = refl
 
-after_first : state_after schema (said 1 (84 ∷ []) ∷ []) ≡ state1
+after_first : state_after language (said 1 (84 ∷ []) ∷ []) ≡ state1
 unfolding state_after executed
-after_first = rw (ran 1 (84 ∷ []) (λ n. empty_table) free (few_rows first keys_of (λ d h. empty_day first d (first_cell d h)))) refl
+after_first = rw (ran 1 (84 ∷ []) (λ n. empty_table) free (few_rows first keys_of (λ d h. empty_day first d (first_fact d h)))) refl
 
-after_second : state_after schema (said 2 [] ∷ said 1 (84 ∷ []) ∷ []) ≡ with_table 0 state1 second
+after_second : state_after language (said 2 [] ∷ said 1 (84 ∷ []) ∷ []) ≡ with_table 0 state1 second
 unfolding state_after executed
 after_second =
-    rw (ran 1 (84 ∷ []) (λ n. empty_table) free (few_rows first keys_of (λ d h. empty_day first d (first_cell d h)))) (
-    rw (ran 2 [] state1 free_again (few_rows second second_keys (λ d h. empty_day second d (second_cell d h)))) refl)
+    rw (ran 1 (84 ∷ []) (λ n. empty_table) free (few_rows first keys_of (λ d h. empty_day first d (first_fact d h)))) (
+    rw (ran 2 [] state1 free_again (few_rows second second_keys (λ d h. empty_day second d (second_fact d h)))) refl)
 
 -- ---- the rows
 
@@ -120,7 +120,7 @@ first_row : IsRow first (row 2)
 unfolding inserted same_key key_cmp empty_table
 first_row = record { some = omega arith; filled = filled; whole = goes; first = refl; last = refl }
   where
-    filled : (d : ℕ) → 0 ≤ d → d < 2 → first.cell key d ≡ Some (record { values = []; system_start = 1 })
+    filled : (d : ℕ) → 0 ≤ d → d < 2 → first.fact key d ≡ Some (record { values = []; system_start = 1 })
     filled zero a b = refl
     filled (suc zero) a b = refl
     filled (suc (suc d)) a b = absurd (omega arith)
@@ -134,7 +134,7 @@ second_row : IsRow second (row 1)
 unfolding inserted same_key key_cmp empty_table
 second_row = record { some = omega arith; filled = filled; whole = λ d a b. absurd (omega arith); first = refl; last = refl }
   where
-    filled : (d : ℕ) → 0 ≤ d → d < 1 → second.cell key d ≡ Some (record { values = []; system_start = 1 })
+    filled : (d : ℕ) → 0 ≤ d → d < 1 → second.fact key d ≡ Some (record { values = []; system_start = 1 })
     filled zero a b = refl
     filled (suc d) a b = absurd (omega arith)
 
@@ -171,24 +171,24 @@ stamped = record {
   rising = λ i j d e less h g. let x = (at_index i d h).0 in let y = (at_index j e g).0 in omega arith;
 }
 
-first_at : state_at schema log 1 ≡ state_after schema (said 1 (84 ∷ []) ∷ [])
+first_at : state_at language log 1 ≡ state_after language (said 1 (84 ∷ []) ∷ [])
 unfolding state_at
 first_at = refl
 
-second_at : state_at schema log 2 ≡ state_after schema (said 2 [] ∷ said 1 (84 ∷ []) ∷ [])
+second_at : state_at language log 2 ≡ state_after language (said 2 [] ∷ said 1 (84 ∷ []) ∷ [])
 unfolding state_at
 second_at = refl
 
 pub unanswered : NoAnswer
 unanswered = (stamped, (2, refl, omega arith), none_is)
   where
-    at_first : IsRow (state_at schema log 1 0) (row 2)
+    at_first : IsRow (state_at language log 1 0) (row 2)
     at_first = subst (λ (s : State). IsRow (s 0) (row 2)) (sym (first_at ∙ after_first)) first_row
 
-    at_second : IsRow (state_at schema log 2 0) (row 1)
+    at_second : IsRow (state_at language log 2 0) (row 1)
     at_second = subst (λ (s : State). IsRow (s 0) (row 1)) (sym (second_at ∙ after_second)) second_row
 
-    none_is : (a : Answer) → IsAnswer schema (read_at 2 question) log a → ⊥
+    none_is : (a : Answer) → IsAnswer language (read_at 2 question) log a → ⊥
     none_is a is =
         let rows : List Row = map (λ s. s.row) a.rows in
         let long : Has rows (row 2) = contains_has rows (row 2) ((is.rows (row 2)).1 (refl, (1, (omega arith, omega arith), at_first))) in

@@ -4,7 +4,7 @@ use Rattle.std.specs.declared.cmp.Ordering.{Ordering}
 use Rattle.model.specs.Lists.{nth}
 use Rattle.model.specs.declared.entry.Entry.{Entry}
 use Rattle.model.specs.Tables.{Table, Row}
-use Rattle.model.specs.Transactions.{Schema}
+use Rattle.model.specs.Transactions.{Language}
 use Rattle.model.specs.Logs.{IsStamped, closed}
 use Rattle.model.specs.Answers.{SystemTime, IsInstant, Query, Select, read_at, Shown, Answer, row_cmp, IsAsked, IsShownEnd, IsAnswerOver, IsAnswer, IsClosed}
 use Rattle.rowlaws.specs.Rows.{Has, Apart}
@@ -65,22 +65,22 @@ VersionsGive = (versions : List Version) (history : ℕ → Table) (now : ℕ) (
 
 -- the versions that a log leaves give the answer
 abbrev pub VersionsAnswer : Type 0
-VersionsAnswer = (schema : Schema) (q : Query) (list : List Entry) → IsStamped list → AllFine schema list → HasInstant q.time →
-    IsAnswer schema q list (answer_from q (versions_after schema q.table (reverse list)))
+VersionsAnswer = (language : Language) (q : Query) (list : List Entry) → IsStamped list → AllFine language list → HasInstant q.time →
+    IsAnswer language q list (answer_from q (versions_after language q.table (reverse list)))
 
 -- ---- that there is an answer
 
 -- a query has an answer in each log of well formed texts, also one that has no instant
 abbrev pub SomeAnswer : Type 0
-SomeAnswer = (schema : Schema) (q : Query) (list : List Entry) → IsStamped list → AllFine schema list → (a : Answer) × IsAnswer schema q list a
+SomeAnswer = (language : Language) (q : Query) (list : List Entry) → IsStamped list → AllFine language list → (a : Answer) × IsAnswer language q list a
 
 -- the query is closed in the list, and it has an answer there, which is the only one in the list and in every longer one
-pub record HasAnswer (schema : Schema) (q : Select) (list : List Entry) : Type 0 where
+pub record HasAnswer (language : Language) (q : Select) (list : List Entry) : Type 0 where
   pub now : ℕ
   pub answer : Answer
   pub at : closed list ≡ Some now
-  pub is : IsAnswer schema (read_at now q) list answer
-  pub only : (later : List Entry) (a : Answer) → IsStamped (list ++ later) → IsAnswer schema (read_at now q) (list ++ later) a ↔ (a ≡ answer)
+  pub is : IsAnswer language (read_at now q) list answer
+  pub only : (later : List Entry) (a : Answer) → IsStamped (list ++ later) → IsAnswer language (read_at now q) (list ++ later) a ↔ (a ≡ answer)
 
 -- what comes after the list in the longer one is stamped above the instant
 abbrev pub ComesAbove : ℕ → List Entry → List Entry → Type 0
@@ -88,17 +88,17 @@ ComesAbove t list later = (i : ℕ) (e : Entry) → length list < i → nth (lis
 
 -- the query is closed at this closed time, and it has an answer in the list, which is the only one there and in every longer
 -- list in which what comes after is stamped above that time
-pub record HasAnswerAt (schema : Schema) (q : Select) (list : List Entry) (time : Option ℕ) : Type 0 where
+pub record HasAnswerAt (language : Language) (q : Select) (list : List Entry) (time : Option ℕ) : Type 0 where
   pub now : ℕ
   pub answer : Answer
   pub at : time ≡ Some now
-  pub is : IsAnswer schema (read_at now q) list answer
-  pub only : (later : List Entry) (a : Answer) → ComesAbove now list later → IsAnswer schema (read_at now q) (list ++ later) a ↔ (a ≡ answer)
+  pub is : IsAnswer language (read_at now q) list answer
+  pub only : (later : List Entry) (a : Answer) → ComesAbove now list later → IsAnswer language (read_at now q) (list ++ later) a ↔ (a ≡ answer)
 
 -- a query that is closed in a log of well formed texts has an answer
 abbrev pub ClosedAnswer : Type 0
-ClosedAnswer = (schema : Schema) (q : Select) (list : List Entry) → IsStamped list → AllFine schema list → IsClosed q (closed list) → HasAnswer schema q list
+ClosedAnswer = (language : Language) (q : Select) (list : List Entry) → IsStamped list → AllFine language list → IsClosed q (closed list) → HasAnswer language q list
 
 -- and so has one that is closed at any closed time, also at one above the last stamp
 abbrev pub SealedAnswer : Type 0
-SealedAnswer = (schema : Schema) (q : Select) (list : List Entry) (time : Option ℕ) → IsStamped list → AllFine schema list → IsClosed q time → HasAnswerAt schema q list time
+SealedAnswer = (language : Language) (q : Select) (list : List Entry) (time : Option ℕ) → IsStamped list → AllFine language list → IsClosed q time → HasAnswerAt language q list time

@@ -4,7 +4,7 @@ use Rattle.std.specs.List.{list_any}
 use Rattle.model.specs.declared.entry.Entry.{Entry}
 use Rattle.model.specs.Values.{same_key}
 use Rattle.model.specs.Tables.{Table, Row, IsRow}
-use Rattle.model.specs.Transactions.{Schema}
+use Rattle.model.specs.Transactions.{Language}
 use Rattle.model.specs.Logs.{IsStamped, state_at, state_after, least_stamp}
 use Rattle.rowlaws.specs.Changes.{Follows}
 use Rattle.rowlaws.specs.Touching.{rows_without, IsTouched}
@@ -28,12 +28,12 @@ unfoldable pub committed : ℕ → List Row → List Row → List Version → Li
 committed t removed added versions = map (ended t removed) versions ++ map opened added
 
 -- the versions of table n that a log leaves, its entries from the newest back to the oldest
-unfoldable pub versions_after : Schema → ℕ → List Entry → List Version
-versions_after schema n [] = []
-versions_after schema n (e ∷ before) =
-    let old = rows_after schema before n in
-    let new = rows_after schema (e ∷ before) n in
-    committed e.stamp (rows_without old new) (rows_without new old) (versions_after schema n before)
+unfoldable pub versions_after : Language → ℕ → List Entry → List Version
+versions_after language n [] = []
+versions_after language n (e ∷ before) =
+    let old = rows_after language before n in
+    let new = rows_after language (e ∷ before) n in
+    committed e.stamp (rows_without old new) (rows_without new old) (versions_after language n before)
 
 -- ---- laws
 
@@ -47,36 +47,36 @@ Commit = (versions : List Version) (history later : ℕ → Table) (bound t : �
 
 -- and so does a commit of what one more entry of a log touches
 abbrev pub CommitEntry : Type 0
-CommitEntry = (schema : Schema) (n : ℕ) (list : List Entry) (e : Entry) (versions : List Version) (removed added : List Row) →
-    IsStamped (list ++ e ∷ []) → AllFine schema (list ++ e ∷ []) →
-    Holds versions (λ u. state_at schema list u n) (least_stamp list) (state_after schema (reverse list) n) →
-    IsTouched (state_after schema (reverse list) n) (state_after schema (reverse (list ++ e ∷ [])) n) removed added →
-    Holds (committed e.stamp removed added versions) (λ u. state_at schema (list ++ e ∷ []) u n) (least_stamp (list ++ e ∷ [])) (state_after schema (reverse (list ++ e ∷ [])) n)
+CommitEntry = (language : Language) (n : ℕ) (list : List Entry) (e : Entry) (versions : List Version) (removed added : List Row) →
+    IsStamped (list ++ e ∷ []) → AllFine language (list ++ e ∷ []) →
+    Holds versions (λ u. state_at language list u n) (least_stamp list) (state_after language (reverse list) n) →
+    IsTouched (state_after language (reverse list) n) (state_after language (reverse (list ++ e ∷ [])) n) removed added →
+    Holds (committed e.stamp removed added versions) (λ u. state_at language (list ++ e ∷ []) u n) (least_stamp (list ++ e ∷ [])) (state_after language (reverse (list ++ e ∷ [])) n)
 
 -- where an entry leaves a table as it was, the same versions hold on
 abbrev pub EntryStays : Type 0
-EntryStays = (schema : Schema) (n : ℕ) (list : List Entry) (e : Entry) (versions : List Version) → IsStamped (list ++ e ∷ []) →
-    Holds versions (λ u. state_at schema list u n) (least_stamp list) (state_after schema (reverse list) n) →
-    state_after schema (reverse (list ++ e ∷ [])) n ≡ state_after schema (reverse list) n →
-    Holds versions (λ u. state_at schema (list ++ e ∷ []) u n) (least_stamp (list ++ e ∷ [])) (state_after schema (reverse (list ++ e ∷ [])) n)
+EntryStays = (language : Language) (n : ℕ) (list : List Entry) (e : Entry) (versions : List Version) → IsStamped (list ++ e ∷ []) →
+    Holds versions (λ u. state_at language list u n) (least_stamp list) (state_after language (reverse list) n) →
+    state_after language (reverse (list ++ e ∷ [])) n ≡ state_after language (reverse list) n →
+    Holds versions (λ u. state_at language (list ++ e ∷ []) u n) (least_stamp (list ++ e ∷ [])) (state_after language (reverse (list ++ e ∷ [])) n)
 
 -- a row is there at each instant from its system start on, as long as it is there at all
 abbrev pub Lasts : Type 0
-Lasts = (schema : Schema) (list : List Entry) (n t w : ℕ) (row : Row) → IsStamped list → AllFine schema list →
-    w ≤ t → row.system_start ≤ w → IsRow (state_at schema list t n) row → IsRow (state_at schema list w n) row
+Lasts = (language : Language) (list : List Entry) (n t w : ℕ) (row : Row) → IsStamped list → AllFine language list →
+    w ≤ t → row.system_start ≤ w → IsRow (state_at language list t n) row → IsRow (state_at language list w n) row
 
 -- what is held of a log's table is kept up to each instant, also to one after the last stamp
 abbrev pub KeptLater : Type 0
-KeptLater = (schema : Schema) (n : ℕ) (list : List Entry) (versions : List Version) (now : ℕ) → IsStamped list →
-    Holds versions (λ u. state_at schema list u n) (least_stamp list) (state_after schema (reverse list) n) →
-    Keeps versions (λ u. state_at schema list u n) now
+KeptLater = (language : Language) (n : ℕ) (list : List Entry) (versions : List Version) (now : ℕ) → IsStamped list →
+    Holds versions (λ u. state_at language list u n) (least_stamp list) (state_after language (reverse list) n) →
+    Keeps versions (λ u. state_at language list u n) now
 
 -- the versions that a log leaves hold what its tables are
 abbrev pub HoldsAfter : Type 0
-HoldsAfter = (schema : Schema) (list : List Entry) (n : ℕ) → IsStamped list → AllFine schema list →
-    Holds (versions_after schema n (reverse list)) (λ u. state_at schema list u n) (least_stamp list) (state_after schema (reverse list) n)
+HoldsAfter = (language : Language) (list : List Entry) (n : ℕ) → IsStamped list → AllFine language list →
+    Holds (versions_after language n (reverse list)) (λ u. state_at language list u n) (least_stamp list) (state_after language (reverse list) n)
 
 -- and say what the rows are at each instant
 abbrev pub KeepsAfter : Type 0
-KeepsAfter = (schema : Schema) (list : List Entry) (n now : ℕ) → IsStamped list → AllFine schema list →
-    Keeps (versions_after schema n (reverse list)) (λ u. state_at schema list u n) now
+KeepsAfter = (language : Language) (list : List Entry) (n now : ℕ) → IsStamped list → AllFine language list →
+    Keeps (versions_after language n (reverse list)) (λ u. state_at language list u n) now

@@ -1,4 +1,4 @@
--- A schema by which a text says what is not well formed, and a question that has no answer. Two days of a key are filled at
+-- A language by which a text says what is not well formed, and a question that has no answer. Two days of a key are filled at
 -- instant 1, and at instant 2 an INSERT over no days cuts them into two rows that were not born anew. So the row of both
 -- days and the row of the first have one key, one start and one system start, and no order tells the two apart.
 use Rattle.std.specs.Prelude.{ℕ, pos, true, Some, List, [], ◌∷◌, Ok}
@@ -6,7 +6,7 @@ use Rattle.model.specs.declared.value.Value.{Value}
 use Rattle.model.specs.declared.value.Value.TheVariants.{Number}
 use Rattle.model.specs.declared.entry.Entry.{Entry}
 use Rattle.model.specs.Tables.{Period}
-use Rattle.model.specs.Transactions.{Schema, Insert}
+use Rattle.model.specs.Transactions.{Language, Insert}
 use Rattle.model.specs.Logs.{IsStamped, closed}
 use Rattle.model.specs.Answers.{Select, Answer, IsAnswer, IsClosed, read_at}
 
@@ -18,12 +18,12 @@ abbrev pub period_said : List ℕ → Period
 period_said [] = record { start = 1; end = 1 }
 period_said (b ∷ bs) = record { start = 0; end = 2 }
 
-abbrev pub schema : Schema
-schema = record {
+abbrev pub language : Language
+language = record {
   tables = 1;
   name = λ n. [];
   references = [];
-  reads = λ text. Ok (record { table = 0; change = Insert key [] (period_said text) } ∷ []);
+  reads = λ text. Ok (record { table = 0; action = Insert key [] (period_said text) } ∷ []);
 }
 
 -- the client's request with this number and text, stamped so
@@ -38,4 +38,4 @@ question = record { table = 0; time = Some (record { first = 1; last = 2 }); pas
 
 -- the question is closed, and nothing is its answer
 abbrev pub NoAnswer : Type 0
-NoAnswer = IsStamped log × IsClosed question (closed log) × ((a : Answer) → IsAnswer schema (read_at 2 question) log a → ⊥)
+NoAnswer = IsStamped log × IsClosed question (closed log) × ((a : Answer) → IsAnswer language (read_at 2 question) log a → ⊥)

@@ -3,7 +3,7 @@ use Rattle.std.proofs.Common.{◌≡◌, ◌⊎◌, List, Err, ap, sym, subst, �
 use mathlib.Core.List.{IsPrefix}
 use Rattle.fault.specs.declared.refusal.Refusal.{Refusal}
 use Rattle.fault.specs.declared.refusal.Refusal.TheVariants.{NoMemory, NoView}
-use Rattle.model.specs.Transactions.{Schema}
+use Rattle.model.specs.Transactions.{Language}
 use Rattle.sqlread.specs.Shapes.{QueryShape}
 use Rattle.history.specs.declared.front.Front.{Front}
 use Rattle.history.specs.declared.item.Item.{Item}
@@ -22,8 +22,8 @@ pub rests_more : (told seen now : List Item) → IsPrefix seen now → IsPrefix 
 rests_more told seen now grows first = prefix_trans told seen now first grows
 
 -- there was no reading or no memory, and what is seen is the same
-pub refused : (schema : Schema) (q : QueryShape) (f g : Front) (e : Refusal) → (e ≡ NoView) ⊎ (e ≡ NoMemory) → g ≡ f → Answers schema q f.seen.log g.seen.log (Err e)
-refused schema q f g e why same =
+pub refused : (language : Language) (q : QueryShape) (f g : Front) (e : Refusal) → (e ≡ NoView) ⊎ (e ≡ NoMemory) → g ≡ f → Answers language q f.seen.log g.seen.log (Err e)
+refused language q f g e why same =
     let lists : g.seen.log ≡ f.seen.log = ap (λ h. h.seen.log) same in
-    ⊎_elim (λ (is : e ≡ NoView). subst (λ r. Answers schema q f.seen.log g.seen.log (Err r)) (sym is) lists)
-    (λ (is : e ≡ NoMemory). subst (λ r. Answers schema q f.seen.log g.seen.log (Err r)) (sym is) lists) why
+    ⊎_elim (λ (is : e ≡ NoView). subst (λ r. Answers language q f.seen.log g.seen.log (Err r)) (sym is) lists)
+    (λ (is : e ≡ NoMemory). subst (λ r. Answers language q f.seen.log g.seen.log (Err r)) (sym is) lists) why

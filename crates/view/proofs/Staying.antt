@@ -6,7 +6,7 @@ use Rattle.std.proofs.lemmas.List.Elements.{filter_map-append}
 use Rattle.model.specs.Lists.{nth}
 use Rattle.model.specs.declared.entry.Entry.{Entry}
 use Rattle.model.specs.Stamps.{above}
-use Rattle.model.specs.Transactions.{Schema}
+use Rattle.model.specs.Transactions.{Language}
 use Rattle.model.specs.Answers.{Query, Select, SystemTime, IsAnswer, as_of, closed_query, read_at}
 use Rattle.model.specs.Answers as model
 use Rattle.safety.specs.Answers.{HoweverSealed, OneAnswer}
@@ -100,18 +100,18 @@ begun_earlier early late all rises first b =
 
 -- ---- answers in the whole list
 
-stays : HoweverSealed → (schema : Schema) (q : Query) (t : ℕ) (items : List Item) (all : List Entry) (a : model.Answer) → IsBegun items all → closed_in items ≡ Some t → q.time.last ≤ t
-    → IsAnswer schema q (entries_in items) a ↔ IsAnswer schema q all a
-stays sealed schema q t items all a b is low =
+stays : HoweverSealed → (language : Language) (q : Query) (t : ℕ) (items : List Item) (all : List Entry) (a : model.Answer) → IsBegun items all → closed_in items ≡ Some t → q.time.last ≤ t
+    → IsAnswer language q (entries_in items) a ↔ IsAnswer language q all a
+stays sealed language q t items all a b is low =
     let rest = b.begins.0 in
-    subst (λ (es : List Entry). IsAnswer schema q (entries_in items) a ↔ IsAnswer schema q es a) b.begins.1
-    (sealed schema q t (entries_in items) rest a (λ i e far at. b.later i t e is far (subst (λ (es : List Entry). nth es i ≡ Some e) b.begins.1 at)) low)
+    subst (λ (es : List Entry). IsAnswer language q (entries_in items) a ↔ IsAnswer language q es a) b.begins.1
+    (sealed language q t (entries_in items) rest a (λ i e far at. b.later i t e is far (subst (λ (es : List Entry). nth es i ≡ Some e) b.begins.1 at)) low)
 
 pub closed_stays : HoweverSealed → ClosedStays
-closed_stays sealed schema q t early late a rises first is low =
+closed_stays sealed language q t early late a rises first is low =
     let ys = first.0 in
     let b : IsBegun early (entries_in late) = subst (λ (xs : List Item). IsBegun early (entries_in xs)) first.1 (first_begun early ys (subst Rises (sym first.1) rises)) in
-    stays sealed schema q t early (entries_in late) a b is low
+    stays sealed language q t early (entries_in late) a b is low
 
 -- the question that was asked is the one that its answer names
 abbrev asked_at : Select → ℕ → Option SystemTime → Query
@@ -132,24 +132,24 @@ is_low : (q : Select) (time : Option ℕ) (t : ℕ) (r : Query) → time ≡ Som
 is_low q time t r is h = low_if q t (nat_le (read_at t q).time.last t) r refl (subst (λ (u : Option ℕ). closed_query q u ≡ Some r) is h)
 
 -- what was asked in some items, and its answer in the whole list
-asked : HoweverSealed → (schema : Schema) (q : QueryShape) (items : List Item) (all : List Entry) (a : Answer) → IsBegun items all → IsAskedOf schema q (entries_in items) (closed_in items) (Ok a)
-    → IsAnswer schema (read_at (answer_of a).last (select_of q)) all (answer_of a)
-asked sealed schema q items all a b h =
+asked : HoweverSealed → (language : Language) (q : QueryShape) (items : List Item) (all : List Entry) (a : Answer) → IsBegun items all → IsAskedOf language q (entries_in items) (closed_in items) (Ok a)
+    → IsAnswer language (read_at (answer_of a).last (select_of q)) all (answer_of a)
+asked sealed language q items all a b h =
     let t = h.0 in
     let low : (read_at t (select_of q)).time.last ≤ t = is_low (select_of q) (closed_in items) t (read_at t (select_of q)) h.1 h.2 in
     let same : read_at (answer_of a).last (select_of q) ≡ read_at t (select_of q) = named (select_of q) t (answer_of a).last h.3.last in
-    subst (λ (r : Query). IsAnswer schema r all (answer_of a)) (sym same) ((stays sealed schema (read_at t (select_of q)) t items all (answer_of a) b h.1 low).0 h.3)
+    subst (λ (r : Query). IsAnswer language r all (answer_of a)) (sym same) ((stays sealed language (read_at t (select_of q)) t items all (answer_of a) b h.1 low).0 h.3)
 
 pub lives_same : HoweverSealed → OneAnswer → LivesAgree
-lives_same sealed one schema xs ys all b c q r a d h k same =
-    one schema (read_at (answer_of d).last (select_of r)) all (answer_of a) (answer_of d)
-    (subst (λ (s : Query). IsAnswer schema s all (answer_of a)) same (asked sealed schema q xs all a b h))
-    (asked sealed schema r ys all d c k)
+lives_same sealed one language xs ys all b c q r a d h k same =
+    one language (read_at (answer_of d).last (select_of r)) all (answer_of a) (answer_of d)
+    (subst (λ (s : Query). IsAnswer language s all (answer_of a)) same (asked sealed language q xs all a b h))
+    (asked sealed language r ys all d c k)
 
 pub answers_same : HoweverSealed → OneAnswer → AnswersStay
-answers_same sealed one schema early late rises first =
+answers_same sealed one language early late rises first =
     let b : IsBegun early (entries_in late) = subst (λ (xs : List Item). IsBegun early (entries_in xs)) first.1 (first_begun early first.0 (subst Rises (sym first.1) rises)) in
-    lives_same sealed one schema early late (entries_in late) b (whole_begun late)
+    lives_same sealed one language early late (entries_in late) b (whole_begun late)
 
 -- ---- what is closed stays closed
 

@@ -3,7 +3,7 @@ use Rattle.std.specs.Prelude.{◌≡◌, ℕ, ◌<◌, ◌≤◌, ◌↔◌, Lis
 use mathlib.Core.List.{IsPrefix}
 use Rattle.model.specs.Lists.{nth, IsBeginning}
 use Rattle.model.specs.declared.entry.Entry.{Entry}
-use Rattle.model.specs.Transactions.{Schema}
+use Rattle.model.specs.Transactions.{Language}
 use Rattle.model.specs.Answers.{Query, SystemTime, IsAnswer, closed_query, read_at}
 use Rattle.model.specs.Answers as model
 use Rattle.sqlread.specs.Meaning.{select_of}
@@ -21,18 +21,18 @@ pub record IsBegun (items : List Item) (all : List Entry) : Type 0 where
 
 -- what was answered to the questions q and r in two lists of items is the same answer, where q and r ask the same. A question
 -- without system time asks AS OF the last instant that its answer names
-abbrev pub AreSame : Schema → List Item → List Item → Type 0
-AreSame schema one two = (q r : QueryShape) (a b : Answer) → IsAskedOf schema q (entries_in one) (closed_in one) (Ok a) → IsAskedOf schema r (entries_in two) (closed_in two) (Ok b)
+abbrev pub AreSame : Language → List Item → List Item → Type 0
+AreSame language one two = (q r : QueryShape) (a b : Answer) → IsAskedOf language q (entries_in one) (closed_in one) (Ok a) → IsAskedOf language r (entries_in two) (closed_in two) (Ok b)
     → read_at (answer_of a).last (select_of q) ≡ read_at (answer_of b).last (select_of r) → answer_of a ≡ answer_of b
 
 -- an answer never changes: of two lists of one life the longer gives the answers that the shorter one gave
 abbrev pub AnswersStay : Type 0
-AnswersStay = (schema : Schema) (early late : List Item) → Rises late → IsPrefix early late → AreSame schema early late
+AnswersStay = (language : Language) (early late : List Item) → Rises late → IsPrefix early late → AreSame language early late
 
 -- what is closed in the shorter list has its answer there in the longer one, and no other
 abbrev pub ClosedStays : Type 0
-ClosedStays = (schema : Schema) (q : Query) (t : ℕ) (early late : List Item) (a : model.Answer) → Rises late → IsPrefix early late
-    → closed_in early ≡ Some t → q.time.last ≤ t → IsAnswer schema q (entries_in early) a ↔ IsAnswer schema q (entries_in late) a
+ClosedStays = (language : Language) (q : Query) (t : ℕ) (early late : List Item) (a : model.Answer) → Rises late → IsPrefix early late
+    → closed_in early ≡ Some t → q.time.last ≤ t → IsAnswer language q (entries_in early) a ↔ IsAnswer language q (entries_in late) a
 
 -- a question with system time that is closed in the shorter list is closed in the longer one, so that it is not refused 33 there
 abbrev pub StaysClosed : Type 0
@@ -41,7 +41,7 @@ StaysClosed = (q : QueryShape) (time : SystemTime) (r : Query) (early late : Lis
 
 -- so do lists of different lives, where all of them are the beginnings of one list
 abbrev pub LivesAgree : Type 0
-LivesAgree = (schema : Schema) (one two : List Item) (all : List Entry) → IsBegun one all → IsBegun two all → AreSame schema one two
+LivesAgree = (language : Language) (one two : List Item) (all : List Entry) → IsBegun one all → IsBegun two all → AreSame language one two
 
 -- what was seen earlier in a life is the beginning of what its whole list is the beginning of
 abbrev pub BegunEarlier : Type 0

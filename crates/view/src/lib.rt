@@ -12,5 +12,5 @@ pub mod view;
 pub use history::Item;
 pub use model::mark::Mark;
 pub use publisher::Publisher;
-pub use told::{Name, Told};
+pub use told::{Name, Notice};
 pub use view::{Marked, View};

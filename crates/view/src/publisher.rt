@@ -9,7 +9,7 @@ ghost use Rattle.view.specs.Rules.{named_book};
 
 use crate::published::{Counter, Place, Published, Shown};
 use crate::replay::Replay;
-use crate::told::{Name, Told};
+use crate::told::{Name, Notice};
 use crate::view::View;
 use fault::Refusal;
 use history::{Front, History, Item};
@@ -233,10 +233,10 @@ impl Publisher {
     }
 
     /// Tells of the whole published list. Takes no memory.
-    pub fn told(&self) -> Told
+    pub fn told(&self) -> Notice
         ensures { IsTold self.now.name (book_of self.now) (published self.now) result }
     {
-        Told {
+        Notice {
             name: self.name,
             front: self.front.again(),
         }

@@ -1,7 +1,7 @@
 //! Tables that are brought up to what is published.
 ghost use Rattle.std.specs.Prelude.{◌≡◌, [], false, OnOk, IfOk, IfSome};
 ghost use Rattle.std.specs.Coded.{→_prop};
-ghost use Rattle.sqlread.specs.Meaning.{schema_of};
+ghost use Rattle.sqlread.specs.Meaning.{language_of};
 ghost use Rattle.sqlread.specs.Shapes.{query_of};
 ghost use Rattle.answer.specs.Answers.{columns_in};
 ghost use Rattle.apply.specs.Once.{tables_prop};
@@ -140,7 +140,7 @@ impl Replay {
     #[tactic(auto, using(history::proofs::Rising::stamped))]
     pub(crate) fn ask(&self, query: &Query) -> Result<Reply, AllocError>
         requires { is_failed self.now.tables ≡ false }
-        ensures asked { IfOk result (λ reply. IsAskedOf (schema_of self.now.schema) (query_of query.now) (entries_in self.now.front.seen.log) (closed_in self.now.front.seen.log) (said reply)) }
+        ensures asked { IfOk result (λ reply. IsAskedOf (language_of self.now.schema) (query_of query.now) (entries_in self.now.front.seen.log) (closed_in self.now.front.seen.log) (said reply)) }
         ensures columns { IfOk result (λ reply. HasColumns (columns_in self.now.schema query.now.table) reply) }
     {
         match self.tables.ask(query, self.closed()) {

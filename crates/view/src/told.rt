@@ -14,7 +14,7 @@ pub struct Name {
 /// A list was published by the life of this name. It is a plain value without the list's items: callers keep it, and
 /// show it to as many views as they like.
 #[derive(Drop)]
-pub struct Told {
+pub struct Notice {
     pub(crate) name: Name,
     pub(crate) front: Front,
 }

@@ -3,7 +3,7 @@ ghost use Rattle.std.specs.Prelude.{◌≡◌, ◌≢◌, ◌⊎◌, false, OnOk
 ghost use Rattle.std.specs.Arc.{arc_value};
 ghost use mathlib.Core.List.{IsPrefix};
 ghost use Rattle.fault.specs.declared.refusal.Refusal.TheVariants.{NoMemory, NoView};
-ghost use Rattle.sqlread.specs.Meaning.{schema_of};
+ghost use Rattle.sqlread.specs.Meaning.{language_of};
 ghost use Rattle.sqlread.specs.Shapes.{query_of};
 ghost use Rattle.answer.specs.Answers.{columns_in};
 ghost use Rattle.apply.specs.View.{is_failed};
@@ -12,7 +12,7 @@ ghost use Rattle.view.specs.Rules.{named_book};
 
 use crate::published::Published;
 use crate::replay::{Replay, Reply};
-use crate::told::{Name, Told};
+use crate::told::{Name, Notice};
 use answer::Answer;
 use fault::Refusal;
 use history::Front;
@@ -43,7 +43,7 @@ pub struct View {
 
 impl View {
     ghost use Rattle.view.specs.Viewing.{seen_by, name_seen, schema_seen, book_seen, IsSameView, name_told, list_told, IsOwn, RestsOn, answer_in, Answers};
-    ghost use Rattle.view.specs.declared.told.Told.{Told};
+    ghost use Rattle.view.specs.declared.told.Notice.{Notice};
 
     /// A view that has seen the list that the token tells of.
     pub(crate) fn of(name: Name, published: Arc<Published>, replay: Replay, front: Front) -> View
@@ -59,10 +59,10 @@ impl View {
         }
     }
 
-    /// Later answers rest on at least what was told. 45 exactly where the token is of another life, and nothing is changed
+    /// Later answers rest on at least what was told. 45 exactly where the notice is of another life, and nothing is changed
     /// then. That a token of this life's name is of this life's publisher is for the caller to see to. It waits for nobody
     /// and takes no memory.
-    pub fn learn(&mut self, told: &Told) -> Result<(), Refusal>
+    pub fn learn(&mut self, told: &Notice) -> Result<(), Refusal>
         requires own { IsOwn told.now self.old }
         ensures same { IsSameView self.old self.new }
         ensures learnt { MatchResult result (λ _. (name_told told.now ≡ name_seen self.old) × RestsOn told.now self.new) (λ e. (e ≡ NoView) × (name_told told.now ≢ name_seen self.old)) }
@@ -110,9 +110,9 @@ impl View {
     pub fn ask(&mut self, query: &Query) -> Result<Marked, Refusal>
         ensures same { IsSameView self.old self.new }
         ensures grows { IsPrefix (seen_by self.old) (seen_by self.new) }
-        ensures told { (told : Told) → RestsOn told self.old → RestsOn told self.new }
+        ensures told { (told : Notice) → RestsOn told self.old → RestsOn told self.new }
         ensures rises { Rises (seen_by self.new) }
-        ensures answers { Answers (schema_of (schema_seen self.old)) (query_of query.now) (seen_by self.old) (seen_by self.new) (answer_in result) }
+        ensures answers { Answers (language_of (schema_seen self.old)) (query_of query.now) (seen_by self.old) (seen_by self.new) (answer_in result) }
         ensures mark { IfOk result (λ a. a.mark ≡ last_mark (name_seen self.old).opening (seen_by self.new)) }
         ensures columns { IfOk result (λ a. a.answer.columns.items ≡ columns_in (schema_seen self.old) query.now.table) }
     {

@@ -14,7 +14,7 @@ use Rattle.node.specs.declared.node.Out.{Out}
 use Rattle.node.specs.View.{IsEmpty}
 use Rattle.node.specs.Work.{Work}
 use Rattle.sqlchecks.specs.Columns.{Tables}
-use Rattle.sqlread.specs.Meaning.{schema_of}
+use Rattle.sqlread.specs.Meaning.{language_of}
 use Rattle.world.specs.declared.seat.Seat.{Seat}
 use Rattle.world.specs.View.{brings, brought, if_up, node_in, nodes_of, works_at, IsGroup, IsSeat, IsStep}
 
@@ -30,11 +30,6 @@ nth_next xs m i e = rw (e, add-one) refl
 
 set_next : {A : Type 0} (xs : List A) (m i : ℕ) (y : A) → m ≡ i + 1 → slice_set xs i y ≡ with_nth xs m y
 set_next xs m i y e = rw (e, add-one) refl
-
--- there is no such member
-pub nobody : (seats : List Seat) (m : ℕ) → nth seats m ≡ None → nth (nodes_of seats) m ≡ None
-nobody seats zero e = refl
-nobody seats (suc k) e = slice_get-map node_in seats k ∙ ap (option_map node_in) e
 
 down_if : {A : Type 0} (b : Bool) (x : A) → (if b then Some x else None) ≡ None → b ≡ false
 down_if true x e = cc
@@ -102,7 +97,7 @@ module _ {t : Tables} {n : ℕ} {seats : List Seat} {m i : ℕ} {s : Seat} (p : 
     brought_there : done w m effect ≡ brings t n w m work (nth (nodes_of seats) m)
     brought_there = sym (ap (brings t n w m work) here)
 
-    gives_there : effect_gives (schema_of t) w m (node_in s) effect ≡ brought t n w m work (nth (nodes_of seats) m)
+    gives_there : effect_gives (language_of t) w m (node_in s) effect ≡ brought t n w m work (nth (nodes_of seats) m)
     gives_there = sym (ap (brought t n w m work) here)
 
     abbrev IsMove : Out → Type 0
@@ -112,24 +107,24 @@ module _ {t : Tables} {n : ℕ} {seats : List Seat} {m i : ℕ} {s : Seat} (p : 
     abbrev IsNone : Out → Type 0
     IsNone out = (Nothing ≡ effect) × (node_in v ≡ node_in s) × IsEmpty out
 
-    pub made_world : (out : Out) → IsStep (schema_of t) m (node_in s) (node_in v) effect (Ok out) →
+    pub made_world : (out : Out) → IsStep (language_of t) m (node_in s) (node_in v) effect (Ok out) →
         world_with (nodes_of (slice_set seats i v)) (sent ++ out.messages.items) ≡ brings t n w m work (nth (nodes_of seats) m)
     made_world out step = ⊎_elim
         (λ (moved : IsMove out). ap (λ xs. world_with xs (sent ++ out.messages.items)) (nodes_after v) ∙ ap (done w m) moved ∙ brought_there)
         (λ (none : IsNone out). ap (λ more. world_with (nodes_of (slice_set seats i v)) (sent ++ more)) none.2.0 ∙ ap (world_with (nodes_of (slice_set seats i v))) (append-nil sent) ∙ same_world sent v none.1 ∙ ap (done w m) none.0 ∙ brought_there)
         step.0
 
-    pub made_gives : (out : Out) → IsStep (schema_of t) m (node_in s) (node_in v) effect (Ok out) →
+    pub made_gives : (out : Out) → IsStep (language_of t) m (node_in s) (node_in v) effect (Ok out) →
         numbered (length sent) out.messages.items ++ map (Applied m) out.told.items ≡ brought t n w m work (nth (nodes_of seats) m)
     made_gives out step = ⊎_elim
-        (λ (moved : IsMove out). ap (λ told. numbered (length sent) out.messages.items ++ told) step.1 ∙ ap (effect_gives (schema_of t) w m (node_in s)) moved ∙ gives_there)
-        (λ (none : IsNone out). rw (none.2.0, none.2.2) (ap (effect_gives (schema_of t) w m (node_in s)) none.0 ∙ gives_there))
+        (λ (moved : IsMove out). ap (λ told. numbered (length sent) out.messages.items ++ told) step.1 ∙ ap (effect_gives (language_of t) w m (node_in s)) moved ∙ gives_there)
+        (λ (none : IsNone out). rw (none.2.0, none.2.2) (ap (effect_gives (language_of t) w m (node_in s)) none.0 ∙ gives_there))
         step.0
 
-    pub refused_world : (refusal : Refusal) → IsStep (schema_of t) m (node_in s) (node_in v) effect (Err refusal) →
+    pub refused_world : (refusal : Refusal) → IsStep (language_of t) m (node_in s) (node_in v) effect (Err refusal) →
         world_with (nodes_of (slice_set seats i v)) sent ≡ brings t n w m work (nth (nodes_of seats) m)
     refused_world refusal step = same_world sent v step.1 ∙ ap (done w m) step.0 ∙ brought_there
 
-    pub refused_gives : (refusal : Refusal) → IsStep (schema_of t) m (node_in s) (node_in v) effect (Err refusal) →
+    pub refused_gives : (refusal : Refusal) → IsStep (language_of t) m (node_in s) (node_in v) effect (Err refusal) →
         Refused m refusal ∷ [] ≡ brought t n w m work (nth (nodes_of seats) m)
-    refused_gives refusal step = ap (effect_gives (schema_of t) w m (node_in s)) step.0 ∙ gives_there
+    refused_gives refusal step = ap (effect_gives (language_of t) w m (node_in s)) step.0 ∙ gives_there

@@ -1,58 +1,75 @@
 -- Runs, one more event at a time.
-use Rattle.std.proofs.Common.{◌≡◌, ◌∙◌, ℕ, ◌+◌, ⊎_elim, Some, List, [], ◌∷◌, ◌++◌, map, take, length, slice_get, refl, sym, ap, subst, append-nil, append_assoc, Result, Ok, Err, OnErr}
+use Rattle.std.proofs.Common.{◌≡◌, ◌∙◌, ℕ, ◌+◌, ⊎_elim, Some, List, [], ◌∷◌, ◌++◌, map, take, length, slice_get, refl, sym, ap, subst, append-nil, append_assoc, Result, Ok, Err, IfOk, OnErr}
 use Rattle.std.proofs.lemmas.Option.{same_Some}
 use Rattle.std.proofs.lemmas.List.{take-map}
 use Rattle.std.specs.declared.vec.Vec.{Vec}
 use Rattle.std.specs.declared.alloc.Global.{Global}
 use Rattle.sqlchecks.specs.Columns.{Tables}
 use Rattle.model.specs.Lists.{nth}
-use Rattle.model.specs.Transactions.{Schema}
+use Rattle.model.specs.Transactions.{Language}
 use Rattle.model.specs.Agreement.{Agree}
-use Rattle.model.specs.Worlds.{World, Event, Output, happens, run, Gives, GivesAll, new_world}
+use Rattle.model.specs.Worlds.{World, Event, Output, happens, run, Gives, new_world}
+use Rattle.believed.specs.Worlds as later
+use Rattle.believed.proofs.GivesSame.{gives_now}
+use Rattle.believed.proofs.WorldsSame.{run_same}
 use Rattle.world.specs.declared.event.Event.{Event as Given}
-use Rattle.sqlread.specs.Meaning.{schema_of}
+use Rattle.sqlread.specs.Meaning.{language_of}
 use Rattle.world.specs.declared.group.Group.{Group}
 use Rattle.world.specs.declared.output.Output.{Output as Out}
 use Rattle.world.specs.Run.{AddsBeginning}
-use Rattle.world.specs.View.{event_of, world_of, AllStamped, EachShowsColumns, IsGroup, IsRun, ShowsColumns}
+use Rattle.world.specs.View.{event_of, outputs_of, world_of, AllStamped, EachShowsColumns, IsGroup, IsRun, ShowsColumns}
 use Rattle.world.proofs.Lists.{map_append, push_get}
 
-run_more : (s : Schema) (n : ℕ) (w : World) (es fs : List Event) → run s n w (es ++ fs) ≡ run s n (run s n w es) fs
+run_more : (s : Language) (n : ℕ) (w : World) (es fs : List Event) → run s n w (es ++ fs) ≡ run s n (run s n w es) fs
 run_more s n w [] fs = refl
 run_more s n w (e ∷ es) fs = run_more s n (happens s n w e) es fs
 
-gives_more : (s : Schema) (n : ℕ) (w : World) (es : List Event) (outs : List (List Output)) (e : Event) (out : List Output) → GivesAll s n w es outs → Gives s n (run s n w es) e out → GivesAll s n w (es ++ e ∷ []) (outs ++ out ∷ [])
+-- ---- in the words of `believed`
+
+runs_more : (s : Language) (n : ℕ) (w : World) (es fs : List Event) → later.run s n w (es ++ fs) ≡ later.run s n (later.run s n w es) fs
+runs_more s n w [] fs = refl
+runs_more s n w (e ∷ es) fs = runs_more s n (later.happens s n w e) es fs
+
+gives_more : (s : Language) (n : ℕ) (w : World) (es : List Event) (outs : List (List Output)) (e : Event) (out : List Output) → later.GivesAll s n w es outs → later.Gives s n (later.run s n w es) e out → later.GivesAll s n w (es ++ e ∷ []) (outs ++ out ∷ [])
 gives_more s n w [] outs e out all one = (out, [], ap (λ xs. xs ++ out ∷ []) all, one, refl)
 gives_more s n w (f ∷ es) outs e out all one =
-    (all.0, all.1 ++ out ∷ [], ap (λ xs. xs ++ out ∷ []) all.2, all.3, gives_more s n (happens s n w f) es all.1 e out all.4 one)
+    (all.0, all.1 ++ out ∷ [], ap (λ xs. xs ++ out ∷ []) all.2, all.3, gives_more s n (later.happens s n w f) es all.1 e out all.4 one)
 
 -- after the events kept, and those taken since
-pub step_more : (s : Schema) (n : ℕ) (w : World) (kept : List Event) (taken : List Given) (e : Given) (outs : List (List Output)) (out : List Output) →
-    GivesAll s n (run s n w kept) (map event_of taken) outs →
-    Gives s n (run s n w (kept ++ map event_of taken)) (event_of e) out →
-    GivesAll s n (run s n w kept) (map event_of (taken ++ e ∷ [])) (outs ++ out ∷ [])
+pub step_more : (s : Language) (n : ℕ) (w : World) (kept : List Event) (taken : List Given) (e : Given) (outs : List (List Output)) (out : List Output) →
+    later.GivesAll s n (later.run s n w kept) (map event_of taken) outs →
+    later.Gives s n (later.run s n w (kept ++ map event_of taken)) (event_of e) out →
+    later.GivesAll s n (later.run s n w kept) (map event_of (taken ++ e ∷ [])) (outs ++ out ∷ [])
 step_more s n w kept taken e outs out all one =
-    let there : World → Type 0 = λ v. Gives s n v (event_of e) out in
-    let P : List Event → Type 0 = λ es. GivesAll s n (run s n w kept) es (outs ++ out ∷ []) in
-    subst P (sym (map_append event_of taken (e ∷ []))) (gives_more s n (run s n w kept) (map event_of taken) outs (event_of e) out all (subst there (run_more s n w kept (map event_of taken)) one))
+    let there : World → Type 0 = λ v. later.Gives s n v (event_of e) out in
+    let P : List Event → Type 0 = λ es. later.GivesAll s n (later.run s n w kept) es (outs ++ out ∷ []) in
+    subst P (sym (map_append event_of taken (e ∷ []))) (gives_more s n (later.run s n w kept) (map event_of taken) outs (event_of e) out all (subst there (runs_more s n w kept (map event_of taken)) one))
+
+-- what an event gives after others
+pub gives_so : {E : Type 0} (s : Language) (n : ℕ) (w : World) (early : List Event) (e : Event) (r : Result (Vec Out Global) E) →
+    IfOk r (λ outs. Gives s n (run s n w early) e (outputs_of outs.items)) → IfOk r (λ outs. later.Gives s n (later.run s n w early) e (outputs_of outs.items))
+gives_so {E} s n w early e (Ok outs) h = subst (λ v. later.Gives s n v e (outputs_of outs.items)) (sym (run_same s n w early)) (gives_now s n (run s n w early) e (outputs_of outs.items) h)
+gives_so {E} s n w early e (Err error) h = h
+
+-- ---- one event more
 
 -- a copy of one more event is kept
 pub kept_more : (kept after : List Given) (e copy : Given) → after ≡ kept ++ copy ∷ [] → event_of copy ≡ event_of e → map event_of after ≡ map event_of kept ++ event_of e ∷ []
 kept_more kept after e copy is same = ap (map event_of) is ∙ map_append event_of kept (copy ∷ []) ∙ ap (λ x. map event_of kept ++ x ∷ []) same
 
 -- the world after one more event
-pub run_next : (s : Schema) (n : ℕ) (w : World) (kept : List Event) (e : Event) → run s n w (kept ++ e ∷ []) ≡ happens s n (run s n w kept) e
+pub run_next : (s : Language) (n : ℕ) (w : World) (kept : List Event) (e : Event) → run s n w (kept ++ e ∷ []) ≡ happens s n (run s n w kept) e
 run_next s n w kept e = run_more s n w kept (e ∷ [])
 
-pub all_stamped : (s : Schema) (n : ℕ) (w v : World) (es : List Event) → Agree s n w es → v ≡ run s n w es → AllStamped v
+pub all_stamped : (s : Language) (n : ℕ) (w v : World) (es : List Event) → Agree s n w es → v ≡ run s n w es → AllStamped v
 all_stamped s n w v es agree is m x at =
     (agree.applied_is_decided es [] m x (append-nil es) (ap (λ (u : World). nth u.nodes m) (sym is) ∙ at)).1
 
 pub run_is : (old new : Group) (kept after : List Given) (e : Given) → IsRun old kept → IsGroup old.schema old.members new.seats.items →
-    world_of new ≡ happens (schema_of old.schema) old.members (world_of old) (event_of e) → new.schema ≡ old.schema → new.members ≡ old.members → map event_of after ≡ map event_of kept ++ event_of e ∷ [] → IsRun new after
+    world_of new ≡ happens (language_of old.schema) old.members (world_of old) (event_of e) → new.schema ≡ old.schema → new.members ≡ old.members → map event_of after ≡ map event_of kept ++ event_of e ∷ [] → IsRun new after
 run_is old new kept after e r g w schema members is = record {
   group = rw (schema, members) g;
-  world = rw (schema, members, is) (w ∙ ap (λ (v : World). happens (schema_of old.schema) old.members v (event_of e)) r.world ∙ sym (run_next (schema_of old.schema) old.members (new_world old.members) (map event_of kept) (event_of e)));
+  world = rw (schema, members, is) (w ∙ ap (λ (v : World). happens (language_of old.schema) old.members v (event_of e)) r.world ∙ sym (run_next (language_of old.schema) old.members (new_world old.members) (map event_of kept) (event_of e)));
 }
 
 -- after the outputs of one more event

@@ -2,15 +2,16 @@
 use Rattle.std.specs.Prelude.{◌≡◌, ◌++◌, ℕ, List, map, take, Option}
 use Rattle.model.specs.Lists.{nth}
 use Rattle.model.specs.Members.{Node}
-use Rattle.model.specs.Transactions.{Schema}
+use Rattle.model.specs.Transactions.{Language}
 use Rattle.model.specs.Worlds.{World, Event, new_world, run}
 use Rattle.sqlchecks.specs.Columns.{Tables}
-use Rattle.sqlread.specs.Meaning.{schema_of}
+use Rattle.sqlread.specs.Meaning.{language_of}
 use Rattle.world.specs.declared.history.World.{World as Whole}
+use Rattle.believed.specs.Worlds.{run as runs}
 use Rattle.world.specs.View.{event_of}
 
-abbrev pub schema_in : Whole → Schema
-schema_in w = schema_of w.group.schema
+abbrev pub language_in : Whole → Language
+language_in w = language_of w.group.schema
 
 -- the same, as they were declared
 abbrev pub tables_in : Whole → Tables
@@ -20,8 +21,8 @@ abbrev pub members_in : Whole → ℕ
 members_in w = w.group.members
 
 -- all up, with term 0, no vote, empty logs
-abbrev pub opening_of : Whole → World
-opening_of w = new_world (members_in w)
+abbrev pub outset_of : Whole → World
+outset_of w = new_world (members_in w)
 
 -- what happened, from the first event on
 abbrev pub events_of : Whole → List Event
@@ -32,8 +33,12 @@ abbrev pub AddsBeginning : List Event → List Event → List Event → Type 0
 AddsBeginning old new these = (count : ℕ) × (new ≡ old ++ take count these)
 
 -- the world after what happened
+abbrev pub world_in : Whole → World
+world_in w = runs (language_in w) (members_in w) (outset_of w) (events_of w)
+
+-- the same, in the words of the crates below
 abbrev pub now_of : Whole → World
-now_of w = run (schema_in w) (members_in w) (opening_of w) (events_of w)
+now_of w = run (language_in w) (members_in w) (outset_of w) (events_of w)
 
 -- the member there now, if there is one
 abbrev pub member_of : Whole → ℕ → Option Node

@@ -9,7 +9,7 @@ use Rattle.fault.specs.declared.refusal.Refusal.TheVariants.{NodeDown}
 use Rattle.model.specs.declared.entry.Entry.{Entry}
 use Rattle.model.specs.Lists.{nth}
 use Rattle.model.specs.Logs.{IsStamped}
-use Rattle.model.specs.Transactions.{Schema as TheSchema}
+use Rattle.model.specs.Transactions.{Language}
 use Rattle.model.specs.Members.{Node, applied, closed_time}
 use Rattle.model.specs.Steps.{Effect, Refuses}
 use Rattle.model.specs.Worlds as model
@@ -24,12 +24,12 @@ use Rattle.node.specs.Member.{me_of, member_of, members_of, tables_of}
 use Rattle.node.specs.Work.{Work}
 use Rattle.node.specs.declared.node.Node.{Node as NodeUp}
 use Rattle.node.specs.declared.node.Out.{Out as Taken}
-pub use Rattle.node.specs.declared.durable.Stored.{Stored}
+pub use Rattle.node.specs.declared.durable.StoredState.{StoredState}
 use Rattle.answer.specs.declared.Answer.{Answer}
 use Rattle.answer.specs.Answers.{answer_of, columns_in}
 use Rattle.sqlchecks.specs.Columns.{Tables}
 use Rattle.sqlread.specs.Shapes.{QueryShape, query_of}
-use Rattle.sqlread.specs.Meaning.{schema_of, select_of}
+use Rattle.sqlread.specs.Meaning.{language_of, select_of}
 use Rattle.world.specs.declared.event.Event.{Event as Given}
 use Rattle.world.specs.declared.event.Event.TheVariants.{Hand, Deliver, Stop, Start, Torn, Ask}
 use Rattle.world.specs.declared.output.Output.{Output as Out}
@@ -110,14 +110,14 @@ rest (Down image) = Some (stored_in image)
 -- the seat of member m of n: who is up is that member, and what one that is down has stored forms its log
 pub record IsSeat (tables : Tables) (n m : ℕ) (s : Seat) : Type 0 where
   pub up : ForSome (occupant s) (IsMember tables n m)
-  pub down : ForSome (rest s) (IsLog n (schema_of tables))
+  pub down : ForSome (rest s) (IsLog n (language_of tables))
 
 -- what the definitions say of this work at member m, which refuses all while it is down
 abbrev pub works_at : Tables → ℕ → ℕ → Work → Node → Effect
 works_at schema n m work x = if x.up then works schema n m work x else Refuses NodeDown
 
 -- a step that takes member m from x to y
-abbrev pub IsStep : TheSchema → ℕ → Node → Node → Effect → Result Taken Refusal → Type 0
+abbrev pub IsStep : Language → ℕ → Node → Node → Effect → Result Taken Refusal → Type 0
 IsStep schema m x y effect (Ok out) = IsGiven x y effect out × (map (Applied m) out.told.items ≡ tells schema m x y)
 IsStep schema m x y effect (Err refusal) = (Refuses refusal ≡ effect) × (y ≡ x)
 
@@ -127,7 +127,7 @@ abbrev pub if_up : Option Node → Option Node
 if_up None = None
 if_up (Some x) = if x.up then Some x else None
 
-abbrev pub durable_in : Option Node → Option Stored
+abbrev pub durable_in : Option Node → Option StoredState
 durable_in member = option_map (λ x. stored_of (durable_of x)) (if_up member)
 
 -- none outside the log
@@ -138,7 +138,7 @@ abbrev pub commit_in : Option Node → Option ℕ
 commit_in member = option_map (λ x. x.commit) (if_up member)
 
 -- what it answers at its closed time, by whether it is up
-abbrev pub IsAskedAt : TheSchema → QueryShape → Node → Bool → Result Answer Refusal → Type 0
+abbrev pub IsAskedAt : Language → QueryShape → Node → Bool → Result Answer Refusal → Type 0
 IsAskedAt schema q x true r = IsStamped (applied x) → IsAskedOf schema q (applied x) (closed_time x) r
 IsAskedAt schema q x false r = r ≡ Err NodeDown
 
@@ -164,7 +164,7 @@ brings schema n w m work (Some x) = done w m (works_at schema n m work x)
 -- and what that gives
 abbrev pub brought : Tables → ℕ → World → ℕ → Work → Option Node → List Output
 brought schema n w m work None = []
-brought schema n w m work (Some x) = effect_gives (schema_of schema) w m x (works_at schema n m work x)
+brought schema n w m work (Some x) = effect_gives (language_of schema) w m x (works_at schema n m work x)
 
 -- the stamps of what a member applied rise
 abbrev pub AllStamped : World → Type 0
@@ -173,4 +173,4 @@ AllStamped w = (m : ℕ) (x : Node) → nth w.nodes m ≡ Some x → IsStamped (
 -- a group in the world after these events, which began before any term
 pub record IsRun (g : Group) (events : List Given) : Type 0 where
   pub group : IsGroup g.schema g.members g.seats.items
-  pub world : world_of g ≡ run (schema_of g.schema) g.members (new_world g.members) (map event_of events)
+  pub world : world_of g ≡ run (language_of g.schema) g.members (new_world g.members) (map event_of events)

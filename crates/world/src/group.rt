@@ -8,7 +8,7 @@ ghost use Rattle.model.specs.Worlds.Event.{Deliver, Hand, Stop, Start, Torn};
 ghost use Rattle.model.specs.Worlds.Output.{Applied as ModelApplied};
 ghost use Rattle.node.specs.View.{works};
 ghost use Rattle.sqlchecks.specs.Columns.{Tables};
-ghost use Rattle.sqlread.specs.Meaning.{schema_of, select_of};
+ghost use Rattle.sqlread.specs.Meaning.{language_of, select_of};
 ghost use Rattle.sqlread.specs.Shapes.{query_of};
 ghost use Rattle.world.specs.View.{brings, brought, commit_in, durable_in, entry_in, event_of, if_up, outputs_of, world_of, AllStamped, HasColumns, IsGroup, ShowsColumns};
 
@@ -19,7 +19,7 @@ use model::entry::Entry;
 use model::member::Member;
 use model::message::{Input, Message};
 use node::Work;
-use node::durable::Stored;
+use node::durable::StoredState;
 use node::node::Out;
 use schema::Schema;
 use sqlread::query::Query;
@@ -88,8 +88,8 @@ impl Group {
     fn hand(&mut self, member: Member, input: &Input) -> Result<Vec<Output>, AllocError>
         requires group { IsGroup self.old.schema self.old.members self.old.seats.items }
         ensures group { OnOk result (IsGroup self.old.schema self.old.members self.new.seats.items) }
-        ensures world { OnOk result (world_of self.new ≡ happens (schema_of self.old.schema) self.old.members (world_of self.old) (Hand member input.now)) }
-        ensures gives { IfOk result (λ outs. Gives (schema_of self.old.schema) self.old.members (world_of self.old) (Hand member input.now) (outputs_of outs.items)) }
+        ensures world { OnOk result (world_of self.new ≡ happens (language_of self.old.schema) self.old.members (world_of self.old) (Hand member input.now)) }
+        ensures gives { IfOk result (λ outs. Gives (language_of self.old.schema) self.old.members (world_of self.old) (Hand member input.now) (outputs_of outs.items)) }
         ensures same { (self.new.schema ≡ self.old.schema) × (self.new.members ≡ self.old.members) }
     {
         self.bring(member, Work::Local(input.clone()?))
@@ -112,8 +112,8 @@ impl Group {
     fn deliver(&mut self, number: usize, reading: i64) -> Result<Vec<Output>, AllocError>
         requires group { IsGroup self.old.schema self.old.members self.old.seats.items }
         ensures group { OnOk result (IsGroup self.old.schema self.old.members self.new.seats.items) }
-        ensures world { OnOk result (world_of self.new ≡ happens (schema_of self.old.schema) self.old.members (world_of self.old) (Deliver number reading)) }
-        ensures gives { IfOk result (λ outs. Gives (schema_of self.old.schema) self.old.members (world_of self.old) (Deliver number reading) (outputs_of outs.items)) }
+        ensures world { OnOk result (world_of self.new ≡ happens (language_of self.old.schema) self.old.members (world_of self.old) (Deliver number reading)) }
+        ensures gives { IfOk result (λ outs. Gives (language_of self.old.schema) self.old.members (world_of self.old) (Deliver number reading) (outputs_of outs.items)) }
         ensures same { (self.new.schema ≡ self.old.schema) × (self.new.members ≡ self.old.members) }
     {
         match self.message(number)? {
@@ -126,7 +126,7 @@ impl Group {
     fn stop(&mut self, member: Member)
         requires group { IsGroup self.old.schema self.old.members self.old.seats.items }
         ensures group { IsGroup self.old.schema self.old.members self.new.seats.items }
-        ensures world { world_of self.new ≡ happens (schema_of self.old.schema) self.old.members (world_of self.old) (Stop member) }
+        ensures world { world_of self.new ≡ happens (language_of self.old.schema) self.old.members (world_of self.old) (Stop member) }
         ensures same { self.new ≡ record self.old { seats = self.new.seats } }
     {
         let Some(place) = self.place(member) else {
@@ -139,7 +139,7 @@ impl Group {
     fn start(&mut self, member: Member) -> Result<(), AllocError>
         requires group { IsGroup self.old.schema self.old.members self.old.seats.items }
         ensures group { OnOk result (IsGroup self.old.schema self.old.members self.new.seats.items) }
-        ensures world { OnOk result (world_of self.new ≡ happens (schema_of self.old.schema) self.old.members (world_of self.old) (Start member)) }
+        ensures world { OnOk result (world_of self.new ≡ happens (language_of self.old.schema) self.old.members (world_of self.old) (Start member)) }
         ensures same { self.new ≡ record self.old { seats = self.new.seats } }
     {
         let Some(place) = self.place(member) else {
@@ -153,7 +153,7 @@ impl Group {
     fn work_for(&self, member: Member, job: &Job) -> Result<Option<Work>, AllocError>
         ensures { IfOk result (λ found. MatchOption found (is_for (world_of self.now) member job.now ≡ false)
             (λ work. (is_for (world_of self.now) member job.now ≡ true)
-            × ((t : Tables) (n : ℕ) (x : TheNode) → works t n member work x ≡ effect (schema_of t) n (world_of self.now) member job.now x))) }
+            × ((t : Tables) (n : ℕ) (x : TheNode) → works t n member work x ≡ effect (language_of t) n (world_of self.now) member job.now x))) }
     {
         match job {
             Job::Local(input) => Ok(Some(Work::Local(input.clone()?))),
@@ -177,7 +177,7 @@ impl Group {
     fn tear(&mut self, member: Member, job: &Job, left: Left) -> Result<(), AllocError>
         requires group { IsGroup self.old.schema self.old.members self.old.seats.items }
         ensures group { OnOk result (IsGroup self.old.schema self.old.members self.new.seats.items) }
-        ensures world { OnOk result (world_of self.new ≡ happens (schema_of self.old.schema) self.old.members (world_of self.old) (Torn member job.now left)) }
+        ensures world { OnOk result (world_of self.new ≡ happens (language_of self.old.schema) self.old.members (world_of self.old) (Torn member job.now left)) }
         ensures same { self.new ≡ record self.old { seats = self.new.seats } }
     {
         let Some(place) = self.place(member) else {
@@ -193,7 +193,7 @@ impl Group {
     fn ask(&self, member: Member, query: &Query) -> Result<Vec<Output>, AllocError>
         requires group { IsGroup self.now.schema self.now.members self.now.seats.items }
         requires stamped { AllStamped (world_of self.now) }
-        ensures given { IfOk result (λ outs. IsGivenAt (schema_of self.now.schema) member (select_of (query_of query.now)) (nth (world_of self.now).nodes member) (outputs_of outs.items)) }
+        ensures given { IfOk result (λ outs. IsGivenAt (language_of self.now.schema) member (select_of (query_of query.now)) (nth (world_of self.now).nodes member) (outputs_of outs.items)) }
         ensures columns { IfOk result (λ outs. All (HasColumns self.now.schema query.now.table) outs.items) }
     {
         let Some(place) = self.place(member) else {
@@ -210,8 +210,8 @@ impl Group {
         requires group { IsGroup self.old.schema self.old.members self.old.seats.items }
         requires stamped { AllStamped (world_of self.old) }
         ensures group { OnOk result (IsGroup self.old.schema self.old.members self.new.seats.items) }
-        ensures world { OnOk result (world_of self.new ≡ happens (schema_of self.old.schema) self.old.members (world_of self.old) (event_of event.now)) }
-        ensures gives { IfOk result (λ outs. Gives (schema_of self.old.schema) self.old.members (world_of self.old) (event_of event.now) (outputs_of outs.items)) }
+        ensures world { OnOk result (world_of self.new ≡ happens (language_of self.old.schema) self.old.members (world_of self.old) (event_of event.now)) }
+        ensures gives { IfOk result (λ outs. Gives (language_of self.old.schema) self.old.members (world_of self.old) (event_of event.now) (outputs_of outs.items)) }
         ensures columns { IfOk result (λ outs. ShowsColumns self.old.schema event.now outs.items) }
         ensures same { (self.new.schema ≡ self.old.schema) × (self.new.members ≡ self.old.members) }
     {
@@ -235,7 +235,7 @@ impl Group {
     }
 
     /// What a member has stored, none where it is down or not there.
-    pub(crate) fn durable(&self, member: Member) -> Option<Stored>
+    pub(crate) fn durable(&self, member: Member) -> Option<StoredState>
         requires { IsGroup self.now.schema self.now.members self.now.seats.items }
         ensures { result ≡ durable_in (nth (world_of self.now).nodes member) }
     {

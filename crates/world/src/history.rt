@@ -1,20 +1,21 @@
 //! A group, and all that happened to it.
 ghost use Rattle.std.specs.Prelude.{◌≡◌, ◌++◌, ◌∷◌, ◌≤◌, ◌↔◌, [], true, false, map, None, IfOk, IsErr, IsOk, OnErr, OnOk, if◌then◌else◌};
-ghost use Rattle.model.specs.Agreement.{Agree, decided};
-ghost use Rattle.model.specs.Worlds.{Gives, GivesAll, new_world};
-ghost use Rattle.onelist.specs.Explained.{IsDecidedInOrder, IsExplained, WereSubmitted};
-ghost use Rattle.progress.specs.Progress.{CanServe};
-ghost use Rattle.sqlread.specs.Meaning.{schema_of};
-ghost use Rattle.sqlread.specs.Reading.{IsSchema};
+ghost use Rattle.believed.specs.Agreement.{Agree, decided};
+ghost use Rattle.believed.specs.Explained.{IsDecidedInOrder, IsExplained, WereSubmitted};
+ghost use Rattle.believed.specs.Progress.{CanServe};
+ghost use Rattle.believed.specs.Worlds.{Gives, GivesAll};
+ghost use Rattle.model.specs.Worlds.{Gives as GivesThen, new_world};
+ghost use Rattle.sqlread.specs.Meaning.{language_of};
+ghost use Rattle.believed.specs.Meaning.{IsLanguage};
 ghost use Rattle.world.specs.View.{commit_in, durable_in, entry_in, event_of, if_up, outputs_of, world_of, IsRun};
 
 use crate::event::Event;
 use crate::group::Group;
-use crate::opening::open_group;
 use crate::output::Output;
+use crate::outset::open_group;
 use model::entry::Entry;
 use model::member::Member;
-use node::durable::Stored;
+use node::durable::StoredState;
 use schema::Schema;
 use std::alloc::{AllocError, Global};
 
@@ -28,7 +29,7 @@ pub struct World {
 }
 
 impl World {
-    ghost use Rattle.world.specs.Run.{schema_in, tables_in, members_in, opening_of, events_of, now_of, member_of, AddsBeginning};
+    ghost use Rattle.world.specs.Run.{language_in, tables_in, members_in, outset_of, events_of, now_of, world_in, member_of, AddsBeginning};
     ghost use Rattle.world.specs.View.{EachShowsColumns, ShowsColumns};
 
     /// A group of 3 to 7 members in one program, with tables of this schema: all up, as followers in term 0 with no vote, no floor
@@ -38,9 +39,9 @@ impl World {
     pub fn new(alloc: Global, members: usize, schema: Schema) -> Result<World, AllocError>
         requires least { 3 ≤ members }
         requires most { members ≤ 7 }
-        ensures opening { IfOk result (λ w. world_of w.group ≡ new_world members) }
+        ensures outset { IfOk result (λ w. world_of w.group ≡ new_world members) }
         ensures members { IfOk result (λ w. members_in w ≡ members) }
-        ensures schema { IfOk result (λ w. schema_in w ≡ schema_of schema) }
+        ensures schema { IfOk result (λ w. language_in w ≡ language_of schema) }
         ensures tables { IfOk result (λ w. tables_in w ≡ schema) }
         ensures nothing { IfOk result (λ w. w.kept.items ≡ []) }
         ensures live { IfOk result (λ w. w.is_spent ≡ false) }
@@ -80,12 +81,13 @@ impl World {
     /// One event. The world is spent unless all of it was done.
     fn happen(&mut self, event: &Event) -> Result<Vec<Output>, AllocError>
         requires live { self.old.is_spent ≡ false }
-        ensures gives { IfOk result (λ outs. Gives (schema_in self.old) (members_in self.old) (now_of self.old) (event_of event.now) (outputs_of outs.items)) }
+        ensures gives { IfOk result (λ outs. GivesThen (language_in self.old) (members_in self.old) (now_of self.old) (event_of event.now) (outputs_of outs.items)) }
         ensures columns { IfOk result (λ outs. ShowsColumns (tables_in self.old) event.now outs.items) }
         ensures kept { OnOk result (events_of self.new ≡ events_of self.old ++ event_of event.now ∷ []) }
-        ensures err { OnErr result (self.new.kept.items ≡ self.old.kept.items) }
+        ensures unkept { OnErr result (self.new.kept.items ≡ self.old.kept.items) }
         ensures same { (self.new.group.schema ≡ self.old.group.schema) × (self.new.group.members ≡ self.old.group.members) }
         ensures ok { OnOk result (self.new.is_spent ≡ false) }
+        ensures err { OnErr result (self.new.is_spent ≡ true) }
     {
         // Its contract says that what members apply bears rising stamps, as a question needs.
         safety::agreement();
@@ -96,10 +98,41 @@ impl World {
         Ok(outs)
     }
 
+    /// Lets an event happen, and gives what comes of it. All that `run` promises, it promises of one event.
+    ///
+    /// The outputs are exactly those that the event has in the run after all that happened before. An event that cannot be gives
+    /// nothing and changes nothing, as `run` says; it is kept.
+    ///
+    /// The one error is want of memory. The world is spent then, and this event is not kept; each later call gives the error too,
+    /// and changes nothing.
+    pub fn step(&mut self, event: &Event) -> Result<Vec<Output>, AllocError>
+        ensures gives { IfOk result (λ outs. Gives (language_in self.old) (members_in self.old) (world_in self.old) (event_of event.now) (outputs_of outs.items)) }
+        ensures columns { IfOk result (λ outs. ShowsColumns (tables_in self.old) event.now outs.items) }
+        ensures kept { OnOk result (events_of self.new ≡ events_of self.old ++ event_of event.now ∷ []) }
+        ensures unkept { OnErr result (self.new.kept.items ≡ self.old.kept.items) }
+        ensures agree { Agree (language_in self.new) (members_in self.new) (outset_of self.new) (events_of self.new) }
+        ensures explained { IsExplained (language_in self.new) (members_in self.new) (outset_of self.new) (events_of self.new) }
+        ensures invented { WereSubmitted (events_of self.new) (decided (language_in self.new) (members_in self.new) (outset_of self.new) (events_of self.new)) }
+        ensures ordered { IsDecidedInOrder (language_in self.new) (members_in self.new) (outset_of self.new) (events_of self.new) }
+        ensures serves { CanServe (language_in self.new) (members_in self.new) (world_in self.new) }
+        ensures language { IsLanguage (tables_in self.new) (language_in self.new) }
+        ensures tables { tables_in self.new ≡ tables_in self.old }
+        ensures same { (language_in self.new ≡ language_in self.old) × (members_in self.new ≡ members_in self.old) }
+        ensures ok { OnOk result ((self.old.is_spent ≡ false) × (self.new.is_spent ≡ false)) }
+        ensures err { OnErr result (self.new.is_spent ≡ true) }
+        ensures spent { self.old.is_spent ≡ true → IsErr result }
+        ensures stays { self.old.is_spent ≡ true → self.new ≡ self.old }
+    {
+        believed::promises();
+        believed::meanings();
+        self.check_live()?;
+        self.happen(event)
+    }
+
     /// Each of these events, until memory is refused. No events take no memory.
     fn run_all(&mut self, events: &[Event]) -> Result<Vec<Vec<Output>>, AllocError>
         requires live { self.old.is_spent ≡ false }
-        ensures gives { IfOk result (λ outs. GivesAll (schema_in self.old) (members_in self.old) (now_of self.old) (map event_of events.now) (map (λ o. outputs_of o.items) outs.items)) }
+        ensures gives { IfOk result (λ outs. GivesAll (language_in self.old) (members_in self.old) (world_in self.old) (map event_of events.now) (map (λ o. outputs_of o.items) outs.items)) }
         ensures columns { IfOk result (λ outs. EachShowsColumns (tables_in self.old) events.now outs.items) }
         ensures kept { OnOk result (events_of self.new ≡ events_of self.old ++ map event_of events.now) }
         ensures begun { OnErr result (AddsBeginning (events_of self.old) (events_of self.new) (map event_of events.now)) }
@@ -109,12 +142,12 @@ impl World {
     {
         let mut outs = Vec::new(self.group.alloc);
         for event in events {
-            outs.push(self.happen(event)?)?;
+            outs.push(self.step(event)?)?;
         }
         Ok(outs)
     }
 
-    /// Lets these events happen, each after the one before, and gives for each what comes of it.
+    /// Lets these events happen by `step`, each after the one before, and gives for each what comes of it.
     ///
     /// The outputs are exactly those that the events have in the run after all that happened
     /// before: messages with their numbers, then the requests that were applied with what came of
@@ -149,30 +182,26 @@ impl World {
     /// later call gives it too, and changes nothing. Kept are the earlier events, and then those of
     /// these that were done, from the first on.
     pub fn run(&mut self, events: &[Event]) -> Result<Vec<Vec<Output>>, AllocError>
-        ensures gives { IfOk result (λ outs. GivesAll (schema_in self.old) (members_in self.old) (now_of self.old) (map event_of events.now) (map (λ o. outputs_of o.items) outs.items)) }
+        ensures gives { IfOk result (λ outs. GivesAll (language_in self.old) (members_in self.old) (world_in self.old) (map event_of events.now) (map (λ o. outputs_of o.items) outs.items)) }
         ensures columns { IfOk result (λ outs. EachShowsColumns (tables_in self.old) events.now outs.items) }
         ensures kept { OnOk result (events_of self.new ≡ events_of self.old ++ map event_of events.now) }
         ensures begun { OnErr result (AddsBeginning (events_of self.old) (events_of self.new) (map event_of events.now)) }
-        ensures agree { Agree (schema_in self.new) (members_in self.new) (opening_of self.new) (events_of self.new) }
-        ensures explained { IsExplained (schema_in self.new) (members_in self.new) (opening_of self.new) (events_of self.new) }
-        ensures invented { WereSubmitted (events_of self.new) (decided (schema_in self.new) (members_in self.new) (opening_of self.new) (events_of self.new)) }
-        ensures ordered { IsDecidedInOrder (schema_in self.new) (members_in self.new) (opening_of self.new) (events_of self.new) }
-        ensures serves { CanServe (schema_in self.new) (members_in self.new) (now_of self.new) }
-        ensures language { IsSchema (tables_in self.new) (schema_in self.new) }
+        ensures agree { Agree (language_in self.new) (members_in self.new) (outset_of self.new) (events_of self.new) }
+        ensures explained { IsExplained (language_in self.new) (members_in self.new) (outset_of self.new) (events_of self.new) }
+        ensures invented { WereSubmitted (events_of self.new) (decided (language_in self.new) (members_in self.new) (outset_of self.new) (events_of self.new)) }
+        ensures ordered { IsDecidedInOrder (language_in self.new) (members_in self.new) (outset_of self.new) (events_of self.new) }
+        ensures serves { CanServe (language_in self.new) (members_in self.new) (world_in self.new) }
+        ensures language { IsLanguage (tables_in self.new) (language_in self.new) }
         ensures tables { tables_in self.new ≡ tables_in self.old }
-        ensures same { (schema_in self.new ≡ schema_in self.old) × (members_in self.new ≡ members_in self.old) }
+        ensures same { (language_in self.new ≡ language_in self.old) × (members_in self.new ≡ members_in self.old) }
         ensures ok { OnOk result ((self.old.is_spent ≡ false) × (self.new.is_spent ≡ false)) }
         ensures err { OnErr result (self.new.is_spent ≡ true) }
         ensures idle { self.old.is_spent ≡ false → events.now ≡ [] → IsOk result }
         ensures spent { self.old.is_spent ≡ true → IsErr result }
         ensures stays { self.old.is_spent ≡ true → self.new ≡ self.old }
     {
-        safety::agreement();
-        onelist::one_list_explains();
-        onelist::nothing_invented();
-        onelist::in_real_order();
-        progress::always_serves();
-        sqlread::laws::schema_is_spelled();
+        believed::promises();
+        believed::meanings();
         self.check_live()?;
         match self.run_all(events) {
             Ok(outs) => Ok(outs),
@@ -185,7 +214,7 @@ impl World {
 
     /// What a member has stored: its term, its vote, its floor, and the length of its log. None for a
     /// member that is down or not there. An error exactly where the world is spent.
-    pub fn durable(&mut self, member: Member) -> Result<Option<Stored>, AllocError>
+    pub fn durable(&mut self, member: Member) -> Result<Option<StoredState>, AllocError>
         ensures ok { IfOk result (λ found. found ≡ durable_in (member_of self.old member)) }
         ensures same { self.new ≡ self.old }
         ensures spent { IsErr result ↔ (self.old.is_spent ≡ true) }
@@ -204,7 +233,7 @@ impl World {
         ensures down { self.old.is_spent ≡ false → if_up (member_of self.old member) ≡ None → IsOk result }
         ensures tables { tables_in self.new ≡ tables_in self.old }
         ensures kept { self.new.kept.items ≡ self.old.kept.items }
-        ensures same { (schema_in self.new ≡ schema_in self.old) × (members_in self.new ≡ members_in self.old) }
+        ensures same { (language_in self.new ≡ language_in self.old) × (members_in self.new ≡ members_in self.old) }
         ensures ok { OnOk result ((self.old.is_spent ≡ false) × (self.new.is_spent ≡ false)) }
         ensures err { OnErr result (self.new.is_spent ≡ true) }
         ensures spent { self.old.is_spent ≡ true → IsErr result }

@@ -5,8 +5,8 @@ pub mod event;
 mod group;
 pub mod history;
 pub mod laws;
-mod opening;
 pub mod output;
+mod outset;
 mod seat;
 
-pub use node::durable::Stored;
+pub use node::durable::StoredState;

@@ -3,7 +3,7 @@ ghost use Rattle.std.specs.Prelude.{◌≡◌, ◌≤◌, ℕ, Some, false, IfOk
 ghost use Rattle.answer.specs.Answers.{columns_in};
 ghost use Rattle.model.specs.Worlds.{node_left, started, stopped};
 ghost use Rattle.sqlchecks.specs.Columns.{Tables};
-ghost use Rattle.sqlread.specs.Meaning.{schema_of};
+ghost use Rattle.sqlread.specs.Meaning.{language_of};
 ghost use Rattle.sqlread.specs.Shapes.{query_of};
 ghost use Rattle.world.specs.View.{commit_in, durable_in, entry_in, node_in, works_at, IsAskedAt, IsSeat, IsStep};
 
@@ -14,7 +14,7 @@ use keep::memory::{MemImage, MemKeeper};
 use model::entry::Entry;
 use model::member::Member;
 use node::Work;
-use node::durable::Stored;
+use node::durable::StoredState;
 use node::node::{Fault, Node, Out};
 use schema::Schema;
 use sqlread::query::Query;
@@ -33,7 +33,7 @@ impl Seat {
     pub(crate) fn step(&mut self, work: Work) -> Result<Result<Out, Refusal>, AllocError>
         ensures seat { OnOk result ((t : Tables) (n m : ℕ) → IsSeat t n m self.old → IsSeat t n m self.new) }
         ensures step { IfOk result (λ s. (t : Tables) (n m : ℕ) → IsSeat t n m self.old →
-            IsStep (schema_of t) m (node_in self.old) (node_in self.new) (works_at t n m work (node_in self.old)) s) }
+            IsStep (language_of t) m (node_in self.old) (node_in self.new) (works_at t n m work (node_in self.old)) s) }
     {
         match self {
             Seat::Up(node) => match node.step(work) {
@@ -107,7 +107,7 @@ impl Seat {
     }
 
     /// What the member has stored, none where it is down.
-    pub(crate) fn durable(&self) -> Option<Stored>
+    pub(crate) fn durable(&self) -> Option<StoredState>
         ensures { (t : Tables) (n m : ℕ) → IsSeat t n m self.now → result ≡ durable_in (Some (node_in self.now)) }
     {
         match self {
@@ -144,7 +144,7 @@ impl Seat {
 
     /// What the member answers at its closed time.
     pub(crate) fn ask(&self, query: &Query) -> Result<Answer, Refusal>
-        ensures asked { (t : Tables) (n m : ℕ) → IsSeat t n m self.now → IsAskedAt (schema_of t) (query_of query.now) (node_in self.now) (node_in self.now).up result }
+        ensures asked { (t : Tables) (n m : ℕ) → IsSeat t n m self.now → IsAskedAt (language_of t) (query_of query.now) (node_in self.now) (node_in self.now).up result }
         ensures columns { IfOk result (λ a. (t : Tables) (n m : ℕ) → IsSeat t n m self.now → a.columns.items ≡ columns_in t query.now.table) }
     {
         match self {

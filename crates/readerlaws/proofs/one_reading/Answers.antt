@@ -8,4 +8,4 @@ pub returns-clause-question : goal.returns-clause-question
 returns-clause-question c = one_question c.forms_told.ensures.query
 
 pub returns-clause-meaning : goal.returns-clause-meaning
-returns-clause-meaning c = one_meaning c.schema_is_spelled.ensures
+returns-clause-meaning c = one_meaning c.language_is_spelled.ensures

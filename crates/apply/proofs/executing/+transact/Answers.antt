@@ -3,7 +3,7 @@ use Rattle.std.proofs.lemmas.Result.{err_from_is_err_and}
 use Rattle.rowlaws.proofs.RowFacts.{both}
 use Rattle.rowlaws.specs.Statements.{AllListed}
 use Rattle.rowlaws.specs.Whole.{ComesFromWhole}
-use Rattle.sqlread.specs.Meaning.{schema_of, meaning}
+use Rattle.sqlread.specs.Meaning.{language_of, meaning}
 use Rattle.sqlread.specs.Shapes.{statement_of}
 use Rattle.current.specs.Current.{rows_of, schema_in}
 use Rattle.current.specs.Places.{rows_at}
@@ -19,7 +19,7 @@ pub returns-in_err-check_touched-clause-err : goal.returns-in_err-check_touched-
 returns-in_err-check_touched-clause-err t c =
     let p = err_from_is_err_and c.from_residual.result c.from_residual.ensures.1 in
     let e = no_items c.args.statements.now c.in_default.ensures.cases in
-    let schema = schema_of (schema_in c.args.current.now) in
+    let schema = language_of (schema_in c.args.current.now) in
     let rows = rows_of c.args.current.now in
     rw (p.1, p.2) (λ whole. subst (λ ss. IsRefusedWhole schema c.args.t (map meaning (map statement_of ss)) rows rows c.in_err-check_touched.field-0.0) (sym e)
     (unchecked (ComesFromWhole schema rows (removed_in c.args.before) (added_in c.args.before)) schema c.args.t rows c.in_err-check_touched.field-0.0 c.in_err-check_touched.ensures.err whole))
@@ -31,16 +31,16 @@ returns-in_default-clause-ok t c = λ whole.
     let touched : Touched = record { tables = c.new-tables.result } in
     let removed : (n : ℕ) → removed_in touched n ≡ [] = λ n. ap (λ xs. rows_at removed_of xs n) c.new-tables.ensures.items in
     let added : (n : ℕ) → added_in touched n ≡ [] = λ n. ap (λ xs. rows_at added_of xs n) c.new-tables.ensures.items in
-    subst (λ ss. IsTransacted (schema_of (schema_in c.args.current.now)) c.args.t (map meaning (map statement_of ss)) rows rows (removed_in touched) (added_in touched)) (sym e)
-    (checked (schema_of (schema_in c.args.current.now)) c.args.t rows (removed_in touched) (added_in touched) removed added (c.in_ok-check_touched.ensures.ok whole))
+    subst (λ ss. IsTransacted (language_of (schema_in c.args.current.now)) c.args.t (map meaning (map statement_of ss)) rows rows (removed_in touched) (added_in touched)) (sym e)
+    (checked (language_of (schema_in c.args.current.now)) c.args.t rows (removed_in touched) (added_in touched) removed added (c.in_ok-check_touched.ensures.ok whole))
 
 pub returns-in_err-touched-clause-err : goal.returns-in_err-touched-clause-err
 returns-in_err-touched-clause-err t c =
     let p = err_from_is_err_and c.from_residual-in_err-touched.result c.from_residual-in_err-touched.ensures.1 in
     let e : c.args.statements.now ≡ c.in-Some.statement.now ∷ c.in-Some.rest.now = c.in-Some.ensures.cases.0 in
     let r = c.in_err-touched.field-0.0 in
-    rw (p.1, p.2) (λ whole. subst (λ ss. IsRefusedWhole (schema_of (schema_in c.args.current.now)) c.args.t (map meaning (map statement_of ss)) (rows_of c.args.current.now) (rows_of c.run.new.self) r) (sym e)
-    (stopped (schema_of (schema_in c.args.current.now)) c.args.t (meaning (statement_of c.in-Some.statement.now)) (map meaning (map statement_of c.in-Some.rest.now)) (rows_of c.args.current.now) (rows_of c.run.new.self) r c.in_err-touched.ensures.unchanged c.in_err-touched.ensures.err))
+    rw (p.1, p.2) (λ whole. subst (λ ss. IsRefusedWhole (language_of (schema_in c.args.current.now)) c.args.t (map meaning (map statement_of ss)) (rows_of c.args.current.now) (rows_of c.run.new.self) r) (sym e)
+    (stopped (language_of (schema_in c.args.current.now)) c.args.t (meaning (statement_of c.in-Some.statement.now)) (map meaning (map statement_of c.in-Some.rest.now)) (rows_of c.args.current.now) (rows_of c.run.new.self) r c.in_err-touched.ensures.unchanged c.in_err-touched.ensures.err))
 
 pub returns-in_err-touched-clause-back : goal.returns-in_err-touched-clause-back
 returns-in_err-touched-clause-back t c =
@@ -57,7 +57,7 @@ undo-requires-clause-touched t c =
 pub returns-in_ok-then-in-Ok-clause-ok : goal.returns-in_ok-then-in-Ok-clause-ok
 returns-in_ok-then-in-Ok-clause-ok t c = λ whole.
     let e : c.args.statements.now ≡ c.in-Some.statement.now ∷ c.in-Some.rest.now = c.in-Some.ensures.cases.0 in
-    let schema = schema_of (schema_in c.args.current.now) in
+    let schema = language_of (schema_in c.args.current.now) in
     let touched = c.in_ok-touched.touched in
     let all = c.in_ok-all.all in
     let later = c.in-Ok.later in
@@ -65,30 +65,30 @@ returns-in_ok-then-in-Ok-clause-ok t c = λ whole.
     let s = meaning (statement_of c.in-Some.statement.now) in
     let more = whole_more c.row_laws.ensures.whole schema c.args.t s (rows_of c.args.current.now) (rows_of c.run.new.self) (removed_in c.args.before) (added_in c.args.before) (removed_in touched) (added_in touched) (removed_in all) (added_in all)
     whole c.in_ok-touched.ensures.ok c.in_ok-all.ensures.removed c.in_ok-all.ensures.added in
-    let came = subst (λ x. ComesFromWhole (schema_of x) (rows_of c.run.new.self) (removed_in all) (added_in all)) (sym c.run.ensures.schema) more in
+    let came = subst (λ x. ComesFromWhole (language_of x) (rows_of c.run.new.self) (removed_in all) (added_in all)) (sym c.run.ensures.schema) more in
     subst (λ ss. IsTransacted schema c.args.t (map meaning (map statement_of ss)) (rows_of c.args.current.now) (rows_of c.transact.new.current) (removed_in both') (added_in both')) (sym e)
     (then_rest c.row_laws.ensures.follows schema c.args.t s (map meaning (map statement_of c.in-Some.rest.now)) (rows_of c.args.current.now) (rows_of c.run.new.self) (rows_of c.transact.new.current)
     (removed_in touched) (added_in touched) (removed_in later) (added_in later) (removed_in both') (added_in both') (statement_fine c.in-Some.statement.now)
     c.in_ok-touched.ensures.ok
-    (subst (λ x. IsTransacted (schema_of x) c.args.t (map meaning (map statement_of c.in-Some.rest.now)) (rows_of c.run.new.self) (rows_of c.transact.new.current) (removed_in later) (added_in later)) c.run.ensures.schema (c.in-Ok.ensures.ok came))
+    (subst (λ x. IsTransacted (language_of x) c.args.t (map meaning (map statement_of c.in-Some.rest.now)) (rows_of c.run.new.self) (rows_of c.transact.new.current) (removed_in later) (added_in later)) c.run.ensures.schema (c.in-Ok.ensures.ok came))
     c.in_ok-then-in-Ok.ensures.removed c.in_ok-then-in-Ok.ensures.added)
 
 pub returns-after-not-is_no_memory-clause-err : goal.returns-after-not-is_no_memory-clause-err
 returns-after-not-is_no_memory-clause-err t c = λ whole.
     let e : c.args.statements.now ≡ c.in-Some.statement.now ∷ c.in-Some.rest.now = c.in-Some.ensures.cases.0 in
-    let schema = schema_of (schema_in c.args.current.now) in
+    let schema = language_of (schema_in c.args.current.now) in
     let touched = c.in_ok-touched.touched in
     let all = c.in_ok-all.all in
     let s = meaning (statement_of c.in-Some.statement.now) in
     let more = whole_more c.row_laws.ensures.whole schema c.args.t s (rows_of c.args.current.now) (rows_of c.run.new.self) (removed_in c.args.before) (added_in c.args.before) (removed_in touched) (added_in touched) (removed_in all) (added_in all)
     whole c.in_ok-touched.ensures.ok c.in_ok-all.ensures.removed c.in_ok-all.ensures.added in
-    let came = subst (λ x. ComesFromWhole (schema_of x) (rows_of c.run.new.self) (removed_in all) (added_in all)) (sym c.run.ensures.schema) more in
+    let came = subst (λ x. ComesFromWhole (language_of x) (rows_of c.run.new.self) (removed_in all) (added_in all)) (sym c.run.ensures.schema) more in
     subst (λ ss. IsRefusedWhole schema c.args.t (map meaning (map statement_of ss)) (rows_of c.args.current.now) (rows_of c.if-not-is_no_memory.current) c.in-Err.refusal) (sym e)
     (elim c.if-not-is_no_memory.branch [
       | then-not-is_no_memory+in_ok-undo-in-Err w ↦
           rw w.current-is (undone schema c.args.t s (map meaning (map statement_of c.in-Some.rest.now)) (rows_of c.args.current.now) (rows_of c.run.new.self) (rows_of c.transact.new.current) (rows_of w.undo.new.self) (removed_in touched) (added_in touched) c.in-Err.refusal
           c.in_ok-touched.ensures.ok
-          (subst (λ x. IsRefusedWhole (schema_of x) c.args.t (map meaning (map statement_of c.in-Some.rest.now)) (rows_of c.run.new.self) (rows_of c.transact.new.current) c.in-Err.refusal) c.run.ensures.schema (c.in-Err.ensures.err came)) w.in_ok-undo-in-Err.ensures.ok)
+          (subst (λ x. IsRefusedWhole (language_of x) c.args.t (map meaning (map statement_of c.in-Some.rest.now)) (rows_of c.run.new.self) (rows_of c.transact.new.current) c.in-Err.refusal) c.run.ensures.schema (c.in-Err.ensures.err came)) w.in_ok-undo-in-Err.ensures.ok)
       | else-not-is_no_memory w ↦ inl (c.is_no_memory.ensures.0 w.if-not-is_no_memory.false)
     ])
 

@@ -2,7 +2,7 @@ use Rattle.std.specs.Result.{result_unwrap_or}
 use Rattle.std.proofs.Common.{map, length, ap, ◌∙◌, sym, subst, []}
 use Rattle.rowlaws.specs.Whole.{ComesFromWhole}
 use Rattle.rowlaws.proofs.RowFacts.{both}
-use Rattle.sqlread.specs.Meaning.{schema_of, meaning}
+use Rattle.sqlread.specs.Meaning.{language_of, meaning}
 use Rattle.sqlread.specs.Shapes.{statement_of}
 use Rattle.current.specs.Current.{rows_of, schema_in, table_count}
 use Rattle.current.specs.Places.{rows_at}
@@ -12,16 +12,16 @@ use Rattle.apply.proofs.executing.execute.Goals as goal
 
 pub returns-in-Ok-clause-executed : goal.returns-in-Ok-clause-executed
 returns-in-Ok-clause-executed c = λ state listed same none.
-    let schema = schema_of (schema_in c.args.current.now) in
+    let schema = language_of (schema_in c.args.current.now) in
     let whole = subst (λ xs. ComesFromWhole schema (rows_of c.args.current.now) (rows_at removed_of xs) (rows_at added_of xs)) (sym c.new-tables.ensures.items) (c.whole_itself.ensures schema (rows_of c.args.current.now) state listed none) in
-    let e = ap (λ xs. map meaning (map statement_of xs)) c.as_slice.ensures.value ∙ c.in_ok-statements.ensures ∙ ap (λ tables. result_unwrap_or ((schema_of tables).reads c.args.text.now) []) c.schema.ensures in
+    let e = ap (λ xs. map meaning (map statement_of xs)) c.as_slice.ensures.value ∙ c.in_ok-statements.ensures ∙ ap (λ tables. result_unwrap_or ((language_of tables).reads c.args.text.now) []) c.schema.ensures in
     accepted c.nothing_beyond.ensures schema c.args.t c.args.text.now (map meaning (map statement_of c.as_slice.result.now)) (rows_of c.args.current.now) (rows_of c.transact.new.current) c.in-Ok.touched c.args.versions.now c.commit.new.self (table_count c.args.current.now)
     e (c.in-Ok.ensures.ok whole) c.in-Ok.ensures.tables (ap length c.commit.ensures.schema) c.in_ok-commit-in-Ok.ensures.ok state listed (ap length same)
 
 pub returns-clause-executed : goal.returns-clause-executed
 returns-clause-executed c = λ state listed same none.
-    let schema = schema_of (schema_in c.args.current.now) in
+    let schema = language_of (schema_in c.args.current.now) in
     let whole = subst (λ xs. ComesFromWhole schema (rows_of c.args.current.now) (rows_at removed_of xs) (rows_at added_of xs)) (sym c.new-tables.ensures.items) (c.whole_itself.ensures schema (rows_of c.args.current.now) state listed none) in
-    let e = ap (λ xs. map meaning (map statement_of xs)) c.as_slice.ensures.value ∙ c.in_ok-statements.ensures ∙ ap (λ tables. result_unwrap_or ((schema_of tables).reads c.args.text.now) []) c.schema.ensures in
+    let e = ap (λ xs. map meaning (map statement_of xs)) c.as_slice.ensures.value ∙ c.in_ok-statements.ensures ∙ ap (λ tables. result_unwrap_or ((language_of tables).reads c.args.text.now) []) c.schema.ensures in
     refused schema c.args.t c.args.text.now (map meaning (map statement_of c.as_slice.result.now)) (rows_of c.args.current.now) (rows_of c.transact.new.current) c.args.versions.now c.in-Err.refusal
     e (c.in-Err.ensures.err whole) (λ h. both (c.is_no_memory.ensures.1 h) c.if-is_no_memory.false) state listed

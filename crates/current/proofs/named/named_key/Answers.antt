@@ -1,4 +1,4 @@
-use Rattle.std.proofs.Common.{◌≡◌, ◌+◌, ◌∷◌, [], ◌++◌, ◌∙◌, ap, sym, length}
+use Rattle.std.proofs.Common.{rules, ◌≡◌, ◌+◌, ◌∷◌, [], ◌++◌, ◌∙◌, ap, sym, length}
 use Rattle.std.proofs.lemmas.List.{length-append}
 use Rattle.current.proofs.Naming.{one_more}
 use Rattle.current.proofs.named.named_key.Goals as goal
@@ -8,7 +8,8 @@ loop-place-preserved c =
     let place = c.loop-place.place in
     let old = c.loop-place.values.items in
     let value = c.in-Some.value.now in
-    let items = c.in_ok-push.ensures.items ∙ ap (λ v. old ++ v ∷ []) c.in_ok-clone.ensures.cases in
+    let same : c.in_ok-clone.field-0 ≡ value = search rules in
+    let items = c.in_ok-push.ensures.items ∙ ap (λ v. old ++ v ∷ []) same in
     let more : length (old ++ value ∷ []) ≡ length old + 1 = length-append old (value ∷ []) in
     let was = c.loop-place.invariant.long in
     record {

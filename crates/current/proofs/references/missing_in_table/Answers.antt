@@ -17,9 +17,9 @@ returns-in-Some c =
     let all = rows_at rows_of_table c.args.tables.now in
     let rows = sym (ap (λ o. option_map_or rows_of_table o []) c.in-Some.ensures) in
     let got = sym rows ∙ sym (rows_at-got rows_of_table c.args.tables.now place) in
-    subst (λ first. IfOk c.missing_in_lines.result (λ found. option_map place_of found ≡ first))
+    subst (λ first. IfOk c.missing_in_strands.result (λ found. option_map place_of found ≡ first))
     (sym (rows_of_table_miss schema place _ _ all _ c.table.ensures.table) ∙ ap (missing_in_rows (references_from 0 schema) all place) got)
-    c.missing_in_lines.ensures
+    c.missing_in_strands.ensures
 
 pub returns-in-None : goal.returns-in-None
 returns-in-None c =

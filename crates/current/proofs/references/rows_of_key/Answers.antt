@@ -7,9 +7,9 @@ use Rattle.std.specs.BTreeMap.{get}
 use Rattle.model.specs.Values.{key_cmp}
 use Rattle.model.specs.Tables.{Row}
 use Rattle.overlaps.specs.Index.{AreApart}
-use Rattle.overlaps.specs.Stored.{items_of}
-use Rattle.current.proofs.Placed.{days_of_row, line_items}
-use Rattle.current.proofs.OfKey.{line_periods}
+use Rattle.overlaps.specs.Items.{items_of}
+use Rattle.current.proofs.Placed.{days_of_row, strand_items}
+use Rattle.current.proofs.OfKey.{strand_periods}
 use Rattle.current.proofs.Meeting.{twice}
 use Rattle.current.proofs.references.rows_of_key.Goals as goal
 
@@ -25,8 +25,8 @@ pub returns-in-Some-clause-apart : goal.returns-in-Some-clause-apart
 returns-in-Some-clause-apart c =
     let t = c.in-Some.rows.now in
     let key = c.args.key.now in
-    let items = items_of t.index.lines key in
+    let items = items_of t.index.strands key in
     let same : map days_of_row c.rows_of_key.result.now ≡ map days_of_row items =
-    sym (twice c.rows_of_key.result.now) ∙ c.rows_of_key.ensures.periods ∙ sym (line_periods t.index.lines t.ordered t.in_lines key)
-    ∙ ap (map (λ (r : Row). r.period)) (line_items (get key_cmp t.index.lines key)) ∙ twice items in
+    sym (twice c.rows_of_key.result.now) ∙ c.rows_of_key.ensures.periods ∙ sym (strand_periods t.index.strands t.ordered t.in_strands key)
+    ∙ ap (map (λ (r : Row). r.period)) (strand_items (get key_cmp t.index.strands key)) ∙ twice items in
     subst (λ ps. AreApart ps) (sym same) (t.index.apart key)

@@ -15,7 +15,7 @@ returns-in-Some-2 c =
     let all = rows_at rows_of_table c.args.tables.now in
     let split : c.loop-key.key-iterator ≡ c.in-Some.key.now ∷ c.next.new.self = rest_more deref _ _ _ c.in-Some.key c.in-Some.is c.next.ensures.steps in
     found_in_key references all c.args.place _ c.in-Some.key.now c.next.new.self c.loop-key.key-iterator split c.loop-key.invariant (place_of c.in-Some-2.found)
-    (sym (ap (option_map place_of) c.in-Some-2.is) ∙ c.in_ok-found.ensures ∙ ap (missing_in_rows references all c.args.place) c.line_of-rows.ensures)
+    (sym (ap (option_map place_of) c.in-Some-2.is) ∙ c.in_ok-found.ensures ∙ ap (missing_in_rows references all c.args.place) c.strand_of-rows.ensures)
 
 pub loop-key-preserved : goal.loop-key-preserved
 loop-key-preserved c =
@@ -23,4 +23,4 @@ loop-key-preserved c =
     let all = rows_at rows_of_table c.args.tables.now in
     let split : c.loop-key.key-iterator ≡ c.in-Some.key.now ∷ c.next.new.self = rest_more deref _ _ _ c.in-Some.key c.in-Some.is c.next.ensures.steps in
     none_in_key references all c.args.place _ c.in-Some.key.now c.next.new.self c.loop-key.key-iterator split c.loop-key.invariant
-    (sym (ap (option_map place_of) c.in_default.is) ∙ c.in_ok-found.ensures ∙ ap (missing_in_rows references all c.args.place) c.line_of-rows.ensures)
+    (sym (ap (option_map place_of) c.in_default.is) ∙ c.in_ok-found.ensures ∙ ap (missing_in_rows references all c.args.place) c.strand_of-rows.ensures)

@@ -4,8 +4,8 @@ use Rattle.node.proofs.reading.all_entries.Given as goal
 
 abbrev pub invariant-loop-before : goal.invariant-loop-before
 invariant-loop-before g l = record {
-  read : g.S.Shelf.is_honest l.shelf → l.log.items ≡ take l.before (g.S.Shelf.stored l.initial.shelf).log;
-  shelf : IsRead (g.S.Shelf.is_honest l.initial.shelf) (g.S.Shelf.is_honest l.shelf) (g.S.Shelf.stored l.initial.shelf) (g.S.Shelf.stored l.shelf) (g.S.Shelf.may_hold l.initial.shelf) (g.S.Shelf.may_hold l.shelf) (g.S.Shelf.serves l.initial.shelf) (g.S.Shelf.serves l.shelf) (g.S.Shelf.failed l.initial.shelf) (g.S.Shelf.failed l.shelf) (g.S.Shelf.saves l.initial.shelf) (g.S.Shelf.saves l.shelf);
-  up : g.S.Shelf.is_up l.shelf ≡ true;
-  asks : g.S.Shelf.asks l.shelf ≤ g.S.Shelf.asks l.initial.shelf + l.before;
+  read : g.S.LogReader.is_honest l.reader → l.log.items ≡ take l.before (g.S.LogReader.stored l.initial.reader).log;
+  reader : IsRead (g.S.LogReader.is_honest l.initial.reader) (g.S.LogReader.is_honest l.reader) (g.S.LogReader.stored l.initial.reader) (g.S.LogReader.stored l.reader) (g.S.LogReader.may_hold l.initial.reader) (g.S.LogReader.may_hold l.reader) (g.S.LogReader.serves l.initial.reader) (g.S.LogReader.serves l.reader) (g.S.LogReader.failed l.initial.reader) (g.S.LogReader.failed l.reader) (g.S.LogReader.saves l.initial.reader) (g.S.LogReader.saves l.reader);
+  up : g.S.LogReader.is_up l.reader ≡ true;
+  asks : g.S.LogReader.asks l.reader ≤ g.S.LogReader.asks l.initial.reader + l.before;
 }

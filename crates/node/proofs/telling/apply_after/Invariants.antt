@@ -6,9 +6,9 @@ use Rattle.node.proofs.telling.apply_after.Given as goal
 
 abbrev pub invariant-loop-place : goal.invariant-loop-place
 invariant-loop-place g l = record {
-  applied : g.S.Shelf.is_honest l.shelf → AreApplied l.core.schema (g.S.Shelf.stored l.initial.shelf).log l.before l.place l.applied.entries.items l.applied.told.items l.tables;
+  applied : g.S.LogReader.is_honest l.reader → AreApplied l.core.schema (g.S.LogReader.stored l.initial.reader).log l.before l.place l.applied.entries.items l.applied.told.items l.tables;
   made : (schema : columns.Tables) → AreMade schema l.initial.tables → AreMade schema l.tables;
-  shelf : IsRead (g.S.Shelf.is_honest l.initial.shelf) (g.S.Shelf.is_honest l.shelf) (g.S.Shelf.stored l.initial.shelf) (g.S.Shelf.stored l.shelf) (g.S.Shelf.may_hold l.initial.shelf) (g.S.Shelf.may_hold l.shelf) (g.S.Shelf.serves l.initial.shelf) (g.S.Shelf.serves l.shelf) (g.S.Shelf.failed l.initial.shelf) (g.S.Shelf.failed l.shelf) (g.S.Shelf.saves l.initial.shelf) (g.S.Shelf.saves l.shelf);
-  up : g.S.Shelf.is_up l.shelf ≡ true;
-  asks : g.S.Shelf.asks l.shelf ≤ g.S.Shelf.asks l.initial.shelf + length l.applied.entries.items;
+  reader : IsRead (g.S.LogReader.is_honest l.initial.reader) (g.S.LogReader.is_honest l.reader) (g.S.LogReader.stored l.initial.reader) (g.S.LogReader.stored l.reader) (g.S.LogReader.may_hold l.initial.reader) (g.S.LogReader.may_hold l.reader) (g.S.LogReader.serves l.initial.reader) (g.S.LogReader.serves l.reader) (g.S.LogReader.failed l.initial.reader) (g.S.LogReader.failed l.reader) (g.S.LogReader.saves l.initial.reader) (g.S.LogReader.saves l.reader);
+  up : g.S.LogReader.is_up l.reader ≡ true;
+  asks : g.S.LogReader.asks l.reader ≤ g.S.LogReader.asks l.initial.reader + length l.applied.entries.items;
 }

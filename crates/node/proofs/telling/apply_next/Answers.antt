@@ -5,8 +5,8 @@ use Rattle.node.proofs.telling.apply_next.Goals as goal
 pub returns-clause-next : goal.returns-clause-next
 returns-clause-next g c = λ honest.
     let core = c.args.core.now in
-    let stored = g.S.Shelf.stored c.args.shelf.now in
-    let was = c.entry.ensures.shelf.honest honest in
+    let stored = g.S.LogReader.stored c.args.reader.now in
+    let was = c.entry.ensures.reader.honest honest in
     let step = c.requires.stored was in
     let got = fetched core stored c.args.before c.in-Some.entry c.in_ok-entry.field-0 step (c.in_ok-entry.ensures.ok honest (reached core stored step)) c.in-Some.is in
     let are = c.requires.current was in

@@ -10,7 +10,7 @@ pub add_all-requires-clause-along : goal.add_all-requires-clause-along
 add_all-requires-clause-along c =
     let ran = c.in_ok-run.ensures in
     let P : List Entry → Type 0 = λ l. AreAlong l (now_of c.run.new.self).nodes in
-    subst P (sym c.requires.list) (along_next c.args.world.now c.run.new.self _ ran.same.0 ran.same.1 ran.kept ran.agree)
+    subst P (sym c.requires.list) (along_next c.args.world.now c.run.new.self _ ran.same.0 ran.same.1 ran.kept (c.agreement.ensures.new _ _ _))
 
 pub add_all-requires-clause-blank : goal.add_all-requires-clause-blank
 add_all-requires-clause-blank c = blank_down c.run.new.self (c.run.new.self.whole c.in_ok-run.ensures.ok.1)

@@ -2,7 +2,7 @@ use Rattle.std.proofs.Common.{rules, ◌≡◌, ◌∙◌, ◌+◌, ◌<◌, Lis
 use Rattle.std.proofs.lemmas.List.{take_more}
 use Rattle.apply.specs.View.{AreTables}
 use Rattle.model.specs.declared.entry.Entry.{Entry}
-use Rattle.sqlread.specs.Meaning.{schema_of}
+use Rattle.sqlread.specs.Meaning.{language_of}
 use Rattle.report.specs.Settled.{if_found, outcomes_from}
 use Rattle.report.proofs.Turning.{told_more}
 use Rattle.report.proofs.settled.outcomes_of.Goals as goal
@@ -20,6 +20,6 @@ loop-entry-preserved c =
     let T : List Entry → Type 0 = λ l. AreTables schema l c.apply.new.self in
     record {
       tables = subst T (sym next) (c.in_ok-found.ensures.kept schema (take i all) inv.tables);
-      told = told_more (schema_of schema) all i e told c.push_found.new.outcomes.items (outcomes_from (schema_of schema) [] all) within c.entry-item.is
+      told = told_more (language_of schema) all i e told c.push_found.new.outcomes.items (outcomes_from (language_of schema) [] all) within c.entry-item.is
           (c.in_ok-push_found.ensures ∙ ap (λ o. told ++ if_found o) (c.in_ok-found.ensures.outcome schema (take i all) inv.tables)) inv.told;
     }

@@ -2,7 +2,7 @@ use Rattle.std.proofs.Common.{◌≡◌, Ok, [], ◌∷◌, ◌++◌, List, Opti
 use Rattle.std.specs.Option.{option_to_list}
 use Rattle.std.proofs.lemmas.List.{map_push}
 use Rattle.sqltokens.specs.declared.token.Sign.TheVariants.{Comma}
-use Rattle.sqltokens.specs.What.{whats, is_mark}
+use Rattle.sqltokens.specs.What.{whats, is_symbol}
 use Rattle.phrase.specs.Grammar.{many}
 use Rattle.phrase.specs.Reading.{with_front}
 use Rattle.namesyntax.specs.declared.forms.Name.{Name}
@@ -20,5 +20,5 @@ returns c =
     key_columns_read (whats c.args.cursor.now.rest.now) (whats c.name.new.cursor.rest.now) (whats c.sign.new.cursor.rest.now) (whats c.name-2.new.cursor.rest.now) (whats c.more.new.cursor.rest.now)
     (name_of c.in_ok-first.first) (name_of c.in_ok-second.second) (name_of c.unwrap-period.result) (names_of c.more.new.all.items) (names_of c.pop.new.self.items)
     c.in_ok-first.ensures c.in_ok-sign.ensures c.in_ok-second.ensures
-    (subst (λ (l : List Bytes). with_front l ((many (is_mark Comma) another_name).read (whats c.name-2.new.cursor.rest.now)) ≡ Ok (names_of c.more.new.all.items, whats c.more.new.cursor.rest.now)) both c.in_ok-more.ensures)
+    (subst (λ (l : List Bytes). with_front l ((many (is_symbol Comma) another_name).read (whats c.name-2.new.cursor.rest.now)) ≡ Ok (names_of c.more.new.all.items, whats c.more.new.cursor.rest.now)) both c.in_ok-more.ensures)
     apart

@@ -1,6 +1,6 @@
 use Rattle.sqlite.specs.State.{HasCleanDisk}
 use Rattle.sqlite.specs.Held.{state}
-use Rattle.sqlread.specs.Meaning.{schema_of}
+use Rattle.sqlread.specs.Meaning.{language_of}
 use Rattle.storetables.specs.Stored.{IsSound}
 use Rattle.storetables.proofs.Settling.{keeps_offers, offers_on}
 use Rattle.storetables.proofs.Opened.{judged_opens}
@@ -16,7 +16,7 @@ returns-clause-ok g c clean =
     let new = state g.S.Store c.judge.new.conn in
     let early : HasCleanDisk mid = c.judge.ensures.clean clean in
     let ready = c.in_ok-ready.ensures.ready early c.if-not-ready.false in
-    judged_opens old mid new c.args.members (schema_of c.args.schema.now) c.judge.result early c.set_up.ensures.autocommit ready c.set_up.ensures.left (c.judge.ensures.same clean) (c.judge.ensures.ok clean)
+    judged_opens old mid new c.args.members (language_of c.args.schema.now) c.judge.result early c.set_up.ensures.autocommit ready c.set_up.ensures.left (c.judge.ensures.same clean) (c.judge.ensures.ok clean)
 
 pub returns-clause-left : goal.returns-clause-left
 returns-clause-left g c d offer =

@@ -2,7 +2,7 @@ use Rattle.std.proofs.Common.{List, ◌≡◌, ◌<◌, ◌≤◌, length, map, 
 use Rattle.sqlite.specs.State.{HasCleanDisk}
 use Rattle.sqlite.specs.Held.{state}
 use Rattle.sqlite.specs.Effect.{Database}
-use Rattle.sqlread.specs.Meaning.{schema_of}
+use Rattle.sqlread.specs.Meaning.{language_of}
 use Rattle.keep.specs.Log.{is_vote}
 use Rattle.std.specs.List.Sorted.{IsPermutation}
 use Rattle.storetables.specs.Contents.{Item}
@@ -20,7 +20,7 @@ returns-then-count-gt-LOG_ROOM-clause-ok g c clean has =
     let now = (c.in_ok-hard.ensures.same mid has).0.now_is in
     let shown = subst (λ (d : Database). (es : List Item) → in_order (d.trees 1) ≡ log_rows 1 es → c.in_ok-rows.rows.items ≡ shown_log 1 es) now (c.in_ok-rows.ensures.known clean (ap (λ (d : Database). d.schema) now ∙ has)) in
     let long : 100000 < length c.in_ok-rows.rows.items = search rules in
-    no_room db c.args.members (schema_of c.args.schema.now) c.in-Some.hard hard c.in_ok-rows.rows.items shown long
+    no_room db c.args.members (language_of c.args.schema.now) c.in-Some.hard hard c.in_ok-rows.rows.items shown long
 
 pub returns-then-not-forms-clause-ok : goal.returns-then-not-forms-clause-ok
 returns-then-not-forms-clause-ok g c clean has =
@@ -30,7 +30,7 @@ returns-then-not-forms-clause-ok g c clean has =
     let now = (c.in_ok-hard.ensures.same mid has).0.now_is in
     let shown = subst (λ (d : Database). (es : List Item) → in_order (d.trees 1) ≡ log_rows 1 es → c.in_ok-rows.rows.items ≡ shown_log 1 es) now (c.in_ok-rows.ensures.known clean (ap (λ (d : Database). d.schema) now ∙ has)) in
     let told = rw c.deref.ensures.value at c.in_ok-forms.ensures in
-    no_form db c.args.members (schema_of c.args.schema.now) c.in-Some.hard hard c.in_ok-rows.rows.items shown (λ h. not_both c.in_ok-forms.forms (told.1 h) c.if-not-forms.true)
+    no_form db c.args.members (language_of c.args.schema.now) c.in-Some.hard hard c.in_ok-rows.rows.items shown (λ h. not_both c.in_ok-forms.forms (told.1 h) c.if-not-forms.true)
 
 pub returns-clause-ok : goal.returns-clause-ok
 returns-clause-ok g c clean has =
@@ -44,5 +44,5 @@ returns-clause-ok g c clean has =
     let short : length c.in_ok-rows.rows.items ≤ 100000 = search rules in
     let voted : is_vote c.args.members c.in-Some.hard.vote ≡ true = sym c.is_vote.ensures ∙ c.if-not-is_vote.false in
     let long : c.len-count.result ≡ length c.in_ok-rows.rows.items = search rules in
-    let found = found_log db c.args.members (schema_of c.args.schema.now) c.in-Some.hard c.in_ok-rows.rows.items has (c.schema.ensures.live same.was_open).0 hard voted shown short (told.0 c.if-not-forms.false) in
-    subst (IsFound db c.args.members (schema_of c.args.schema.now)) (sym long) found
+    let found = found_log db c.args.members (language_of c.args.schema.now) c.in-Some.hard c.in_ok-rows.rows.items has (c.schema.ensures.live same.was_open).0 hard voted shown short (told.0 c.if-not-forms.false) in
+    subst (IsFound db c.args.members (language_of c.args.schema.now)) (sym long) found

@@ -1,12 +1,12 @@
 use Rattle.std.proofs.Common.{◌+◌, drop, sym, subst, arith}
-use Rattle.sqlread.specs.Meaning.{schema_of}
+use Rattle.sqlread.specs.Meaning.{language_of}
 use Rattle.storetables.specs.Judging.{Forms}
 use Rattle.storetables.proofs.Judged.{forms_next, forms_rest}
 use Rattle.storetables.proofs.judging.forms_log.Goals as goal
 
 pub each-preserved : goal.each-preserved
 each-preserved c =
-    let tables = schema_of c.args.schema.now in
+    let tables = language_of c.args.schema.now in
     let rows = c.args.rows.now in
     let e = c.in-Some.entry in
     let told = rw c.in-Some.is at c.in_ok-entry.ensures in

@@ -1,12 +1,12 @@
 use Rattle.std.proofs.Common.{◌≡◌, ◌+◌, ◌≤◌, drop}
 use Rattle.model.specs.Stamps.{TIME_LAST}
-use Rattle.sqlread.specs.Meaning.{schema_of}
+use Rattle.sqlread.specs.Meaning.{language_of}
 use Rattle.storetables.specs.Judging.{Forms}
 use Rattle.storetables.proofs.judging.forms_log.Given as goal
 
 abbrev pub invariant-each : goal.invariant-each
 invariant-each l =
-    let tables = schema_of l.schema in
+    let tables = language_of l.schema in
     record {
       counted : l.at ≡ l.row-index + 1;
       later : l.least ≤ TIME_LAST + 1;

@@ -2,7 +2,7 @@ use Rattle.std.proofs.Common.{◌≡◌, ◌==◌, cond, reverse, Some, None, op
 use Rattle.model.specs.declared.entry.Request.{Request}
 use Rattle.model.specs.Transactions.{first_orphan}
 use Rattle.model.specs.Logs.{state_after, outcome}
-use Rattle.sqlread.specs.Meaning.{schema_of}
+use Rattle.sqlread.specs.Meaning.{language_of}
 use Rattle.current.specs.Current.{rows_of}
 use Rattle.sysversion.specs.Versions.{versions_of}
 use Rattle.retry.specs.Judging.{outcomes_of, with_outcome}
@@ -28,7 +28,7 @@ returns-in-Some-2-clause-outcome c = λ schema list are.
     let e = c.args.entry.now in
     let known = sym c.in_ok-outcome.ensures ∙ c.in-Some-2.is in
     ap (λ x. Some x) (outcome_again schema list e c.log_laws.ensures.stays c.args.self.now are c.in-Some.request c.in-Some.is c.in-Some-2.outcome known)
-    ∙ sym (ap (λ o. option_map (λ (r : Request). outcome (schema_of schema) e.stamp r (reverse list)) o) c.in-Some.is)
+    ∙ sym (ap (λ o. option_map (λ (r : Request). outcome (language_of schema) e.stamp r (reverse list)) o) c.in-Some.is)
 
 pub returns-clause-kept : goal.returns-clause-kept
 returns-clause-kept c = λ schema list are.
@@ -39,10 +39,10 @@ returns-clause-kept c = λ schema list are.
     let laws = c.log_laws.ensures in
     let new : Tables = record { alloc = old.alloc; current = c.execute.new.current; versions = c.execute.new.versions; requests = c.keep.new.self; last = Some e.stamp; failed = old.failed } in
     let unknown = sym c.in_ok-outcome.ensures ∙ c.in_default-2.is in
-    let state = state_after (schema_of schema) (reverse list) in
-    let ran = c.in_ok-outcome-2.ensures.executed state are.rows (are.versions_schema ∙ sym are.current_schema) (subst (λ s. first_orphan (schema_of s) state ≡ None) (sym are.current_schema) (c.log_laws.ensures.parents (schema_of schema) (reverse list))) in
-    let done = subst (λ text. IsExecuted (schema_of schema) e.stamp text state (rows_of new.current) (versions_of old.versions) (versions_of new.versions) o) c.as_str.ensures
-    (subst (λ s. IsExecuted (schema_of s) e.stamp c.as_str.result.now state (rows_of new.current) (versions_of old.versions) (versions_of new.versions) o) are.current_schema ran) in
+    let state = state_after (language_of schema) (reverse list) in
+    let ran = c.in_ok-outcome-2.ensures.executed state are.rows (are.versions_schema ∙ sym are.current_schema) (subst (λ s. first_orphan (language_of s) state ≡ None) (sym are.current_schema) (c.log_laws.ensures.parents (language_of schema) (reverse list))) in
+    let done = subst (λ text. IsExecuted (language_of schema) e.stamp text state (rows_of new.current) (versions_of old.versions) (versions_of new.versions) o) c.as_str.ensures
+    (subst (λ s. IsExecuted (language_of s) e.stamp c.as_str.result.now state (rows_of new.current) (versions_of old.versions) (versions_of new.versions) o) are.current_schema ran) in
     executed_first schema list e laws.stays old are r c.in-Some.is unknown o done.is laws.commit laws.by_key laws.before laws.fine (reads_fine laws.calendar schema) new done.rows done.committed
     c.in_ok-keep.ensures.numbers (λ k. c.in_ok-keep.ensures.outcomes k ∙ ap (λ x. cond (k == r.client) (with_outcome x (outcomes_of old.requests r.client)) (outcomes_of old.requests k)) c.in_ok-kept.ensures) refl c.execute.ensures.current_schema c.execute.ensures.versions_schema
 
@@ -53,9 +53,9 @@ returns-clause-outcome c = λ schema list are.
     let r = c.in-Some.request in
     let o = c.in_ok-outcome-2.outcome in
     let unknown = sym c.in_ok-outcome.ensures ∙ c.in_default-2.is in
-    let state = state_after (schema_of schema) (reverse list) in
-    let ran = c.in_ok-outcome-2.ensures.executed state are.rows (are.versions_schema ∙ sym are.current_schema) (subst (λ s. first_orphan (schema_of s) state ≡ None) (sym are.current_schema) (c.log_laws.ensures.parents (schema_of schema) (reverse list))) in
-    let done = subst (λ text. IsExecuted (schema_of schema) e.stamp text state (rows_of c.execute.new.current) (versions_of old.versions) (versions_of c.execute.new.versions) o) c.as_str.ensures
-    (subst (λ s. IsExecuted (schema_of s) e.stamp c.as_str.result.now state (rows_of c.execute.new.current) (versions_of old.versions) (versions_of c.execute.new.versions) o) are.current_schema ran) in
+    let state = state_after (language_of schema) (reverse list) in
+    let ran = c.in_ok-outcome-2.ensures.executed state are.rows (are.versions_schema ∙ sym are.current_schema) (subst (λ s. first_orphan (language_of s) state ≡ None) (sym are.current_schema) (c.log_laws.ensures.parents (language_of schema) (reverse list))) in
+    let done = subst (λ text. IsExecuted (language_of schema) e.stamp text state (rows_of c.execute.new.current) (versions_of old.versions) (versions_of c.execute.new.versions) o) c.as_str.ensures
+    (subst (λ s. IsExecuted (language_of s) e.stamp c.as_str.result.now state (rows_of c.execute.new.current) (versions_of old.versions) (versions_of c.execute.new.versions) o) are.current_schema ran) in
     ap (λ x. Some x) (outcome_first schema list e c.log_laws.ensures.stays old are r c.in-Some.is unknown o done.is)
-    ∙ sym (ap (λ x. option_map (λ (q : Request). outcome (schema_of schema) e.stamp q (reverse list)) x) c.in-Some.is)
+    ∙ sym (ap (λ x. option_map (λ (q : Request). outcome (language_of schema) e.stamp q (reverse list)) x) c.in-Some.is)

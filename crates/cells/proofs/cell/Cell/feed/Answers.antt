@@ -200,7 +200,7 @@ invariant_of-self-in-Err-Down-clause-held g c = λ down d may.
     let first : c.new-step.result ≡ step_of c.in-Some.mark c.args.reading c.args.packet = made_at c.new-step.result c.in-Some.mark (to_z w64 (of_z w64 c.args.reading)) c.args.reading c.args.packet same c.new-step.ensures in
     let old = c.args.self.now in
     let step = rw c.in-Err-Down.field-0-is at c.in-Err-Down.ensures in
-    let honest = g.met.K.Shelf.only_honest c.step.new.self.keeper d may in
+    let honest = g.met.K.LogReader.only_honest c.step.new.self.keeper d may in
     let was = old.replayed c.if-not-self.false in
     let s : Step = c.new-step.result in
     let seat = c.step.ensures.group in
@@ -248,7 +248,7 @@ invariant_of-self-in-Err-clause-held g c = λ down d may.
     let first : c.new-step.result ≡ step_of c.in-Some.mark c.args.reading c.args.packet = made_at c.new-step.result c.in-Some.mark (to_z w64 (of_z w64 c.args.reading)) c.args.reading c.args.packet same c.new-step.ensures in
     let old = c.args.self.now in
     let same = c.take_down.ensures.group in
-    let honest = subst (λ (k : g.row.K.Denot). g.K.Shelf.is_honest k) c.take_down.ensures.keeper (g.met.K.Shelf.only_honest c.take_down.new.self.keeper d may) in
+    let honest = subst (λ (k : g.row.K.Denot). g.K.LogReader.is_honest k) c.take_down.ensures.keeper (g.met.K.LogReader.only_honest c.take_down.new.self.keeper d may) in
     let was = old.replayed c.if-not-self.false in
     let s : Step = c.new-step.result in
     let seat = c.step.ensures.group in
@@ -259,7 +259,7 @@ invariant_of-self-in-Err-clause-held g c = λ down d may.
 pub invariant_of-self-in-Err-clause-listed : goal.invariant_of-self-in-Err-clause-listed
 invariant_of-self-in-Err-clause-listed g c = λ honest.
     let old = c.args.self.now in
-    let before = c.step.ensures.honest (subst (λ (k : g.row.K.Denot). g.K.Shelf.is_honest k) c.take_down.ensures.keeper honest) in
+    let before = c.step.ensures.honest (subst (λ (k : g.row.K.Denot). g.K.LogReader.is_honest k) c.take_down.ensures.keeper honest) in
     let same = c.take_down.ensures.group in
     let seat = c.step.ensures.group in
     (listed_still (seated old.node) (seated c.take_down.new.self) old.life.opening old.life.steps.items c.reserve.new.self.items (same.0 ∙ seat.0) (same.1 ∙ seat.1) (same.2 ∙ seat.2) c.reserve.ensures.items (record { entries = old.listed before; sealed = old.sealed before })).entries
@@ -267,7 +267,7 @@ invariant_of-self-in-Err-clause-listed g c = λ honest.
 pub invariant_of-self-in-Err-clause-sealed : goal.invariant_of-self-in-Err-clause-sealed
 invariant_of-self-in-Err-clause-sealed g c = λ honest.
     let old = c.args.self.now in
-    let before = c.step.ensures.honest (subst (λ (k : g.row.K.Denot). g.K.Shelf.is_honest k) c.take_down.ensures.keeper honest) in
+    let before = c.step.ensures.honest (subst (λ (k : g.row.K.Denot). g.K.LogReader.is_honest k) c.take_down.ensures.keeper honest) in
     let same = c.take_down.ensures.group in
     let seat = c.step.ensures.group in
     (listed_still (seated old.node) (seated c.take_down.new.self) old.life.opening old.life.steps.items c.reserve.new.self.items (same.0 ∙ seat.0) (same.1 ∙ seat.1) (same.2 ∙ seat.2) c.reserve.ensures.items (record { entries = old.listed before; sealed = old.sealed before })).sealed
@@ -275,7 +275,7 @@ invariant_of-self-in-Err-clause-sealed g c = λ honest.
 pub invariant_of-self-in-Err-clause-shown : goal.invariant_of-self-in-Err-clause-shown
 invariant_of-self-in-Err-clause-shown g c = λ down honest.
     let old = c.args.self.now in
-    let before = c.step.ensures.honest (subst (λ (k : g.row.K.Denot). g.K.Shelf.is_honest k) c.take_down.ensures.keeper honest) in
+    let before = c.step.ensures.honest (subst (λ (k : g.row.K.Denot). g.K.LogReader.is_honest k) c.take_down.ensures.keeper honest) in
     let same = c.take_down.ensures.group in
     let seat = c.step.ensures.group in
     let items = items_still (seated old.node) (seated c.take_down.new.self) old.life.opening old.life.steps.items c.reserve.new.self.items (same.0 ∙ seat.0) (same.1 ∙ seat.1) (same.2 ∙ seat.2) c.reserve.ensures.items in
@@ -296,7 +296,7 @@ returns-in-Err-clause-cause g c =
     let m : ℕ = c.in-Some.mark in
     let up = c.in-Ok-step.ensures.up.0 in
     goes_down (published old.publisher ++ pending old.publisher) (marked m c.in-Ok-step.given.applied.items ++ marked_seal m c.in-Ok-step.given.sealed) c.in-Err.error _ _ _ _ c.in-Err.ensures.refused (λ honest rises.
-    let still = subst (λ (k : g.row.K.Denot). g.K.Shelf.is_honest k) c.take_down.ensures.keeper honest in
+    let still = subst (λ (k : g.row.K.Denot). g.K.LogReader.is_honest k) c.take_down.ensures.keeper honest in
     let after : node_after x (effect_at old.node (work_of c.args.packet)) ≡ member_of c.step.new.self = given_after x (tables_of old.node) (members_of old.node) (me_of old.node) c.in-Ok.work (work_of c.args.packet) (member_of c.step.new.self) c.in-Ok-step.given c.in-Ok.ensures (c.in-Ok-step.ensures.done up still) in
     let all : Rises (items_of old.node old.life ++ items_by m x (node_after x (effect_at old.node (work_of c.args.packet)))) =
     subst (λ (o : Option ℕ). MatchOption o ⊥ (λ (k : ℕ). Rises (items_of old.node old.life ++ items_by k x (node_after x (effect_at old.node (work_of c.args.packet)))))) (sym (sym c.in-Some.is ∙ c.mark_for.ensures)) rises in
@@ -377,7 +377,7 @@ invariant_of-self-in-Err-Down-clause-clocked g c =
 pub invariant_of-self-in-Err-clause-told : goal.invariant_of-self-in-Err-clause-told
 invariant_of-self-in-Err-clause-told g c = λ honest.
     let old = c.args.self.now in
-    let before = c.step.ensures.honest (subst (λ (k : g.row.K.Denot). g.K.Shelf.is_honest k) c.take_down.ensures.keeper honest) in
+    let before = c.step.ensures.honest (subst (λ (k : g.row.K.Denot). g.K.LogReader.is_honest k) c.take_down.ensures.keeper honest) in
     let same = c.take_down.ensures.group in
     let seat = c.step.ensures.group in
     told_still (seated old.node) (seated c.take_down.new.self) old.life.opening old.life.steps.items c.reserve.new.self.items (same.0 ∙ seat.0) (same.1 ∙ seat.1) (same.2 ∙ seat.2) c.reserve.ensures.items (old.told before)
@@ -408,7 +408,7 @@ returns-in-Err-clause-fed g c =
 pub returns-in-Err-clause-spares : goal.returns-in-Err-clause-spares
 returns-in-Err-clause-spares g c = λ honest spare.
     let old = c.args.self.now in
-    let still = subst (λ (k : g.row.K.Denot). g.K.Shelf.is_honest k) c.take_down.ensures.keeper honest in
+    let still = subst (λ (k : g.row.K.Denot). g.K.LogReader.is_honest k) c.take_down.ensures.keeper honest in
     let none = nothing_given (tables_of old.node) (members_of old.node) (me_of old.node) (member_of old.node) (member_of c.step.new.self) c.in-Ok.work (work_of c.args.packet) c.in-Ok-step.given c.in-Ok.ensures (c.in-Ok-step.ensures.done c.in-Ok-step.ensures.up.0 still) spare in
     let noted : false ≡ true = c.in-Err.ensures.none none.1 none.2 none.3 in
     absurd (cc noted)

@@ -1,6 +1,6 @@
 use Rattle.std.proofs.Common.{ap, option_map, subst, sym, inr}
 use Rattle.model.specs.Transactions.{State}
-use Rattle.sqlread.specs.Meaning.{schema_of}
+use Rattle.sqlread.specs.Meaning.{language_of}
 use Rattle.rowlaws.specs.Whole.{ComesFromWhole}
 use Rattle.rowlaws.specs.Statements.{AllListed}
 use Rattle.current.specs.Orphans.{place_of}
@@ -17,7 +17,7 @@ returns-in_ok-no_parent-in-Some-clause-err c =
     let tables = c.as_slice.ensures.value in
     inr (λ whole. one_touched schema (rows_at rows_of_table c.args.self.now.tables.items) _
     (λ (state : State) (listed : AllListed (rows_at rows_of_table c.args.self.now.tables.items) state). c.in_ok-place.ensures.first
-    (subst (λ ts. ComesFromWhole (schema_of schema) (rows_at rows_of_table ts) (removed_in touched) (added_in touched)) (sym tables) whole) state (subst (λ ts. AllListed (rows_at rows_of_table ts) state) (sym tables) listed))
+    (subst (λ ts. ComesFromWhole (language_of schema) (rows_at rows_of_table ts) (removed_in touched) (added_in touched)) (sym tables) whole) state (subst (λ ts. AllListed (rows_at rows_of_table ts) state) (sym tables) listed))
     (place_of c.in-Some.place) c.in_ok-no_parent-in-Some.field-0 (ap (option_map place_of) c.in-Some.is) c.in_ok-no_parent-in-Some.ensures)
 
 pub returns-in-None-clause-ok : goal.returns-in-None-clause-ok
@@ -27,5 +27,5 @@ returns-in-None-clause-ok c = λ whole.
     let tables = c.as_slice.ensures.value in
     none_touched schema (rows_at rows_of_table c.args.self.now.tables.items) _
     (λ (state : State) (listed : AllListed (rows_at rows_of_table c.args.self.now.tables.items) state). c.in_ok-place.ensures.first
-    (subst (λ ts. ComesFromWhole (schema_of schema) (rows_at rows_of_table ts) (removed_in touched) (added_in touched)) (sym tables) whole) state (subst (λ ts. AllListed (rows_at rows_of_table ts) state) (sym tables) listed))
+    (subst (λ ts. ComesFromWhole (language_of schema) (rows_at rows_of_table ts) (removed_in touched) (added_in touched)) (sym tables) whole) state (subst (λ ts. AllListed (rows_at rows_of_table ts) state) (sym tables) listed))
     (ap (option_map place_of) c.in-None.is)

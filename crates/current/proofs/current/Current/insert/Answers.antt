@@ -2,7 +2,7 @@ use Rattle.std.proofs.Common.{◌≡◌, ℕ, ◌==◌, cond, [], ◌∷◌, ◌
 use Rattle.model.specs.Tables.{Row}
 use Rattle.model.specs.Periods.{period_of}
 use Rattle.rowlaws.specs.Changes.{new_row}
-use Rattle.current.specs.declared.line.Changes.{Changes}
+use Rattle.current.specs.declared.strand.Changes.{Changes}
 use Rattle.current.specs.Rows.{row_of}
 use Rattle.current.specs.Table.{rows_of_table, IsInserted, IsInsertRefused}
 use Rattle.current.specs.Touched.{removed_of, added_of, removed_in, added_in}
@@ -13,7 +13,7 @@ use Rattle.current.proofs.current.Current.insert.Goals as goal
 
 pub returns-in-Ok-clause-ok : goal.returns-in-Ok-clause-ok
 returns-in-Ok-clause-ok c =
-    let laws = c.change_laws.ensures in
+    let laws = c.action_laws.ensures in
     let insert = c.args.insert.now in
     let n = insert.table in
     let t = c.args.t in
@@ -29,7 +29,7 @@ returns-in-Ok-clause-ok c =
 
 pub returns-in-Err-clause-err : goal.returns-in-Err-clause-err
 returns-in-Err-clause-err c =
-    let laws = c.change_laws.ensures in
+    let laws = c.action_laws.ensures in
     let insert = c.args.insert.now in
     let t = c.args.t in
     let row : Row = new_row insert.key.items insert.values.items (period_of insert.period) t in
@@ -40,5 +40,5 @@ returns-in-Err-clause-err c =
 
 pub returns-in-Err-clause-unchanged : goal.returns-in-Err-clause-unchanged
 returns-in-Err-clause-unchanged c =
-    let laws = c.change_laws.ensures in
+    let laws = c.action_laws.ensures in
     same_after laws.on_rows laws.count laws.untouched laws.touched laws.same c.args.self.now.tables.items c.args.insert.now.table (omega (arith, c.requires, c.args.self.now.counted)) c.index_mut.result.now c.insert.new.self c.index_mut.ensures.value c.in-Err.ensures.err.0

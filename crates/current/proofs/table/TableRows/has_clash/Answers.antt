@@ -6,32 +6,32 @@ use Rattle.current.specs.Rows.{row_of}
 use Rattle.std.specs.Prelude.{is_some}
 use Rattle.model.specs.Periods.{period_of}
 use Rattle.overlaps.specs.Index.{shares_day}
-use Rattle.overlaps.specs.Stored.{items_of}
-use Rattle.current.specs.Stored.{lines_of}
-use Rattle.current.proofs.Moves.{any_line}
-use Rattle.current.proofs.Placed.{days_of_row, found_any, copied_some, line_items, line_clashes}
+use Rattle.overlaps.specs.Items.{items_of}
+use Rattle.current.specs.ByKey.{strands_of}
+use Rattle.current.proofs.Moves.{any_strand}
+use Rattle.current.proofs.Placed.{days_of_row, found_any, copied_some, strand_items, strand_clashes}
 use Rattle.current.proofs.table.TableRows.has_clash.Goals as goal
 
-pub returns-clause-line : goal.returns-clause-line
-returns-clause-line c =
+pub returns-clause-strand : goal.returns-clause-strand
+returns-clause-strand c =
     let t = c.args.self.now in
     let row = c.args.row.now in
     let p = period_of row.period in
-    let clashing = line_clashes c.sharing_is_overlap.ensures t.index.lines row.key p row.period.ordered (t.in_lines row.key) in
-    c.is_some.ensures ∙ copied_some c.find.result ∙ ap is_some c.find.ensures.item ∙ found_any (λ r. shares_day p (days_of_row r)) (items_of t.index.lines row.key) ∙ sym clashing
+    let clashing = strand_clashes c.sharing_is_overlap.ensures t.index.strands row.key p row.period.ordered (t.in_strands row.key) in
+    c.is_some.ensures ∙ copied_some c.find.result ∙ ap is_some c.find.ensures.item ∙ found_any (λ r. shares_day p (days_of_row r)) (items_of t.index.strands row.key) ∙ sym clashing
 
 pub returns-clause-rows : goal.returns-clause-rows
 returns-clause-rows c =
     let t = c.args.self.now in
     let row = c.args.row.now in
     let p = period_of row.period in
-    let clashing = line_clashes c.sharing_is_overlap.ensures t.index.lines row.key p row.period.ordered (t.in_lines row.key) in
-    c.is_some.ensures ∙ copied_some c.find.result ∙ ap is_some c.find.ensures.item ∙ found_any (λ r. shares_day p (days_of_row r)) (items_of t.index.lines row.key) ∙ sym clashing ∙ any_line t.index.lines t.ordered t.in_lines row.key p
+    let clashing = strand_clashes c.sharing_is_overlap.ensures t.index.strands row.key p row.period.ordered (t.in_strands row.key) in
+    c.is_some.ensures ∙ copied_some c.find.result ∙ ap is_some c.find.ensures.item ∙ found_any (λ r. shares_day p (days_of_row r)) (items_of t.index.strands row.key) ∙ sym clashing ∙ any_strand t.index.strands t.ordered t.in_strands row.key p
 
 pub returns-clause-few : goal.returns-clause-few
 returns-clause-few c = λ digits short.
     let t = c.args.self.now in
     let row = c.args.row.now in
-    let e = line_items (get key_cmp t.index.lines row.key) in
-    let long : length (lines_of t.index.lines row.key) ≡ length (items_of t.index.lines row.key) = ap length e ∙ length-map (items_of t.index.lines row.key) row_of in
+    let e = strand_items (get key_cmp t.index.strands row.key) in
+    let long : length (strands_of t.index.strands row.key) ≡ length (items_of t.index.strands row.key) = ap length e ∙ length-map (items_of t.index.strands row.key) row_of in
     c.find.ensures.few digits (subst (λ n. n < 2 ^ digits) long short)

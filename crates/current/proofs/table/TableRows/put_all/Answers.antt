@@ -4,10 +4,10 @@ use Rattle.model.specs.Tables.{Row}
 use Rattle.rowlaws.specs.Rows.{Has}
 use Rattle.rowlaws.specs.Changes.{clashes}
 use Rattle.current.specs.Rows.{row_of}
-use Rattle.current.specs.Stored.{lines_of}
+use Rattle.current.specs.ByKey.{strands_of}
 use Rattle.current.specs.Table.{rows_of_table, CanPut, IsWith}
 use Rattle.current.proofs.Lists.{drop_here, drop_none}
-use Rattle.current.proofs.Moves.{any_line}
+use Rattle.current.proofs.Moves.{any_strand}
 use Rattle.current.proofs.Undoing.{put_clear, put_more, join_more}
 use Rattle.current.proofs.table.TableRows.put_all.Goals as goal
 
@@ -22,8 +22,8 @@ put-requires c =
     let s = c.loop-row.self in
     let fits = subst (λ xs. CanPut (rows_of_table s) (map row_of xs)) (drop_here rows i row c.loop-row-test.true c.row-item.is) c.loop-row.invariant.fits in
     let clear = put_clear (row_of row) (map row_of (drop (i + 1) rows)) (rows_of_table s) fits in
-    let line = any_line s.index.lines s.ordered s.in_lines row.key (row_of row).period ∙ clear in
-    subst (λ (r : Row). list_any (clashes r.key r.period) (lines_of s.index.lines r.key) ≡ false) (sym c.in_ok-clone.ensures.cases) line
+    let strand = any_strand s.index.strands s.ordered s.in_strands row.key (row_of row).period ∙ clear in
+    subst (λ (r : Row). list_any (clashes r.key r.period) (strands_of s.index.strands r.key) ≡ false) (sym c.in_ok-clone.ensures.cases) strand
 
 pub loop-row-preserved : goal.loop-row-preserved
 loop-row-preserved c =

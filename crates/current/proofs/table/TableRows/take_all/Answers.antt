@@ -2,7 +2,7 @@ use Rattle.std.proofs.Common.{◌∙◌, ◌∷◌, [], map, ap, subst, sym}
 use Rattle.rowlaws.specs.Rows.{Has}
 use Rattle.current.specs.Rows.{row_of}
 use Rattle.current.specs.Table.{rows_of_table}
-use Rattle.current.proofs.KeyCut.{map_append}
+use Rattle.current.proofs.KeyCorrection.{map_append}
 use Rattle.current.proofs.Lists.{no_items}
 use Rattle.current.proofs.Undoing.{take_more}
 use Rattle.current.proofs.table.TableRows.take_all.Goals as goal

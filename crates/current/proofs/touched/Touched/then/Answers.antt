@@ -3,7 +3,7 @@ use Rattle.std.proofs.lemmas.Bool.{cases_lt}
 use Rattle.std.proofs.lemmas.List.{length-append}
 use Rattle.model.specs.Tables.{Row}
 use Rattle.rowlaws.specs.Touching.{removed_both, added_both}
-use Rattle.current.specs.declared.line.Changes.{Changes}
+use Rattle.current.specs.declared.strand.Changes.{Changes}
 use Rattle.current.specs.Touched.{removed_of, added_of, removed_in, added_in}
 use Rattle.current.specs.Places.{rows_at}
 use Rattle.current.proofs.Joined.{push_each, rows_at-beyond, none_both, none_added}

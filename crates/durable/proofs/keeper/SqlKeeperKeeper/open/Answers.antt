@@ -17,6 +17,7 @@ invariant_of-result g c =
           let it = rw c.in-Ok-Some.field-0-is at (c.in-Ok-Some.ensures.ok sound.clean) in
           settled_stored new it.settled (subst (λ db. AreTexts (stored_in db).log) (sym it.settled.committed) it.offers.texts);
       counted = λ _ clean. let it = rw c.in-Ok-Some.field-0-is at (c.in-Ok-Some.ensures.ok clean) in it.counted;
+      remembered = λ _. tt;
     }
 
 pub returns-in-Ok-Some-clause-found : goal.returns-in-Ok-Some-clause-found

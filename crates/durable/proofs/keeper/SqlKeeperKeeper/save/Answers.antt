@@ -6,7 +6,8 @@ use Rattle.keep.specs.Log.{IsLog}
 use Rattle.storetables.specs.Stored.{contents_in, stored_in, IsSound, Offers}
 use Rattle.storetables.specs.Found.{offers_held}
 use Rattle.storetables.proofs.Settling.{log_plain}
-use Rattle.durable.proofs.Settling.{saved_is, saved_stored, kept_sound, kept_same, kept_stored, stored_length, after_length}
+use Rattle.durable.specs.Saving.{IsHard}
+use Rattle.durable.proofs.Settling.{saved_is, saved_stored, kept_sound, kept_same, kept_stored, stored_length, after_length, is_known}
 use Rattle.durable.proofs.keeper.SqlKeeperKeeper.save.Goals as goal
 
 pub commit_change-requires-clause-held : goal.commit_change-requires-clause-held
@@ -17,6 +18,14 @@ commit_change-requires-clause-held g c clean =
     let low = c.requires.kept (record { clean = clean; is_open = set.is_open }) up in
     let long = ap (λ db. length (stored_in db).log) set.committed ∙ stored_length old set in
     (contents_in old.now, set.holds, subst (λ n. c.args.change.now.kept ≤ n) long low)
+
+pub commit_change-requires-clause-known : goal.commit_change-requires-clause-known
+commit_change-requires-clause-known g c clean d has =
+    let old = state g.S.Store c.args.self.now.conn in
+    let up : c.args.self.now.is_up ≡ true = search rules in
+    let set = c.args.self.now.settled up clean in
+    let told = c.args.self.now.remembered (record { clean = clean; is_open = set.is_open }) in
+    rw c.take-known.ensures.value (is_known old c.args.self.now.known c.args.self.now.count d set told (c.args.self.now.counted up clean) has)
 
 pub invariant_of-self-in-Ok : goal.invariant_of-self-in-Ok
 invariant_of-self-in-Ok g c =
@@ -48,6 +57,13 @@ invariant_of-self-in-Ok g c =
           let all = saved_is old new c.args.change.now set (log_plain _ _ _ forms) (c.in-Ok.ensures.ok clean) in
           let size = after_length c.args.change.now (stored_in old.committed) (c.requires.kept was up) in
           ap (λ n. c.args.change.now.kept + n) long ∙ sym size ∙ ap (λ (d : Durable). length d.log) (sym (sym (ap stored_in all.0.committed) ∙ all.1)) ∙ stored_length new all.0;
+      remembered = λ sound.
+          let early : HasCleanDisk old = c.commit_change.ensures.clean sound.clean in
+          let set = c.args.self.now.settled up early in
+          let was : IsSound old = record { clean = early; is_open = set.is_open } in
+          let forms = c.requires.log.1.1.1 was up in
+          let all = saved_is old new c.args.change.now set (log_plain _ _ _ forms) (c.in-Ok.ensures.ok sound.clean) in
+          ap (λ (d : Durable). d.hard) (sym all.1);
     }
 
 pub returns-in-Ok-clause-ok : goal.returns-in-Ok-clause-ok
@@ -149,4 +165,5 @@ invariant_of-self-in-Err-1 g c =
           let kept = c.in-Err.ensures.err sound.clean in
           kept_stored old new kept sound (c.args.self.now.held (kept_sound old new early kept sound));
       counted = λ is. absurd (cc is);
+      remembered = λ _. subst (λ known. IsHard known (stored_in new.committed)) (sym c.take-known.ensures.after) tt;
     }

@@ -1,7 +1,7 @@
 use Rattle.std.proofs.Common.{sym, subst, arith}
 use Rattle.std.proofs.lemmas.Grind.{merely}
 use Rattle.keep.specs.Durable.{Durable}
-use Rattle.sqlread.specs.Meaning.{schema_of}
+use Rattle.sqlread.specs.Meaning.{language_of}
 use Rattle.model.specs.Members.{applied}
 use Rattle.apply.specs.View.{AreTables}
 use Rattle.raft.specs.View.{IsInStep, node_of}
@@ -14,13 +14,13 @@ invariant_of-self g c =
     let node = c.args.self.now in
     let core = node.core in
     let tables = node.tables in
-    let read = c.all_entries.ensures.shelf in
-    let serves = known (g.met.K.Shelf.served_once node.keeper core.members (schema_of core.schema)) node.serves in
+    let read = c.all_entries.ensures.reader in
+    let serves = known (g.met.K.LogReader.served_once node.keeper core.members (language_of core.schema)) node.serves in
     record {
       fresh = node.fresh;
       kept_up = λ up. c.in-Ok.ensures.up;
       synced = λ up honest. subst (λ (d : Durable). IsInStep core d) (sym (read.same honest)) (node.synced up (read.honest honest));
-      serves = merely (read.serves core.members (schema_of core.schema) serves);
+      serves = merely (read.serves core.members (language_of core.schema) serves);
       made = node.made;
       current = λ up honest. subst (λ (d : Durable). AreTables core.schema (applied (node_of core d.log)) tables) (sym (read.same honest)) (node.current up (read.honest honest));
     }
@@ -29,16 +29,16 @@ pub invariant_of-self-in-Err-clause-serves : goal.invariant_of-self-in-Err-claus
 invariant_of-self-in-Err-clause-serves g c =
     let node = c.args.self.now in
     let core = node.core in
-    merely (c.all_entries.ensures.shelf.serves core.members (schema_of core.schema) (known (g.met.K.Shelf.served_once node.keeper core.members (schema_of core.schema)) node.serves))
+    merely (c.all_entries.ensures.reader.serves core.members (language_of core.schema) (known (g.met.K.LogReader.served_once node.keeper core.members (language_of core.schema)) node.serves))
 
 pub returns-in-Ok-clause-asks : goal.returns-in-Ok-clause-asks
 returns-in-Ok-clause-asks g c = λ honest.
     let node = c.args.self.now in
-    let long = length_of_log node.core (g.K.Shelf.stored node.keeper) (node.synced c.if-not-self.false (c.all_entries.ensures.shelf.honest honest)) in
+    let long = length_of_log node.core (g.K.LogReader.stored node.keeper) (node.synced c.if-not-self.false (c.all_entries.ensures.reader.honest honest)) in
     omega (arith, c.all_entries.ensures.asks, long)
 
 pub returns-in-Err-clause-asks : goal.returns-in-Err-clause-asks
 returns-in-Err-clause-asks g c = λ honest.
     let node = c.args.self.now in
-    let long = length_of_log node.core (g.K.Shelf.stored node.keeper) (node.synced c.if-not-self.false (c.all_entries.ensures.shelf.honest honest)) in
+    let long = length_of_log node.core (g.K.LogReader.stored node.keeper) (node.synced c.if-not-self.false (c.all_entries.ensures.reader.honest honest)) in
     omega (arith, c.all_entries.ensures.asks, long)

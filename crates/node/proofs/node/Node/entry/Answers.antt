@@ -1,7 +1,7 @@
 use Rattle.std.proofs.Common.{sym, subst}
 use Rattle.std.proofs.lemmas.Grind.{merely}
 use Rattle.keep.specs.Durable.{Durable}
-use Rattle.sqlread.specs.Meaning.{schema_of}
+use Rattle.sqlread.specs.Meaning.{language_of}
 use Rattle.model.specs.Members.{applied}
 use Rattle.apply.specs.View.{AreTables}
 use Rattle.raft.specs.View.{IsInStep, node_of}
@@ -13,13 +13,13 @@ invariant_of-self g c =
     let node = c.args.self.now in
     let core = node.core in
     let tables = node.tables in
-    let read = c.entry.ensures.shelf in
-    let serves = known (g.met.K.Shelf.served_once node.keeper core.members (schema_of core.schema)) node.serves in
+    let read = c.entry.ensures.reader in
+    let serves = known (g.met.K.LogReader.served_once node.keeper core.members (language_of core.schema)) node.serves in
     record {
       fresh = node.fresh;
       kept_up = λ up. c.in-Ok.ensures.up;
       synced = λ up honest. subst (λ (d : Durable). IsInStep core d) (sym (read.same honest)) (node.synced up (read.honest honest));
-      serves = merely (read.serves core.members (schema_of core.schema) serves);
+      serves = merely (read.serves core.members (language_of core.schema) serves);
       made = node.made;
       current = λ up honest. subst (λ (d : Durable). AreTables core.schema (applied (node_of core d.log)) tables) (sym (read.same honest)) (node.current up (read.honest honest));
     }
@@ -28,4 +28,4 @@ pub invariant_of-self-in-Err-clause-serves : goal.invariant_of-self-in-Err-claus
 invariant_of-self-in-Err-clause-serves g c =
     let node = c.args.self.now in
     let core = node.core in
-    merely (c.entry.ensures.shelf.serves core.members (schema_of core.schema) (known (g.met.K.Shelf.served_once node.keeper core.members (schema_of core.schema)) node.serves))
+    merely (c.entry.ensures.reader.serves core.members (language_of core.schema) (known (g.met.K.LogReader.served_once node.keeper core.members (language_of core.schema)) node.serves))

@@ -1,6 +1,6 @@
 use Rattle.std.proofs.Common.{◌≡◌, ◌∙◌, sym, ap, arith}
 use Rattle.model.specs.Members.{Node}
-use Rattle.sqlread.specs.Meaning.{schema_of}
+use Rattle.sqlread.specs.Meaning.{language_of}
 use Rattle.node.proofs.Tests.{known}
 use Rattle.node.proofs.Told.{told_none}
 use Rattle.node.proofs.Sealed.{risen_same}
@@ -10,7 +10,7 @@ use Rattle.node.proofs.node.Node.step.Goals as goal
 pub take_step-requires-clause-serves : goal.take_step-requires-clause-serves
 take_step-requires-clause-serves g c =
     let node = c.args.self.now in
-    known (g.met.K.Shelf.served_once node.keeper node.core.members (schema_of node.core.schema)) node.serves
+    known (g.met.K.LogReader.served_once node.keeper node.core.members (language_of node.core.schema)) node.serves
 
 pub returns-in-Ok-Ignored-clause-told : goal.returns-in-Ok-Ignored-clause-told
 returns-in-Ok-Ignored-clause-told g c = λ honest.

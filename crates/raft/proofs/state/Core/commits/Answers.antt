@@ -7,7 +7,7 @@ use Rattle.raft.proofs.state.Core.commits.Goals as goal
 pub returns-then-index-self-clause-ok : goal.returns-then-index-self-clause-ok
 returns-then-index-self-clause-ok g c = λ honest.
     let now = c.args.self.now in
-    let log = (g.S.Shelf.stored c.args.shelf.now).log in
+    let log = (g.S.LogReader.stored c.args.reader.now).log in
     let most = c.held-index.ensures.most log (c.requires.reaches honest) in
     let low : c.held-index.result ≤ now.commit = omega (arith, c.if-index-self.true) in
     sym (ap (max now.commit) most ∙ commits_low now.members now.me c.held-index.result (node_of now log) low)
@@ -15,8 +15,8 @@ returns-then-index-self-clause-ok g c = λ honest.
 pub returns-else-term-self-clause-ok : goal.returns-else-term-self-clause-ok
 returns-else-term-self-clause-ok g c = λ honest.
     let now = c.args.self.now in
-    let log = (g.S.Shelf.stored c.args.shelf.now).log in
-    let was = c.in_ok-term.ensures.shelf.honest honest in
+    let log = (g.S.LogReader.stored c.args.reader.now).log in
+    let was = c.in_ok-term.ensures.reader.honest honest in
     let there = c.requires.reaches was in
     let most = c.held-index.ensures.most log there in
     let within : c.held-index.result ≤ length (log_of now log) = omega (arith, c.held-index.ensures.within, length_of now log there) in

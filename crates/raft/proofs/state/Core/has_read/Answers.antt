@@ -1,5 +1,5 @@
 use Rattle.std.proofs.Common.{◌≡◌, Option, true, ℕ, List, is_ok, sym, subst}
-use Rattle.sqlread.specs.Meaning.{schema_of}
+use Rattle.sqlread.specs.Meaning.{language_of}
 use Rattle.model.specs.declared.entry.Entry.{Entry}
 use Rattle.model.specs.declared.entry.Request.{Request}
 use Rattle.model.specs.Steps.{spells}
@@ -9,7 +9,7 @@ use Rattle.raft.proofs.state.Core.has_read.Goals as goal
 
 pub returns-in-Some-request : goal.returns-in-Some-request
 returns-in-Some-request c = λ all yes.
-    let schema = schema_of c.args.self.now.schema in
+    let schema = language_of c.args.self.now.schema in
     let e = c.in-Some.entry.now in
     let found = c.in-Some.ensures.lookup in
     let passes : is_entry schema e ≡ true = subst (λ (d : Entry). is_entry schema d ≡ true) (sym found.1) (all_got (is_entry schema) c.args.window.now c.args.place e found.3.0 all) in

@@ -7,7 +7,7 @@ use Rattle.raft.proofs.state.Core.held.Given as goal
 
 abbrev pub invariant-loop-index : goal.invariant-loop-index
 invariant-loop-index l = record {
-  within : l.index ≤ l.self.log.shelved + vec_len l.self.log.tail;
+  within : l.index ≤ l.self.log.elsewhere + vec_len l.self.log.tail;
   most : (stored : List Entry) → Reaches l.self stored → greatest (is_matched l.self.members l.self.me (node_of l.self stored)) (length (log_of l.self stored)) ≡ greatest (is_matched l.self.members l.self.me (node_of l.self stored)) l.index;
 }
 

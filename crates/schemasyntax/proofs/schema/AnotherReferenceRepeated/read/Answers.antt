@@ -1,6 +1,6 @@
 use Rattle.sqltokens.specs.declared.token.Sign.TheVariants.{Comma}
 use Rattle.sqltokens.specs.What.{sign}
-use Rattle.sqltokens.proofs.Marks.{a_sign}
+use Rattle.sqltokens.proofs.Symbols.{a_sign}
 use Rattle.schemasyntax.specs.Schemas.{reference, reference_form}
 use Rattle.namesyntax.proofs.Shorter.{behind}
 use Rattle.schemasyntax.proofs.LawsSchema.{reference_lawful}

@@ -1,6 +1,6 @@
 use Rattle.sqltokens.specs.declared.token.Sign.TheVariants.{Comma}
 use Rattle.sqltokens.specs.What.{sign}
-use Rattle.sqltokens.proofs.Marks.{a_sign}
+use Rattle.sqltokens.proofs.Symbols.{a_sign}
 use Rattle.schemasyntax.specs.Schemas.{column, column_form}
 use Rattle.namesyntax.proofs.Shorter.{before}
 use Rattle.schemasyntax.proofs.LawsSchema.{column_lawful}

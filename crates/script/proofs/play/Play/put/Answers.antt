@@ -1,9 +1,21 @@
+use Rattle.std.proofs.Common.{refl}
+use Rattle.believed.proofs.AgreeSame.{given_before}
+use Rattle.model.specs.Worlds.{Ask}
+use Rattle.sqlread.specs.Meaning.{select_of}
 use Rattle.sqlread.specs.Shapes.{query_of}
-use Rattle.script.proofs.Playing.{question_plays}
+use Rattle.world.specs.Run.{language_in, members_in, outset_of, events_of}
+use Rattle.world.specs.View.{outputs_of}
+use Rattle.script.proofs.Playing.{now_next, question_plays}
 use Rattle.script.proofs.play.Play.put.Goals as goal
 
 pub returns-clause-plays : goal.returns-clause-plays
 returns-clause-plays g c =
-    question_plays c.args.self.now c.happens.new.self c.args.node (query_of c.args.question) c.in_ok-outputs.outputs.items c.print_outputs.result _ _
-    c.in_ok-outputs.ensures.gives c.in_ok-outputs.ensures.columns c.in_ok-outputs.ensures.world c.in_ok-outputs.ensures.events c.happens.ensures.tables c.happens.ensures.members c.in_ok-outputs.ensures.live
-    c.happens.ensures.same.0 c.happens.ensures.same.1 (rw c.deref.ensures.value at c.print_outputs.ensures.text) c.print_outputs.ensures.err
+    let old = c.args.self.now in
+    let w = old.world in
+    let outs = c.in_ok-outputs.outputs.items in
+    let asks = Ask c.args.node (select_of (query_of c.args.question)) in
+    let gave = given_before (language_in w) (members_in w) (outset_of w) (events_of w) asks (outputs_of outs) c.in_ok-outputs.ensures.gives in
+    let now = now_next w c.step.new.self asks c.step.ensures.same.0 c.step.ensures.same.1 c.in_ok-outputs.ensures.kept in
+    question_plays old (record old { world = c.step.new.self }) c.args.node (query_of c.args.question) outs c.print_outputs.result _ _
+    gave c.in_ok-outputs.ensures.columns now c.in_ok-outputs.ensures.kept c.step.ensures.tables c.step.ensures.same.1 c.in_ok-outputs.ensures.ok.1
+    refl refl (rw c.deref.ensures.value at c.print_outputs.ensures.text) c.print_outputs.ensures.err

@@ -1,6 +1,6 @@
 use Rattle.sqltokens.specs.declared.token.Keyword.TheVariants as keyword
 use Rattle.sqltokens.specs.What.{word}
-use Rattle.sqltokens.proofs.Marks.{a_word}
+use Rattle.sqltokens.proofs.Symbols.{a_word}
 use Rattle.sqlsyntax.specs.Queries.{term, term_form}
 use Rattle.namesyntax.proofs.Shorter.{behind}
 use Rattle.sqlsyntax.proofs.LawsQuery.{term_lawful}

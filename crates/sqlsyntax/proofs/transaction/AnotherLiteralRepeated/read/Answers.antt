@@ -1,6 +1,6 @@
 use Rattle.sqltokens.specs.declared.token.Sign.TheVariants.{Comma}
 use Rattle.sqltokens.specs.What.{sign}
-use Rattle.sqltokens.proofs.Marks.{a_sign}
+use Rattle.sqltokens.proofs.Symbols.{a_sign}
 use Rattle.sqlsyntax.specs.Shared.{literal, literal_form}
 use Rattle.namesyntax.proofs.Shorter.{behind}
 use Rattle.sqlsyntax.proofs.LawsShared.{literal_lawful}

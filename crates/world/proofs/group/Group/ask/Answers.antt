@@ -4,7 +4,7 @@ use Rattle.std.proofs.lemmas.List.Elements.{All-cons, All-nil}
 use Rattle.world.specs.declared.output.Output.{Output}
 use Rattle.world.specs.declared.output.Output.TheVariants as outputs
 use Rattle.std.proofs.lemmas.Result.{IfOk-weaker}
-use Rattle.sqlread.specs.Meaning.{schema_of}
+use Rattle.sqlread.specs.Meaning.{language_of}
 use Rattle.sqlread.specs.Shapes.{query_of}
 use Rattle.world.specs.View.{node_in, outputs_of, HasColumns}
 use Rattle.world.proofs.Asking.{answered, refused}
@@ -20,7 +20,7 @@ returns-in-Ok-clause-given c =
     let there = here placed in
     let stamped = c.requires.stamped c.args.member (node_in s) there in
     let asked = c.in-Ok.ensures.asked self.schema self.members c.args.member sits in
-    IfOk-weaker c.single.result _ _ (λ outs e. answered (schema_of self.schema) c.args.member (query_of c.args.query.now) (node_in s) _ c.in-Ok.answer (outputs_of outs.items) there asked stamped (ap outputs_of e)) c.single.ensures
+    IfOk-weaker c.single.result _ _ (λ outs e. answered (language_of self.schema) c.args.member (query_of c.args.query.now) (node_in s) _ c.in-Ok.answer (outputs_of outs.items) there asked stamped (ap outputs_of e)) c.single.ensures
 
 pub returns-in-Err-clause-given : goal.returns-in-Err-clause-given
 returns-in-Err-clause-given c =
@@ -31,7 +31,7 @@ returns-in-Err-clause-given c =
     let there = here placed in
     let stamped = c.requires.stamped c.args.member (node_in s) there in
     let asked = c.in-Err.ensures.asked self.schema self.members c.args.member sits in
-    IfOk-weaker c.refused.result _ _ (λ outs e. refused (schema_of self.schema) c.args.member (query_of c.args.query.now) (node_in s) _ c.in-Err.refusal (outputs_of outs.items) there asked stamped e.1 (ap outputs_of e.0)) c.refused.ensures
+    IfOk-weaker c.refused.result _ _ (λ outs e. refused (language_of self.schema) c.args.member (query_of c.args.query.now) (node_in s) _ c.in-Err.refusal (outputs_of outs.items) there asked stamped e.1 (ap outputs_of e.0)) c.refused.ensures
 
 pub returns-in-Ok-clause-columns : goal.returns-in-Ok-clause-columns
 returns-in-Ok-clause-columns c =

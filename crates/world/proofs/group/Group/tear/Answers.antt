@@ -1,7 +1,7 @@
 use Rattle.model.specs.Worlds.{tears}
 use Rattle.std.proofs.Common.{◌∙◌, ap, sym, arith}
 use Rattle.std.proofs.lemmas.Result.{IfOk-weaker}
-use Rattle.sqlread.specs.Meaning.{schema_of}
+use Rattle.sqlread.specs.Meaning.{language_of}
 use Rattle.world.specs.View.{world_of}
 use Rattle.world.proofs.Placing.{IsPlaced, group_after, here, same_world, seat, world_after}
 use Rattle.world.proofs.Restarts.{after_tear}
@@ -27,4 +27,4 @@ returns-in-Some-2-clause-world c =
     (world_after placed self.sent.items v)
     (same_world placed self.sent.items v)
     work.0 work.1 (e self.schema self.members c.args.member sits)
-    ∙ sym (ap (tears (schema_of self.schema) self.members (world_of self) c.args.member c.args.job.now c.args.left) (here placed))) c.tear.ensures.node
+    ∙ sym (ap (tears (language_of self.schema) self.members (world_of self) c.args.member c.args.job.now c.args.left) (here placed))) c.tear.ensures.node

@@ -1,6 +1,6 @@
 use Rattle.std.proofs.Common.{rules, map}
 use Rattle.model.specs.Worlds.{new_world}
-use Rattle.sqlread.specs.Meaning.{schema_of}
+use Rattle.sqlread.specs.Meaning.{language_of}
 use Rattle.world.specs.View.{event_of, world_of}
 use Rattle.world.proofs.Running.{all_stamped, kept_more, run_is}
 use Rattle.world.proofs.history.World.happen.Goals as goal
@@ -10,7 +10,7 @@ happen-requires-clause-stamped c =
     let self = c.args.self.now in
     let g = self.group in
     let events = map event_of self.kept.items in
-    all_stamped (schema_of g.schema) g.members (new_world g.members) (world_of g) events (c.agreement.ensures.new (schema_of g.schema) g.members events) (self.whole c.requires.live).world
+    all_stamped (language_of g.schema) g.members (new_world g.members) (world_of g) events (c.agreement.ensures.new (language_of g.schema) g.members events) (self.whole c.requires.live).world
 
 pub invariant_of-self-2 : goal.invariant_of-self-2
 invariant_of-self-2 c =

@@ -27,7 +27,7 @@ pub returns-in_err-check_live-clause-ordered : goal.returns-in_err-check_live-cl
 returns-in_err-check_live-clause-ordered c = search rules
 
 pub returns-in_err-check_live-clause-serves : goal.returns-in_err-check_live-clause-serves
-returns-in_err-check_live-clause-serves c = c.always_serves.ensures.new _ _ (events_of c.args.self.now)
+returns-in_err-check_live-clause-serves c = c.promises.ensures.serves _ _ (events_of c.args.self.now)
 
 pub returns-in_err-check_live-clause-tables : goal.returns-in_err-check_live-clause-tables
 returns-in_err-check_live-clause-tables c = search rules
@@ -51,7 +51,7 @@ pub returns-in_err-check_live-clause-stays : goal.returns-in_err-check_live-clau
 returns-in_err-check_live-clause-stays c = search rules
 
 pub returns-in-Ok-clause-gives : goal.returns-in-Ok-clause-gives
-returns-in-Ok-clause-gives c = search rules
+returns-in-Ok-clause-gives c = c.in-Ok.ensures.gives
 
 pub returns-in-Ok-clause-columns : goal.returns-in-Ok-clause-columns
 returns-in-Ok-clause-columns c = search rules
@@ -75,7 +75,7 @@ pub returns-in-Ok-clause-ordered : goal.returns-in-Ok-clause-ordered
 returns-in-Ok-clause-ordered c = search rules
 
 pub returns-in-Ok-clause-serves : goal.returns-in-Ok-clause-serves
-returns-in-Ok-clause-serves c = c.always_serves.ensures.new _ _ (events_of c.run_all.new.self)
+returns-in-Ok-clause-serves c = c.promises.ensures.serves _ _ (events_of c.run_all.new.self)
 
 pub returns-in-Ok-clause-tables : goal.returns-in-Ok-clause-tables
 returns-in-Ok-clause-tables c = search rules
@@ -123,7 +123,7 @@ pub returns-in-Err-clause-ordered : goal.returns-in-Err-clause-ordered
 returns-in-Err-clause-ordered c = search rules
 
 pub returns-in-Err-clause-serves : goal.returns-in-Err-clause-serves
-returns-in-Err-clause-serves c = c.always_serves.ensures.new _ _ (events_of c.run_all.new.self)
+returns-in-Err-clause-serves c = c.promises.ensures.serves _ _ (events_of c.run_all.new.self)
 
 pub returns-in-Err-clause-tables : goal.returns-in-Err-clause-tables
 returns-in-Err-clause-tables c = search rules

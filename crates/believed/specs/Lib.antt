@@ -1,0 +1,17 @@
+pub mod Days
+pub mod Refusals
+pub mod Statements
+pub mod Results
+pub mod Transactions
+pub mod Logs
+pub mod Answers
+pub mod Members
+pub mod Steps
+pub mod Worlds
+pub mod Agreement
+pub mod Explained
+pub mod Progress
+pub mod Lexing
+pub mod Spelling
+pub mod Checks
+pub mod Meaning

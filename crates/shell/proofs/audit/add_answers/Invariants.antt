@@ -1,6 +1,0 @@
-use Rattle.std.proofs.Common.{◌≡◌, ◌++◌, map, take}
-use Rattle.shell.specs.Audit.{judged_of}
-use Rattle.shell.proofs.audit.add_answers.Given as goal
-
-abbrev pub invariant-loop-answer : goal.invariant-loop-answer
-invariant-loop-answer l = l.judged.items ≡ l.fn.judged.items ++ map (judged_of l.node) (take l.answer-index l.answers)

@@ -1,0 +1,5 @@
+pub mod Levels
+pub mod Listing
+pub mod Copying
+pub mod Places
+pub mod Bringing

@@ -1,0 +1,268 @@
+//! Nodes on threads of their own.
+ghost use Rattle.std.specs.Prelude.{◌≡◌, ℕ, All, IfOk, vec_len};
+ghost use Rattle.model.specs.Transactions.{Language};
+ghost use Rattle.keep.specs.Durable.{stored_in};
+ghost use Rattle.keep.specs.Log.{IsLog};
+
+use crate::held::{Door, HeldImage, HeldKeeper};
+use crate::lives::{beat, timeout};
+use crate::stored::read_tables;
+use crate::views::is_early;
+use fault::Refusal;
+use flight::life::{Ending, Life, Packet};
+use keep::{MemImage, MemKeeper};
+use model::member::Member;
+use nodes::cluster::{Cluster, Config};
+use nodes::desk::NotSent;
+use schema::Schema;
+use sqlread::query::{Query, read_query};
+use std::alloc::{AllocError, Global};
+use std::process::Abort;
+use std::sync::{Arc, Wait};
+use std::test::Fail;
+use std::thread::Threads;
+use view::View;
+
+// What the clocks of all nodes show.
+const READING: i64 = 100;
+
+// How many packets node 3 is sent before it is stopped.
+const BEATS: u64 = 1_000;
+
+const QUESTION: &str =
+    "SELECT * FROM Dept FOR SYSTEM_TIME AS OF TIMESTAMP '1970-01-01 00:00:00.000100';";
+
+// Sends node 2 what it is held in. Whether it comes to the door.
+fn hold<R: Wait>(rt: &R, cluster: &Cluster, door: &Door) -> Result<bool, Refusal> {
+    cluster.send(rt, 2, READING, timeout())?;
+    Ok(door.is_reached())
+}
+
+// Whether the next feed of a node was made.
+fn is_fed<R: Wait>(rt: &R, cluster: &Cluster, node: Member) -> Result<bool, Refusal> {
+    let report = cluster.report(rt, node)?;
+    Ok(report.outcome.is_ok())
+}
+
+// Whether node 1 feeds.
+fn feeds<R: Wait>(rt: &R, cluster: &Cluster, packet: Packet) -> Result<bool, Refusal> {
+    cluster.send(rt, 1, READING, packet)?;
+    is_fed(rt, cluster, 1)
+}
+
+// Whether node 2 is let go, which did not go by itself.
+fn let_go<R: Wait>(rt: &R, cluster: &Cluster, door: &Door) -> Result<bool, Refusal> {
+    let gave_up = door.gave_up();
+    door.open();
+    Ok(is_fed(rt, cluster, 2)? && !gave_up)
+}
+
+// While node 2 is held in a feed, node 1 feeds, and a view of node 2 answers.
+fn while_held<R: Wait + Abort>(
+    rt: &R,
+    cluster: &Cluster,
+    door: &Door,
+    seen: &mut View,
+    query: &Query,
+) -> Result<(), Refusal> {
+    assert!(rt; hold(rt, cluster, door)?);
+    let goes_on = feeds(rt, cluster, timeout())?;
+    let is_early = is_early(seen, query);
+    let is_let_go = let_go(rt, cluster, door)?;
+    assert!(rt; goes_on && is_early && is_let_go);
+    Ok(())
+}
+
+// With a view of it.
+fn held<R: Wait + Abort>(
+    rt: &R,
+    cluster: &Cluster,
+    door: &Door,
+    query: &Query,
+) -> Result<(), Refusal> {
+    let mut seen = cluster.view(rt, 2)?;
+    while_held(rt, cluster, door, &mut seen, query)
+}
+
+// Whether a packet was refused since the node does not run.
+fn is_refused(sent: Result<u64, NotSent>) -> bool {
+    match sent {
+        Ok(_) => false,
+        Err(unsent) => unsent.refusal == Refusal::NodeDown,
+    }
+}
+
+// Node 1 is stopped, which sends it no packet any more.
+fn stops<R: Wait + Abort>(rt: &R, cluster: &Cluster) -> Result<(), Refusal> {
+    let left = cluster.stop_node(rt, 1)?;
+    let is_unsent = is_refused(cluster.send(rt, 1, READING, beat()));
+    let is_down = matches!(cluster.stop_node(rt, 1), Err(Refusal::NodeDown));
+    assert!(rt; left.unfed.is_empty() && left.lost == 0 && is_unsent && is_down);
+    Ok(())
+}
+
+// Sends node 3 a thousand beats, and stops it at once. Each was fed, in the order in which they were sent.
+fn all_fed<R: Wait>(rt: &R, cluster: &Cluster) -> Result<bool, Refusal> {
+    for _ in 0..BEATS {
+        let _ = cluster.send(rt, 3, READING, beat())?;
+    }
+    let left = cluster.stop_node(rt, 3)?;
+    for number in 1..=BEATS {
+        match left.report(rt) {
+            Some(report) if report.number == number => {}
+            _ => return Ok(false),
+        }
+    }
+    Ok(left.unfed.is_empty() && left.report(rt).is_none())
+}
+
+// It starts again.
+fn starts<R: Wait + Abort>(rt: &R, cluster: &Cluster) -> Result<(), Refusal> {
+    cluster.start_node(rt, 1)?;
+    cluster.start_node(rt, 1)?;
+    assert!(rt; feeds(rt, cluster, beat())?);
+    Ok(())
+}
+
+// The one and then the others.
+fn held_and_restarted<R: Wait + Abort>(
+    rt: &R,
+    cluster: &Cluster,
+    door: &Door,
+    query: &Query,
+) -> Result<(), Refusal> {
+    held(rt, cluster, door, query)?;
+    stops(rt, cluster)?;
+    starts(rt, cluster)?;
+    assert!(rt; all_fed(rt, cluster)?);
+    Ok(())
+}
+
+// The opening's mark of a life, how many steps it has, and whether it was stopped.
+fn told_of_life(life: &Life) -> (u64, usize, bool) {
+    let is_stopped = matches!(life.ending, Ending::Stopped);
+    (life.opening.mark.number(), life.steps.len(), is_stopped)
+}
+
+// The same of each.
+fn told_of(alloc: Global, lives: &[Life]) -> Result<Vec<(u64, usize, bool)>, AllocError> {
+    let mut told = Vec::new(alloc);
+    for life in lives {
+        told.push(told_of_life(life))?;
+    }
+    Ok(told)
+}
+
+// A store without anything, for each of three members; the saves of the second come to the door.
+fn new_images(alloc: Global, door: Arc<Door>) -> Result<Vec<HeldImage<MemImage>>, AllocError>
+    ensures three { IfOk result (λ images. vec_len images ≡ 3) }
+    ensures logs { IfOk result (λ images. (members : ℕ) (language : Language) → All (λ held. IsLog members language (stored_in held.image)) images.items) }
+{
+    let images = vec![in alloc;
+        HeldImage::new(alloc, None),
+        HeldImage::new(alloc, Some(door)),
+        HeldImage::new(alloc, None),
+    ]?;
+    Ok(images)
+}
+
+// Three members on threads of their own, held at a gate and within saves.
+fn open<R: Wait + Threads + Copy + Send + Drop + 'static>(
+    rt: &R,
+    alloc: Global,
+    schema: Schema,
+    gate: Arc<Door>,
+    save: Arc<Door>,
+) -> Result<Cluster, Refusal> {
+    let images = new_images(alloc, save)?;
+    let config = Config { schema, images };
+    Cluster::start::<HeldKeeper<MemKeeper>, Door, R>(rt, alloc, config, gate)
+}
+
+// What is told of the lives of each node.
+fn told_of_all(
+    alloc: Global,
+    nodes: &[Vec<Life>],
+) -> Result<Vec<Vec<(u64, usize, bool)>>, AllocError> {
+    let mut told = Vec::new(alloc);
+    for lives in nodes {
+        told.push(told_of(alloc, lives)?)?;
+    }
+    Ok(told)
+}
+
+// That as text.
+fn text_of(alloc: Global, nodes: &[Vec<Life>]) -> Result<String, AllocError> {
+    let told = told_of_all(alloc, nodes)?;
+    format!(in alloc; "{told:?}")
+}
+
+// Holds node 2 at the closed door, stops and starts node 1, and ends all nodes. Their lives.
+fn lead_all<R: Wait + Abort + Threads>(
+    rt: &R,
+    cluster: Cluster,
+    closed: &Door,
+    query: &Query,
+) -> Result<Vec<Vec<Life>>, Refusal> {
+    let tried = held_and_restarted(rt, &cluster, closed, query);
+    let ended = cluster.stop(rt);
+    match tried {
+        Ok(()) => Ok(ended.lives),
+        Err(refusal) => Err(refusal),
+    }
+}
+
+// The gate before feeds and the door within saves, of which this one is closed and the other is open.
+fn doors(
+    alloc: Global,
+    closed: &Arc<Door>,
+    in_save: bool,
+) -> Result<(Arc<Door>, Arc<Door>), AllocError> {
+    let open = Arc::new(alloc, Door::new(true))?;
+    let closed = Arc::try_clone(closed)?;
+    if in_save {
+        Ok((open, closed))
+    } else {
+        Ok((closed, open))
+    }
+}
+
+// The lives of three members, with a closed door before each feed or within each save.
+fn lives<R: Wait + Abort + Threads + Copy + Send + Drop + 'static>(
+    rt: &R,
+    alloc: Global,
+    schema: &Schema,
+    query: &Query,
+    in_save: bool,
+) -> Result<Vec<Vec<Life>>, Refusal> {
+    let closed = Arc::new(alloc, Door::new(false))?;
+    let (gate, save) = doors(alloc, &closed, in_save)?;
+    let cluster = open(rt, alloc, schema.clone()?, gate, save)?;
+    lead_all(rt, cluster, &closed, query)
+}
+
+// What is told of them.
+fn told<R: Wait + Abort + Threads + Copy + Send + Drop + 'static>(
+    rt: &R,
+    alloc: Global,
+    in_save: bool,
+) -> Result<String, Refusal> {
+    let schema = read_tables(alloc)?;
+    let query = read_query(alloc, &schema, QUESTION)?;
+    let lives = lives(rt, alloc, &schema, &query, in_save)?;
+    Ok(text_of(alloc, &lives)?)
+}
+
+// Before each feed, and within each save.
+#[test]
+fn two_at_once(rt: HostRuntime) -> Result<(), Fail> {
+    let alloc = rt.alloc();
+    for in_save in [false, true] {
+        let told = told(&rt, alloc, in_save)?;
+        assert_eq!(rt;
+            told.as_str(),
+            "[[(1, 1, true), (3, 1, false)], [(1, 1, false)], [(1, 1000, true)]]"
+        );
+    }
+    Ok(())
+}

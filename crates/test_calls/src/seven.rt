@@ -1,0 +1,369 @@
+//! Seven nodes in bad weather, and four threads that ask them meanwhile.
+ghost use Rattle.std.specs.Prelude.{◌≡◌, ℕ, All, IfOk, vec_len};
+ghost use Rattle.model.specs.Transactions.{Language};
+ghost use Rattle.keep.specs.Durable.{stored_in};
+ghost use Rattle.keep.specs.Log.{IsLog};
+
+use crate::held::Door;
+use crate::stored::SCHEMA;
+use auditor::{Recorded, audit};
+use fault::{Refusal, Text};
+use flight::flight::{Recorded as Answered, Version};
+use flight::life::Life;
+use keep::{MemImage, MemKeeper};
+use lines::line::Line;
+use live::driver::{Driver, stations};
+use live::station::Station;
+use model::member::Member;
+use model::request::{Client, RequestNumber};
+use network::Weather;
+use nodes::cluster::{Cluster, Config};
+use schema::Schema;
+use schemaread::schemas::read_schema;
+use std::alloc::{AllocError, Global};
+use std::process::Abort;
+use std::sync::atomic::{AtomicBool, Ordering};
+use std::sync::{Arc, Wait};
+use std::test::Fail;
+use std::thread;
+use std::thread::Threads;
+use std::time::{Clock, Duration};
+use view::View;
+
+const SEED: u64 = 1;
+
+// How many messages of a hundred are lost.
+const LOSS: u8 = 10;
+
+const REQUESTS: u64 = 29;
+
+// After each request.
+const ROUNDS: u8 = 200;
+
+// How many packets each node is to take at least.
+const PACKETS: usize = 2_000;
+
+// One for each thread: what holds now, what held once, and what changed.
+const QUESTIONS: [&str; 4] = [
+    "SELECT * FROM Dept;",
+    "SELECT * FROM Dept FOR SYSTEM_TIME AS OF TIMESTAMP '1970-01-01 00:00:00.003000' WHERE DNo = 3;",
+    "SELECT * FROM Dept FOR SYSTEM_TIME FROM TIMESTAMP '1970-01-01 00:00:00.000100' TO TIMESTAMP '1970-01-01 00:00:00.005000';",
+    "SELECT * FROM Dept FOR SYSTEM_TIME BETWEEN TIMESTAMP '1970-01-01 00:00:00.000100' AND TIMESTAMP '1970-01-01 00:00:00.002000';",
+];
+
+// A view of a node, and the question that it is asked.
+#[derive(Drop)]
+struct Asker {
+    node: Member,
+    station: Station,
+    question: Text,
+}
+
+// Whether the last two answers are alike.
+fn is_repeated(answers: &[Answered]) -> bool {
+    match answers {
+        [.., before, last] => before.mark == last.mark && before.answer == last.answer,
+        _ => false,
+    }
+}
+
+impl Asker {
+    // Asks once, and keeps an answer that is not the one before again.
+    fn ask(&mut self, schema: &Schema) -> Result<(), Refusal> {
+        match self.station.ask(schema, &self.question) {
+            Ok(_) | Err(Refusal::NotClosed(_)) => {}
+            Err(refusal) => return Err(refusal),
+        }
+        if is_repeated(&self.station.answers) {
+            let _ = self.station.answers.pop();
+        }
+        Ok(())
+    }
+
+    // Asks a thousand times a second till the run is over, and then once more.
+    fn ask_on<R: Clock>(
+        mut self,
+        rt: &R,
+        schema: &Schema,
+        is_over: &AtomicBool,
+    ) -> Result<Asker, Refusal> {
+        for _ in 0..u64::MAX {
+            let was_over = is_over.load(Ordering::SeqCst);
+            self.ask(schema)?;
+            if was_over {
+                break;
+            }
+            thread::sleep(rt, Duration::from_millis(1));
+        }
+        Ok(self)
+    }
+}
+
+// An asker with this view of a node.
+fn asker_with(alloc: Global, node: Member, view: View, question: Text) -> Asker {
+    let mut station = Station::new(alloc, 0);
+    station.view = Some(view);
+    Asker {
+        node,
+        station,
+        question,
+    }
+}
+
+// An asker of a node.
+fn asker_of<R: Wait>(
+    rt: &R,
+    alloc: Global,
+    cluster: &Cluster,
+    node: Member,
+    question: &str,
+) -> Result<Asker, Refusal> {
+    let question = Text::new(alloc, question)?;
+    let view = cluster.view(rt, node)?;
+    Ok(asker_with(alloc, node, view, question))
+}
+
+// Askers of the first four nodes.
+fn askers<R: Wait>(rt: &R, alloc: Global, cluster: &Cluster) -> Result<Vec<Asker>, Refusal> {
+    let mut askers = Vec::new(alloc);
+    let mut node: Member = 0;
+    for question in QUESTIONS {
+        node = node.saturating_add(1);
+        askers.push(asker_of(rt, alloc, cluster, node, question)?)?;
+    }
+    Ok(askers)
+}
+
+// A request of one department.
+fn submit(alloc: Global, number: u64) -> Result<Line, Fail> {
+    let text = format!(in alloc;
+        "INSERT INTO Dept (DNo, DStart, DEnd, DName) \
+        VALUES ({number}, DATE '2000-01-01', DATE '2020-01-01', 'Test');"
+    )?;
+    let (Some(client), Some(number)) = (Client::new(7), RequestNumber::new(number)) else {
+        return Err(Fail::from("no request"));
+    };
+    Ok(Line::Submit {
+        node: 1,
+        client,
+        number,
+        text: Text::from_string(text)?,
+    })
+}
+
+// The requests, with many rounds after each.
+fn script(alloc: Global) -> Result<Vec<Line>, Fail> {
+    let mut lines = Vec::new(alloc);
+    for number in 1..=REQUESTS {
+        lines.push(submit(alloc, number)?)?;
+        lines.push(Line::Settle {
+            rounds: Some(ROUNDS),
+        })?;
+    }
+    Ok(lines)
+}
+
+// Plays the lines.
+fn play_all<R: Wait>(rt: &R, driver: &mut Driver, lines: &[Line]) -> Result<(), Refusal> {
+    for line in lines {
+        let _ = driver.play(rt, line)?;
+    }
+    Ok(())
+}
+
+type Asked = Result<Vec<Result<Asker, Refusal>>, AllocError>;
+
+// Plays the lines, while each asker asks on a thread of its own.
+fn play_and_ask<R: Threads + Wait + Clock + Sync>(
+    rt: &R,
+    driver: &mut Driver,
+    lines: &[Line],
+    schema: &Schema,
+    askers: Vec<Asker>,
+) -> (Result<(), Refusal>, Asked) {
+    let is_over = AtomicBool::new(false);
+    let (asked, played) = thread::join(
+        rt,
+        || thread::map_vec(
+            rt,
+            askers,
+            &|asker: Asker| asker.ask_on(rt, schema, &is_over),
+        ),
+        || {
+            let played = play_all(rt, driver, lines);
+            is_over.store(true, Ordering::SeqCst);
+            played
+        },
+    );
+    (played, asked)
+}
+
+// An answer of this node.
+fn recorded_at(node: Member, answered: Answered) -> Recorded {
+    Recorded {
+        node,
+        mark: answered.mark,
+        query: answered.query,
+        answer: answered.answer,
+    }
+}
+
+// Adds answers of this node.
+fn add_answers(
+    node: Member,
+    answers: Vec<Answered>,
+    recorded: &mut Vec<Recorded>,
+) -> Result<(), AllocError> {
+    for answered in answers {
+        recorded.push(recorded_at(node, answered))?;
+    }
+    Ok(())
+}
+
+// Which node an asker asked, and what it was answered.
+fn answers_of(asker: Asker) -> (Member, Vec<Answered>) {
+    let Asker { node, station, .. } = asker;
+    (node, station.answers)
+}
+
+// What the askers were answered, each at its node.
+fn recorded(alloc: Global, asked: Vec<Result<Asker, Refusal>>) -> Result<Vec<Recorded>, Refusal> {
+    let mut recorded = Vec::new(alloc);
+    for asker in asked {
+        let (node, answers) = answers_of(asker?);
+        add_answers(node, answers, &mut recorded)?;
+    }
+    Ok(recorded)
+}
+
+// A store without anything, for each of seven members.
+fn new_images(alloc: Global) -> Result<Vec<MemImage>, AllocError>
+    ensures seven { IfOk result (λ images. vec_len images ≡ 7) }
+    ensures logs { IfOk result (λ images. (members : ℕ) (tables : Language) → All (λ image. IsLog members tables (stored_in image)) images.items) }
+{
+    let images = vec![in alloc;
+        MemImage::new(alloc),
+        MemImage::new(alloc),
+        MemImage::new(alloc),
+        MemImage::new(alloc),
+        MemImage::new(alloc),
+        MemImage::new(alloc),
+        MemImage::new(alloc),
+    ]?;
+    Ok(images)
+}
+
+// Seven nodes, at a gate that is open.
+fn start_seven<R: Wait + Threads + Copy + Send + Drop + 'static>(
+    rt: &R,
+    alloc: Global,
+    schema: &Schema,
+) -> Result<Cluster, Refusal> {
+    let config = Config {
+        schema: schema.clone()?,
+        images: new_images(alloc)?,
+    };
+    let gate = Arc::new(alloc, Door::new(true))?;
+    Cluster::start::<MemKeeper, Door, R>(rt, alloc, config, gate)
+}
+
+// What the threads leave.
+#[derive(Drop)]
+struct Flown {
+    lives: Vec<Vec<Life>>,
+    played: Result<(), Refusal>,
+    asked: Asked,
+}
+
+// Drives the nodes through the lines, while askers ask, and ends them.
+fn fly<R: Threads + Wait + Clock + Sync>(
+    rt: &R,
+    schema: &Schema,
+    mut driver: Driver,
+    lines: &[Line],
+    askers: Vec<Asker>,
+) -> Flown {
+    let (played, asked) = play_and_ask(rt, &mut driver, lines, schema, askers);
+    let (cluster, _stations) = driver.into_parts();
+    let ended = cluster.stop(rt);
+    Flown {
+        lives: ended.lives,
+        played,
+        asked,
+    }
+}
+
+// Starts seven nodes, and drives them through the requests.
+fn take_off<R: Threads + Wait + Clock + Copy + Send + Sync + Drop + 'static>(
+    rt: &R,
+    alloc: Global,
+    schema: &Schema,
+) -> Result<Flown, Fail> {
+    let lines = script(alloc)?;
+    let tables = schema.clone()?;
+    let stations = stations(alloc, 7, SEED)?;
+    let cluster = start_seven(rt, alloc, schema)?;
+    match askers(rt, alloc, &cluster) {
+        Ok(askers) => {
+            let weather = Weather::new(SEED, LOSS);
+            let driver = Driver::new(alloc, tables, cluster, stations, weather);
+            Ok(fly(rt, schema, driver, &lines, askers))
+        }
+        Err(refusal) => {
+            drop(cluster.stop(rt));
+            Err(Fail::from(refusal))
+        }
+    }
+}
+
+// Whether the last answer of each is one, and no refusal.
+fn are_answered(asked: &[Result<Asker, Refusal>]) -> bool {
+    asked.iter().all(|asker| match asker {
+        Ok(asker) => match asker.station.answers.last() {
+            Some(last) => last.answer.as_str().starts_with("last "),
+            None => false,
+        },
+        Err(_) => false,
+    })
+}
+
+// How many steps a node made.
+fn steps_in(lives: &[Life]) -> usize {
+    let mut steps: usize = 0;
+    for life in lives {
+        steps = steps.saturating_add(life.steps.len());
+    }
+    steps
+}
+
+// Each takes its packets, and all that was answered is what the lives replay to.
+fn judge(
+    rt: &impl Abort,
+    alloc: Global,
+    schema: &Schema,
+    lives: &[Vec<Life>],
+    answers: &[Recorded],
+) {
+    assert_eq!(rt; lives.len(), 7);
+    for node in lives {
+        assert!(rt; steps_in(node) >= PACKETS);
+    }
+    assert!(rt; audit(alloc, Version::Three, schema, lives, answers).is_ok());
+}
+
+#[test]
+fn seven_in_bad_weather(rt: HostRuntime) -> Result<(), Fail> {
+    let alloc = rt.alloc();
+    let schema = read_schema(alloc, SCHEMA)?;
+    let Flown {
+        lives,
+        played,
+        asked,
+    } = take_off(&rt, alloc, &schema)?;
+    played?;
+    let asked = asked?;
+    assert!(rt; are_answered(&asked));
+    let answers = recorded(alloc, asked)?;
+    judge(&rt, alloc, &schema, &lives, &answers);
+    Ok(())
+}

@@ -1,0 +1,15 @@
+use Rattle.world.specs.Run.{language_in, tables_in, members_in, outset_of, events_of}
+use Rattle.world.specs.View.{event_of}
+use Rattle.world.proofs.Running.{gives_so}
+use Rattle.world.proofs.history.World.step.Goals as goal
+
+pub returns-in_err-check_live-clause-serves : goal.returns-in_err-check_live-clause-serves
+returns-in_err-check_live-clause-serves c = c.promises.ensures.serves _ _ (events_of c.args.self.now)
+
+pub returns-clause-gives : goal.returns-clause-gives
+returns-clause-gives c =
+    let w = c.args.self.now in
+    gives_so (language_in w) (members_in w) (outset_of w) (events_of w) (event_of c.args.event.now) c.happen.result c.happen.ensures.gives
+
+pub returns-clause-serves : goal.returns-clause-serves
+returns-clause-serves c = c.promises.ensures.serves _ _ (events_of c.happen.new.self)
