@@ -105,6 +105,7 @@ pub fn audit(
     one_text();
     believed::promises();
     believed::meanings();
+    believed::questions();
     check_order(lives)?;
     explain(alloc, version, schema, lives, answers)
 }

@@ -5,7 +5,13 @@ ghost use Rattle.fault.specs.declared.refusal.Refusal.TheVariants.{NoMemory, Bad
 ghost use Rattle.fault.specs.declared.refusal.Refusal.{Refusal as AnyRefusal};
 ghost use Rattle.model.specs.Worlds.{new_world};
 ghost use Rattle.script.specs.Brought.{IsBegun, IsPrinted};
+ghost use Rattle.believed.specs.Meaning.{IsLanguage};
+ghost use Rattle.believed.specs.Queries.{IsAsking};
 ghost use Rattle.script.specs.Faults.{IsFaultOf};
+ghost use Rattle.sqlchecks.specs.Columns.{Tables};
+ghost use Rattle.sqlread.specs.Meaning.{language_of, select_of};
+ghost use Rattle.sqlread.specs.Texts.{query_in};
+ghost use Rattle.std.specs.Result.{result_map_both};
 ghost use Rattle.shell.specs.Sim.{acts_of, EndsScript, IsBadScript, IsNoScript, IsScript, IsToldAs};
 
 use crate::source::Source;
@@ -27,9 +33,13 @@ pub fn run_sim<S: Source, O: Outlet>(
     source: &mut S,
     outlet: &mut O,
 ) -> Result<u8, RunFault>
-    ensures { ((bytes : List ℕ) × S.gives source.old bytes source.new × EndsScript O.holds O.fails O.is_sent bytes outlet.old result outlet.new)
+    ensures ends { ((bytes : List ℕ) × S.gives source.old bytes source.new × EndsScript O.holds O.fails O.is_sent bytes outlet.old result outlet.new)
         ⊎ ((error : Error) × S.fails source.old error source.new × ((refusal : AnyRefusal) × IsToldAs error refusal × (result ≡ Err (RunFault.Refused refusal))) × (outlet.new ≡ outlet.old)) }
+    ensures language { (tables : Tables) → IsLanguage tables (language_of tables) }
+    ensures questions { (tables : Tables) → IsAsking tables (λ text. result_map_both select_of (λ refusal. refusal) (query_in tables text)) }
 {
+    believed::meanings();
+    believed::questions();
     match source.read_all(alloc) {
         Ok(bytes) => play_text(alloc, bytes.as_slice(), outlet),
         Err(error) => Err(RunFault::Refused(told_as(&error))),
