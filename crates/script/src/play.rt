@@ -41,7 +41,7 @@ impl Play {
     ghost use Rattle.script.specs.Stage.{opening_stage, reading_of, is_up as up_in, delivered, event_at, delivery, delivery_in_round, round, rounds, torn_delivery, job_at, torn_stage, stage_if, asked, played as played_by, played_all};
     ghost use Rattle.script.specs.Plays.{stage_of, tables_of, members_of, Plays};
 
-    // A group of 3 to 7 members with tables of this schema, at its opening, where all clocks show 0.
+    // A group of 3 to 7 members with tables of this schema, at its outset, where all clocks show 0.
     pub(crate) fn new(alloc: Global, members: usize, schema: Schema) -> Result<Play, AllocError>
         requires least { 3 ≤ members }
         requires most { members ≤ 7 }

@@ -36,7 +36,7 @@ pub fn run_sim<S: Source, O: Outlet>(
     }
 }
 
-/// Plays the script whose text these bytes are, and prints exactly what its lines give, from the opening of its group on. It gives the
+/// Plays the script whose text these bytes are, and prints exactly what its lines give, from the outset of its group on. It gives the
 /// exit status 0, or what ended it: 60 where they are no script, at line 0 where they are not UTF-8, or the refusal of the
 /// script's schema, and then nothing is printed; want of memory, or the error of the outlet's last call, and then a
 /// beginning is.
@@ -68,7 +68,7 @@ fn script_of(alloc: Global, bytes: &[u8]) -> Result<Script, Refusal>
     }
 }
 
-// Plays the lines of a script from the opening of its group on, and prints exactly what they give.
+// Plays the lines of a script from the outset of its group on, and prints exactly what they give.
 fn play_lines<O: Outlet>(
     alloc: Global,
     members: usize,
