@@ -29,6 +29,12 @@ SUBMIT = re.compile(rf"\.submit ({NUMBER}) ({NUMBER}) (.*)", re.S)
 QUESTION = re.compile(r"(?:@([0-9]+) )?(select(?![A-Za-z0-9_]).*)", re.S | re.I)
 
 
+def is_clock(text):
+    """Whether a line sets the clock, to a signed number of 64 bits."""
+    told = re.fullmatch(r"\.clock (0|-?[1-9][0-9]*)", text)
+    return bool(told) and -(2 ** 63) <= int(told[1]) < 2 ** 63
+
+
 class Sitting:
     """What lines that go into `open` have to print, line by line of what is printed."""
 
@@ -103,7 +109,7 @@ class Sitting:
             self.expect_form(HELP + ".*")
             while self.next() != "  .help    .quit          this page; leave (end of input does too)":
                 pass
-        elif not re.fullmatch(r"\.clock (0|-?[1-9][0-9]*)|\.format lines", text):
+        elif text != ".format lines" and not is_clock(text):
             self.expect(f"{self.store.name}:{number}:1: 60 bad script at line {number}")
 
     def next(self):

@@ -21,7 +21,7 @@ use Rattle.moments.specs.declared.recorded.Recorded.{Recorded}
 use Rattle.moments.specs.declared.recorded.AuditFault.{AuditFault}
 use Rattle.moments.specs.declared.replay.Replay.{Replay}
 use Rattle.moments.specs.Past.{Past, after}
-use Rattle.moments.specs.Behind.{Records, IsBehind, life_at}
+use Rattle.moments.specs.Behind.{Evidence, IsBehind, life_at}
 use Rattle.moments.specs.Faults.{IsFaultAt, IsNo, Lacks, NoneAre}
 use Rattle.moments.specs.View.{past_of, Follows, IsLive, IsSameRun}
 use Rattle.auditor.specs.Audited.{Leads, IsStuck}
@@ -102,7 +102,7 @@ told_so v lives answers old one two three new m s count first follows lined note
     let t = tables_in old.replay.world in
     let n = members_in old.replay.world in
     let p = past_of old.replay in
-    let r : Records = record { version = v; tables = t; lives = lives; answers = answers } in
+    let r : Evidence = record { version = v; tables = t; lives = lives; answers = answers } in
     let now = follows.0 in
     let here = follows.2 in
     let run1 = first.run in
@@ -137,7 +137,7 @@ told_so v lives answers old one two three new m s count first follows lined note
 
 -- ---- one moment more
 
-spells_more : (r : Records) (n : ℕ) (p q : Place) (ms : List Moment) (m : Moment) (lines : List Line) (now : List Event) → Spells r n p ms lines q → IsBehind r n q.past m now →
+spells_more : (r : Evidence) (n : ℕ) (p q : Place) (ms : List Moment) (m : Moment) (lines : List Line) (now : List Event) → Spells r n p ms lines q → IsBehind r n q.past m now →
     Spells r n p (ms ++ m ∷ []) (lines ++ lines_at r n q m now) (place_after r n q m now)
 spells_more r n p q [] m lines now told behind =
     let B : Place → Type 0 = λ x. IsBehind r n x.past m now in
@@ -151,7 +151,7 @@ pub told_more : (v : Version) (lives : List (Vec Life Global)) (answers : List R
     AreTold (record { version = v; tables = tables_in old.replay.world; lives = lives; answers = answers }) (members_in old.replay.world) old new (ms ++ m ∷ [])
 told_more v lives answers old cur new ms m told here =
     let n = members_in old.replay.world in
-    let r : Records = record { version = v; tables = tables_in old.replay.world; lives = lives; answers = answers } in
+    let r : Evidence = record { version = v; tables = tables_in old.replay.world; lives = lives; answers = answers } in
     let T : Tables → ℕ → Type 0 = λ ts k. IsTold (record { version = v; tables = ts; lives = lives; answers = answers }) k cur new m in
     let one : IsTold r n cur new m = subst (T (tables_in old.replay.world)) told.members (subst (λ ts. T ts (members_in cur.replay.world)) told.tables here) in
     let adds = lines_at r n (place_of cur) m one.now in
@@ -167,7 +167,7 @@ told_more v lives answers old cur new ms m told here =
 
 -- ---- a moment that has no events
 
-leads_of : (r : Records) (n : ℕ) (p q : Place) (ms : List Moment) (lines : List Line) → Spells r n p ms lines q → (events : List Event) × Leads r n p.past ms events q.past
+leads_of : (r : Evidence) (n : ℕ) (p q : Place) (ms : List Moment) (lines : List Line) → Spells r n p ms lines q → (events : List Event) × Leads r n p.past ms events q.past
 leads_of r n p q [] lines told = ([], (refl, ap (λ (x : Place). x.past) told.1))
 leads_of r n p q (m ∷ ms) lines told = let rest = leads_of r n (place_after r n p m told.0) q ms told.1 told.4 in (told.0 ++ rest.0, (told.0, rest.0, refl, told.3, rest.1))
 
@@ -176,7 +176,7 @@ stuck_at : (v : Version) (lives : List (Vec Life Global)) (answers : List Record
     IsNo (Lacks (IsFaultAt lives (past_of cur.replay) m) (IsBehind (record { version = v; tables = tables_in cur.replay.world; lives = lives; answers = answers }) (members_in cur.replay.world) (past_of cur.replay) m)) f →
     IsNo (IsStuck (record { version = v; tables = tables_in old.replay.world; lives = lives; answers = answers }) (members_in old.replay.world) (past_of old.replay) all) f
 stuck_at v lives answers old cur all i m f told within is said =
-    let r : Records = record { version = v; tables = tables_in old.replay.world; lives = lives; answers = answers } in
+    let r : Evidence = record { version = v; tables = tables_in old.replay.world; lives = lives; answers = answers } in
     let n = members_in old.replay.world in
     let led = leads_of r n (place_of old) (place_of cur) (take i all) told.more told.spells in
     let B : Tables → ℕ → Type 0 = λ ts k. NoneAre (IsBehind (record { version = v; tables = ts; lives = lives; answers = answers }) k (past_of cur.replay) m) in

@@ -1,14 +1,13 @@
 -- What the flight files of a group hold, node by node.
-use Rattle.std.specs.Prelude.{◌≡◌, true, ◌≤◌, ◌<◌, ◌+◌, ◌++◌, ℕ, suc, List, [], ◌∷◌, Ok, length, map, slice_index_or, string_bytes}
+use Rattle.std.specs.Prelude.{◌≡◌, true, ◌≤◌, ◌<◌, ◌+◌, ℕ, List, Ok, length, map, slice_index_or, string_bytes}
 use Rattle.std.specs.List.{All, AllZip}
 use Rattle.std.specs.declared.string.String.{String}
 use Rattle.std.specs.declared.alloc.Global.{Global}
 use Rattle.flight.specs.Contents.{in_flight}
 use Rattle.flight.specs.declared.flight.Flight.{Flight}
-use Rattle.flight.specs.declared.flight.Recorded.{Recorded}
 use Rattle.flight.specs.declared.flight.Version.{Version}
 use Rattle.flightread.specs.Files.{IsFileOf}
-use Rattle.moments.specs.declared.recorded.Recorded.{Recorded as Judged}
+use Rattle.moments.specs.Judged.{judged_from}
 use Rattle.schemaread.specs.Schemas.{SchemaSays}
 use Rattle.adopt.specs.Versions.{has_outcomes}
 use Rattle.adopt.specs.declared.run.Run.{Run}
@@ -20,15 +19,6 @@ IsRead text f = IsFileOf (string_bytes text) (in_flight f)
 -- they stand in the order of their nodes, from node 1 on
 abbrev pub InOrder : List Flight → Type 0
 InOrder flights = (k : ℕ) (d : Flight) → k < length flights → (slice_index_or flights k d).node ≡ k + 1
-
--- an answer of a node, as an audit takes it
-abbrev pub judged_of : ℕ → Recorded → Judged
-judged_of node a = record { node = node; mark = a.mark; query = a.query; answer = a.answer }
-
--- the answers of these flights, the first of which is of this node
-abbrev pub judged_from : ℕ → List Flight → List Judged
-judged_from node [] = []
-judged_from node (f ∷ later) = map (judged_of node) f.answers.items ++ judged_from (suc node) later
 
 -- the flights are of a group of as many nodes, in order, of this version and with this schema
 pub record AreGroup (flights : List Flight) (version : Version) (schema : List ℕ) : Type 0 where
@@ -46,4 +36,4 @@ pub record IsRunOf (texts : List (String Global)) (run : Run) : Type 0 where
   pub told : has_outcomes run.version ≡ true
   pub declares : SchemaSays run.schema_text (Ok run.schema)
   pub lives : run.lives.items ≡ map (λ f. f.lives) flights
-  pub answers : run.answers.items ≡ judged_from 1 flights
+  pub answers : run.answers.items ≡ judged_from 1 (map (λ f. f.answers) flights)

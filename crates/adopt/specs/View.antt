@@ -7,7 +7,7 @@ use Rattle.journal.specs.declared.line.Line.{Line}
 use Rattle.moments.specs.declared.moment.Deed.{Deed}
 use Rattle.moments.specs.declared.moment.Deed.TheVariants.{Opens, Takes, Tears, Answers, Stops}
 use Rattle.moments.specs.declared.moment.Moment.{Moment}
-use Rattle.moments.specs.Behind.{Records, IsBehind}
+use Rattle.moments.specs.Behind.{Evidence, IsBehind}
 use Rattle.moments.specs.View.{past_of, IsLive, IsSameRun}
 use Rattle.adopt.specs.Spelled.{Place, lines_at, place_after, Spells}
 use Rattle.adopt.specs.declared.telling.Telling.{Telling}
@@ -53,7 +53,7 @@ pub record IsSameTelling (old new : Telling) : Type 0 where
   pub noted : new.noted ≡ old.noted
 
 -- a moment happened, and was told
-pub record IsTold (r : Records) (n : ℕ) (old new : Telling) (m : Moment) : Type 0 where
+pub record IsTold (r : Evidence) (n : ℕ) (old new : Telling) (m : Moment) : Type 0 where
   pub now : List Event
   pub behind : IsBehind r n (past_of old.replay) m now
   pub lines : new.lines.items ≡ old.lines.items ++ lines_at r n (place_of old) m now
@@ -63,7 +63,7 @@ pub record IsTold (r : Records) (n : ℕ) (old new : Telling) (m : Moment) : Typ
   pub live : IsLive new.replay
 
 -- all of these moments happened, and were told
-pub record AreTold (r : Records) (n : ℕ) (old new : Telling) (moments : List Moment) : Type 0 where
+pub record AreTold (r : Evidence) (n : ℕ) (old new : Telling) (moments : List Moment) : Type 0 where
   pub more : List Line
   pub lines : new.lines.items ≡ old.lines.items ++ more
   pub spells : Spells r n (place_of old) moments more (place_of new)

@@ -1,5 +1,5 @@
 //! The run that the flight files of a group hold.
-ghost use Rattle.std.specs.Prelude.{◌≡◌, ◌⊎◌, ◌↔◌, true, ◌≤◌, ◌++◌, ◌∷◌, ◌+◌, List, [], Ok, IfOk, IfErr, OnOk, IsTrue, length, map, string_bytes};
+ghost use Rattle.std.specs.Prelude.{◌≡◌, ◌⊎◌, ◌↔◌, true, ◌≤◌, ◌∷◌, List, [], Ok, IfOk, IfErr, IsTrue, length, map, string_bytes};
 ghost use Rattle.std.specs.List.{All, AllZip};
 ghost use Rattle.fault.specs.declared.refusal.Refusal.TheVariants.{NoMemory, BadFlight};
 ghost use Rattle.auditor.specs.Faults.{IsOrderFault, OfRun};
@@ -8,18 +8,20 @@ ghost use Rattle.flight.specs.declared.flight.Flight.{Flight as AnyFlight};
 ghost use Rattle.journal.specs.Blocks.{lines_block};
 ghost use Rattle.journal.specs.declared.line.Line.{Line as AnyLine};
 ghost use Rattle.schemaread.specs.Schemas.{SchemaSays};
-ghost use Rattle.adopt.specs.Group.{IsRead, InOrder, judged_of, judged_from, AreGroup, IsRunOf};
+ghost use Rattle.moments.specs.Judged.{judged_from};
+ghost use Rattle.adopt.specs.Group.{IsRead, InOrder, AreGroup, IsRunOf};
 ghost use Rattle.adopt.specs.Spelled.{IsJournalOf};
 ghost use Rattle.adopt.specs.Versions.{has_outcomes};
 
 use crate::adopting::first_journal;
 use crate::run::Run;
 use fault::{Refusal, Text};
+use flight::Records;
 use flight::flight::{Flight, Version};
 use flight::life::Life;
 use flightread::read_flight;
 use model::member::Member;
-use moments::{AuditFault, Recorded};
+use moments::{AuditFault, Recorded, all_answers};
 use schema::Schema;
 use schemaread::laws::schema_says;
 use schemaread::schemas::read_schema;
@@ -88,58 +90,18 @@ fn heading_of(flights: &[Flight]) -> Result<(Version, Text), Refusal>
     Ok((first.version, first.schema.clone()?))
 }
 
-// Adds the answers of a node, as an audit takes them.
-fn add_answers(
-    judged: &mut Vec<Recorded>,
-    node: Member,
-    answers: Vec<flight::flight::Recorded>,
-) -> Result<(), AllocError>
-    ensures { OnOk result (judged.new.items ≡ judged.old.items ++ map (judged_of node) answers.items) }
-{
-    for answer in answers {
-        judged.push(Recorded {
-            node,
-            mark: answer.mark,
-            query: answer.query,
-            answer: answer.answer,
-        })?;
-    }
-    Ok(())
-}
-
-// Adds the lives and the answers of the next flight.
-fn add_flight(
-    lives: &mut Vec<Vec<Life>>,
-    answers: &mut Vec<Recorded>,
-    flight: Flight,
-) -> Result<(), AllocError>
-    ensures lives { OnOk result (lives.new.items ≡ lives.old.items ++ flight.lives ∷ []) }
-    ensures answers { OnOk result (answers.new.items ≡ answers.old.items ++ map (judged_of (length lives.old.items + 1)) flight.answers.items) }
-{
-    let Flight {
-        lives: led,
-        answers: given,
-        ..
-    } = flight;
-    let node = lives.len() + 1;
-    lives.push(led)?;
-    add_answers(answers, node, given)
-}
-
 // The lives and the answers of these flights, the first of which is node 1's.
 fn parts_of(
     alloc: Global,
     flights: Vec<Flight>,
 ) -> Result<(Vec<Vec<Life>>, Vec<Recorded>), AllocError>
     ensures lives { IfOk result (λ p. p.0.items ≡ map (λ f. f.lives) flights.items) }
-    ensures answers { IfOk result (λ p. p.1.items ≡ judged_from 1 flights.items) }
+    ensures answers { IfOk result (λ p. p.1.items ≡ judged_from 1 (map (λ f. f.answers) flights.items)) }
 {
-    let mut lives = Vec::new(alloc);
-    let mut answers = Vec::new(alloc);
-    for flight in flights {
-        add_flight(&mut lives, &mut answers, flight)?;
-    }
-    Ok((lives, answers))
+    let records = Records::of(alloc, flights)?;
+    let Records { lives, answers } = records;
+    let judged = all_answers(alloc, answers.as_slice())?;
+    Ok((lives, judged))
 }
 
 // The tables that a schema declares.

@@ -72,6 +72,6 @@ pub(crate) fn summary_if_started(
 {
     let mut trial = World::new(alloc, members, world.schema().clone()?)?;
     let _played = trial.run(world.events())?;
-    let _started = trial.run(&[Event::Start(node)])?;
+    let _started = trial.step(&Event::Start(node))?;
     summary(alloc, &mut trial, node)
 }

@@ -1,4 +1,5 @@
 pub mod Answers
 pub mod Appending
+pub mod Lines
 pub mod Outlets
 pub mod Sinks

@@ -3,3 +3,4 @@ mod Fine
 mod Transacted
 mod Entries
 mod Answered
+mod Refusing

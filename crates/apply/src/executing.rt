@@ -46,7 +46,7 @@ fn is_no_memory(refusal: &Refusal) -> bool
 // Runs statements in order, and after the last one checks the references, by what was touched before and by these; tells
 // what all of these touched. At a refusal the statements that ran are undone, from the last back to the first. After
 // `NoMemory` the rows may be any.
-fn transact(
+pub(crate) fn transact(
     alloc: Global,
     current: &mut Current,
     statements: &[Statement],

@@ -4,6 +4,7 @@
 mod asking;
 mod executing;
 pub mod laws;
+mod refused;
 pub mod tables;
 
 pub use tables::Tables;

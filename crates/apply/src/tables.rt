@@ -112,7 +112,7 @@ impl Tables {
     }
 
     // Takes in one more entry. After want of memory it is of no list.
-    fn take(&mut self, entry: &Entry) -> Result<Option<Outcome>, AllocError>
+    pub(crate) fn take(&mut self, entry: &Entry) -> Result<Option<Outcome>, AllocError>
         ensures kept { OnOk result ((schema : columns.Tables) (list : List entries.Entry) → AreTables schema list self.old → AreTables schema (list ++ entry.now ∷ []) self.new) }
         ensures outcome { IfOk result (λ o. (schema : columns.Tables) (list : List entries.Entry) → AreTables schema list self.old → o ≡ option_map (λ r. outcome (language_of schema) entry.now.stamp r (reverse list)) entry.now.request) }
         ensures failed { is_failed self.new ≡ is_failed self.old }

@@ -4,6 +4,7 @@
 pub mod ask;
 mod found;
 mod named;
+mod refused;
 mod shown;
 
 pub use ask::Ask;

@@ -11,7 +11,7 @@ use std::alloc::{AllocError, Global};
 use sysversion::Version;
 
 // The end, where it is at or before the last instant.
-fn shown_end(last: Stamp, end: Option<Stamp>) -> Option<Stamp>
+pub(crate) fn shown_end(last: Stamp, end: Option<Stamp>) -> Option<Stamp>
     ensures { result ≡ shown_end last end }
 {
     match end {

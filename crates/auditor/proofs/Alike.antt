@@ -26,7 +26,7 @@ use Rattle.moments.specs.declared.moment.Deed.TheVariants.{Opens, Takes, Tears, 
 use Rattle.moments.specs.declared.moment.Moment.{Moment}
 use Rattle.moments.specs.declared.recorded.Recorded.{Recorded}
 use Rattle.moments.specs.Past.{Past, IsSent, grown, after}
-use Rattle.moments.specs.Behind.{Records, life_at, step_at, job_event, IsJob, IsTaken, IsLeftBy, IsCut, IsAnsweredBy, IsLifeBegun, IsLifeCut, IsBehindDeed, IsBehind}
+use Rattle.moments.specs.Behind.{Evidence, life_at, step_at, job_event, IsJob, IsTaken, IsLeftBy, IsCut, IsAnsweredBy, IsLifeBegun, IsLifeCut, IsBehindDeed, IsBehind}
 
 -- ---- one message that was sent twice
 
@@ -71,7 +71,7 @@ left_alike (Some next) x New Old h k = h.1 (k.0 refl)
 
 -- ---- two lists behind one deed
 
-begun : (r : Records) (n : ℕ) (p : Past) (node k : ℕ) (o : Option Life) (a b : List Event) → IsLifeBegun r n p node k o a → IsLifeBegun r n p node k o b → a ≡ b
+begun : (r : Evidence) (n : ℕ) (p : Past) (node k : ℕ) (o : Option Life) (a b : List Event) → IsLifeBegun r n p node k o a → IsLifeBegun r n p node k o b → a ≡ b
 begun r n p node k None a b x y = absurd x
 begun r n p node zero (Some life) a b x y = x.1 ∙ sym y.1
 begun r n p node (suc k) (Some life) a b x y = x.2 ∙ sym y.2
@@ -87,21 +87,21 @@ cut s n p node next (ending.Torn step) a b x y =
     ap (run s n p.world) x.4 ∙ torn_alike s n p node x.1 step.packet x.0 y.0 x.2 y.2
     ∙ ap (λ (left : Left). happens s n p.world (Torn node y.0 left)) (left_alike next (nth p.world.nodes node) x.1 y.1 x.3 y.3) ∙ sym (ap (run s n p.world) y.4)
 
-life_cut : (r : Records) (s : Language) (n : ℕ) (p : Past) (node k : ℕ) (o : Option Life) (a b : List Event) → IsLifeCut r p node k o a → IsLifeCut r p node k o b → run s n p.world a ≡ run s n p.world b
+life_cut : (r : Evidence) (s : Language) (n : ℕ) (p : Past) (node k : ℕ) (o : Option Life) (a b : List Event) → IsLifeCut r p node k o a → IsLifeCut r p node k o b → run s n p.world a ≡ run s n p.world b
 life_cut r s n p node k None a b x y = absurd x
 life_cut r s n p node k (Some life) a b x y = cut s n p node (life_at r.lives node (k + 1)) life.ending a b x y
 
 -- a question changes nothing
-asked : (r : Records) (s : Language) (n : ℕ) (p : Past) (node : ℕ) (o : Option Recorded) (a : List Event) → IsAnsweredBy r n p node o a → run s n p.world a ≡ p.world
+asked : (r : Evidence) (s : Language) (n : ℕ) (p : Past) (node : ℕ) (o : Option Recorded) (a : List Event) → IsAnsweredBy r n p node o a → run s n p.world a ≡ p.world
 asked r s n p node None a x = absurd x
 asked r s n p node (Some answer) a x = ap (run s n p.world) x.1.5
 
-same_run : (r : Records) (s : Language) (n : ℕ) (p : Past) (node : ℕ) (d : Deed) (a b : List Event) → IsBehindDeed r n p node d a → IsBehindDeed r n p node d b → run s n p.world a ≡ run s n p.world b
+same_run : (r : Evidence) (s : Language) (n : ℕ) (p : Past) (node : ℕ) (d : Deed) (a b : List Event) → IsBehindDeed r n p node d a → IsBehindDeed r n p node d b → run s n p.world a ≡ run s n p.world b
 same_run r s n p node (Opens k) a b x y = ap (run s n p.world) (begun r n p node k (life_at r.lives node k) a b x y)
 same_run r s n p node (Takes k step) a b x y = taken r.version r.tables s n p node (step_at r.lives node k step) a b x y
 same_run r s n p node (Tears k) a b x y = life_cut r s n p node k (life_at r.lives node k) a b x y
 same_run r s n p node (Answers k) a b x y = asked r s n p node (slice_get r.answers k) a x ∙ sym (asked r s n p node (slice_get r.answers k) b y)
 same_run r s n p node (Stops k) a b x y = ap (run s n p.world) (x ∙ sym y)
 
-pub same_after : (r : Records) (n : ℕ) (p : Past) (m : Moment) (a b : List Event) → IsBehind r n p m a → IsBehind r n p m b → after (language_of r.tables) n p m.mark a ≡ after (language_of r.tables) n p m.mark b
+pub same_after : (r : Evidence) (n : ℕ) (p : Past) (m : Moment) (a b : List Event) → IsBehind r n p m a → IsBehind r n p m b → after (language_of r.tables) n p m.mark a ≡ after (language_of r.tables) n p m.mark b
 same_after r n p m a b x y = ap (grown p m.mark) (same_run r (language_of r.tables) n p m.node m.deed a b x y)

@@ -13,7 +13,7 @@ use Rattle.moments.specs.declared.replay.Replay.{Replay}
 use Rattle.moments.specs.declared.moment.Moment.{Moment}
 use Rattle.moments.specs.declared.recorded.Recorded.{Recorded}
 use Rattle.moments.specs.Past.{Past, after}
-use Rattle.moments.specs.Behind.{Records, IsBehind}
+use Rattle.moments.specs.Behind.{Evidence, IsBehind}
 use Rattle.auditor.specs.Audited.{Leads, IsStuck}
 use Rattle.moments.specs.Faults.{IsFaultAt, IsNo, Lacks, NoneAre}
 use Rattle.moments.specs.declared.recorded.AuditFault.{AuditFault}
@@ -23,7 +23,7 @@ use Rattle.std.proofs.lemmas.List.{take-append-drop}
 use Rattle.moments.specs.View.{past_of, Follows}
 use Rattle.auditor.specs.View.{IsLed}
 
-leads_more : (r : Records) (n : ℕ) (p q : Past) (ms : List Moment) (m : Moment) (es now : List Event) → Leads r n p ms es q → IsBehind r n q m now → Leads r n p (ms ++ m ∷ []) (es ++ now) (after (language_of r.tables) n q m.mark now)
+leads_more : (r : Evidence) (n : ℕ) (p q : Past) (ms : List Moment) (m : Moment) (es now : List Event) → Leads r n p ms es q → IsBehind r n q m now → Leads r n p (ms ++ m ∷ []) (es ++ now) (after (language_of r.tables) n q m.mark now)
 leads_more r n p q [] m es now led behind =
     let B : Past → Type 0 = λ x. IsBehind r n x m now in
     (now, [], ap (λ xs. xs ++ now) led.0 ∙ sym (append-nil now), subst B led.1 behind, (refl, ap (λ (x : Past). after (language_of r.tables) n x m.mark now) led.1))

@@ -36,7 +36,7 @@ use Rattle.moments.specs.declared.moment.Moment.{Moment}
 use Rattle.moments.specs.declared.recorded.Recorded.{Recorded}
 use Rattle.moments.specs.Past.{Past, beginning, after}
 use Rattle.moments.specs.Moments.{all_moments}
-use Rattle.moments.specs.Behind.{Records, job_event, step_at, outcomes_in, AreTold, IsAnswered, IsAnsweredBy, IsBehind, IsRefusalText, IsTaken, IsText}
+use Rattle.moments.specs.Behind.{Evidence, job_event, step_at, outcomes_in, AreTold, IsAnswered, IsAnsweredBy, IsBehind, IsRefusalText, IsTaken, IsText}
 use Rattle.moments.specs.Texts.{OneText}
 use Rattle.auditor.specs.Audited.{Leads, Explains}
 use Rattle.auditor.specs.Upheld.{decided_in, HasOutcomes, IsPutOff, IsUpheld, Upholds}
@@ -44,10 +44,10 @@ use Rattle.auditor.proofs.Listing.{answer_listed, step_listed}
 
 -- ---- a moment among all
 
-abbrev schema_in : Records → Language
+abbrev schema_in : Evidence → Language
 schema_in r = language_of r.tables
 
-abbrev opening_of : Records → World
+abbrev opening_of : Evidence → World
 opening_of r = new_world (length r.lives)
 
 run_append : (s : Language) (n : ℕ) (w : World) (xs ys : List Event) → run s n w (xs ++ ys) ≡ run s n (run s n w xs) ys
@@ -55,7 +55,7 @@ run_append s n w [] ys = refl
 run_append s n w (x ∷ xs) ys = run_append s n (happens s n w x) xs ys
 
 -- what is behind one moment of those that happened
-record IsPlaced (r : Records) (n : ℕ) (p : Past) (m : Moment) (events : List Event) : Type 0 where
+record IsPlaced (r : Evidence) (n : ℕ) (p : Past) (m : Moment) (events : List Event) : Type 0 where
   early : List Event
   now : List Event
   late : List Event
@@ -64,7 +64,7 @@ record IsPlaced (r : Records) (n : ℕ) (p : Past) (m : Moment) (events : List E
   behind : IsBehind r n mid m now
   world : mid.world ≡ run (schema_in r) n p.world early
 
-placed : (r : Records) (n : ℕ) (p q : Past) (before later : List Moment) (m : Moment) (events : List Event) → Leads r n p (before ++ m ∷ later) events q → IsPlaced r n p m events
+placed : (r : Evidence) (n : ℕ) (p q : Past) (before later : List Moment) (m : Moment) (events : List Event) → Leads r n p (before ++ m ∷ later) events q → IsPlaced r n p m events
 placed r n p q [] later m events led = record { early = []; now = led.0; late = led.1; mid = p; is = led.2; behind = led.3; world = refl }
 placed r n p q (k ∷ before) later m events led =
     let rest = placed r n (after (schema_in r) n p k.mark led.0) q before later m led.1 led.4 in
@@ -78,7 +78,7 @@ placed r n p q (k ∷ before) later m events led =
       world = rest.world ∙ sym (run_append (schema_in r) n p.world led.0 rest.early);
     }
 
-placed_in : (r : Records) (events : List Event) (e : Explains r events) (m : Moment) → Contains e.moments m → IsPlaced r (length r.lives) (beginning (length r.lives)) m events
+placed_in : (r : Evidence) (events : List Event) (e : Explains r events) (m : Moment) → Contains e.moments m → IsPlaced r (length r.lives) (beginning (length r.lives)) m events
 placed_in r events e m (k, within, is) =
     let split : e.moments ≡ take k e.moments ++ m ∷ drop (suc k) e.moments =
     sym (take-append-drop k e.moments) ∙ ap (λ xs. take k e.moments ++ xs) (drop-cons e.moments k m within ∙ ap (λ (y : Moment). y ∷ drop (suc k) e.moments) is) in
@@ -136,10 +136,10 @@ step_is lives node k i own l s at life found =
 at_place : {X : Type 0} (xs : List X) (x : X) (h : Contains xs x) → slice_get xs h.0 ≡ Some x
 at_place xs x (k, within, is) = slice_get_read xs (length xs) k x refl within (sym is)
 
-abbrev AgreesIn : Records → List Event → Type 0
+abbrev AgreesIn : Evidence → List Event → Type 0
 AgreesIn r events = Agree (schema_in r) (length r.lives) (opening_of r) events
 
-outcome_held : (r : Records) (events : List Event) → Explains r events → AgreesIn r events → (node : ℕ) (own : Vec Life Global) (life : Life) (step : Step) (o : Outcome) → HasOutcomes r.version →
+outcome_held : (r : Evidence) (events : List Event) → Explains r events → AgreesIn r events → (node : ℕ) (own : Vec Life Global) (life : Life) (step : Step) (o : Outcome) → HasOutcomes r.version →
     nth r.lives node ≡ Some own → Contains own.items life → Contains life.steps.items step → Contains step.outcomes o → (told : Told) × (outcome_of told ≡ o) × IsTold (schema_in r) (decided_in r events) told
 outcome_held r events e agree node own life step o has at lived stepped among =
     let n = length r.lives in
@@ -199,7 +199,7 @@ abbrev Always : Type 0
 Always = (language : Language) (n : ℕ) (events : List Event) → Agree language n (new_world n) events
 
 -- what was not decided by then is stamped above what was closed at a member
-later_above : Always → (r : Records) (events early late : List Event) (node k last : ℕ) → AgreesIn r events → early ++ late ≡ events → Closes (nth (run (schema_in r) (length r.lives) (opening_of r) early).nodes node) node k last →
+later_above : Always → (r : Evidence) (events early late : List Event) (node k last : ℕ) → AgreesIn r events → early ++ late ≡ events → Closes (nth (run (schema_in r) (length r.lives) (opening_of r) early).nodes node) node k last →
     (i : ℕ) (e : Entry) → length (decided_in r early) < i → nth (decided_in r events) i ≡ Some e → last < e.stamp
 later_above always r events early late node k last agree split c i e past at =
     let then_ = (always (schema_in r) (length r.lives) early).applied_is_decided early [] node c.member (append-nil early) c.is in
@@ -211,7 +211,7 @@ put_off : (refusal : Refusal) (a : Recorded) → IsRefusalText refusal a.answer 
 put_off (NotClosed time) a text = (time, text)
 put_off _ a text = absurd text
 
-upheld_by : Always → (r : Records) (events early late : List Event) (a : Recorded) (q : QueryShape) (out : List Output) → AgreesIn r events → query_in r.tables a.query ≡ Ok q → early ++ Ask a.node (select_of q) ∷ late ≡ events →
+upheld_by : Always → (r : Evidence) (events early late : List Event) (a : Recorded) (q : QueryShape) (out : List Output) → AgreesIn r events → query_in r.tables a.query ≡ Ok q → early ++ Ask a.node (select_of q) ∷ late ≡ events →
     Gives (schema_in r) (length r.lives) (run (schema_in r) (length r.lives) (opening_of r) early) (Ask a.node (select_of q)) out → IsText r.tables q.table out a.answer → ((x : Answer) × IsUpheld r events a x) ⊎ IsPutOff a
 upheld_by always r events early late a q [] agree reads split gives text = absurd text
 upheld_by always r events early late a q (Sent number message ∷ outs) agree reads split gives text = absurd text
@@ -237,7 +237,7 @@ upheld_by always r events early late a q (Answered m x ∷ []) agree reads split
       },
     )
 
-answer_held : Always → (r : Records) (events : List Event) → Explains r events → AgreesIn r events → (a : Recorded) → Contains r.answers a → ((x : Answer) × IsUpheld r events a x) ⊎ IsPutOff a
+answer_held : Always → (r : Evidence) (events : List Event) → Explains r events → AgreesIn r events → (a : Recorded) → Contains r.answers a → ((x : Answer) × IsUpheld r events a x) ⊎ IsPutOff a
 answer_held always r events e agree a given =
     let n = length r.lives in
     let at = at_place r.answers a given in
@@ -249,7 +249,7 @@ answer_held always r events e agree a given =
     let gives : Gives (schema_in r) n (run (schema_in r) n (opening_of r) p.early) (Ask a.node (select_of here.0)) here.1 = subst (λ (w : World). Gives (schema_in r) n w (Ask a.node (select_of here.0)) here.1) p.world here.3 in
     upheld_by always r events p.early p.late a here.0 here.1 agree here.2 (one_event p.early p.now p.late events (Ask a.node (select_of here.0)) here.5 p.is) gives here.4
 
-answers_equal : OneAnswer → OneText → (r : Records) (events : List Event) (a b : Recorded) (x y : Answer) → IsUpheld r events a x → IsUpheld r events b y → a.query ≡ b.query → x.last ≡ y.last → a.answer ≡ b.answer
+answers_equal : OneAnswer → OneText → (r : Evidence) (events : List Event) (a b : Recorded) (x y : Answer) → IsUpheld r events a x → IsUpheld r events b y → a.query ≡ b.query → x.last ≡ y.last → a.answer ≡ b.answer
 answers_equal one text r events a b x y u v same last =
     let q : v.question ≡ u.question = cc (sym v.reads, ap (query_in r.tables) (sym same), u.reads) in
     let I : QueryShape → ℕ → Type 0 = λ k t. IsAnswer (schema_in r) (read_at t (select_of k)) (decided_in r events) y in
@@ -258,11 +258,11 @@ answers_equal one text r events a b x y u v same last =
     let W : QueryShape → Answer → Type 0 = λ k z. IsText r.tables k.table (Answered b.node z ∷ []) b.answer in
     text r.tables u.question.table a.node b.node x a.answer b.answer u.text (subst (W u.question) answer (subst (λ (k : QueryShape). W k y) q v.text))
 
-pub upholds : OneAnswer → OneText → Always → (r : Records) (events : List Event) → Explains r events → Upholds r events
+pub upholds : OneAnswer → OneText → Always → (r : Evidence) (events : List Event) → Explains r events → Upholds r events
 upholds one text always r events e =
     let agree = always (schema_in r) (length r.lives) events in
     record { outcomes = outcome_held r events e agree; answers = answer_held always r events e agree; equal = answers_equal one text r events }
 
-pub upheld_if : OneAnswer → OneText → Always → (r : Records) (res : Result (Vec Event' Global) AuditFault) → IfOk res (λ events. Explains r (map event_of events.items)) → IfOk res (λ events. Upholds r (map event_of events.items))
+pub upheld_if : OneAnswer → OneText → Always → (r : Evidence) (res : Result (Vec Event' Global) AuditFault) → IfOk res (λ events. Explains r (map event_of events.items)) → IfOk res (λ events. Upholds r (map event_of events.items))
 upheld_if one text always r (Ok events) e = upholds one text always r (map event_of events.items) e
 upheld_if one text always r (Err fault) e = e

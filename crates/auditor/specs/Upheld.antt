@@ -19,16 +19,16 @@ use Rattle.flight.specs.declared.outcome.Outcome.{Outcome}
 use Rattle.sqlread.specs.Meaning.{language_of, select_of}
 use Rattle.sqlread.specs.Shapes.{QueryShape}
 use Rattle.sqlread.specs.Texts.{query_in}
-use Rattle.moments.specs.Behind.{Records, IsText}
+use Rattle.moments.specs.Behind.{Evidence, IsText}
 use Rattle.moments.specs.declared.recorded.Recorded.{Recorded}
 
 -- the entries that the run of these events decides
-abbrev pub decided_in : Records → List Event → List Entry
+abbrev pub decided_in : Evidence → List Event → List Entry
 decided_in r events = decided (language_of r.tables) (length r.lives) (new_world (length r.lives)) events
 
 -- this answer was recorded: its question was asked in the run, it is what the decided entries give, run one at a time, and what
 -- was not decided as it was asked is stamped after its last instant
-pub record IsUpheld (r : Records) (events : List Event) (a : Recorded) (x : Answer) : Type 0 where
+pub record IsUpheld (r : Evidence) (events : List Event) (a : Recorded) (x : Answer) : Type 0 where
   pub question : QueryShape
   pub reads : query_in r.tables a.query ≡ Ok question
   pub text : IsText r.tables question.table (Answered a.node x ∷ []) a.answer
@@ -51,7 +51,7 @@ HasOutcomes Three = ⊤
 -- One list of entries is decided. Each outcome that a step told is that of its request there. Each answer is what this list gives,
 -- and nothing that is decided later bears an instant that it asked about, or it says that the question was not closed. Answers to
 -- one question are equal, whichever nodes gave them and whenever (one without system time is AS OF the last instant that it names).
-pub record Upholds (r : Records) (events : List Event) : Type 0 where
+pub record Upholds (r : Evidence) (events : List Event) : Type 0 where
   pub outcomes : (node : ℕ) (own : Vec Life Global) (life : Life) (step : Step) (o : Outcome) → HasOutcomes r.version → nth r.lives node ≡ Some own → Contains own.items life → Contains life.steps.items step →
       Contains step.outcomes o → (told : Told) × (outcome_of told ≡ o) × IsTold (language_of r.tables) (decided_in r events) told
   pub answers : (a : Recorded) → Contains r.answers a → ((x : Answer) × IsUpheld r events a x) ⊎ IsPutOff a

@@ -64,7 +64,7 @@ fn explain(
 
 /// Audits what was recorded of a group of 3 to 7 nodes, in flights of this version: the lives of each, in the order of
 /// the nodes, and the answers that they gave. The lives are joined, moment by moment in order of marks and then of
-/// nodes, to the events of one run from its opening; a moment that the run does not have ends the audit.
+/// nodes, to the events of one run from its outset; a moment that the run does not have ends the audit.
 ///
 /// The events are those of a run that explains all of it: each node begins, takes what it took and tells what it told,
 /// is cut short, answers and ends as was recorded. Of flights of version 1 it is not known what the steps told, and
@@ -105,6 +105,7 @@ pub fn audit(
     one_text();
     believed::promises();
     believed::meanings();
+    believed::questions();
     check_order(lives)?;
     explain(alloc, version, schema, lives, answers)
 }

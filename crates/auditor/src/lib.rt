@@ -6,4 +6,4 @@ mod verdict;
 
 pub use auditing::audit;
 pub use moments::{AuditFault, Recorded};
-pub use verdict::{explain, judge};
+pub use verdict::judge;

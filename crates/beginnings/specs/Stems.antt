@@ -3,10 +3,10 @@ use Rattle.std.specs.Prelude.{ℕ, ◌-◌, Bool, false, if◌then◌else◌, Li
 use Rattle.flight.specs.Contents.{FlightContents, LifeContents}
 use Rattle.flight.specs.Ranges.{is_up}
 use Rattle.flight.specs.Spelling.{answer_text, closing_text, each_text, flight_text}
-use Rattle.flight.specs.declared.flight.Recorded.{Recorded}
+use Rattle.flight.specs.declared.flight.Answered.{Answered}
 
 -- answers as they stand in the file
-abbrev pub said : List Recorded → List ℕ
+abbrev pub said : List Answered → List ℕ
 said answers = each_text answer_text answers []
 
 abbrev pub is_up_life : Option LifeContents → Bool

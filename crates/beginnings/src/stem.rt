@@ -7,7 +7,7 @@ ghost use Rattle.flight.specs.Spelling.{answer_text, each_text};
 ghost use Rattle.sha2.specs.Sha256.{sha256};
 ghost use Rattle.beginnings.specs.Stems.{ends_up, said, stem_of, tail_of, up_line};
 
-use flight::flight::{Flight, Recorded};
+use flight::flight::{Answered, Flight};
 use flight::life::{Ending, Life};
 use flight::{put_answers, text_of_flight};
 use sha2::{Digest, Sha256};
@@ -40,7 +40,7 @@ fn up_line(lives: &[Life]) -> &'static str
 }
 
 // Answers as they stand in a flight's file.
-fn said_by(alloc: Global, answers: &[Recorded]) -> Result<String, AllocError>
+fn said_by(alloc: Global, answers: &[Answered]) -> Result<String, AllocError>
     ensures { IfOk result (λ text. string_bytes text ≡ said answers.now) }
 {
     let mut text = String::new(alloc);
@@ -73,7 +73,7 @@ pub(crate) fn stem_of(alloc: Global, flight: &Flight) -> Result<Vec<u8>, AllocEr
 pub(crate) fn digest_of(
     alloc: Global,
     bytes: &[u8],
-    answers: &[Recorded],
+    answers: &[Answered],
 ) -> Result<[u8; 32], AllocError>
     ensures { IfOk result (λ digest. digest ≡ sha256 (bytes.now ++ said answers.now)) }
 {

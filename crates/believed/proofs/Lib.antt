@@ -17,3 +17,5 @@ pub mod Binding
 pub mod ChecksSame
 pub mod MeaningSame
 pub mod ReadingSame
+pub mod QueriesSame
+pub mod AskedSame

@@ -13,21 +13,24 @@ spelling_now forms tokens (are, some, full, dates) = (are, some, full, λ early 
 spelling_before : (forms : List StatementForm) (tokens : List Piece) → now.IsSpelling forms tokens → before.IsSpelling forms tokens
 spelling_before forms tokens (are, some, full, dates) = (are, some, full, λ early late date is. sym (shape_same (codes "dddd-dd-dd") date) ∙ dates early late date is)
 
-pub spells_now : (text : List ℕ) (forms : List StatementForm) → before.Spells text forms → now.Spells text forms
+pub spells_now : (text : List ℕ) (forms : List StatementForm) → before.Spells text forms → now.Spells text (now.IsSpelling forms)
 spells_now text forms (tokens, are, spelling) = (tokens, tokens_now text 0 tokens are, spelling_now forms tokens spelling)
 
-pub spells_before : (text : List ℕ) (forms : List StatementForm) → now.Spells text forms → before.Spells text forms
+pub spells_before : (text : List ℕ) (forms : List StatementForm) → now.Spells text (now.IsSpelling forms) → before.Spells text forms
 spells_before text forms (tokens, are, spelling) = (tokens, tokens_before text 0 tokens are, spelling_before forms tokens spelling)
 
-goes_now : (front : List Piece) → before.GoesOn front → now.GoesOn front
-goes_now front (forms, ending, spelling) = (forms, ending, spelling_now forms (front ++ ending) spelling)
+abbrev pub Any : List Piece → Type 0
+Any tokens = (forms : List StatementForm) × now.IsSpelling forms tokens
 
-goes_before : (front : List Piece) → now.GoesOn front → before.GoesOn front
-goes_before front (forms, ending, spelling) = (forms, ending, spelling_before forms (front ++ ending) spelling)
+goes_now : (front : List Piece) → before.GoesOn front → now.GoesOn Any front
+goes_now front (forms, ending, spelling) = (ending, (forms, spelling_now forms (front ++ ending) spelling))
 
-pub wrong_now : (text : List ℕ) (at : ℕ) → before.IsWrongAt text at → now.IsWrongAt text at
+goes_before : (front : List Piece) → now.GoesOn Any front → before.GoesOn front
+goes_before front (ending, (forms, spelling)) = (forms, ending, spelling_before forms (front ++ ending) spelling)
+
+pub wrong_now : (text : List ℕ) (at : ℕ) → before.IsWrongAt text at → now.IsWrongAt Any text at
 wrong_now text at x = record {
-  spells_nothing = λ forms s. x.spells_nothing forms (spells_before text forms s);
+  spells_nothing = λ s. x.spells_nothing s.2.0 (spells_before text s.2.0 (s.0, s.1, s.2.1));
   tokens = x.tokens;
   are_tokens = tokens_now text 0 x.tokens x.are_tokens;
   count = x.count;
@@ -36,9 +39,9 @@ wrong_now text at x = record {
   ends = λ l g. x.ends l (goes_before _ g);
 }
 
-pub wrong_before : (text : List ℕ) (at : ℕ) → now.IsWrongAt text at → before.IsWrongAt text at
+pub wrong_before : (text : List ℕ) (at : ℕ) → now.IsWrongAt Any text at → before.IsWrongAt text at
 wrong_before text at x = record {
-  spells_nothing = λ forms s. x.spells_nothing forms (spells_now text forms s);
+  spells_nothing = λ forms s. let t = spells_now text forms s in x.spells_nothing (t.0, t.1, (forms, t.2));
   tokens = x.tokens;
   are_tokens = tokens_before text 0 x.tokens x.are_tokens;
   count = x.count;

@@ -2,7 +2,7 @@
 -- late, repeated or cut short, all that any of them tells and answers is what a single database says that executes one list of
 -- requests, in the order of the list. An entry of the list is an instant, and mostly a request, which is executed at it; one
 -- that comes again is executed once. Events are counted from 1, and the k-th event gives the k-th list of outputs.
-use Rattle.std.specs.Prelude.{◌≡◌, ◌⊎◌, ℕ, ℤ, ◌<◌, ◌≤◌, Some, None, List, ◌++◌, Contains}
+use Rattle.std.specs.Prelude.{◌≡◌, ◌≢◌, ◌⊎◌, ℕ, ℤ, ◌<◌, ◌≤◌, Some, None, List, ◌++◌, Contains}
 use Rattle.model.specs.Lists.{nth, IsBeginning}
 use Rattle.model.specs.Transactions.{Language}
 use Rattle.model.specs.declared.entry.Entry.{Entry}
@@ -42,8 +42,7 @@ IsNew events k r = (j : ℕ) → j < k → IsSubmitted events j r → ⊥
 
 -- no event between the j-th and the k-th stopped the member, whole or in the midst of a step
 abbrev pub IsUnstopped : List Event → ℕ → ℕ → ℕ → Type 0
-IsUnstopped events m j k = (i : ℕ) → j < i → i < k →
-    (nth events i ≡ Some (Stop m) → ⊥) × ((job : Job) (left : Left) → nth events i ≡ Some (Torn m job left) → ⊥)
+IsUnstopped events m j k = (i : ℕ) → j < i → i < k → (nth events i ≢ Some (Stop m)) × ((job : Job) (left : Left) → nth events i ≢ Some (Torn m job left))
 
 -- ---- one list
 
@@ -92,8 +91,7 @@ IsExplainedBy language n outset events list =
 pub record IsExplained (language : Language) (n : ℕ) (outset : World) (events : List Event) : Type 0 where
   pub list : List Entry
   pub explains : IsExplainedBy language n outset events list
-  pub goes_on : (early late : List Event) → early ++ late ≡ events →
-      (before : List Entry) × IsExplainedBy language n outset early before × IsBeginning before list
+  pub goes_on : (early late : List Event) → early ++ late ≡ events → (start : List Entry) × IsExplainedBy language n outset early start × IsBeginning start list
 
 -- What is decided is in the order in which the events told and answered.
 abbrev pub IsDecidedInOrder : Language → ℕ → World → List Event → Type 0

@@ -12,8 +12,7 @@ use Rattle.sqltokens.specs.Lexing.{is_blank, is_word_byte, closes}
 
 -- the signs, each as it is written
 abbrev pub signs : List (List ℕ × Sign)
-signs =
-    (codes "(", Open) ∷ (codes ")", Close) ∷ (codes ",", Comma) ∷ (codes ";", Semicolon) ∷ (codes "*", Star) ∷ (codes "=", Equal) ∷ (codes "<", Less)
+signs = (codes "(", Open) ∷ (codes ")", Close) ∷ (codes ",", Comma) ∷ (codes ";", Semicolon) ∷ (codes "*", Star) ∷ (codes "=", Equal) ∷ (codes "<", Less)
     ∷ (codes ">", Greater) ∷ (codes "+", Plus) ∷ (codes "-", Minus) ∷ (codes "<>", NotEqual) ∷ (codes "<=", LessEqual) ∷ (codes ">=", GreaterEqual) ∷ []
 
 -- a word is a keyword, whatever the case of its letters, or else a name

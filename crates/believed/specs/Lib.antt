@@ -15,3 +15,4 @@ pub mod Lexing
 pub mod Spelling
 pub mod Checks
 pub mod Meaning
+pub mod Queries

@@ -24,7 +24,7 @@ use Rattle.sqlchecks.specs.Columns.{Tables, field_at, kept_at}
 use Rattle.sqlread.specs.Changes.{is_among, is_system}
 use Rattle.sqlread.specs.Meaning.{in_64_bits}
 use Rattle.believed.specs.Results.{◌>>=◌, ◌>>◌, refuse_if, each, each_after}
-use Rattle.believed.specs.Spelling.{Spells, IsWrongAt}
+use Rattle.believed.specs.Spelling.{IsSpelling, Spells, IsWrongAt}
 use Rattle.believed.specs.Checks.{in_table, column_named, literal_in, period_from, day_named, condition_in}
 
 -- ---- INSERT
@@ -130,8 +130,8 @@ statements_in tables forms = refuse_if (nat_lt 16 (length forms)) TooLarge >> ea
 -- more than 4096 bytes, or a text that spells forms, which the checks take for statements or refuse, or one that goes wrong at a place
 pub data IsReading (tables : Tables) (text : List ℕ) (r : Result (List Statement) Refusal) : Type 0 where
   TooLong : 4096 < length text → r ≡ Err TooLarge → IsReading tables text r
-  Spelled : (forms : List StatementForm) → length text ≤ 4096 → Spells text forms → r ≡ statements_in tables forms → IsReading tables text r
-  Wrong : (at : ℕ) → length text ≤ 4096 → IsWrongAt text at → r ≡ Err (Syntax at) → IsReading tables text r
+  Spelled : (forms : List StatementForm) → length text ≤ 4096 → Spells text (IsSpelling forms) → r ≡ statements_in tables forms → IsReading tables text r
+  Wrong : (at : ℕ) → length text ≤ 4096 → IsWrongAt (λ tokens. (forms : _) × IsSpelling forms tokens) text at → r ≡ Err (Syntax at) → IsReading tables text r
 
 -- ---- the schema
 

@@ -16,20 +16,21 @@ IsSpelling forms tokens = (map (λ t. t.what) tokens ≡ flat_map statement form
     × ((before after : List What) (date : List ℕ) → flat_map statement forms ≡ before ++ Word Date ∷ Text date ∷ after →
     pointwise (λ d b. if d == 100 then is_ascii_digit b else d == b) (codes "dddd-dd-dd") date ≡ true)
 
-abbrev pub Spells : List ℕ → List StatementForm → Type 0
-Spells text forms = (tokens : List Piece) × IsTokens text 0 tokens × IsSpelling forms tokens
+-- the text has tokens that are such
+abbrev pub Spells : List ℕ → (List Piece → Type 0) → Type 0
+Spells text Are = (tokens : List Piece) × IsTokens text 0 tokens × Are tokens
 
--- some statements begin with these tokens
-abbrev pub GoesOn : List Piece → Type 0
-GoesOn front = (forms : List StatementForm) × (ending : List Piece) × IsSpelling forms (front ++ ending)
+-- some that are such begin with these tokens
+abbrev pub GoesOn : (List Piece → Type 0) → List Piece → Type 0
+GoesOn Are front = (ending : List Piece) × Are (front ++ ending)
 
--- the text spells nothing, and this is the first place at which that shows: no statements go on after the token there, or the text
+-- the text has none that are such, and this is the first place at which that shows: none go on after the token there, or the text
 -- ends there
-pub record IsWrongAt (text : List ℕ) (at : ℕ) : Type 0 where
-  pub spells_nothing : (forms : List StatementForm) → Spells text forms → ⊥
+pub record IsWrongAt (Are : List Piece → Type 0) (text : List ℕ) (at : ℕ) : Type 0 where
+  pub spells_nothing : Spells text Are → ⊥
   pub tokens : List Piece
   pub are_tokens : IsTokens text 0 tokens
   pub count : ℕ
   pub at_is : at ≡ option_map_or (λ t. t.at) (slice_get tokens count) (length text)
-  pub goes_on : GoesOn (take count tokens)
-  pub ends : count < length tokens → GoesOn (take (count + 1) tokens) → ⊥
+  pub goes_on : GoesOn Are (take count tokens)
+  pub ends : count < length tokens → GoesOn Are (take (count + 1) tokens) → ⊥

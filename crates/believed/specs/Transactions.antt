@@ -29,6 +29,5 @@ is_orphan language state p =
 -- the state after all statements of the text, or the first refusal: 21 names the first day without a parent
 unfoldable pub transacted : Language → ℕ → List ℕ → State → Result State Refusal
 transacted language t text state = do
-  next ← fold_ok (run_statement t) state (result_unwrap_or (language.reads text) [])
-  option_map_or (λ p. Err (NoParent (language.name p.table) (key_text p.key) (day_text p.day)))
-      (find (is_orphan language next) (places language next)) (Ok next)
+  new ← fold_ok (run_statement t) state (result_unwrap_or (language.reads text) [])
+  option_map_or (λ p. Err (NoParent (language.name p.table) (key_text p.key) (day_text p.day))) (find (is_orphan language new) (places language new)) (Ok new)

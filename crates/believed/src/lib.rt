@@ -4,6 +4,7 @@
 #![tactic(auto)]
 
 ghost use Rattle.std.specs.Prelude.{◌≡◌, ℕ, List};
+ghost use Rattle.std.specs.Result.{result_map_both};
 ghost use Rattle.model.specs.Transactions.{Language};
 ghost use Rattle.model.specs.Worlds.{World, Event, Output, new_world};
 ghost use Rattle.model.specs.Worlds as model;
@@ -12,8 +13,10 @@ ghost use Rattle.believed.specs.Agreement.{Agree, decided};
 ghost use Rattle.believed.specs.Explained.{IsDecidedInOrder, IsExplained, WereSubmitted};
 ghost use Rattle.believed.specs.Progress.{CanServe};
 ghost use Rattle.believed.specs.Meaning.{IsLanguage};
+ghost use Rattle.believed.specs.Queries.{IsAsking};
 ghost use Rattle.sqlchecks.specs.Columns.{Tables};
-ghost use Rattle.sqlread.specs.Meaning.{language_of};
+ghost use Rattle.sqlread.specs.Meaning.{language_of, select_of};
+ghost use Rattle.sqlread.specs.Texts.{query_in};
 
 /// Both words come to the same: the world after events, and what events give after others.
 pub fn same_runs()
@@ -44,4 +47,11 @@ pub fn meanings()
     ensures { (tables : Tables) → IsLanguage tables (language_of tables) }
 {
     sqlread::laws::language_is_spelled();
+}
+
+/// What queries ask, in these words: each text is one question over some tables, or has one refusal, and is read so.
+pub fn questions()
+    ensures { (tables : Tables) → IsAsking tables (λ text. result_map_both select_of (λ refusal. refusal) (query_in tables text)) }
+{
+    sqlsyntax::laws::forms_told();
 }

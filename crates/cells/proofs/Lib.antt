@@ -5,3 +5,4 @@ pub mod Items
 pub mod Listing
 pub mod Runs
 pub mod Telling
+mod Refusing

@@ -5,7 +5,7 @@ ghost use Rattle.model.specs.Transactions.{Language};
 ghost use Rattle.model.specs.Worlds.{new_world, led_world};
 ghost use Rattle.cells.specs.Runs.{RunsRise, MembersAgree};
 
-/// In each run of a group, from either opening, what a step of a member makes applied and sealed has stamps that rise over all that
+/// In each run of a group, from either outset, what a step of a member makes applied and sealed has stamps that rise over all that
 /// the member had applied and sealed before. So a cell whose member is one of a run, before a step and after it, does not go down
 /// in that step because a stamp does not rise: by its kept facts the items of its life are what the member had applied and sealed.
 pub fn runs_rise()

@@ -6,3 +6,4 @@ pub mod copies;
 pub mod laws;
 pub mod locked;
 mod publishing;
+mod refused;

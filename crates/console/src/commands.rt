@@ -1,5 +1,5 @@
 //! The commands.
-use crate::input::Input;
+use crate::line_reader::LineReader;
 use crate::printing::{counted, name_of, print};
 use crate::session::{Place, Session};
 use crate::stop::{Fault, Stop};
@@ -97,7 +97,7 @@ fn sit_at<R: BufRead + Drop, K: Announces>(
     rt: &HostRuntime,
     alloc: Global,
     place: Place<'_>,
-    input: &mut Input<R>,
+    input: &mut LineReader<R>,
     opened: Opened<K>,
     clock: Option<i64>,
 ) -> (Result<(), Fault>, Opened<K>, bool)
@@ -116,7 +116,7 @@ fn sit_over<R: BufRead + Drop, S: Alter + Drop, J: Device>(
     rt: &HostRuntime,
     alloc: Global,
     place: Place<'_>,
-    input: &mut Input<R>,
+    input: &mut LineReader<R>,
     opened: Opened<Kept<S, J>>,
     clock: Option<i64>,
 ) -> (Result<(), Fault>, Opened<Kept<S, J>>, bool) {
@@ -146,7 +146,7 @@ fn sit<R: Read + Drop>(
     let Ok(reader) = BufReader::new(alloc, reader) else {
         return Err(Fault::from(Refusal::NoMemory));
     };
-    let mut input = Input::new(alloc, reader);
+    let mut input = LineReader::new(alloc, reader);
     adopt(rt, alloc, place.dir)?;
     let opened = storefolder::open(rt, alloc, place.dir, syncs, reading)?;
     let (played, opened, is_refused) = sit_over(rt, alloc, place, &mut input, opened, clock);
@@ -242,7 +242,7 @@ fn yes_lines(alloc: Global, audited: &Audited) -> Result<String, AllocError> {
     put_missing(audited.missing.as_slice(), &mut text)?;
     let sessions = audited.sessions;
     let requests = audited.requests;
-    let members = audited.flown.lives.len();
+    let members = audited.records.lives.len();
     write!(
         text,
         "sessions {sessions}, requests {requests}, members {members}: each database is what the journals give\naudit: yes\n"

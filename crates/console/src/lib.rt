@@ -4,11 +4,12 @@
 mod commands;
 mod drawing;
 mod help;
-mod input;
+mod line_reader;
 mod members;
 mod outputs;
 mod printing;
 mod requests;
+mod room;
 mod session;
 mod stop;
 mod taking;

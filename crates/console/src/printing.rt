@@ -2,6 +2,7 @@
 ghost use Rattle.std.specs.Prelude.{IfErr};
 ghost use Rattle.console.specs.Sittings.{IsOfPrinting};
 
+use crate::room::put_room_left;
 use crate::stop::Fault;
 use model::member::Member;
 use model::stamp::Stamp;
@@ -182,7 +183,7 @@ fn put_status(status: &Status, text: &mut String) -> Result<(), AllocError> {
     }
 }
 
-/// How the members stand, as a table.
+/// How the members stand, as a table; below it how much of the log is full, once nine tenths are.
 pub(crate) fn status_lines(alloc: Global, all: &[Status]) -> Result<String, AllocError> {
     let mut text = String::from_str(
         alloc,
@@ -192,5 +193,6 @@ pub(crate) fn status_lines(alloc: Global, all: &[Status]) -> Result<String, Allo
     for status in all {
         put_status(status, &mut text)?;
     }
+    put_room_left(all, &mut text)?;
     Ok(text)
 }

@@ -5,6 +5,7 @@ ghost use Rattle.console.specs.Sittings.{IsOfPrinting};
 
 use crate::outputs::Manner;
 use crate::printing::{banner, name_of, print, refusal_lines, warnings};
+use crate::room::{NEARLY_FULL, warn_of_room};
 use crate::stop::Fault;
 use fault::Refusal;
 use std::alloc::Global;
@@ -44,6 +45,8 @@ where
     pub is_behind_csv: bool,
     /// Whether anything was refused.
     pub is_refused: bool,
+    /// How many entries the log has to have when it is next said that it is nearly full.
+    pub warns_from: usize,
 }
 
 impl<'a, K: Announces> Session<'a, K>
@@ -75,6 +78,7 @@ where
             },
             is_behind_csv: false,
             is_refused: false,
+            warns_from: NEARLY_FULL,
         }
     }
 
@@ -98,6 +102,12 @@ where
             let line = banner(self.alloc, self.place.dir, &self.store, self.place.width)?;
             print(rt, line.as_str())?;
         }
+        Ok(())
+    }
+
+    /// Says on standard error that the log is nearly full: once nine tenths of it are, and every thousand entries from then on.
+    pub fn warn(&mut self, rt: &HostRuntime) -> Result<(), Fault> {
+        self.warns_from = warn_of_room(rt, self.alloc, &self.store, self.warns_from)?;
         Ok(())
     }
 

@@ -2,7 +2,7 @@
 ghost use Rattle.std.specs.Prelude.{◌≡◌, ◌++◌, ◌∷◌, IfOk, IfSome, OnOk, string_bytes};
 ghost use Rattle.console.specs.Lines.{IsWhole, is_ended as ends_so};
 
-use crate::input::Input;
+use crate::line_reader::LineReader;
 use crate::session::Session;
 use crate::stop::Fault;
 use fault::Refusal;
@@ -42,7 +42,7 @@ where
     fn whole_text<R: BufRead + Drop>(
         &self,
         rt: &HostRuntime,
-        input: &mut Input<R>,
+        input: &mut LineReader<R>,
         first: &str,
     ) -> Result<String, Fault>
         ensures { IfOk result (λ text. IfSome (R.remaining input.old.reader) (λ xs. IsWhole first.now xs (string_bytes text) (R.remaining input.new.reader))) }
@@ -65,7 +65,7 @@ where
     fn take_dot<R: BufRead + Drop>(
         &mut self,
         rt: &HostRuntime,
-        input: &mut Input<R>,
+        input: &mut LineReader<R>,
         line: &str,
     ) -> Result<bool, Fault> {
         let at = input.count();
@@ -87,7 +87,7 @@ where
     fn take_line<R: BufRead + Drop>(
         &mut self,
         rt: &HostRuntime,
-        input: &mut Input<R>,
+        input: &mut LineReader<R>,
         line: &str,
     ) -> Result<bool, Fault> {
         if is_skipped(line) {
@@ -106,9 +106,10 @@ where
     pub fn play<R: BufRead + Drop>(
         &mut self,
         rt: &HostRuntime,
-        input: &mut Input<R>,
+        input: &mut LineReader<R>,
     ) -> Result<(), Fault> {
         self.greet(rt)?;
+        self.warn(rt)?;
         for _ in 0..u64::MAX {
             self.prompt(rt, true)?;
             let Some(line) = input.next()? else {
@@ -117,6 +118,7 @@ where
             if !self.take_line(rt, input, line.as_str())? {
                 return Ok(());
             }
+            self.warn(rt)?;
         }
         Ok(())
     }

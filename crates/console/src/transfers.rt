@@ -1,4 +1,5 @@
 //! Imports and exports over a store's folder.
+use crate::room::{NEARLY_FULL, warn_of_room};
 use progressline::{Progress, ProgressLine};
 use sqlite::Alter;
 use std::alloc::Global;
@@ -22,7 +23,7 @@ fn work_of<'a>(
     look_at(rt, alloc, order, &folder.form.schema)
 }
 
-// Does it with a store that is open: what came of it, and the store.
+// Does it with a store that is open, and says where its log is nearly full: what came of it, and the store.
 fn work_at<S: Alter + Drop, J: Device, Q: Progress>(
     rt: &HostRuntime,
     alloc: Global,
@@ -33,6 +34,7 @@ fn work_at<S: Alter + Drop, J: Device, Q: Progress>(
 ) -> (Result<u8, Fault>, Opened<Kept<S, J>>) {
     let mut opened = opened;
     let done = work_on(rt, alloc, work, reading, &mut opened.store, progress);
+    let _ = warn_of_room(rt, alloc, &opened.store, NEARLY_FULL);
     (done, opened)
 }
 

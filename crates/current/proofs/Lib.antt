@@ -25,3 +25,4 @@ pub mod Suspected
 pub mod Among
 pub mod States
 pub mod Meeting
+mod Refusing

@@ -8,6 +8,7 @@ pub mod laws;
 mod named;
 mod plan;
 mod references;
+mod refused;
 pub mod row;
 mod strand;
 mod strands;

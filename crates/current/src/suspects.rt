@@ -35,7 +35,7 @@ use std::collections::BTreeSet;
 
 // Whether a row that went has a day that no row of its key has now. Of these only those are looked at that have a day
 // of it.
-fn has_lost_day(
+pub(crate) fn has_lost_day(
     alloc: Global,
     tables: &[TableRows],
     table: usize,

@@ -118,7 +118,7 @@ impl TableRows {
         Ok(())
     }
 
-    // Cuts the rows of the one key that has rows that are met. Of its rows those that have a day in the portion are
+    // Corrects the rows of the one key that has rows that are met. Of its rows those that have a day in the portion are
     // looked at, and no others.
     fn correct_key(&mut self, correction: &Correction, key: &Key) -> Result<Changes, Refusal>
         requires { (r : TableRow) → Has (rows_of_table self.old) r → is_met (action_of_correction correction.now) r ≡ true → r.key ≡ key.now }
@@ -146,7 +146,7 @@ impl TableRows {
         Ok(changes)
     }
 
-    // Cuts the rows of all keys.
+    // Corrects the rows of all keys.
     fn correct_all(&mut self, correction: &Correction) -> Result<Changes, Refusal>
         ensures ok { IfOk result (λ changes. IsCorrection (action_of_correction correction.now) correction.now.system_start (rows_of_table self.old) (rows_of_table self.new) (map row_of changes.removed.items) (map row_of changes.added.items)) }
         ensures err { IfErr result (λ refusal. (rows_of_table self.new ≡ rows_of_table self.old) × IsCorrectionRefused (action_of_correction correction.now) correction.now.system_start (rows_of_table self.old) refusal) }
@@ -166,7 +166,7 @@ impl TableRows {
         Ok(changes)
     }
 
-    /// Cuts the rows that are met as UPDATE and DELETE do, and tells what it touched. Where WHERE names a key only those
+    /// Corrects the rows that are met, as UPDATE and DELETE do, and tells what it touched. Where WHERE names a key only those
     /// of its rows are looked at that have a day in the portion. Each refusal changes nothing.
     ///
     /// `NumberRange` where a new value of a row that is met is out of range; then `RowLimit` where

@@ -5,7 +5,7 @@ use Rattle.std.specs.Str.{IsUtf8}
 use Rattle.sqlchecks.specs.Columns.{Tables}
 use Rattle.schemaread.specs.Schemas.{SchemaSays}
 use Rattle.sqlread.specs.Texts.{transaction_in, query_in}
-use Rattle.lines.specs.declared.line.Job.TheVariants as jobs
+use Rattle.lines.specs.declared.line.TornJob.TheVariants as jobs
 use Rattle.lines.specs.declared.line.Line.{Line}
 use Rattle.lines.specs.declared.line.Line.TheVariants.{Submit, Torn, Ask}
 use Rattle.lines.specs.Script.{HasLines}

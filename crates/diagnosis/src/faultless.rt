@@ -7,7 +7,7 @@ ghost use Rattle.sqlread.specs.Texts.{transaction_in, query_in};
 ghost use Rattle.diagnosis.specs.Faultless.{reads, IsFaultlessScript, IsFaultlessSchema};
 
 use fault::Refusal;
-use lines::line::{Job, Line};
+use lines::line::{Line, TornJob};
 use lines::script::read_script;
 use schema::Schema;
 use schemaread::schemas::read_schema;
@@ -52,7 +52,7 @@ fn fault_of_line(alloc: Global, schema: &Schema, line: &Line) -> Result<Option<R
     match line {
         Line::Submit { text, .. } => fault_of_transaction(alloc, schema, text.as_str()),
         Line::Torn {
-            job: Job::Submit { text, .. },
+            job: TornJob::Submit { text, .. },
             ..
         } => fault_of_transaction(alloc, schema, text.as_str()),
         Line::Ask { text, .. } => fault_of_question(alloc, schema, text.as_str()),

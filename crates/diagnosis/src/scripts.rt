@@ -4,7 +4,7 @@ use crate::judging::{judge_question, judge_schema, judge_transaction};
 use crate::page::{Line, Page};
 use crate::walk::{Found, Spot};
 use fault::Refusal;
-use lines::line::{Job, Line as ScriptLine, read_line};
+use lines::line::{Line as ScriptLine, TornJob, read_line};
 use lines::number::read_number;
 use schema::Schema;
 use schemaread::schemas::read_schema;
@@ -199,7 +199,7 @@ impl<'f> Look<'f> {
         match read {
             ScriptLine::Submit { text, .. } => self.take_request(alloc, line, text.as_str()),
             ScriptLine::Torn {
-                job: Job::Submit { text, .. },
+                job: TornJob::Submit { text, .. },
                 ..
             } => self.take_request(alloc, line, text.as_str()),
             ScriptLine::Ask { text, .. } => self.take_question(alloc, line, text.as_str()),

@@ -15,7 +15,7 @@ use Rattle.flight.specs.declared.life.Ending.TheVariants.{Up, Stopped, Torn}
 use Rattle.flight.specs.declared.outcome.Outcome.{Outcome}
 use Rattle.flight.specs.declared.flight.Version.{Version}
 use Rattle.flight.specs.declared.flight.Version.TheVariants.{One, Two, Three}
-use Rattle.flight.specs.declared.flight.Recorded.{Recorded}
+use Rattle.flight.specs.declared.flight.Answered.{Answered}
 use Rattle.flight.specs.Contents.{OpeningContents, LifeContents}
 use Rattle.flight.specs.Spelling.{number_text, spaced, ended, signed_text, floor_number, floor_text, flag_number, flag_text, vote_number, vote_text, block_text, each_text, request_text, asked_text, entry_text, entries_text, ballot_text, body_text, message_text, packet_text, made_text, outcome_text, outcomes_text, step_text, ending_text, opening_floor_text, opening_text, life_text, answer_text}
 
@@ -165,7 +165,7 @@ after_life v l rest =
     let ending = ending_text v l.ending rest in
     omega (arith, after_ending v l.ending rest, after_steps v l.steps ending, after_opening v l.opening (each_text (step_text v) l.steps ending))
 
-pub after_answer : (a : Recorded) (rest : List ℕ) → length rest < length (answer_text a rest)
+pub after_answer : (a : Answered) (rest : List ℕ) → length rest < length (answer_text a rest)
 after_answer a rest =
     let answer = codes "text " ++ block_text a.answer rest in
     let query = codes "query " ++ block_text a.query answer in

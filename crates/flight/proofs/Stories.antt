@@ -7,7 +7,7 @@ use Rattle.flight.specs.declared.life.Step.{Step}
 use Rattle.flight.specs.declared.life.Ending.{Ending}
 use Rattle.flight.specs.declared.life.Ending.TheVariants.{Up, Stopped, Torn}
 use Rattle.flight.specs.declared.flight.Version.{Version}
-use Rattle.flight.specs.declared.flight.Recorded.{Recorded}
+use Rattle.flight.specs.declared.flight.Answered.{Answered}
 use Rattle.flight.specs.Spelling.{each_text, step_text, ending_text, answer_text, closing_text}
 use Rattle.flight.specs.Courses.{until_text, IsUntil, IsNoOutcome}
 use Rattle.flight.specs.Reading.{Spells, SpellsOnly, IsUnread, IsNotBegun, IsAfter}
@@ -31,7 +31,7 @@ ending_no_step v Up other = (λ r e. absurd (omega (arith, ap (at 0) e)), λ r e
 ending_no_step v Stopped other = (λ r e. absurd (omega (arith, ap (at 2) e)), λ r e. absurd (omega (arith, ap (at 0) e)))
 ending_no_step v (Torn s) other = (λ r e. absurd (omega (arith, ap (at 0) e)), λ r e. absurd (omega (arith, ap (at 0) e)))
 
-pub answer_begins : (a : Recorded) (r : List ℕ) → (m : List ℕ) × (answer_text a r ≡ codes "answer " ++ m)
+pub answer_begins : (a : Answered) (r : List ℕ) → (m : List ℕ) × (answer_text a r ≡ codes "answer " ++ m)
 answer_begins a r = (_, refl)
 
 pub end_no_answer : (other : List ℕ) → IsNotBegun (codes "answer ") (codes "end\n" ++ other) × ⊤
@@ -39,7 +39,7 @@ end_no_answer other = (λ r e. absurd (omega (arith, ap (at 0) e)), tt)
 
 -- ---- the answers and the last line
 
-module _ (Is : Recorded → Type 0) (text : List ℕ) (taken : List Recorded) (left : List ℕ) (t : TakenUntil Is answer_text (codes "answer ") (λ _. ⊤) (λ ys other free. tt) text taken left) where
+module _ (Is : Answered → Type 0) (text : List ℕ) (taken : List Answered) (left : List ℕ) (t : TakenUntil Is answer_text (codes "answer ") (λ _. ⊤) (λ ys other free. tt) text taken left) where
   abbrev last_line : Unit {0} → List ℕ → List ℕ
   last_line u rest = codes "end\n" ++ rest
 

@@ -6,7 +6,7 @@ use Rattle.flight.specs.declared.life.Step.{Step}
 use Rattle.flight.specs.declared.life.Opening.{Opening}
 use Rattle.flight.specs.declared.life.Ending.{Ending}
 use Rattle.flight.specs.declared.life.Life.{Life}
-use Rattle.flight.specs.declared.flight.Recorded.{Recorded}
+use Rattle.flight.specs.declared.flight.Answered.{Answered}
 use Rattle.flight.specs.declared.flight.Version.{Version}
 use Rattle.flight.specs.declared.flight.Flight.{Flight}
 
@@ -26,7 +26,7 @@ pub record FlightContents : Type 0 where
   pub members : ℕ
   pub schema : List ℕ
   pub lives : List LifeContents
-  pub answers : List Recorded
+  pub answers : List Answered
 
 abbrev pub in_opening : Opening → OpeningContents
 in_opening o = record { mark = o.mark; hard = o.hard; entries = o.entries.items }

@@ -3,7 +3,7 @@ use Rattle.std.specs.Prelude.{ℕ, List, All, codes}
 use Rattle.flight.specs.declared.life.Step.{Step}
 use Rattle.flight.specs.declared.life.Ending.{Ending}
 use Rattle.flight.specs.declared.flight.Version.{Version}
-use Rattle.flight.specs.declared.flight.Recorded.{Recorded}
+use Rattle.flight.specs.declared.flight.Answered.{Answered}
 use Rattle.flight.specs.Contents.{LifeContents}
 use Rattle.sqlchecks.specs.Columns.{Tables}
 use Rattle.flight.specs.Spelling.{each_text, step_text, ending_text, life_text, closing_text}
@@ -29,8 +29,8 @@ abbrev pub IsNoOutcome : List ℕ → Type 0
 IsNoOutcome text = IsNotBegun (codes "outcome ") text
 
 -- the lives, and the answers up to the end
-abbrev pub lives_text : Version → List LifeContents × List Recorded → List ℕ → List ℕ
+abbrev pub lives_text : Version → List LifeContents × List Answered → List ℕ → List ℕ
 lives_text version w rest = until_text (life_text version) closing_text w rest
 
-abbrev pub AreLives : Version → ℕ → Tables → List LifeContents × List Recorded → Type 0
+abbrev pub AreLives : Version → ℕ → Tables → List LifeContents × List Answered → Type 0
 AreLives version node tables w = IsUntil (IsLife version node) (All (IsAnswer tables)) w

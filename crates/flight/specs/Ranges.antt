@@ -19,7 +19,7 @@ use Rattle.flight.specs.declared.life.Ending.TheVariants.{Up, Stopped, Torn}
 use Rattle.flight.specs.declared.outcome.Outcome.{Outcome}
 use Rattle.flight.specs.declared.flight.Version.{Version}
 use Rattle.flight.specs.declared.flight.Version.TheVariants.{One, Two, Three}
-use Rattle.flight.specs.declared.flight.Recorded.{Recorded}
+use Rattle.flight.specs.declared.flight.Answered.{Answered}
 use Rattle.flight.specs.Contents.{OpeningContents, LifeContents, FlightContents}
 
 abbrev pub IsNumber : ℕ → Type 0
@@ -131,7 +131,7 @@ abbrev pub IsLife : Version → ℕ → LifeContents → Type 0
 IsLife version node l = IsOpening version l.opening × All (IsStep version node) l.steps × IsEnding version node l.ending
 
 -- its query reads over these tables
-abbrev pub IsAnswer : Tables → Recorded → Type 0
+abbrev pub IsAnswer : Tables → Answered → Type 0
 IsAnswer tables a = IsMark a.mark × ((query : QueryShape) × (query_in tables a.query ≡ Ok query))
 
 abbrev pub is_up : Ending → Bool
@@ -154,7 +154,7 @@ abbrev pub IsGroup : ℕ → ℕ → Type 0
 IsGroup node members = (3 ≤ members) × (members ≤ 7) × (1 ≤ node) × (node ≤ members)
 
 -- the text is that of tables, over which the queries read
-abbrev pub IsAsking : List ℕ → List Recorded → Type 0
+abbrev pub IsAsking : List ℕ → List Answered → Type 0
 IsAsking schema answers = (tables : Tables) × SchemaSays schema (Ok tables) × All (IsAnswer tables) answers
 
 abbrev pub IsFlight : FlightContents → Type 0

@@ -16,7 +16,7 @@ use Rattle.flight.specs.declared.life.Ending.TheVariants.{Up, Stopped, Torn}
 use Rattle.flight.specs.declared.outcome.Outcome.{Outcome}
 use Rattle.flight.specs.declared.flight.Version.{Version}
 use Rattle.flight.specs.declared.flight.Version.TheVariants.{One, Two, Three}
-use Rattle.flight.specs.declared.flight.Recorded.{Recorded}
+use Rattle.flight.specs.declared.flight.Answered.{Answered}
 use Rattle.flight.specs.Contents.{OpeningContents, LifeContents, FlightContents}
 
 -- ---- what lines are made of
@@ -149,11 +149,11 @@ opening_text version o rest = codes "life " ++ spaced o.mark (spaced o.hard.term
 abbrev pub life_text : Version → LifeContents → List ℕ → List ℕ
 life_text version l rest = opening_text version l.opening (each_text (step_text version) l.steps (ending_text version l.ending rest))
 
-abbrev pub answer_text : Recorded → List ℕ → List ℕ
+abbrev pub answer_text : Answered → List ℕ → List ℕ
 answer_text a rest = codes "answer " ++ ended a.mark (codes "query " ++ block_text a.query (codes "text " ++ block_text a.answer rest))
 
 -- the answers, and the line that ends the file
-abbrev pub closing_text : List Recorded → List ℕ → List ℕ
+abbrev pub closing_text : List Answered → List ℕ → List ℕ
 closing_text answers rest = each_text answer_text answers (codes "end\n" ++ rest)
 
 abbrev pub version_number : Version → ℕ

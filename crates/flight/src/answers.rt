@@ -7,7 +7,7 @@ ghost use Rattle.flight.specs.Spelling.{answer_text, closing_text};
 ghost use Rattle.flight.specs.Ranges.{IsAnswer};
 ghost use Rattle.flight.specs.Reading.{Spells, SpellsOnly, IsUnread};
 
-use crate::flight::Recorded;
+use crate::flight::Answered;
 use crate::parts::{begins, past, read_block, read_mark};
 use fault::Refusal;
 use schema::Schema;
@@ -30,7 +30,7 @@ fn read_answer<'a>(
     alloc: Global,
     schema: &Schema,
     text: &'a str,
-) -> Result<(Recorded, &'a str), Refusal>
+) -> Result<(Answered, &'a str), Refusal>
     ensures ok { IfOk result (λ p. Spells (IsAnswer schema.now) answer_text text.now p.0 p.1.now) }
     ensures only { IfOk result (λ p. SpellsOnly (IsAnswer schema.now) answer_text text.now p.0 p.1.now) }
     ensures err { IfErr result (IsUnread (IsAnswer schema.now) answer_text text.now) }
@@ -42,7 +42,7 @@ fn read_answer<'a>(
     check_query(alloc, schema, query.as_str())?;
     let rest = past(rest, "text ")?;
     let (answer, rest) = read_block(alloc, rest)?;
-    let recorded = Recorded {
+    let recorded = Answered {
         mark,
         query,
         answer,
@@ -56,7 +56,7 @@ pub fn read_answers<'a>(
     alloc: Global,
     schema: &Schema,
     text: &'a str,
-) -> Result<(Vec<Recorded>, &'a str), Refusal>
+) -> Result<(Vec<Answered>, &'a str), Refusal>
     ensures ok { IfOk result (λ p. Spells (All (IsAnswer schema.now)) closing_text text.now p.0.items p.1.now) }
     ensures only { IfOk result (λ p. SpellsOnly (All (IsAnswer schema.now)) closing_text text.now p.0.items p.1.now) }
     ensures err { IfErr result (IsUnread (All (IsAnswer schema.now)) closing_text text.now) }

@@ -34,7 +34,7 @@ impl Version {
 
 /// A question that a view of the node was asked, and what it answered.
 #[derive(Debug, Drop)]
-pub struct Recorded {
+pub struct Answered {
     /// That of the step or opening after which it was answered.
     pub mark: Mark,
     pub query: Text,
@@ -52,5 +52,5 @@ pub struct Flight {
     /// The text of the group's schema.
     pub schema: Text,
     pub lives: Vec<Life>,
-    pub answers: Vec<Recorded>,
+    pub answers: Vec<Answered>,
 }

@@ -11,9 +11,11 @@ pub mod life;
 pub mod outcome;
 mod packets;
 pub mod parts;
+pub mod records;
 pub mod steps;
 mod writing;
 
 pub use file::write_flight;
-pub use flight::{Flight, Recorded, Version};
+pub use flight::{Answered, Flight, Version};
+pub use records::Records;
 pub use writing::{put_answers, text_of_flight};

@@ -4,7 +4,7 @@ ghost use Rattle.flight.specs.Contents.{in_opening, in_life, in_flight};
 ghost use Rattle.flight.specs.Spelling.{spaced, ended, block_text, request_text, entry_text, entries_text, each_text, flag_number, floor_number, ballot_text, body_text, packet_text, made_text, outcome_text, outcomes_text, step_text, ending_text, opening_floor_text, opening_text, life_text, answer_text, version_number, version_text, flight_text};
 ghost use Rattle.flight.specs.Additions.{Adds};
 
-use crate::flight::{Flight, Recorded, Version};
+use crate::flight::{Answered, Flight, Version};
 use crate::life::{Ending, Life, Opening, Packet, Step};
 use crate::outcome::Outcome;
 use model::entry::{Entry, Request};
@@ -275,7 +275,7 @@ fn put_lives(version: Version, lives: &[Life], text: &mut String) -> Result<(), 
     Ok(())
 }
 
-fn put_answer(recorded: &Recorded, text: &mut String) -> Result<(), AllocError>
+fn put_answer(recorded: &Answered, text: &mut String) -> Result<(), AllocError>
     ensures { OnOk result (Adds (string_bytes text.old) (string_bytes text.new) (answer_text recorded.now)) }
 {
     let mark = recorded.mark.number();
@@ -288,7 +288,7 @@ fn put_answer(recorded: &Recorded, text: &mut String) -> Result<(), AllocError>
 }
 
 /// Puts answers behind a text. Want of memory leaves a part of them there.
-pub fn put_answers(answers: &[Recorded], text: &mut String) -> Result<(), AllocError>
+pub fn put_answers(answers: &[Answered], text: &mut String) -> Result<(), AllocError>
     ensures { OnOk result (Adds (string_bytes text.old) (string_bytes text.new) (each_text answer_text answers.now)) }
 {
     for answer in answers {

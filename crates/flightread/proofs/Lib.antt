@@ -1,2 +1,3 @@
 pub mod Stories
 pub mod Whole
+mod Refusing

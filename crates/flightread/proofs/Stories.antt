@@ -5,7 +5,7 @@ use Rattle.fault.specs.declared.refusal.Refusal.{Refusal}
 use Rattle.flight.specs.declared.life.Step.{Step}
 use Rattle.flight.specs.declared.life.Ending.{Ending}
 use Rattle.flight.specs.declared.flight.Version.{Version}
-use Rattle.flight.specs.declared.flight.Recorded.{Recorded}
+use Rattle.flight.specs.declared.flight.Answered.{Answered}
 use Rattle.flight.specs.Contents.{OpeningContents, LifeContents}
 use Rattle.flight.specs.Spelling.{opening_text, life_text, closing_text}
 use Rattle.flight.specs.Ranges.{IsOpening, IsLife}
@@ -20,7 +20,7 @@ pub life_begins : (v : Version) (l : LifeContents) (r : List ℕ) → (m : List 
 life_begins v l r = (_, refl)
 
 -- what follows the lives is no life
-pub closing_no_life : (answers : List Recorded) (other : List ℕ) → IsNotBegun (codes "life ") (closing_text answers other) × ⊤
+pub closing_no_life : (answers : List Answered) (other : List ℕ) → IsNotBegun (codes "life ") (closing_text answers other) × ⊤
 closing_no_life [] other = (λ r e. absurd (omega (arith, ap (at 0) e)), tt)
 closing_no_life (a ∷ answers) other = (λ r e. absurd (omega (arith, ap (at 0) e)), tt)
 

@@ -7,7 +7,7 @@ use Rattle.sqlchecks.specs.Columns.{Tables}
 use Rattle.schemaread.specs.Schemas.{SchemaSays}
 use Rattle.flightread.specs.declared.reading.Head.{Head}
 use Rattle.flight.specs.declared.flight.Version.{Version}
-use Rattle.flight.specs.declared.flight.Recorded.{Recorded}
+use Rattle.flight.specs.declared.flight.Answered.{Answered}
 use Rattle.flight.specs.Contents.{LifeContents, FlightContents}
 use Rattle.flight.specs.Spelling.{version_text, block_text}
 use Rattle.flight.specs.Ranges.{IsLife, IsAnswer, one_at_a_time}
@@ -21,7 +21,7 @@ abbrev after_head : FlightContents → List ℕ
 after_head g = block_text g.schema (lives_text g.version (g.lives, g.answers) [])
 
 -- the queries read over the one schema that the text declares
-over : (a b : Tables) (answers : List Recorded) → a ≡ b → All (IsAnswer a) answers → All (IsAnswer b) answers
+over : (a b : Tables) (answers : List Answered) → a ≡ b → All (IsAnswer a) answers → All (IsAnswer b) answers
 over a b answers e h = subst (λ (t : Tables). All (IsAnswer t) answers) e h
 
 module _ (text : List ℕ) where
@@ -77,7 +77,7 @@ module _ (text : List ℕ) where
             no_lives r (inl memory) = inl memory
             no_lives r (inr (bad, none)) = inr (bad, λ g h. none (g.lives, g.answers) [] (lived g h) (spelled g h))
 
-            module _ (lives : List LifeContents) (answers : List Recorded) (fourth : List ℕ) (only : SpellsOnly (AreLives version head.node tables) (lives_text version) third (lives, answers) fourth) where
+            module _ (lives : List LifeContents) (answers : List Answered) (fourth : List ℕ) (only : SpellsOnly (AreLives version head.node tables) (lives_text version) third (lives, answers) fourth) where
               ended : (g : FlightContents) → IsFileOf text g → (g.lives ≡ lives) × (g.answers ≡ answers) × ([] ≡ fourth)
               ended g h =
                   let o = only (g.lives, g.answers) [] (lived g h) (spelled g h) in
@@ -99,7 +99,7 @@ module _ (text : List ℕ) where
 
 -- ---- a file that was read
 
-module _ (text : List ℕ) (version : Version) (rest : List ℕ) (head : Head) (first second schema third : List ℕ) (tables : Tables) (lives : List LifeContents) (answers : List Recorded) (fourth : List ℕ) where
+module _ (text : List ℕ) (version : Version) (rest : List ℕ) (head : Head) (first second schema third : List ℕ) (tables : Tables) (lives : List LifeContents) (answers : List Answered) (fourth : List ℕ) where
   pub file_of : text ≡ version_text version rest → Spells IsHead heading_text rest head first → first ≡ codes "schema " ++ second → second ≡ block_text schema third → SchemaSays schema (Ok tables)
       → Spells (AreLives version head.node tables) (lives_text version) third (lives, answers) fourth → fourth ≡ [] → one_at_a_time lives ≡ true
       → IsFileOf text (record { version = version; node = head.node; members = head.members; schema = schema; lives = lives; answers = answers })

@@ -3,5 +3,6 @@
 
 mod lives;
 mod reading;
+mod refused;
 
 pub use reading::read_flight;

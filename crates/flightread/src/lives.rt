@@ -9,7 +9,7 @@ ghost use Rattle.flight.specs.Reading.{Spells, SpellsOnly, IsUnread};
 use fault::Refusal;
 use flight::answers::read_answers;
 use flight::entries::read_entries;
-use flight::flight::{Recorded, Version};
+use flight::flight::{Answered, Version};
 use flight::life::{Ending, Life, Opening};
 use flight::parts::{begins, past, read_mark, read_number, read_opening_floor, read_vote};
 use flight::steps::read_course;
@@ -19,7 +19,11 @@ use schema::Schema;
 use std::alloc::Global;
 
 // What was stored as a life began.
-fn read_opening(alloc: Global, version: Version, text: &str) -> Result<(Opening, &str), Refusal>
+pub(crate) fn read_opening(
+    alloc: Global,
+    version: Version,
+    text: &str,
+) -> Result<(Opening, &str), Refusal>
     ensures ok { IfOk result (λ p. Spells (IsOpening version) (opening_text version) text.now (in_opening p.0) p.1.now) }
     ensures only { IfOk result (λ p. SpellsOnly (IsOpening version) (opening_text version) text.now (in_opening p.0) p.1.now) }
     ensures err { IfErr result (IsUnread (IsOpening version) (opening_text version) text.now) }
@@ -67,7 +71,7 @@ pub(crate) fn read_lives<'a>(
     node: Member,
     schema: &Schema,
     text: &'a str,
-) -> Result<(Vec<Life>, Vec<Recorded>, &'a str), Refusal>
+) -> Result<(Vec<Life>, Vec<Answered>, &'a str), Refusal>
     ensures ok { IfOk result (λ p. Spells (AreLives version node schema.now) (lives_text version) text.now (map in_life p.0.items, p.1.items) p.2.now) }
     ensures only { IfOk result (λ p. SpellsOnly (AreLives version node schema.now) (lives_text version) text.now (map in_life p.0.items, p.1.items) p.2.now) }
     ensures err { IfErr result (IsUnread (AreLives version node schema.now) (lives_text version) text.now) }

@@ -2,9 +2,10 @@
 ghost use Rattle.std.specs.Prelude.{◌≡◌, IfOk, vec_len};
 
 use crate::files::{Folder, in_words, no_memory, path_of, there_already};
-use crate::flights::{Flown, write_flights};
+use crate::flights::write_flights;
 use causes::{Cause, Found, Name, Trouble};
 use fault::{Refusal, Text};
+use flight::Records;
 use sqlite::{Alter, Connection, Error, ErrorCode, File as DatabaseFile, FileStore};
 use std::alloc::Global;
 use std::fs::{File, OpenFile};
@@ -215,10 +216,10 @@ impl<'a> Made<'a> {
         rt: &R,
         host: &HostRuntime,
         schema: &Text,
-        flown: Flown,
+        records: Records,
     ) -> Result<(), Trouble<'a>> {
         let closed = self.close(rt, host);
-        let written = write_flights(rt, self.alloc, self.folder, schema, flown);
+        let written = write_flights(rt, self.alloc, self.folder, schema, records);
         closed?;
         written
     }

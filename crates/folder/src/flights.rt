@@ -3,22 +3,14 @@ use crate::files::{Folder, no_memory, path_of};
 use answertext::outlet::WriteFault;
 use causes::{Name, Trouble};
 use fault::{Refusal, Text};
-use flight::flight::{Flight, Recorded, Version};
-use flight::life::Life;
-use flight::write_flight;
+use flight::flight::{Flight, Version};
+use flight::{Records, write_flight};
 use std::alloc::Global;
 use std::fs;
 use std::fs::File;
 use std::rt::Files;
 
 const TRIED: &str = "writing the flight";
-
-/// What a run leaves, node by node: its lives, and what its views answered.
-#[derive(Drop)]
-pub struct Flown {
-    pub lives: Vec<Vec<Life>>,
-    pub answers: Vec<Vec<Recorded>>,
-}
 
 // Writes a flight into a new file. One that can't be written to its end is removed.
 fn write_one<'a, R: Files>(
@@ -51,9 +43,9 @@ pub fn write_flights<'a, R: Files>(
     alloc: Global,
     folder: Folder<'a>,
     schema: &Text,
-    flown: Flown,
+    records: Records,
 ) -> Result<(), Trouble<'a>> {
-    let Flown { lives, answers } = flown;
+    let Records { lives, answers } = records;
     let members = lives.len();
     let mut node: u8 = 0;
     for (lives, answers) in lives.into_iter().zip(answers) {

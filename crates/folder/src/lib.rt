@@ -7,4 +7,3 @@ mod flights;
 
 pub use databases::{Image, Made, make_databases};
 pub use files::Folder;
-pub use flights::Flown;

@@ -3,3 +3,4 @@ pub mod Digests
 pub mod Frames
 pub mod Listed
 pub mod Words
+mod Refusing

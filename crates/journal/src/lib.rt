@@ -8,6 +8,7 @@ pub mod line;
 mod parts;
 mod pieces;
 pub mod reading;
+mod refused;
 pub mod stored;
 pub mod writing;
 

@@ -24,7 +24,7 @@ use Rattle.cells.specs.Publishing.{items_by, items_from}
 use Rattle.cells.specs.Runs.{RunsRise}
 use Rattle.cells.proofs.Replays.{Seated}
 use Rattle.cells.proofs.Items.{IsListed, items_in, listed_none, one_more}
-use Rattle.moments.specs.Behind.{Records, life_at}
+use Rattle.moments.specs.Behind.{Evidence, life_at}
 use Rattle.moments.specs.Past.{beginning}
 use Rattle.moments.specs.declared.moment.Moment.{Moment}
 use Rattle.moments.specs.Rising.{Rise, lives_rise}
@@ -60,7 +60,7 @@ own_lives lives me k life at = by_node (nth lives me) refl at
     by_node None is found = absurd (cc found)
     by_node (Some own) is found = (own, is, found)
 
-pub followed : (r : Records) (events : List Event) → Rise r.lives → Explains r events → (me k : ℕ) (life : Life) → life_at r.lives me k ≡ Some life → IsFollowed r events me life
+pub followed : (r : Evidence) (events : List Event) → Rise r.lives → Explains r events → (me k : ℕ) (life : Life) → life_at r.lives me k ≡ Some life → IsFollowed r events me life
 followed r events rise explains me k life at =
     let own = own_lives r.lives me k life at in
     let ordered : filter (is_deed me) explains.moments ≡ in_order me 0 own.0.items = stands_in_order r.lives r.answers explains.moments me own.0 explains.timeline own.1 (own_rise r.lives me own.0 rise own.1) in
@@ -70,25 +70,25 @@ followed r events rise explains me k life at =
     lives_followed r events me own.0.items (λ i. ap (option_and_then (λ (y : Vec Life Global). slice_get y.items i)) own.1) fresh_first k life own.2
 
 -- after the first steps
-was_through : (r : Records) (events : List Event) (me : ℕ) (x : Node) (steps : List Step) → WasAt (language_of r.tables) (length r.lives) (new_world (length r.lives)) events me x → GoesThrough r events me x steps →
+was_through : (r : Evidence) (events : List Event) (me : ℕ) (x : Node) (steps : List Step) → WasAt (language_of r.tables) (length r.lives) (new_world (length r.lives)) events me x → GoesThrough r events me x steps →
     (j : ℕ) → WasAt (language_of r.tables) (length r.lives) (new_world (length r.lives)) events me (gone r me x (take j steps))
 was_through r events me x [] was goes zero = was
 was_through r events me x [] was goes (suc j) = was
 was_through r events me x (s ∷ steps) was goes zero = was
 was_through r events me x (s ∷ steps) was goes (suc j) = was_through r events me (stepped r.tables (length r.lives) me x s) steps goes.1 goes.2 j
 
-pub lives_follow : (r : Records) (events : List Event) → Rise r.lives → Explains r events → LivesFollow r events
+pub lives_follow : (r : Evidence) (events : List Event) → Rise r.lives → Explains r events → LivesFollow r events
 lives_follow r events rise explains me k j life at =
     let f = followed r events rise explains me k life at in
     was_through r events me (begun life) life.steps.items f.begins f.goes j
 
 -- ---- stamps rise in what it makes
 
-abbrev seat : Records → ℕ → Node → Seated
+abbrev seat : Evidence → ℕ → Node → Seated
 seat r me x = record { schema = r.tables; members = length r.lives; me = me; member = x }
 
 -- stamps rise with what a move makes applied and sealed
-with_move : (r : Records) (me mark : ℕ) (x y : Node) (before : List Item) → Runs (language_of r.tables) (length r.lives) → RunsRise (language_of r.tables) (length r.lives) (new_world (length r.lives)) → IsMove (language_of r.tables) (length r.lives) me x y →
+with_move : (r : Evidence) (me mark : ℕ) (x y : Node) (before : List Item) → Runs (language_of r.tables) (length r.lives) → RunsRise (language_of r.tables) (length r.lives) (new_world (length r.lives)) → IsMove (language_of r.tables) (length r.lives) me x y →
     Rises before → entries_in before ≡ applied x → sealed_in before ≡ x.sealed → Rises (before ++ items_by mark x y)
 with_move r me mark x y before runs law move rises entries sealed =
     let language : Language = language_of r.tables in
@@ -96,13 +96,13 @@ with_move r me mark x y before runs law move rises entries sealed =
     law (move.early ++ move.event ∷ []) me mark x y before (was_before language n me x y move) (was_after language n me x y move) (grows language n me x y runs move) rises entries sealed
 
 -- what a life makes in these steps, and what it is then
-record IsMade (r : Records) (me : ℕ) (o : Opening) (steps : List Step) : Type 0 where
+record IsMade (r : Evidence) (me : ℕ) (o : Opening) (steps : List Step) : Type 0 where
   member : Node
   is : member ≡ fold (stepped r.tables (length r.lives) me) (started_from (opened_with o)) steps
   listed : IsListed (seat r me member) o steps
   rises : Rises (items_in (seat r me member) o steps)
 
-makes : (r : Records) (events : List Event) (me : ℕ) (o : Opening) (before steps : List Step) → Runs (language_of r.tables) (length r.lives) → RunsRise (language_of r.tables) (length r.lives) (new_world (length r.lives)) → (m : IsMade r me o before) →
+makes : (r : Evidence) (events : List Event) (me : ℕ) (o : Opening) (before steps : List Step) → Runs (language_of r.tables) (length r.lives) → RunsRise (language_of r.tables) (length r.lives) (new_world (length r.lives)) → (m : IsMade r me o before) →
     GoesThrough r events me m.member steps → IsMade r me o (before ++ steps)
 makes r events me o before [] runs law m goes = subst (λ (xs : List Step). IsMade r me o xs) (sym (append-nil before)) m
 makes r events me o before (s ∷ steps) runs law m goes =
@@ -119,11 +119,11 @@ makes r events me o before (s ∷ steps) runs law m goes =
     let next : IsMade r me o (before ++ s ∷ []) = record { member = y; is = is; listed = more.listed; rises = subst (λ (items : List Item). Rises items) (sym more.items) rises } in
     subst (λ (xs : List Step). IsMade r me o xs) (append_assoc before (s ∷ []) steps) (makes r events me o (before ++ s ∷ []) steps runs law next goes.2)
 
-none_made : (r : Records) (me : ℕ) (o : Opening) → IsMade r me o []
+none_made : (r : Evidence) (me : ℕ) (o : Opening) → IsMade r me o []
 unfolding items_from
 none_made r me o = record { member = started_from (opened_with o); is = refl; listed = listed_none (seat r me (started_from (opened_with o))) o [] refl; rises = tt }
 
-life_rises : (r : Records) (events : List Event) (me : ℕ) (life : Life) → Runs (language_of r.tables) (length r.lives) → RunsRise (language_of r.tables) (length r.lives) (new_world (length r.lives)) → IsFollowed r events me life → IsRising r.tables (length r.lives) me life
+life_rises : (r : Evidence) (events : List Event) (me : ℕ) (life : Life) → Runs (language_of r.tables) (length r.lives) → RunsRise (language_of r.tables) (length r.lives) (new_world (length r.lives)) → IsFollowed r events me life → IsRising r.tables (length r.lives) me life
 unfolding none_made
 life_rises r events me life runs law f =
     let n : ℕ = length r.lives in
@@ -138,5 +138,5 @@ life_rises r events me life runs law f =
           with_move r me s.mark x (stepped r.tables n me x s) (made r.tables n me life) runs law move m.rises entries sealed;
     }
 
-pub lives_rise_so : (r : Records) (events : List Event) → Runs (language_of r.tables) (length r.lives) → RunsRise (language_of r.tables) (length r.lives) (new_world (length r.lives)) → Rise r.lives → Explains r events → LivesRise r
+pub lives_rise_so : (r : Evidence) (events : List Event) → Runs (language_of r.tables) (length r.lives) → RunsRise (language_of r.tables) (length r.lives) (new_world (length r.lives)) → Rise r.lives → Explains r events → LivesRise r
 lives_rise_so r events runs law rise explains me k life at = life_rises r events me life runs law (followed r events rise explains me k life at)

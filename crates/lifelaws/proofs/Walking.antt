@@ -41,7 +41,7 @@ use Rattle.moments.specs.declared.moment.Moment.{Moment}
 use Rattle.moments.specs.declared.recorded.Recorded.{Recorded}
 use Rattle.moments.specs.Moments.{step_moments, torn_moments, end_moments}
 use Rattle.moments.specs.Past.{Past, IsSent, after}
-use Rattle.moments.specs.Behind.{Records, life_at, step_at, job_event, IsJob, IsTaken, IsCut, IsOpened, HasStored, IsAnsweredBy, IsLifeBegun, IsLifeCut, IsBehindDeed, IsBehind}
+use Rattle.moments.specs.Behind.{Evidence, life_at, step_at, job_event, IsJob, IsTaken, IsCut, IsOpened, HasStored, IsAnsweredBy, IsLifeBegun, IsLifeCut, IsBehindDeed, IsBehind}
 use Rattle.auditor.specs.Audited.{Leads}
 use Rattle.lifelaws.specs.Lives.{begun}
 use Rattle.lifelaws.proofs.Growing.{IsMove}
@@ -101,12 +101,12 @@ IsSameMember language n p me events = left_of language n p me events ≡ nth p.w
 by_event : (language : Language) (n : ℕ) (p : Past) (me : ℕ) (e : Event) (events : List Event) → events ≡ e ∷ [] → nth (happens language n p.world e).nodes me ≡ nth p.world.nodes me → IsSameMember language n p me events
 by_event language n p me e events is same = ap (left_of language n p me) is ∙ same
 
-begun_apart : (r : Records) (n : ℕ) (p : Past) (me node k : ℕ) (o : Option Life) (events : List Event) → (node ≡ me → ⊥) → IsLifeBegun r n p node k o events → IsSameMember (language_of r.tables) n p me events
+begun_apart : (r : Evidence) (n : ℕ) (p : Past) (me node k : ℕ) (o : Option Life) (events : List Event) → (node ≡ me → ⊥) → IsLifeBegun r n p node k o events → IsSameMember (language_of r.tables) n p me events
 begun_apart r n p me node k None events other h = absurd h
 begun_apart r n p me node zero (Some l) events other h = ap (left_of (language_of r.tables) n p me) h.1
 begun_apart r n p me node (suc k) (Some l) events other h = by_event (language_of r.tables) n p me (Start node) events h.2 (starts_apart (language_of r.tables) n p.world me node other)
 
-taken_apart : (r : Records) (n : ℕ) (p : Past) (me node : ℕ) (o : Option Step) (events : List Event) → (node ≡ me → ⊥) → IsTaken r.version r.tables n p node o events → IsSameMember (language_of r.tables) n p me events
+taken_apart : (r : Evidence) (n : ℕ) (p : Past) (me node : ℕ) (o : Option Step) (events : List Event) → (node ≡ me → ⊥) → IsTaken r.version r.tables n p node o events → IsSameMember (language_of r.tables) n p me events
 taken_apart r n p me node None events other h = absurd h
 taken_apart r n p me node (Some s) events other h = by_event (language_of r.tables) n p me (job_event node h.0) events h.3 (job_apart (language_of r.tables) n p me node s.packet h.0 other h.1)
 
@@ -115,11 +115,11 @@ cut_apart language n p me node next ending.Up events other h = absurd h
 cut_apart language n p me node next ending.Stopped events other h = absurd h
 cut_apart language n p me node next (ending.Torn s) events other h = by_event language n p me (Torn node h.0 h.1) events h.4 (tears_apart language n p.world me node other h.0 h.1)
 
-life_cut_apart : (r : Records) (n : ℕ) (p : Past) (me node k : ℕ) (o : Option Life) (events : List Event) → (node ≡ me → ⊥) → IsLifeCut r p node k o events → IsSameMember (language_of r.tables) n p me events
+life_cut_apart : (r : Evidence) (n : ℕ) (p : Past) (me node k : ℕ) (o : Option Life) (events : List Event) → (node ≡ me → ⊥) → IsLifeCut r p node k o events → IsSameMember (language_of r.tables) n p me events
 life_cut_apart r n p me node k None events other h = absurd h
 life_cut_apart r n p me node k (Some l) events other h = cut_apart (language_of r.tables) n p me node (life_at r.lives node (k + 1)) l.ending events other h
 
-asked_same : (r : Records) (n : ℕ) (p : Past) (me node : ℕ) (o : Option Recorded) (events : List Event) → IsAnsweredBy r n p node o events → IsSameMember (language_of r.tables) n p me events
+asked_same : (r : Evidence) (n : ℕ) (p : Past) (me node : ℕ) (o : Option Recorded) (events : List Event) → IsAnsweredBy r n p node o events → IsSameMember (language_of r.tables) n p me events
 asked_same r n p me node None events h = absurd h
 asked_same r n p me node (Some a) events h = by_event (language_of r.tables) n p me (Ask node (select_of h.1.0)) events h.1.5 refl
 
@@ -127,7 +127,7 @@ apart : (node me : ℕ) → ((node == me) && true) ≡ false → node ≡ me →
 apart node me h = eqb-false node me (sym (and_true (node == me)) ∙ h)
 
 -- what is no deed of member me leaves it as it was
-same_member : (r : Records) (n : ℕ) (p : Past) (me node : ℕ) (d : Deed) (events : List Event) → IsBehindDeed r n p node d events → ((node == me) && is_done d) ≡ false → IsSameMember (language_of r.tables) n p me events
+same_member : (r : Evidence) (n : ℕ) (p : Past) (me node : ℕ) (d : Deed) (events : List Event) → IsBehindDeed r n p node d events → ((node == me) && is_done d) ≡ false → IsSameMember (language_of r.tables) n p me events
 same_member r n p me node (Opens k) events h passed = begun_apart r n p me node k (life_at r.lives node k) events (apart node me passed) h
 same_member r n p me node (Takes k step) events h passed = taken_apart r n p me node (step_at r.lives node k step) events (apart node me passed) h
 same_member r n p me node (Tears k) events h passed = life_cut_apart r n p me node k (life_at r.lives node k) events (apart node me passed) h
@@ -137,7 +137,7 @@ same_member r n p me node (Stops k) events h passed = by_event (language_of r.ta
 -- ---- the deeds of one node, one by one
 
 -- the events of a moment, at which member me was this
-pub record IsStep (r : Records) (events : List Event) (me : ℕ) (x : Option Node) (m : Moment) : Type 0 where
+pub record IsStep (r : Evidence) (events : List Event) (me : ℕ) (x : Option Node) (m : Moment) : Type 0 where
   pub early : List Event
   pub now : List Event
   pub late : List Event
@@ -148,14 +148,14 @@ pub record IsStep (r : Records) (events : List Event) (me : ℕ) (x : Option Nod
   pub behind : IsBehind r (length r.lives) past m now
 
 -- what the moment leaves
-abbrev pub next_of : (r : Records) (events : List Event) (me : ℕ) (x : Option Node) (m : Moment) → IsStep r events me x m → Option Node
+abbrev pub next_of : (r : Evidence) (events : List Event) (me : ℕ) (x : Option Node) (m : Moment) → IsStep r events me x m → Option Node
 next_of r events me x m s = left_of (language_of r.tables) (length r.lives) s.past me s.now
 
-abbrev pub Walks : Records → List Event → ℕ → Option Node → List Moment → Type 0
+abbrev pub Walks : Evidence → List Event → ℕ → Option Node → List Moment → Type 0
 Walks r events me x [] = Unit {0}
 Walks r events me x (m ∷ ms) = (s : IsStep r events me x m) × Walks r events me (next_of r events me x m s) ms
 
-pub walks : (r : Records) (events : List Event) (me : ℕ) (p q : Past) (early late : List Event) (ms : List Moment) → early ++ late ≡ events → p.world ≡ run (language_of r.tables) (length r.lives) (new_world (length r.lives)) early →
+pub walks : (r : Evidence) (events : List Event) (me : ℕ) (p q : Past) (early late : List Event) (ms : List Moment) → early ++ late ≡ events → p.world ≡ run (language_of r.tables) (length r.lives) (new_world (length r.lives)) early →
     Leads r (length r.lives) p ms late q → Walks r events me (nth p.world.nodes me) (filter (is_deed me) ms)
 walks r events me p q early late [] is world led = tt
 walks r events me p q early late (m ∷ ms) is world led =
@@ -219,7 +219,7 @@ takes_so t n p me x s job at up is =
     record { next = next; still = subst (λ (z : Node). z.up ≡ true) same found.2 }
 
 -- in the run
-next_so : (r : Records) (early : List Event) (p : Past) (me : ℕ) (y : Node) (job : Job) → p.world ≡ run (language_of r.tables) (length r.lives) (new_world (length r.lives)) early → IsTakenSo r.tables (length r.lives) p me y job →
+next_so : (r : Evidence) (early : List Event) (p : Past) (me : ℕ) (y : Node) (job : Job) → p.world ≡ run (language_of r.tables) (length r.lives) (new_world (length r.lives)) early → IsTakenSo r.tables (length r.lives) p me y job →
     nth (run (language_of r.tables) (length r.lives) (new_world (length r.lives)) (early ++ job_event me job ∷ [])).nodes me ≡ Some y
 next_so r early p me y job world so =
     let language : Language = language_of r.tables in
@@ -227,7 +227,7 @@ next_so r early p me y job world so =
     let e : Event = job_event me job in
     ap (λ (w : World). nth w.nodes me) (run_append language n early (e ∷ []) (new_world n) ∙ ap (λ (w : World). happens language n w e) (sym world)) ∙ so.next
 
-moves_so : (r : Records) (early : List Event) (p : Past) (me : ℕ) (x y : Node) (job : Job) → p.world ≡ run (language_of r.tables) (length r.lives) (new_world (length r.lives)) early → nth p.world.nodes me ≡ Some x → x.up ≡ true →
+moves_so : (r : Evidence) (early : List Event) (p : Past) (me : ℕ) (x y : Node) (job : Job) → p.world ≡ run (language_of r.tables) (length r.lives) (new_world (length r.lives)) early → nth p.world.nodes me ≡ Some x → x.up ≡ true →
     IsTakenSo r.tables (length r.lives) p me y job → IsMove (language_of r.tables) (length r.lives) me x y
 moves_so r early p me x y job world at up so = record {
   early = early;
@@ -241,40 +241,40 @@ moves_so r early p me x y job world at up so = record {
 -- ---- one life
 
 -- member me goes through these steps in the run
-abbrev pub GoesThrough : Records → List Event → ℕ → Node → List Step → Type 0
+abbrev pub GoesThrough : Evidence → List Event → ℕ → Node → List Step → Type 0
 GoesThrough r events me x [] = Unit {0}
 GoesThrough r events me x (s ∷ steps) =
     IsMove (language_of r.tables) (length r.lives) me x (stepped r.tables (length r.lives) me x s) × WasAt (language_of r.tables) (length r.lives) (new_world (length r.lives)) events me (stepped r.tables (length r.lives) me x s)
     × GoesThrough r events me (stepped r.tables (length r.lives) me x s) steps
 
 -- the step that was cut short is one of a run, had it been made whole
-abbrev pub WasCut : Records → ℕ → Node → Ending → Type 0
+abbrev pub WasCut : Evidence → ℕ → Node → Ending → Type 0
 WasCut r me x ending.Up = Unit {0}
 WasCut r me x ending.Stopped = Unit {0}
 WasCut r me x (ending.Torn s) = IsMove (language_of r.tables) (length r.lives) me x (stepped r.tables (length r.lives) me x s)
 
-abbrev pub gone : Records → ℕ → Node → List Step → Node
+abbrev pub gone : Evidence → ℕ → Node → List Step → Node
 gone r me x steps = fold (stepped r.tables (length r.lives) me) x steps
 
-pub record IsFollowed (r : Records) (events : List Event) (me : ℕ) (life : Life) : Type 0 where
+pub record IsFollowed (r : Evidence) (events : List Event) (me : ℕ) (life : Life) : Type 0 where
   pub begins : WasAt (language_of r.tables) (length r.lives) (new_world (length r.lives)) events me (begun life)
   pub goes : GoesThrough r events me (begun life) life.steps.items
   pub cut : WasCut r me (gone r me (begun life) life.steps.items) life.ending
 
 -- what is left once the steps are taken
-record AreTaken (r : Records) (events : List Event) (me : ℕ) (x : Node) (steps : List Step) (tail : List Moment) : Type 0 where
+record AreTaken (r : Evidence) (events : List Event) (me : ℕ) (x : Node) (steps : List Step) (tail : List Moment) : Type 0 where
   goes : GoesThrough r events me x steps
   up : (gone r me x steps).up ≡ true
   rest : Walks r events me (Some (gone r me x steps)) tail
 
 -- what is left once one step is taken
-record IsTakenOnce (r : Records) (events : List Event) (me : ℕ) (x y : Node) (left : Option Node) : Type 0 where
+record IsTakenOnce (r : Evidence) (events : List Event) (me : ℕ) (x y : Node) (left : Option Node) : Type 0 where
   move : IsMove (language_of r.tables) (length r.lives) me x y
   was : WasAt (language_of r.tables) (length r.lives) (new_world (length r.lives)) events me y
   up : y.up ≡ true
   next : left ≡ Some y
 
-follow_step : (r : Records) (events : List Event) (me : ℕ) (x : Node) (s : Step) (m : Moment) (w : IsStep r events me (Some x) m) → x.up ≡ true → IsTaken r.version r.tables (length r.lives) w.past me (Some s) w.now →
+follow_step : (r : Evidence) (events : List Event) (me : ℕ) (x : Node) (s : Step) (m : Moment) (w : IsStep r events me (Some x) m) → x.up ≡ true → IsTaken r.version r.tables (length r.lives) w.past me (Some s) w.now →
     IsTakenOnce r events me x (stepped r.tables (length r.lives) me x s) (next_of r events me (Some x) m w)
 follow_step r events me x s m w up (job, is, tells, one) =
     let language : Language = language_of r.tables in
@@ -290,7 +290,7 @@ follow_step r events me x s m w up (job, is, tells, one) =
       next = ap (left_of language n w.past me) one ∙ so.next;
     }
 
-follow_steps : (r : Records) (events : List Event) (me k j : ℕ) (x : Node) (steps : List Step) (tail : List Moment) → x.up ≡ true → ((i : ℕ) → step_at r.lives me k (j + i) ≡ slice_get steps i) →
+follow_steps : (r : Evidence) (events : List Event) (me k j : ℕ) (x : Node) (steps : List Step) (tail : List Moment) → x.up ≡ true → ((i : ℕ) → step_at r.lives me k (j + i) ≡ slice_get steps i) →
     Walks r events me (Some x) (step_moments me k j steps ++ tail) → AreTaken r events me x steps tail
 follow_steps r events me k j x [] tail up at walked = record { goes = tt; up = up; rest = walked }
 follow_steps r events me k j x (s ∷ steps) tail up at walked =
@@ -326,12 +326,12 @@ opens_so t n p me (suc k) o events h first = ap (left_of (language_of t) n p me)
 
 -- ---- how a life ends
 
-record IsEnded (r : Records) (events : List Event) (me : ℕ) (x : Node) (e : Ending) (ms : List Moment) : Type 0 where
+record IsEnded (r : Evidence) (events : List Event) (me : ℕ) (x : Node) (e : Ending) (ms : List Moment) : Type 0 where
   cut : WasCut r me x e
   left : Option Node
   rest : Walks r events me left ms
 
-ends_so : (r : Records) (events : List Event) (me k mark : ℕ) (x : Node) (l : Life) (e : Ending) (ms : List Moment) → x.up ≡ true → life_at r.lives me k ≡ Some l → l.ending ≡ e →
+ends_so : (r : Evidence) (events : List Event) (me k mark : ℕ) (x : Node) (l : Life) (e : Ending) (ms : List Moment) → x.up ≡ true → life_at r.lives me k ≡ Some l → l.ending ≡ e →
     Walks r events me (Some x) (torn_moments me k e ++ (end_moments me k mark e ++ ms)) → IsEnded r events me x e ms
 ends_so r events me k mark x l ending.Up ms up at is walked = record { cut = tt; left = Some x; rest = walked }
 ends_so r events me k mark x l ending.Stopped ms up at is walked = record { cut = tt; left = _; rest = walked.1 }
@@ -347,7 +347,7 @@ ends_so r events me k mark x l (ending.Torn s) ms up at is walked =
 not_first : (k : ℕ) (x y : Option Node) → k + 1 ≡ 0 → y ≡ x
 not_first k x y e = absurd (omega (arith, e))
 
-follow_lives : (r : Records) (events : List Event) (me k : ℕ) (lives : List Life) (x : Option Node) → (k ≡ 0 → x ≡ Some (fresh 0 None)) → ((i : ℕ) → life_at r.lives me (k + i) ≡ slice_get lives i) → Walks r events me x (in_order me k lives) →
+follow_lives : (r : Evidence) (events : List Event) (me k : ℕ) (lives : List Life) (x : Option Node) → (k ≡ 0 → x ≡ Some (fresh 0 None)) → ((i : ℕ) → life_at r.lives me (k + i) ≡ slice_get lives i) → Walks r events me x (in_order me k lives) →
     (i : ℕ) (life : Life) → slice_get lives i ≡ Some life → IsFollowed r events me life
 follow_lives r events me k [] x first at walked i life found = absurd (cc found)
 follow_lives r events me k (l ∷ lives) x first at walked i life found =
@@ -370,6 +370,6 @@ follow_lives r events me k (l ∷ lives) x first at walked i life found =
     by_place zero found now later = subst (λ (y : Life). IsFollowed r events me y) (same_Some l life found) now
     by_place (suc j) found now later = later j life found
 
-pub lives_followed : (r : Records) (events : List Event) (me : ℕ) (own : List Life) → ((i : ℕ) → life_at r.lives me i ≡ slice_get own i) → Walks r events me (Some (fresh 0 None)) (in_order me 0 own) →
+pub lives_followed : (r : Evidence) (events : List Event) (me : ℕ) (own : List Life) → ((i : ℕ) → life_at r.lives me i ≡ slice_get own i) → Walks r events me (Some (fresh 0 None)) (in_order me 0 own) →
     (k : ℕ) (life : Life) → slice_get own k ≡ Some life → IsFollowed r events me life
 lives_followed r events me own at walked = follow_lives r events me 0 own (Some (fresh 0 None)) (λ e. refl) (λ i. ap (life_at r.lives me) (let e : 0 + i ≡ i = omega arith in e) ∙ at i) walked

@@ -13,7 +13,7 @@ use Rattle.sqlchecks.specs.Columns.{Tables}
 use Rattle.sqlread.specs.Meaning.{language_of}
 use Rattle.cells.specs.Lives.{opened_with, replay, stepped}
 use Rattle.cells.specs.Publishing.{items_by, items_from}
-use Rattle.moments.specs.Behind.{Records, life_at}
+use Rattle.moments.specs.Behind.{Evidence, life_at}
 
 -- the member that began the life
 abbrev pub begun : Life → Node
@@ -24,7 +24,7 @@ abbrev pub replayed : Tables → ℕ → ℕ → ℕ → Life → Node
 replayed schema n me j life = fold (stepped schema n me) (begun life) (take j life.steps.items)
 
 -- each life follows the run: after each of its steps, what it replays to is what its member was at a moment
-abbrev pub LivesFollow : Records → List Event → Type 0
+abbrev pub LivesFollow : Evidence → List Event → Type 0
 LivesFollow r events = (me k j : ℕ) (life : Life) → life_at r.lives me k ≡ Some life → WasAt (language_of r.tables) (length r.lives) (new_world (length r.lives)) events me (replayed r.tables (length r.lives) me j life)
 
 -- what node me makes applied and sealed in the steps of the life
@@ -38,5 +38,5 @@ pub record IsRising (schema : Tables) (n me : ℕ) (life : Life) : Type 0 where
   pub cut : (s : Step) → life.ending ≡ Torn s → let x = replay schema n me life in Rises (made schema n me life ++ items_by s.mark x (stepped schema n me x s))
 
 -- each life does
-abbrev pub LivesRise : Records → Type 0
+abbrev pub LivesRise : Evidence → Type 0
 LivesRise r = (me k : ℕ) (life : Life) → life_at r.lives me k ≡ Some life → IsRising r.tables (length r.lives) me life

@@ -6,10 +6,10 @@ use Rattle.std.proofs.lemmas.Str.Parse.{not_in_digits}
 use Rattle.std.proofs.lemmas.Fmt.{digits_decimal}
 use borrow.Author.Tests.{clash}
 use Rattle.lines.proofs.Numbers.{own, outside, never}
-use Rattle.lines.specs.declared.line.Left.{Left}
-use Rattle.lines.specs.declared.line.Left.TheVariants.{Old, New}
-use Rattle.lines.specs.declared.line.Job.{Job}
-use Rattle.lines.specs.declared.line.Job.TheVariants as jobs
+use Rattle.model.specs.declared.event.Left.{Left}
+use Rattle.model.specs.declared.event.Left.TheVariants.{Old, New}
+use Rattle.lines.specs.declared.line.TornJob.{TornJob}
+use Rattle.lines.specs.declared.line.TornJob.TheVariants as jobs
 use Rattle.lines.specs.declared.line.Line.{Line}
 use Rattle.lines.specs.declared.line.Line.TheVariants.{Clock, ClockAll, Submit, Timeout, Beat, Close, Floor, Deliver, Lose, LoseAll, Settle, Recover, Stop, Start, Torn, Ask}
 use Rattle.lines.specs.Number.{IsSigned}
@@ -144,7 +144,7 @@ module _ (members : ℕ) (rest : List ℕ) where
   submit_of (Settle (Some r)) h e = absurd (omega (arith, ap kind e))
   submit_of line h e = absurd (omega (arith, ap kind e))
 
-  torn_of : (line : Line) → IsInRange members line → codes "torn " ++ rest ≡ line_text line → (n : ℕ) × (left : Left) × (job : Job) × IsNode members n × IsJobInRange job × (rest ≡ decimal n ++ 32 ∷ (left_text left ++ 32 ∷ job_text job))
+  torn_of : (line : Line) → IsInRange members line → codes "torn " ++ rest ≡ line_text line → (n : ℕ) × (left : Left) × (job : TornJob) × IsNode members n × IsJobInRange job × (rest ≡ decimal n ++ 32 ∷ (left_text left ++ 32 ∷ job_text job))
   torn_of (Torn n left job) h e = (n, left, job, h.0, h.1, ap (drop 5) e)
   torn_of (Settle None) h e = absurd (omega (arith, ap kind e))
   torn_of (Settle (Some r)) h e = absurd (omega (arith, ap kind e))

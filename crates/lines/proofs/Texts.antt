@@ -9,10 +9,10 @@ use Rattle.std.proofs.lemmas.Fmt.{digits_decimal, decimal_injective, decimal_non
 use lib.Signed.{mag}
 use Rattle.lines.proofs.Numbers.{own}
 use Rattle.lines.proofs.Lines.{kind, same_split, decimal_no_space, left_no_space, all_no_space}
-use Rattle.lines.specs.declared.line.Left.{Left}
-use Rattle.lines.specs.declared.line.Left.TheVariants.{Old, New}
-use Rattle.lines.specs.declared.line.Job.{Job}
-use Rattle.lines.specs.declared.line.Job.TheVariants as jobs
+use Rattle.model.specs.declared.event.Left.{Left}
+use Rattle.model.specs.declared.event.Left.TheVariants.{Old, New}
+use Rattle.lines.specs.declared.line.TornJob.{TornJob}
+use Rattle.lines.specs.declared.line.TornJob.TheVariants as jobs
 use Rattle.lines.specs.declared.line.Line.{Line}
 use Rattle.lines.specs.declared.line.Line.TheVariants.{Clock, ClockAll, Submit, Timeout, Beat, Close, Floor, Deliver, Lose, LoseAll, Settle, Recover, Stop, Start, Torn, Ask}
 use Rattle.lines.specs.Number.{IsSigned}
@@ -55,7 +55,7 @@ same_left Old Old e = refl
 same_left New New e = refl
 same_left left left' e = absurd (first_apart (left_text left) (left_text left') refl e)
 
-same_job : (a b : Job) → IsJobInRange a → IsJobInRange b → job_text a ≡ job_text b → a ≡ b
+same_job : (a b : TornJob) → IsJobInRange a → IsJobInRange b → job_text a ≡ job_text b → a ≡ b
 same_job jobs.Timeout jobs.Timeout h k e = refl
 same_job jobs.Beat jobs.Beat h k e = refl
 same_job jobs.Close jobs.Close h k e = refl

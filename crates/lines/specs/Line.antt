@@ -2,10 +2,10 @@
 use Rattle.std.specs.Prelude.{◌≢◌, ℕ, ◌≤◌, ◌<◌, ◌^◌, Some, None, List, ◌∷◌, ◌++◌, codes, decimal, ⊤}
 use Rattle.std.specs.Fmt.{signed_decimal}
 use Rattle.lines.specs.Number.{IsSigned}
-use Rattle.lines.specs.declared.line.Left.{Left}
-use Rattle.lines.specs.declared.line.Left.TheVariants.{Old, New}
-use Rattle.lines.specs.declared.line.Job.{Job}
-use Rattle.lines.specs.declared.line.Job.TheVariants as jobs
+use Rattle.model.specs.declared.event.Left.{Left}
+use Rattle.model.specs.declared.event.Left.TheVariants.{Old, New}
+use Rattle.lines.specs.declared.line.TornJob.{TornJob}
+use Rattle.lines.specs.declared.line.TornJob.TheVariants as jobs
 use Rattle.lines.specs.declared.line.Line.{Line}
 use Rattle.lines.specs.declared.line.Line.TheVariants.{Clock, ClockAll, Submit, Timeout, Beat, Close, Floor, Deliver, Lose, LoseAll, Settle, Recover, Stop, Start, Torn, Ask}
 
@@ -17,7 +17,7 @@ left_text New = codes "new"
 abbrev pub request_text : ℕ → ℕ → List ℕ → List ℕ
 request_text client number text = decimal client ++ 32 ∷ (decimal number ++ 32 ∷ text)
 
-abbrev pub job_text : Job → List ℕ
+abbrev pub job_text : TornJob → List ℕ
 job_text jobs.Timeout = codes "timeout"
 job_text jobs.Beat = codes "beat"
 job_text jobs.Close = codes "close"
@@ -52,7 +52,7 @@ IsNode members node = (1 ≤ node) × (node ≤ members)
 abbrev pub IsRequest : ℕ → ℕ → Type 0
 IsRequest client number = (1 ≤ client) × (client < 2 ^ 16) × (1 ≤ number) × (number ≤ 2 ^ 62)
 
-abbrev pub IsJobInRange : Job → Type 0
+abbrev pub IsJobInRange : TornJob → Type 0
 IsJobInRange jobs.Timeout = ⊤
 IsJobInRange jobs.Beat = ⊤
 IsJobInRange jobs.Close = ⊤

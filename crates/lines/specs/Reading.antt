@@ -2,8 +2,8 @@
 use Rattle.std.specs.Prelude.{◌≡◌, ◌≢◌, ℕ, ◌+◌, ◌<◌, false, List, [], ◌∷◌, ◌++◌, length, get_or, codes, decimal, map, All, ◌⊎◌}
 use Rattle.fault.specs.declared.refusal.Refusal.{Refusal}
 use Rattle.fault.specs.declared.refusal.Refusal.TheVariants.{BadScript}
-use Rattle.lines.specs.declared.line.Left.{Left}
-use Rattle.lines.specs.declared.line.Job.{Job}
+use Rattle.model.specs.declared.event.Left.{Left}
+use Rattle.lines.specs.declared.line.TornJob.{TornJob}
 use Rattle.lines.specs.declared.line.Line.{Line}
 use Rattle.lines.specs.Line.{left_text, request_text, job_text, line_text, IsNode, IsRequest, IsJobInRange, IsInRange, IsNoLine}
 use Rattle.lines.specs.Script.{is_skipped, pieces, counted, members_text, text_of_lines, IsMemberCount}
@@ -24,7 +24,7 @@ IsNoRequest rest = (client number : ℕ) (text : List ℕ) → IsRequest client 
 
 -- the text of no step in range that is cut short
 abbrev pub IsNoJob : List ℕ → Type 0
-IsNoJob text = (job : Job) → IsJobInRange job → text ≢ job_text job
+IsNoJob text = (job : TornJob) → IsJobInRange job → text ≢ job_text job
 
 -- no node, what is left in its store, and what follows
 abbrev pub IsNoTorn : ℕ → List ℕ → Type 0

@@ -5,22 +5,14 @@ ghost use Rattle.lines.specs.Reading.{HasNoSpace, IsNoNode, IsNoRequest, IsNoJob
 
 use crate::number::{read_number, read_signed};
 use fault::Text;
+use model::event::Left;
 use model::member::Member;
 use model::request::{Client, RequestNumber};
 use std::alloc::{AllocError, Global};
 
-/// What a step that is cut short leaves in the node's store.
-#[derive(Debug, PartialEq, Eq, Clone, Copy)]
-pub enum Left {
-    /// What was stored before the step.
-    Old,
-    /// What is stored once the step is made.
-    New,
-}
-
 /// What a step that is cut short was about.
 #[derive(Debug, PartialEq, Drop)]
-pub enum Job {
+pub enum TornJob {
     Timeout,
     Beat,
     Close,
@@ -98,7 +90,7 @@ pub enum Line {
     Torn {
         node: Member,
         left: Left,
-        job: Job,
+        job: TornJob,
     },
     /// `ask N TEXT`: a node is asked a question.
     Ask {
@@ -257,16 +249,16 @@ fn split_torn(members: usize, rest: &str) -> Option<(Member, Left, &str)>
 }
 
 // What the step of a `torn` was about.
-fn read_job(alloc: Global, text: &str) -> Result<Option<Job>, AllocError>
+fn read_job(alloc: Global, text: &str) -> Result<Option<TornJob>, AllocError>
     ensures some { IfOk result (λ read. IfSome read (λ job. IsJobInRange job × (text.now ≡ job_text job))) }
     ensures none { IfOk result (λ read. IfNone read (IsNoJob text.now)) }
 {
     let Some((word, rest)) = split_word(text) else {
         return Ok(match text {
-            "timeout" => Some(Job::Timeout),
-            "beat" => Some(Job::Beat),
-            "close" => Some(Job::Close),
-            "floor" => Some(Job::Floor),
+            "timeout" => Some(TornJob::Timeout),
+            "beat" => Some(TornJob::Beat),
+            "close" => Some(TornJob::Close),
+            "floor" => Some(TornJob::Floor),
             _ => None,
         });
     };
@@ -277,7 +269,7 @@ fn read_job(alloc: Global, text: &str) -> Result<Option<Job>, AllocError>
     }
 }
 
-fn read_torn_submit(alloc: Global, rest: &str) -> Result<Option<Job>, AllocError>
+fn read_torn_submit(alloc: Global, rest: &str) -> Result<Option<TornJob>, AllocError>
     ensures some { IfOk result (λ read. IfSome read (λ job. IsJobInRange job × (codes "submit " ++ rest.now ≡ job_text job))) }
     ensures none { IfOk result (λ read. IfNone read (IsNoJob (codes "submit " ++ rest.now))) }
 {
@@ -285,18 +277,18 @@ fn read_torn_submit(alloc: Global, rest: &str) -> Result<Option<Job>, AllocError
         return Ok(None);
     };
     let text = Text::new(alloc, text)?;
-    Ok(Some(Job::Submit {
+    Ok(Some(TornJob::Submit {
         client,
         number,
         text,
     }))
 }
 
-fn read_torn_delivery(rest: &str) -> Option<Job>
+fn read_torn_delivery(rest: &str) -> Option<TornJob>
     ensures some { IfSome result (λ job. IsJobInRange job × (codes "deliver " ++ rest.now ≡ job_text job)) }
     ensures none { IfNone result (IsNoJob (codes "deliver " ++ rest.now)) }
 {
-    Some(Job::Deliver {
+    Some(TornJob::Deliver {
         message: read_number(rest)?,
     })
 }

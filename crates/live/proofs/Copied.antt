@@ -13,54 +13,13 @@ use Rattle.model.specs.contracts.message.BodyClone.TheImpl.{by_variants}
 
 pub same_body : (x y : Body) → by_variants x y → y ≡ x
 same_body (RequestVote a b) (RequestVote p q) h = search rules
-same_body (RequestVote a b) (Vote p q) h = absurd h
-same_body (RequestVote a b) (Append p q r s) h = absurd h
-same_body (RequestVote a b) (Reply p q) h = absurd h
-same_body (RequestVote a b) (Seek p q) h = absurd h
-same_body (RequestVote a b) (Stored p q) h = absurd h
-same_body (RequestVote a b) (Seal p q) h = absurd h
-same_body (Vote a b) (RequestVote p q) h = absurd h
 same_body (Vote a b) (Vote p q) h = search rules
-same_body (Vote a b) (Append p q r s) h = absurd h
-same_body (Vote a b) (Reply p q) h = absurd h
-same_body (Vote a b) (Seek p q) h = absurd h
-same_body (Vote a b) (Stored p q) h = absurd h
-same_body (Vote a b) (Seal p q) h = absurd h
-same_body (Append a b c d) (RequestVote p q) h = absurd h
-same_body (Append a b c d) (Vote p q) h = absurd h
 same_body (Append a b c d) (Append p q r s) h = search rules
-same_body (Append a b c d) (Reply p q) h = absurd h
-same_body (Append a b c d) (Seek p q) h = absurd h
-same_body (Append a b c d) (Stored p q) h = absurd h
-same_body (Append a b c d) (Seal p q) h = absurd h
-same_body (Reply a b) (RequestVote p q) h = absurd h
-same_body (Reply a b) (Vote p q) h = absurd h
-same_body (Reply a b) (Append p q r s) h = absurd h
 same_body (Reply a b) (Reply p q) h = search rules
-same_body (Reply a b) (Seek p q) h = absurd h
-same_body (Reply a b) (Stored p q) h = absurd h
-same_body (Reply a b) (Seal p q) h = absurd h
-same_body (Seek a b) (RequestVote p q) h = absurd h
-same_body (Seek a b) (Vote p q) h = absurd h
-same_body (Seek a b) (Append p q r s) h = absurd h
-same_body (Seek a b) (Reply p q) h = absurd h
 same_body (Seek a b) (Seek p q) h = search rules
-same_body (Seek a b) (Stored p q) h = absurd h
-same_body (Seek a b) (Seal p q) h = absurd h
-same_body (Stored a b) (RequestVote p q) h = absurd h
-same_body (Stored a b) (Vote p q) h = absurd h
-same_body (Stored a b) (Append p q r s) h = absurd h
-same_body (Stored a b) (Reply p q) h = absurd h
-same_body (Stored a b) (Seek p q) h = absurd h
 same_body (Stored a b) (Stored p q) h = search rules
-same_body (Stored a b) (Seal p q) h = absurd h
-same_body (Seal a b) (RequestVote p q) h = absurd h
-same_body (Seal a b) (Vote p q) h = absurd h
-same_body (Seal a b) (Append p q r s) h = absurd h
-same_body (Seal a b) (Reply p q) h = absurd h
-same_body (Seal a b) (Seek p q) h = absurd h
-same_body (Seal a b) (Stored p q) h = absurd h
 same_body (Seal a b) (Seal p q) h = search rules
+same_body x y h = absurd h
 
 pub sent_twice : {E : Type 0} (r : Result (Unit {0}) E) (old once twice : List Letter) (mark : ℕ) (message again : Message) (fate : Fate) → fate ≡ Twice → again ≡ message →
     once ≡ old ++ letter 0 mark message ∷ [] → OnOk r (twice ≡ once ++ letter 0 mark again ∷ []) → OnOk r (twice ≡ old ++ letters_of fate mark message)

@@ -10,7 +10,7 @@ use crate::mail::Mail;
 use crate::said::Said;
 use crate::station::Station;
 use fault::{Refusal, Text};
-use flight::flight::Recorded;
+use flight::flight::Answered;
 use lines::line::Line;
 use model::entry::Request;
 use model::member::Member;

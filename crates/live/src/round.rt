@@ -9,6 +9,7 @@ use model::member::Member;
 use model::message::{Body, Input, Message};
 use nodes::berth::Report;
 use nodes::{Fault, Given};
+use std::alloc::{AllocError, Global};
 use std::sync::Wait;
 
 // What a packet was, for when its report comes.
@@ -22,11 +23,27 @@ pub(crate) enum Note {
     Letter { term: u64, is_append: bool },
 }
 
-// A packet that was sent to a node.
-#[derive(Clone, Copy, Drop)]
-pub(crate) struct Sent {
-    node: Member,
-    note: Note,
+// What a node is to be sent in a round: the packets, and what each of them is.
+#[derive(Drop)]
+pub(crate) struct Batch {
+    packets: Vec<Packet>,
+    notes: Vec<Note>,
+}
+
+impl Batch {
+    // Of nothing.
+    fn new(alloc: Global) -> Batch {
+        Batch {
+            packets: Vec::new(alloc),
+            notes: Vec::new(alloc),
+        }
+    }
+
+    fn add(&mut self, note: Note, packet: Packet) -> Result<(), AllocError> {
+        self.packets.push(packet)?;
+        self.notes.push(note)?;
+        Ok(())
+    }
 }
 
 fn note_of(message: &Message) -> Note {
@@ -36,17 +53,31 @@ fn note_of(message: &Message) -> Note {
     }
 }
 
+// Puts a packet behind those for its node; one for no node is dropped.
+fn add_to(
+    batches: &mut [Batch],
+    node: Member,
+    note: Note,
+    packet: Packet,
+) -> Result<(), AllocError> {
+    match batches.get_mut(node.saturating_sub(1)) {
+        Some(batch) => batch.add(note, packet),
+        None => Ok(()),
+    }
+}
+
 impl Driver {
     /// Plays one round: each node that runs is sent the timeout or beat that it is due for, and, if it is due to ask for one,
-    /// a floor, then the messages that come
-    /// now, then the request that is to go to it; what comes of them is taken in the order of the nodes.
+    /// a floor, then the messages that come now, then the request that is to go to it, all of them together; what comes of
+    /// them is taken in the order of the nodes. A node that is due for nothing is sent nothing.
     pub(crate) fn round<R: Wait>(&mut self, rt: &R) -> Result<(), Refusal> {
-        let mut sent = Vec::new(self.alloc);
         let count = self.rounds.saturating_add(1);
-        self.send_ticks(rt, count, &mut sent)?;
-        self.send_letters(rt, &mut sent)?;
-        self.send_errand(rt, &mut sent)?;
-        self.take_reports(rt, &sent)?;
+        let mut batches = self.no_batches()?;
+        self.add_ticks(count, &mut batches)?;
+        self.add_letters(&mut batches)?;
+        self.add_errand(&mut batches)?;
+        let sent = self.send_all(rt, batches)?;
+        self.take_reports(rt, sent)?;
         let members = self.stations.len().max(1);
         if let Some(errand) = &mut self.errand {
             errand.end_round(members);
@@ -55,26 +86,39 @@ impl Driver {
         Ok(())
     }
 
-    // Sends a packet to a node, with what its clock shows; to one that does not run nothing is sent.
-    fn send<R: Wait>(
+    // For each node nothing.
+    fn no_batches(&self) -> Result<Vec<Batch>, AllocError> {
+        let mut batches = Vec::new(self.alloc);
+        for _ in 0..self.stations.len() {
+            batches.push(Batch::new(self.alloc))?;
+        }
+        Ok(batches)
+    }
+
+    // Sends each node its packets, and gives what was sent to each.
+    fn send_all<R: Wait>(
         &mut self,
         rt: &R,
-        sent: &mut Vec<Sent>,
-        node: Member,
-        note: Note,
-        packet: Packet,
-    ) -> Result<(), Refusal> {
-        let Some(reading) = self.reading(node) else {
-            return Ok(());
+        batches: Vec<Batch>,
+    ) -> Result<Vec<Vec<Note>>, Refusal> {
+        let mut sent = Vec::new(self.alloc);
+        for (at, batch) in batches.into_iter().enumerate() {
+            sent.push(self.send(rt, at.saturating_add(1), batch)?)?;
+        }
+        Ok(sent)
+    }
+
+    // Sends a node packets, with what its clock shows, and gives what was sent: to one that does not run nothing is.
+    fn send<R: Wait>(&mut self, rt: &R, node: Member, batch: Batch) -> Result<Vec<Note>, Refusal> {
+        let Batch { packets, notes } = batch;
+        let (false, Some(reading)) = (packets.is_empty(), self.reading(node)) else {
+            return Ok(Vec::new(self.alloc));
         };
-        match self.cluster.send(rt, node, reading, packet) {
-            Ok(_) => {
-                sent.push(Sent { node, note })?;
-                Ok(())
-            }
+        match self.cluster.send_all(rt, node, reading, packets) {
+            Ok(_) => Ok(notes),
             Err(unsent) => match unsent.refusal {
                 Refusal::NoMemory => Err(Refusal::NoMemory),
-                _ => Ok(()),
+                _ => Ok(Vec::new(self.alloc)),
             },
         }
     }
@@ -101,18 +145,13 @@ impl Driver {
         }
     }
 
-    fn send_ticks<R: Wait>(
-        &mut self,
-        rt: &R,
-        round: u64,
-        sent: &mut Vec<Sent>,
-    ) -> Result<(), Refusal> {
-        for at in 0..self.stations.len() {
+    fn add_ticks(&mut self, round: u64, batches: &mut [Batch]) -> Result<(), AllocError> {
+        for (at, batch) in batches.iter_mut().enumerate() {
             if let Some(input) = self.tick(at, round) {
-                self.send(rt, sent, at + 1, Note::Tick, Packet::Local(input))?;
+                batch.add(Note::Tick, Packet::Local(input))?;
             }
             if let Some(input) = self.floor(at, round) {
-                self.send(rt, sent, at + 1, Note::Tick, Packet::Local(input))?;
+                batch.add(Note::Tick, Packet::Local(input))?;
             }
         }
         Ok(())
@@ -128,7 +167,7 @@ impl Driver {
         }
     }
 
-    fn send_letters<R: Wait>(&mut self, rt: &R, sent: &mut Vec<Sent>) -> Result<(), Refusal> {
+    fn add_letters(&mut self, batches: &mut [Batch]) -> Result<(), AllocError> {
         for letter in self.mail.take_due()? {
             let node = letter.message.addressee;
             let Some(reading) = self.reading(node) else {
@@ -140,13 +179,13 @@ impl Driver {
                 reading,
                 message: letter.message,
             };
-            self.send(rt, sent, node, note, packet)?;
+            add_to(batches, node, note, packet)?;
         }
         Ok(())
     }
 
     // A request whose node does not run goes to the next one.
-    fn send_errand<R: Wait>(&mut self, rt: &R, sent: &mut Vec<Sent>) -> Result<(), Refusal> {
+    fn add_errand(&mut self, batches: &mut [Batch]) -> Result<(), AllocError> {
         let members = self.stations.len().max(1);
         let Some(node) = self.errand_node() else {
             return Ok(());
@@ -160,7 +199,7 @@ impl Driver {
             return Ok(());
         };
         let input = errand.input(reading)?;
-        self.send(rt, sent, node, Note::Errand, Packet::Local(input))
+        add_to(batches, node, Note::Errand, Packet::Local(input))
     }
 
     // The node to which a request is to go in this round.
@@ -171,25 +210,26 @@ impl Driver {
         }
     }
 
-    fn take_reports<R: Wait>(&mut self, rt: &R, sent: &[Sent]) -> Result<(), Refusal> {
-        for at in 0..self.stations.len() {
-            self.take_reports_of(rt, at + 1, sent)?;
-            self.end_if_fallen(rt, at)?;
+    fn take_reports<R: Wait>(&mut self, rt: &R, sent: Vec<Vec<Note>>) -> Result<(), Refusal> {
+        for (at, notes) in sent.into_iter().enumerate() {
+            if !notes.is_empty() {
+                self.take_reports_of(rt, at.saturating_add(1), notes)?;
+                self.end_if_fallen(rt, at)?;
+            }
         }
         Ok(())
     }
 
+    // What came of the packets that a node was sent together.
     fn take_reports_of<R: Wait>(
         &mut self,
         rt: &R,
         node: Member,
-        sent: &[Sent],
+        notes: Vec<Note>,
     ) -> Result<(), Refusal> {
-        for packet in sent {
-            if packet.node == node {
-                let report = self.cluster.report(rt, node)?;
-                self.take_report(node, packet.note, report)?;
-            }
+        let reports = self.cluster.reports(rt, node)?;
+        for (note, report) in notes.into_iter().zip(reports) {
+            self.take_report(node, note, report)?;
         }
         Ok(())
     }

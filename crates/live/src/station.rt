@@ -8,7 +8,7 @@ use crate::pulse::Pulse;
 use answer::Answer;
 use answertext::Lines;
 use fault::{Refusal, Text};
-use flight::flight::Recorded;
+use flight::flight::Answered;
 use model::mark::Mark;
 use nodes::{Marked, View};
 use schema::Schema;
@@ -29,7 +29,7 @@ pub struct Station {
     /// The view of the life that runs, once one was asked for.
     pub view: Option<View>,
     /// What its views answered.
-    pub answers: Vec<Recorded>,
+    pub answers: Vec<Answered>,
 }
 
 impl Station {
@@ -82,7 +82,7 @@ impl Station {
     {
         let query = query.clone()?;
         let answer = Text::new(self.alloc, answer)?;
-        self.answers.push(Recorded {
+        self.answers.push(Answered {
             mark,
             query,
             answer,

@@ -44,7 +44,7 @@ use Rattle.moments.specs.Past.{Past, IsSent}
 use Rattle.moments.specs.Rising.{IsMarked}
 
 -- what was recorded of a group with these tables, in flights of this version: the lives of each node, and the answers
-pub record Records : Type 0 where
+pub record Evidence : Type 0 where
   pub version : Version
   pub tables : Tables
   pub lives : List (Vec Life Global)
@@ -148,19 +148,19 @@ IsAnswered t n p node a events = (q : QueryShape) × (out : List Output) × (que
 -- ---- each moment
 
 -- the answer rests on a mark of its node, and the run answers so
-abbrev pub IsAnsweredBy : Records → ℕ → Past → ℕ → Option Recorded → List Event → Type 0
+abbrev pub IsAnsweredBy : Evidence → ℕ → Past → ℕ → Option Recorded → List Event → Type 0
 IsAnsweredBy r n p node None events = ⊥
 IsAnsweredBy r n p node (Some a) events = IsMarked r.lives a × IsAnswered r.tables n p node a events
 
-abbrev pub IsLifeBegun : Records → ℕ → Past → ℕ → ℕ → Option Life → List Event → Type 0
+abbrev pub IsLifeBegun : Evidence → ℕ → Past → ℕ → ℕ → Option Life → List Event → Type 0
 IsLifeBegun r n p node k None events = ⊥
 IsLifeBegun r n p node k (Some life) events = IsOpened r.tables n p node k life.opening events
 
-abbrev pub IsLifeCut : Records → Past → ℕ → ℕ → Option Life → List Event → Type 0
+abbrev pub IsLifeCut : Evidence → Past → ℕ → ℕ → Option Life → List Event → Type 0
 IsLifeCut r p node k None events = ⊥
 IsLifeCut r p node k (Some life) events = IsCut p node (life_at r.lives node (k + 1)) life.ending events
 
-abbrev pub IsBehindDeed : Records → ℕ → Past → ℕ → Deed → List Event → Type 0
+abbrev pub IsBehindDeed : Evidence → ℕ → Past → ℕ → Deed → List Event → Type 0
 IsBehindDeed r n p node (Opens k) events = IsLifeBegun r n p node k (life_at r.lives node k) events
 IsBehindDeed r n p node (Takes k step) events = IsTaken r.version r.tables n p node (step_at r.lives node k step) events
 IsBehindDeed r n p node (Tears k) events = IsLifeCut r p node k (life_at r.lives node k) events
@@ -168,5 +168,5 @@ IsBehindDeed r n p node (Answers k) events = IsAnsweredBy r n p node (slice_get 
 IsBehindDeed r n p node (Stops k) events = events ≡ Stop node ∷ []
 
 -- these events of a run with this past are what happened at the moment
-abbrev pub IsBehind : Records → ℕ → Past → Moment → List Event → Type 0
+abbrev pub IsBehind : Evidence → ℕ → Past → Moment → List Event → Type 0
 IsBehind r n p m events = IsBehindDeed r n p m.node m.deed events

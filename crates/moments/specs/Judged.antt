@@ -2,7 +2,7 @@
 use Rattle.std.specs.Prelude.{◌++◌, ℕ, suc, List, [], ◌∷◌, map}
 use Rattle.std.specs.declared.vec.Vec.{Vec}
 use Rattle.std.specs.declared.alloc.Global.{Global}
-use Rattle.flight.specs.declared.flight.Recorded.{Recorded as Answered}
+use Rattle.flight.specs.declared.flight.Answered.{Answered}
 use Rattle.moments.specs.declared.recorded.Recorded.{Recorded}
 
 -- an answer of a node

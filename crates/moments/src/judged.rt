@@ -3,7 +3,7 @@ ghost use Rattle.std.specs.Prelude.{◌≡◌, ◌++◌, map, IfOk, OnOk};
 ghost use Rattle.moments.specs.Judged.{judged_of, judged_from};
 
 use crate::recorded::Recorded;
-use flight::flight::Recorded as Answered;
+use flight::flight::Answered;
 use model::member::Member;
 use std::alloc::{AllocError, Global};
 

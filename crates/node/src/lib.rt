@@ -4,6 +4,7 @@
 pub mod durable;
 pub mod node;
 mod reading;
+mod refused;
 mod telling;
 
 pub use node::{Fault, Node, Out};

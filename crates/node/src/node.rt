@@ -83,7 +83,7 @@ pub struct Node<K: Keeper> {
 }
 
 /// Stores a change of a member, if there is one.
-fn store<K: Keeper>(
+pub(crate) fn store<K: Keeper>(
     alloc: Global,
     core: &Core,
     keeper: &mut K,
@@ -121,7 +121,7 @@ fn risen(before: Option<Stamp>, now: Option<Stamp>) -> Option<Stamp>
 
 /// Stores what a step of the core changed, and only then applies the entries that became committed, and gives its
 /// messages, what is told, and what is sealed where it rose.
-fn finish<K: Keeper>(
+pub(crate) fn finish<K: Keeper>(
     alloc: Global,
     core: &Core,
     keeper: &mut K,

@@ -1,5 +1,7 @@
 //! What runs on a node's thread.
-ghost use Rattle.std.specs.Prelude.{◌≡◌, ◌≤◌, IfOk, IfErr};
+ghost use Rattle.std.specs.Prelude.{◌≡◌, ◌≤◌, ◌+◌, ◌<◌, ◌^◌, [], IfOk, IfErr, map, vec_len};
+ghost use Rattle.std.specs.List.{range_with_len};
+ghost use Rattle.std.specs.Vec.{vec_capacity};
 ghost use Rattle.sqlread.specs.Meaning.{language_of};
 ghost use Rattle.node.specs.Member.{members_of, tables_of};
 
@@ -33,10 +35,23 @@ pub struct Report {
     pub outcome: Result<Out, Fault>,
 }
 
+/// Packets that were sent together, and room for what comes of them.
+#[derive(Drop)]
+pub(crate) struct Batch {
+    /// How many packets were sent to this life of the node before.
+    pub before: u64,
+    pub reading: i64,
+    pub packets: Vec<Packet>,
+    pub reports: Vec<Report>,
+    ghost numbered: { before + vec_len packets < 2 ^ 64 },
+    ghost empty: { reports.items ≡ [] },
+    ghost room: { vec_len packets ≤ vec_capacity reports },
+}
+
 /// What is sent to a node that runs.
 #[derive(Drop)]
 pub(crate) enum Order {
-    Feed(Sent),
+    Feed(Batch),
     View(Address<Result<View, Refusal>>),
 }
 
@@ -51,7 +66,7 @@ pub(crate) struct Rest {
 #[derive(Drop)]
 pub(crate) struct Ends {
     pub orders: Inbox<Order>,
-    pub reports: Address<Report>,
+    pub reports: Address<Vec<Report>>,
     pub ended: Address<Rest>,
 }
 
@@ -97,21 +112,51 @@ fn feed<K: Keeper, G: Gate, R: Wait>(rt: &R, cell: &mut Cell<K>, sent: Sent, gat
     Report { number, outcome }
 }
 
-// Feeds the cell a packet and tells what comes of it; whether there was memory for that.
+// Feeds the cell packets in their order. A report of each, in that order.
+fn feed_all<K: Keeper, G: Gate, R: Wait>(
+    rt: &R,
+    cell: &mut Cell<K>,
+    batch: Batch,
+    gate: &G,
+) -> Vec<Report>
+    ensures numbers { map (λ r. r.number) result.items ≡ range_with_len (batch.before + 1) (vec_len batch.packets) }
+    ensures group { (tables_of cell.new.node ≡ tables_of cell.old.node) × (members_of cell.new.node ≡ members_of cell.old.node) }
+{
+    let Batch {
+        before,
+        reading,
+        packets,
+        mut reports,
+    } = batch;
+    let mut number = before;
+    for packet in packets {
+        number += 1;
+        let sent = Sent {
+            number,
+            reading,
+            packet,
+        };
+        let report = feed(rt, cell, sent, gate);
+        reports.push_reserved(report);
+    }
+    reports
+}
+
+// Feeds the cell packets and tells what comes of them; whether there was memory for that.
 fn feed_and_tell<K: Keeper, G: Gate, R: Wait>(
     rt: &R,
     cell: &mut Cell<K>,
-    sent: Sent,
-    reports: &Address<Report>,
+    batch: Batch,
+    reports: &Address<Vec<Report>>,
     gate: &G,
 ) -> bool
     ensures group { (tables_of cell.new.node ≡ tables_of cell.old.node) × (members_of cell.new.node ≡ members_of cell.old.node) }
 {
-    let report = feed(rt, cell, sent, gate);
-    match reports.send(rt, report) {
+    let list = feed_all(rt, cell, batch, gate);
+    match reports.send(rt, list) {
         Ok(()) => true,
-        Err(Unsent::Closed(_report)) => true,
-        Err(Unsent::NoMemory(_report)) => false,
+        Err(Unsent::Closed(_list)) => true,
+        Err(Unsent::NoMemory(_list)) => false,
     }
 }
 
@@ -121,7 +166,7 @@ fn serve<K: Keeper, G: Gate, R: Wait>(
     rt: &R,
     cell: &mut Cell<K>,
     orders: &Inbox<Order>,
-    reports: &Address<Report>,
+    reports: &Address<Vec<Report>>,
     gate: &G,
 ) -> u64
     ensures group { (tables_of cell.new.node ≡ tables_of cell.old.node) × (members_of cell.new.node ≡ members_of cell.old.node) }
@@ -129,9 +174,9 @@ fn serve<K: Keeper, G: Gate, R: Wait>(
     let mut fed: u64 = 0;
     for _ in rt.forever() {
         match orders.next(rt) {
-            Some(Order::Feed(sent)) => {
-                fed = fed.saturating_add(1);
-                if !feed_and_tell(rt, cell, sent, reports, gate) {
+            Some(Order::Feed(batch)) => {
+                fed = fed.saturating_add(batch.packets.len() as u64);
+                if !feed_and_tell(rt, cell, batch, reports, gate) {
                     break;
                 }
             }
@@ -144,14 +189,31 @@ fn serve<K: Keeper, G: Gate, R: Wait>(
     fed
 }
 
+// Adds packets that were not fed, each with its number, as far as there is memory.
+fn take_back(unfed: &mut Vec<Sent>, batch: Batch) {
+    let Batch {
+        before,
+        reading,
+        packets,
+        reports: _reports,
+    } = batch;
+    let mut number = before;
+    for packet in packets {
+        number = number.saturating_add(1);
+        let _ = unfed.push(Sent {
+            number,
+            reading,
+            packet,
+        });
+    }
+}
+
 // What is left in an inbox once nothing is put in any more, as far as there is memory. Views are given no more.
 fn take_unfed<R: Wait>(rt: &R, alloc: Global, orders: &Inbox<Order>) -> Vec<Sent> {
     let mut unfed = Vec::new(alloc);
     for _ in rt.forever() {
         match orders.next(rt) {
-            Some(Order::Feed(sent)) => {
-                let _ = unfed.push(sent);
-            }
+            Some(Order::Feed(batch)) => take_back(&mut unfed, batch),
             Some(Order::View(_reply)) => {}
             None => break,
         }

@@ -4,7 +4,7 @@ ghost use Rattle.sqlread.specs.Meaning.{language_of};
 ghost use Rattle.nodes.specs.Sending.{IsUnsentRefusal};
 
 use crate::berth::{Control, Post, Report, tend};
-use crate::desk::{Desk, NotSent, Stopped};
+use crate::desk::{Desk, NoneSent, NotSent, Stopped};
 use crate::gate::Gate;
 use crate::handle::ClusterHandle;
 use fault::Refusal;
@@ -247,9 +247,29 @@ impl Cluster {
         self.handle.send(rt, node, reading, packet)
     }
 
+    /// `ClusterHandle::send_all`.
+    pub fn send_all<R: Wait>(
+        &self,
+        rt: &R,
+        node: Member,
+        reading: i64,
+        packets: Vec<Packet>,
+    ) -> Result<u64, NoneSent>
+        ensures number { IfOk result (λ number. vec_len packets ≤ number) }
+        ensures back { IfErr result (λ e. e.packets ≡ packets) }
+        ensures refused { IfErr result (λ e. IsUnsentRefusal e.refusal) }
+    {
+        self.handle.send_all(rt, node, reading, packets)
+    }
+
     /// `ClusterHandle::report`.
     pub fn report<R: Wait>(&self, rt: &R, node: Member) -> Result<Report, Refusal> {
         self.handle.report(rt, node)
+    }
+
+    /// `ClusterHandle::reports`.
+    pub fn reports<R: Wait>(&self, rt: &R, node: Member) -> Result<Vec<Report>, Refusal> {
+        self.handle.reports(rt, node)
     }
 
     /// `ClusterHandle::view`.

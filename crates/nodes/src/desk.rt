@@ -1,8 +1,9 @@
 //! A node as those see it who send to it.
-ghost use Rattle.std.specs.Prelude.{◌≡◌, ◌+◌, ◌≤◌, ◌⊎◌, IfOk, IfErr, MatchResult, vec_len};
+ghost use Rattle.std.specs.Prelude.{◌≡◌, ◌+◌, ◌≤◌, ◌<◌, ◌^◌, ◌∷◌, [], ◌⊎◌, IfOk, IfErr, MatchResult, vec_len};
 ghost use Rattle.nodes.specs.Sending.{IsUnsentRefusal};
 
-use crate::berth::{Control, Ends, Order, Report, Rest, Sent, Start};
+use crate::berth::{Batch, Control, Ends, Order, Report, Rest, Sent, Start};
+use crate::reports::Reports;
 use fault::Refusal;
 use flight::life::Packet;
 use network::inboxes::{open_inbox, open_inbox_of_one};
@@ -18,6 +19,13 @@ pub struct NotSent {
     pub packet: Packet,
 }
 
+/// Packets of which none was sent, and why.
+#[derive(Debug, Drop)]
+pub struct NoneSent {
+    pub refusal: Refusal,
+    pub packets: Vec<Packet>,
+}
+
 /// What a life leaves that was ended. Each packet that it was sent is fed, given back or counted as lost.
 #[derive(Drop)]
 pub struct Stopped {
@@ -30,7 +38,7 @@ pub struct Stopped {
     /// How many it did not feed and had no memory to give back.
     pub lost: u64,
     // What came of what it fed.
-    reports: Arc<Inbox<Report>>,
+    reports: Arc<Reports>,
     ghost whole: { sent ≤ fed + vec_len unfed + lost },
 }
 
@@ -39,7 +47,7 @@ pub struct Stopped {
 pub(crate) struct Leaving {
     sent: u64,
     ended: Inbox<Rest>,
-    reports: Arc<Inbox<Report>>,
+    reports: Arc<Reports>,
 }
 
 // A node that runs: what it is sent and how many packets were sent to it, what comes of them, and what it leaves.
@@ -47,7 +55,7 @@ pub(crate) struct Leaving {
 struct Running {
     orders: Address<Order>,
     sent: u64,
-    reports: Arc<Inbox<Report>>,
+    reports: Arc<Reports>,
     ended: Inbox<Rest>,
 }
 
@@ -74,7 +82,7 @@ impl Stopped {
 }
 
 // What a life leaves of so many packets that it was sent.
-fn settle(sent: u64, rest: Rest, reports: Arc<Inbox<Report>>) -> Stopped
+fn settle(sent: u64, rest: Rest, reports: Arc<Reports>) -> Stopped
     ensures sent { result.sent ≡ sent }
     ensures fed { result.fed ≡ rest.fed }
 {
@@ -112,19 +120,25 @@ impl Leaving {
 }
 
 impl Running {
-    // Puts a packet behind all that was sent before. A packet that is refused comes back.
-    fn send<R: Wait>(&mut self, rt: &R, reading: i64, packet: Packet) -> Result<u64, NotSent>
-        ensures counted { MatchResult result (λ number. (number ≡ self.old.sent + 1) × (self.new.sent ≡ number)) (λ e. self.new.sent ≡ self.old.sent) }
-        ensures back { IfErr result (λ e. e.packet ≡ packet) }
+    // Puts packets behind all that was sent before, and gives the number of the last. They come back where they are refused.
+    fn send_all<R: Wait>(
+        &mut self,
+        rt: &R,
+        alloc: Global,
+        reading: i64,
+        packets: Vec<Packet>,
+    ) -> Result<u64, NoneSent>
+        ensures counted { MatchResult result (λ number. (number ≡ self.old.sent + vec_len packets) × (self.new.sent ≡ number)) (λ e. self.new.sent ≡ self.old.sent) }
+        ensures back { IfErr result (λ e. e.packets ≡ packets) }
         ensures refused { IfErr result (λ e. IsUnsentRefusal e.refusal) }
     {
-        let Some(number) = self.sent.checked_add(1) else {
-            return Err(NotSent {
+        let Some(number) = self.sent.checked_add(packets.len() as u64) else {
+            return Err(NoneSent {
                 refusal: Refusal::LifeFull,
-                packet,
+                packets,
             });
         };
-        match send_order(rt, &self.orders, number, reading, packet) {
+        match send_batch(rt, alloc, &self.orders, self.sent, reading, packets) {
             Ok(()) => {
                 self.sent = number;
                 Ok(number)
@@ -132,33 +146,84 @@ impl Running {
             Err(unsent) => Err(unsent),
         }
     }
+
+    // Puts a packet behind all that was sent before. A packet that is refused comes back.
+    fn send<R: Wait>(
+        &mut self,
+        rt: &R,
+        alloc: Global,
+        reading: i64,
+        packet: Packet,
+    ) -> Result<u64, NotSent>
+        ensures counted { MatchResult result (λ number. (number ≡ self.old.sent + 1) × (self.new.sent ≡ number)) (λ e. self.new.sent ≡ self.old.sent) }
+        ensures back { IfErr result (λ e. e.packet ≡ packet) }
+        ensures refused { IfErr result (λ e. IsUnsentRefusal e.refusal) }
+    {
+        let mut packets = Vec::new(alloc);
+        if let Err(failed) = packets.push(packet) {
+            return Err(NotSent {
+                refusal: Refusal::NoMemory,
+                packet: failed.value,
+            });
+        }
+        match self.send_all(rt, alloc, reading, packets) {
+            Ok(number) => Ok(number),
+            Err(unsent) => Err(only_one(unsent)),
+        }
+    }
 }
 
-// Puts a packet of this number into an inbox. A packet that is refused comes back.
-fn send_order<R: Wait>(
+// A single packet that was not sent.
+fn only_one(unsent: NoneSent) -> NotSent
+    requires { vec_len unsent.packets ≡ 1 }
+    ensures packet { unsent.packets.items ≡ result.packet ∷ [] }
+    ensures refusal { result.refusal ≡ unsent.refusal }
+{
+    let NoneSent {
+        refusal,
+        mut packets,
+    } = unsent;
+    match packets.pop() {
+        Some(packet) => NotSent { refusal, packet },
+        None => unreachable!(),
+    }
+}
+
+// Puts packets into an inbox that follow so many, with room for what comes of them. They come back where they are refused.
+fn send_batch<R: Wait>(
     rt: &R,
+    alloc: Global,
     orders: &Address<Order>,
-    number: u64,
+    before: u64,
     reading: i64,
-    packet: Packet,
-) -> Result<(), NotSent>
-    ensures back { IfErr result (λ e. e.packet ≡ packet) }
+    packets: Vec<Packet>,
+) -> Result<(), NoneSent>
+    requires { before + vec_len packets < 2 ^ 64 }
+    ensures back { IfErr result (λ e. e.packets ≡ packets) }
     ensures refused { IfErr result (λ e. IsUnsentRefusal e.refusal) }
 {
-    let sent = Sent {
-        number,
+    let mut reports = Vec::new(alloc);
+    if reports.reserve(packets.len()).is_err() {
+        return Err(NoneSent {
+            refusal: Refusal::NoMemory,
+            packets,
+        });
+    }
+    let batch = Batch {
+        before,
         reading,
-        packet,
+        packets,
+        reports,
     };
-    let (refusal, order) = match orders.send(rt, Order::Feed(sent)) {
+    let (refusal, order) = match orders.send(rt, Order::Feed(batch)) {
         Ok(()) => return Ok(()),
         Err(Unsent::Closed(order)) => (Refusal::NodeDown, order),
         Err(Unsent::NoMemory(order)) => (Refusal::NoMemory, order),
     };
     match order {
-        Order::Feed(sent) => Err(NotSent {
+        Order::Feed(batch) => Err(NoneSent {
             refusal,
-            packet: sent.packet,
+            packets: batch.packets,
         }),
         Order::View(_reply) => unreachable!(),
     }
@@ -190,10 +255,10 @@ impl Desk {
             return Err(Refusal::NodeDown);
         };
         let (orders, taken) = open_inbox::<Order>(alloc)?;
-        let (given, reports) = open_inbox::<Report>(alloc)?;
+        let (given, reports) = open_inbox::<Vec<Report>>(alloc)?;
         let (answer, opened) = open_inbox_of_one::<Result<(), Refusal>>(alloc)?;
         let (rest, ended) = open_inbox_of_one::<Rest>(alloc)?;
-        let reports = Arc::new(alloc, reports)?;
+        let reports = Arc::new(alloc, Reports::new(alloc, reports))?;
         let start = Start {
             opened: answer,
             ends: Ends {
@@ -220,6 +285,7 @@ impl Desk {
     pub(crate) fn send<R: Wait>(
         &mut self,
         rt: &R,
+        alloc: Global,
         reading: i64,
         packet: Packet,
     ) -> Result<u64, NotSent>
@@ -228,7 +294,7 @@ impl Desk {
         ensures refused { IfErr result (λ e. IsUnsentRefusal e.refusal) }
     {
         match &mut self.running {
-            Some(running) => running.send(rt, reading, packet),
+            Some(running) => running.send(rt, alloc, reading, packet),
             None => Err(NotSent {
                 refusal: Refusal::NodeDown,
                 packet,
@@ -236,8 +302,30 @@ impl Desk {
         }
     }
 
+    /// Puts packets behind all that was sent to the life before, and gives the number of the last. They come back where they
+    /// are refused.
+    pub(crate) fn send_all<R: Wait>(
+        &mut self,
+        rt: &R,
+        alloc: Global,
+        reading: i64,
+        packets: Vec<Packet>,
+    ) -> Result<u64, NoneSent>
+        ensures number { IfOk result (λ number. vec_len packets ≤ number) }
+        ensures back { IfErr result (λ e. e.packets ≡ packets) }
+        ensures refused { IfErr result (λ e. IsUnsentRefusal e.refusal) }
+    {
+        match &mut self.running {
+            Some(running) => running.send_all(rt, alloc, reading, packets),
+            None => Err(NoneSent {
+                refusal: Refusal::NodeDown,
+                packets,
+            }),
+        }
+    }
+
     /// Where what comes of its packets is put. 41 where it does not run, 43.
-    pub(crate) fn reports(&self) -> Result<Arc<Inbox<Report>>, Refusal> {
+    pub(crate) fn reports(&self) -> Result<Arc<Reports>, Refusal> {
         match &self.running {
             Some(running) => Ok(Arc::try_clone(&running.reports)?),
             None => Err(Refusal::NodeDown),

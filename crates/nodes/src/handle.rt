@@ -1,9 +1,9 @@
 //! The calls of a cluster, from any thread.
-ghost use Rattle.std.specs.Prelude.{◌≡◌, ◌≤◌, IfOk, IfErr};
+ghost use Rattle.std.specs.Prelude.{◌≡◌, ◌≤◌, IfOk, IfErr, vec_len};
 ghost use Rattle.nodes.specs.Sending.{IsUnsentRefusal};
 
 use crate::berth::Report;
-use crate::desk::{Desk, NotSent, Stopped};
+use crate::desk::{Desk, NoneSent, NotSent, Stopped};
 use fault::Refusal;
 use flight::life::{Life, Packet};
 use model::member::Member;
@@ -77,10 +77,32 @@ impl ClusterHandle {
         ensures refused { IfErr result (λ e. IsUnsentRefusal e.refusal) }
     {
         match self.desk(node) {
-            Some(desk) => desk.lock(rt).send(rt, reading, packet),
+            Some(desk) => desk.lock(rt).send(rt, self.alloc, reading, packet),
             None => Err(NotSent {
                 refusal: Refusal::NodeDown,
                 packet,
+            }),
+        }
+    }
+
+    /// Sends packets to a node together, in their order, as `send` does each: with this reading, in one call of its thread. It
+    /// gives the number of the last one. All of them come back with each refusal, which are those of `send`.
+    pub fn send_all<R: Wait>(
+        &self,
+        rt: &R,
+        node: Member,
+        reading: i64,
+        packets: Vec<Packet>,
+    ) -> Result<u64, NoneSent>
+        ensures number { IfOk result (λ number. vec_len packets ≤ number) }
+        ensures back { IfErr result (λ e. e.packets ≡ packets) }
+        ensures refused { IfErr result (λ e. IsUnsentRefusal e.refusal) }
+    {
+        match self.desk(node) {
+            Some(desk) => desk.lock(rt).send_all(rt, self.alloc, reading, packets),
+            None => Err(NoneSent {
+                refusal: Refusal::NodeDown,
+                packets,
             }),
         }
     }
@@ -93,6 +115,16 @@ impl ClusterHandle {
         };
         let reports = desk.lock(rt).reports()?;
         reports.next(rt).ok_or(Refusal::NodeDown)
+    }
+
+    /// What came of the next packets that were sent to a node together, for which it waits: a report of each, in their order,
+    /// but for those that `report` gave. It is refused as `report` is.
+    pub fn reports<R: Wait>(&self, rt: &R, node: Member) -> Result<Vec<Report>, Refusal> {
+        let Some(desk) = self.desk(node) else {
+            return Err(Refusal::NodeDown);
+        };
+        let reports = desk.lock(rt).reports()?;
+        reports.next_list(rt).ok_or(Refusal::NodeDown)
     }
 
     /// `Cell::take_view` of a node, once it has done what it was sent before: so the view has seen what that published. 41

@@ -7,6 +7,7 @@ pub mod cluster;
 pub mod desk;
 pub mod gate;
 pub mod handle;
+mod reports;
 
 pub use answer::Answer;
 pub use answertext::Lines;
@@ -14,7 +15,7 @@ pub use berth::{Report, Sent};
 pub use cells::cell::{Cell, Out};
 pub use cells::locked::{LockedNode, Naming};
 pub use cluster::{Cluster, Config, Ended};
-pub use desk::{NotSent, Stopped};
+pub use desk::{NoneSent, NotSent, Stopped};
 pub use fault::{Refusal, Text};
 pub use flight::life::{Ending, Life, Opening, Packet, Step};
 pub use gate::{Gate, Point};

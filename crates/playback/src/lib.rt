@@ -6,7 +6,6 @@ mod actor;
 mod decided;
 mod found;
 mod hearing;
-mod judging;
 mod lives;
 mod play;
 mod post;
@@ -16,5 +15,4 @@ mod stored;
 mod told;
 
 pub use decided::Decided;
-pub use judging::{Flown, judge};
 pub use play::Play;

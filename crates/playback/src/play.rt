@@ -3,11 +3,10 @@ ghost use Rattle.std.specs.Prelude.{◌≡◌, ◌<◌, ◌+◌, IfOk, vec_len};
 
 use crate::actor::Actor;
 use crate::decided::Decided;
-use crate::judging::Flown;
 use crate::post::Post;
 use crate::told::Word;
 use fault::Refusal;
-use flight::flight::Recorded;
+use flight::{Answered, Records};
 use model::mark::Mark;
 use model::member::Member;
 use schema::Schema;
@@ -40,7 +39,7 @@ pub struct Play {
     /// What may be printed of requests.
     pub(crate) words: Vec<Word>,
     pub(crate) decided: Vec<Decided>,
-    pub(crate) answers: Vec<Vec<Recorded>>,
+    pub(crate) answers: Vec<Vec<Answered>>,
     pub(crate) sessions: u64,
     pub(crate) requests: u64,
 }
@@ -67,7 +66,7 @@ fn new_actors(alloc: Global, members: usize) -> Result<Vec<Actor>, AllocError> {
     Ok(actors)
 }
 
-fn no_answers(alloc: Global, members: usize) -> Result<Vec<Vec<Recorded>>, AllocError> {
+fn no_answers(alloc: Global, members: usize) -> Result<Vec<Vec<Answered>>, AllocError> {
     let mut answers = Vec::new(alloc);
     for _ in 0..members {
         answers.push(Vec::new(alloc))?;
@@ -127,14 +126,14 @@ impl Play {
     }
 
     /// The lives of each member and what it answered, where flights are kept.
-    pub fn into_flown(self) -> Result<Flown, AllocError> {
+    pub fn into_records(self) -> Result<Records, AllocError> {
         let Play {
             alloc,
             actors,
             answers,
             ..
         } = self;
-        Ok(Flown {
+        Ok(Records {
             lives: lives_of(alloc, actors)?,
             answers,
         })

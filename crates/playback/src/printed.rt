@@ -3,7 +3,7 @@ use crate::play::{Play, mark_of};
 use crate::told::is_said;
 use answertext::Lines;
 use fault::{Refusal, Text};
-use flight::flight::Recorded;
+use flight::flight::Answered;
 use model::member::Member;
 use model::request::{Client, RequestNumber};
 use sqlread::query::{Query, read_query};
@@ -86,7 +86,7 @@ impl Play {
         if !self.keeps {
             return Ok(());
         }
-        let recorded = Recorded {
+        let recorded = Answered {
             mark: mark_of(mark)?,
             query,
             answer,

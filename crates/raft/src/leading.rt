@@ -67,7 +67,7 @@ impl Core {
     }
 
     /// A majority match the log up to this index.
-    fn is_held(&self, index: usize) -> bool
+    pub(crate) fn is_held(&self, index: usize) -> bool
         ensures { result ≡ is_majority self.now.members (holds_to self.now.me self.now.matched.items index) }
     {
         2 * count_matching(&self.matched, self.members, self.me, index) > self.members

@@ -11,6 +11,7 @@ mod inputs;
 mod leading;
 mod logs;
 mod reading;
+mod refused;
 mod seals;
 mod sending;
 pub mod short_log;

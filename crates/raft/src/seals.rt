@@ -29,7 +29,7 @@ fn longer_waiting(waiting: Option<SealedFloor>, seal: SealedFloor) -> Option<Sea
 impl Core {
     /// The seal's entry is applied: it has the seal's term.
     #[tactic(auto, using(crate::proofs::Sealing::applied_within, crate::proofs::Sealing::applied_past))]
-    fn is_applied<S: LogReader>(
+    pub(crate) fn is_applied<S: LogReader>(
         &self,
         reader: &mut S,
         seal: SealedFloor,

@@ -130,7 +130,7 @@ impl Core {
 
     /// The greatest index that can be committed now: up to there a majority match, and an entry of its
     /// own term stands there. Where the entry is of another term, so are all before it.
-    fn commits<S: LogReader>(&self, reader: &mut S) -> Result<usize, StoreError>
+    pub(crate) fn commits<S: LogReader>(&self, reader: &mut S) -> Result<usize, StoreError>
         requires up { S.is_up reader.old ≡ true }
         requires reaches { S.is_honest reader.old → Reaches self.now (S.stored reader.old).log }
         requires rises { S.is_honest reader.old → go_on None self.now.term (log_of self.now (S.stored reader.old).log) ≡ true }
@@ -156,7 +156,7 @@ impl Core {
 
     /// Commits what can be committed now that the log of a member is known to agree further, so that a seal that waits may
     /// count, and sends what comes of it: to all where something is committed, else to that member what it has not yet.
-    fn on_agreed<S: LogReader>(
+    pub(crate) fn on_agreed<S: LogReader>(
         &mut self,
         reader: &mut S,
         sender: Member,

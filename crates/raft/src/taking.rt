@@ -46,7 +46,7 @@ impl Core {
 
     /// What is to be stored after a step: the hard state, and how the log goes on after the entries that are stored; none
     /// where the log and the hard state are as before.
-    fn change_since(&self, before: HardState) -> Result<Option<Change>, AllocError>
+    pub(crate) fn change_since(&self, before: HardState) -> Result<Option<Change>, AllocError>
         ghost stored: { List in_log.Entry }
         requires reaches { Reaches self.now stored }
         ensures small { IfOk result IsSmallChange }

@@ -17,7 +17,7 @@ use std::alloc::AllocError;
 use std::mem;
 
 /// The vote is none yet, or for this candidate.
-fn is_free_for(vote: Option<Member>, candidate: Member) -> bool
+pub(crate) fn is_free_for(vote: Option<Member>, candidate: Member) -> bool
     ensures { result ≡ option_map_or (λ v. v == candidate) vote true }
 {
     match vote {
@@ -121,7 +121,7 @@ impl Core {
     /// A log of this length and last term is at least as up to date as its own: its last term is greater, or equal where it
     /// is not shorter.
     #[tactic(auto, using(crate::proofs::Windows::last_term_of, crate::proofs::Windows::length_of))]
-    fn is_up_to_date(&self, last_index: usize, last_term: u64) -> bool
+    pub(crate) fn is_up_to_date(&self, last_index: usize, last_term: u64) -> bool
         ghost stored: { List in_log.Entry }
         requires { Reaches self.now stored }
         ensures { result ≡ is_up_to_date last_term last_index (log_of self.now stored) }

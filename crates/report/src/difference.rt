@@ -7,7 +7,7 @@ use crate::files::{File, Place, place_of};
 use crate::given::{given_answer, given_message, given_opening, given_outcomes, run_to};
 use crate::scan::{Kind, Line, end_of, line_of, lines_of, part_of};
 use crate::spelled::behind_reading;
-use crate::stuck::{Records, Stuck, stuck_at};
+use crate::stuck::{Evidence, Stuck, stuck_at};
 use crate::unlike::compared;
 use model::mark::Mark;
 use model::member::Member;
@@ -70,22 +70,22 @@ struct Given {
 // What the run has where a node takes a step otherwise.
 fn given_step(
     alloc: Global,
-    records: &Records<'_>,
+    evidence: &Evidence<'_>,
     stuck: &Stuck,
     moment: &Moment,
 ) -> Result<Given, AllocError>
-    requires least { 3 ≤ length records.now.lives.now }
-    requires most { length records.now.lives.now ≤ 7 }
+    requires least { 3 ≤ length evidence.now.lives.now }
+    requires most { length evidence.now.lives.now ≤ 7 }
 {
-    let mut run = run_to(alloc, records, stuck)?;
-    match (&stuck.next, step_of(records, moment)) {
+    let mut run = run_to(alloc, evidence, stuck)?;
+    match (&stuck.next, step_of(evidence, moment)) {
         (Some(event), _) => Ok(Given {
             differs: Differs::Outcomes,
             text: Some(given_outcomes(alloc, &mut run, event)?),
         }),
         (None, Some(step)) => Ok(Given {
             differs: Differs::Message,
-            text: given_message(alloc, records, &run, moment.node, &step.packet)?,
+            text: given_message(alloc, evidence, &run, moment.node, &step.packet)?,
         }),
         (None, None) => Ok(Given {
             differs: Differs::Message,
@@ -97,17 +97,17 @@ fn given_step(
 // What the run has where a node begins a life otherwise.
 fn given_life(
     alloc: Global,
-    records: &Records<'_>,
+    evidence: &Evidence<'_>,
     stuck: &Stuck,
     moment: &Moment,
     life: usize,
 ) -> Result<Given, AllocError>
-    requires least { 3 ≤ length records.now.lives.now }
-    requires most { length records.now.lives.now ≤ 7 }
+    requires least { 3 ≤ length evidence.now.lives.now }
+    requires most { length evidence.now.lives.now ≤ 7 }
 {
-    let mut run = run_to(alloc, records, stuck)?;
+    let mut run = run_to(alloc, evidence, stuck)?;
     let Moment { mark, node, .. } = *moment;
-    let text = given_opening(alloc, records, &mut run, node, life, mark)?;
+    let text = given_opening(alloc, evidence, &mut run, node, life, mark)?;
     let differs = if text.is_some() {
         Differs::Opening
     } else {
@@ -119,17 +119,17 @@ fn given_life(
 // What the run has at the moment that it does not have as it was recorded.
 fn given_at(
     alloc: Global,
-    records: &Records<'_>,
+    evidence: &Evidence<'_>,
     stuck: &Stuck,
     moment: &Moment,
 ) -> Result<Given, AllocError>
-    requires least { 3 ≤ length records.now.lives.now }
-    requires most { length records.now.lives.now ≤ 7 }
+    requires least { 3 ≤ length evidence.now.lives.now }
+    requires most { length evidence.now.lives.now ≤ 7 }
 {
     match (moment.deed, &stuck.next) {
-        (Deed::Opens { life }, _) => given_life(alloc, records, stuck, moment, life),
+        (Deed::Opens { life }, _) => given_life(alloc, evidence, stuck, moment, life),
         (Deed::Answers { .. }, Some(event)) => {
-            let mut run = run_to(alloc, records, stuck)?;
+            let mut run = run_to(alloc, evidence, stuck)?;
             Ok(Given {
                 differs: Differs::Answer,
                 text: Some(given_answer(alloc, &mut run, event)?),
@@ -139,7 +139,7 @@ fn given_at(
             differs: Differs::Unmarked,
             text: None,
         }),
-        _ => given_step(alloc, records, stuck, moment),
+        _ => given_step(alloc, evidence, stuck, moment),
     }
 }
 
@@ -196,7 +196,7 @@ fn owned(alloc: Global, text: Option<&str>) -> Result<Option<String>, AllocError
 // The question of a moment, if it is that of an answer.
 fn question_at(
     alloc: Global,
-    records: &Records<'_>,
+    evidence: &Evidence<'_>,
     moment: &Moment,
 ) -> Result<Option<String>, AllocError> {
     let Deed::Answers { answer } = moment.deed else {
@@ -204,7 +204,7 @@ fn question_at(
     };
     owned(
         alloc,
-        records
+        evidence
             .answers
             .get(answer)
             .map(|answer| answer.query.as_str()),
@@ -214,13 +214,13 @@ fn question_at(
 // What differs at a moment from what the run has.
 fn difference_at(
     alloc: Global,
-    records: &Records<'_>,
+    evidence: &Evidence<'_>,
     file: &File<'_>,
     moment: &Moment,
     given: &Given,
 ) -> Result<Difference, AllocError> {
     let lines = lines_of(alloc, file.text)?;
-    let deed = own_deed(records, moment);
+    let deed = own_deed(evidence, moment);
     let (start, end) = span_at(file.text, lines.as_slice(), deed, given.differs);
     let recorded = bytes_between(file.text, start, end);
     let text = given.text.as_ref().map_or("", |text| text.as_str());
@@ -231,9 +231,9 @@ fn difference_at(
         place: place_of(file.text, before, found.one.unwrap_or("")),
         node: moment.node,
         mark: moment.mark,
-        life: life_at(records, moment),
+        life: life_at(evidence, moment),
         differs: given.differs,
-        question: question_at(alloc, records, moment)?,
+        question: question_at(alloc, evidence, moment)?,
         lines: found.lines,
         differing: found.differing,
         recorded: owned(alloc, found.one)?,
@@ -256,11 +256,11 @@ fn file_at<'a>(files: &[File<'a>], node: Member) -> File<'a> {
 // Where marks of a node do not rise.
 fn unordered(
     alloc: Global,
-    records: &Records<'_>,
+    evidence: &Evidence<'_>,
     files: &[File<'_>],
     node: Member,
 ) -> Result<Option<Difference>, AllocError> {
-    let (moments, before) = fallen_in(alloc, records, node)?;
+    let (moments, before) = fallen_in(alloc, evidence, node)?;
     let Some(moment) = moments.get(before) else {
         return Ok(None);
     };
@@ -269,29 +269,29 @@ fn unordered(
         text: None,
     };
     let file = file_at(files, node);
-    let mut found = difference_at(alloc, records, &file, moment, &given)?;
-    found.earlier = earlier_of(alloc, records, files, moments.as_slice(), before)?;
+    let mut found = difference_at(alloc, evidence, &file, moment, &given)?;
+    found.earlier = earlier_of(alloc, evidence, files, moments.as_slice(), before)?;
     Ok(Some(found))
 }
 
 // Where what was recorded goes on otherwise than its run.
 fn otherwise(
     alloc: Global,
-    records: &Records<'_>,
+    evidence: &Evidence<'_>,
     files: &[File<'_>],
     stuck: &Stuck,
 ) -> Result<Option<Difference>, AllocError>
-    requires least { 3 ≤ length records.now.lives.now }
-    requires most { length records.now.lives.now ≤ 7 }
+    requires least { 3 ≤ length evidence.now.lives.now }
+    requires most { length evidence.now.lives.now ≤ 7 }
 {
     let moments = stuck.moments.as_slice();
     let Some(moment) = moments.get(stuck.followed) else {
         return Ok(None);
     };
-    let given = given_at(alloc, records, stuck, moment)?;
+    let given = given_at(alloc, evidence, stuck, moment)?;
     let file = file_at(files, moment.node);
-    let mut found = difference_at(alloc, records, &file, moment, &given)?;
-    found.earlier = earlier_of(alloc, records, files, moments, stuck.followed)?;
+    let mut found = difference_at(alloc, evidence, &file, moment, &given)?;
+    found.earlier = earlier_of(alloc, evidence, files, moments, stuck.followed)?;
     Ok(Some(found))
 }
 
@@ -299,22 +299,22 @@ fn otherwise(
 /// run up to there. The files are those of the nodes, in their order. The error is want of memory.
 pub fn difference_of(
     alloc: Global,
-    records: &Records<'_>,
+    evidence: &Evidence<'_>,
     files: &[File<'_>],
     fault: AuditFault,
 ) -> Result<(Option<Difference>, Vec<Event>), AllocError>
-    requires least { 3 ≤ length records.now.lives.now }
-    requires most { length records.now.lives.now ≤ 7 }
+    requires least { 3 ≤ length evidence.now.lives.now }
+    requires most { length evidence.now.lives.now ≤ 7 }
 {
     match fault {
         AuditFault::NoMemory => Err(AllocError),
         AuditFault::OutOfOrder { node, .. } => {
-            let found = unordered(alloc, records, files, node)?;
+            let found = unordered(alloc, evidence, files, node)?;
             Ok((found, Vec::new(alloc)))
         }
         _ => {
-            let stuck = stuck_at(alloc, records)?;
-            let found = otherwise(alloc, records, files, &stuck)?;
+            let stuck = stuck_at(alloc, evidence)?;
+            let found = otherwise(alloc, evidence, files, &stuck)?;
             let Stuck { events, .. } = stuck;
             Ok((found, events))
         }

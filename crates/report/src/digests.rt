@@ -7,7 +7,7 @@ ghost use Rattle.flight.specs.Spelling.{flight_text};
 ghost use Rattle.journal.specs.Digests.{digest_of};
 ghost use Rattle.report.specs.Digests.{all_said, digested, said_by};
 
-use flight::flight::{Flight, Recorded};
+use flight::flight::{Answered, Flight};
 use flight::text_of_flight;
 use journal::digest::{BLANK_DIGEST, next_digest};
 use model::entry::Entry;
@@ -53,7 +53,7 @@ pub fn log_digest(alloc: Global, log: &[Entry]) -> Result<[u8; 32], AllocError>
 }
 
 // Feeds the hasher with the questions and the answers, each question before its answer.
-fn feed(hasher: &mut Sha256, answers: &[Recorded])
+fn feed(hasher: &mut Sha256, answers: &[Answered])
     ensures { (m : List ℕ) → Holds256 hasher.old m → Holds256 hasher.new (m ++ said_by answers.now) }
 {
     for answer in answers {

@@ -2,7 +2,7 @@
 use crate::deeds::own_deed;
 use crate::files::File;
 use crate::scan::{Line, line_of, lines_of};
-use crate::stuck::Records;
+use crate::stuck::Evidence;
 use crate::words::deed_words;
 use model::mark::Mark;
 use model::member::Member;
@@ -48,7 +48,7 @@ fn number_of(text: &str, before: usize) -> usize {
 
 // The line of its node's file with which a moment begins, from 1 on, 0 where it is not found.
 fn number_at(
-    records: &Records<'_>,
+    evidence: &Evidence<'_>,
     files: &[File<'_>],
     lines: &[Vec<Line>],
     moment: &Moment,
@@ -59,7 +59,7 @@ fn number_at(
     let (Some(file), Some(own)) = (files.get(place), lines.get(place)) else {
         return 0;
     };
-    let Some(at) = line_of(own.as_slice(), own_deed(records, moment)) else {
+    let Some(at) = line_of(own.as_slice(), own_deed(evidence, moment)) else {
         return 0;
     };
     match own.get(at) {
@@ -70,7 +70,7 @@ fn number_at(
 
 fn earlier_at(
     alloc: Global,
-    records: &Records<'_>,
+    evidence: &Evidence<'_>,
     files: &[File<'_>],
     lines: &[Vec<Line>],
     moment: &Moment,
@@ -78,8 +78,8 @@ fn earlier_at(
     Ok(Earlier {
         mark: moment.mark,
         node: moment.node,
-        line: number_at(records, files, lines, moment),
-        words: deed_words(alloc, records, moment)?,
+        line: number_at(evidence, files, lines, moment),
+        words: deed_words(alloc, evidence, moment)?,
     })
 }
 
@@ -95,7 +95,7 @@ fn is_step(deed: Deed) -> bool {
 /// error is want of memory.
 pub(crate) fn earlier_of(
     alloc: Global,
-    records: &Records<'_>,
+    evidence: &Evidence<'_>,
     files: &[File<'_>],
     moments: &[Moment],
     before: usize,
@@ -112,7 +112,7 @@ pub(crate) fn earlier_of(
         .take(before)
         .filter(|moment| is_step(moment.deed));
     for moment in steps.skip(skipped) {
-        rows.push(earlier_at(alloc, records, files, lines.as_slice(), moment)?)?;
+        rows.push(earlier_at(alloc, evidence, files, lines.as_slice(), moment)?)?;
     }
     Ok(rows)
 }

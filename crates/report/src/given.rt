@@ -2,7 +2,7 @@
 ghost use Rattle.std.specs.Prelude.{◌≤◌, length};
 
 use crate::spelled::{opening_text, outcomes_text, packet_text};
-use crate::stuck::{Records, Stuck};
+use crate::stuck::{Evidence, Stuck};
 use answertext::Lines;
 use flight::life::Packet;
 use flight::outcome::Outcome;
@@ -40,24 +40,19 @@ fn add_sent(outputs: Vec<Output>, mark: Mark, sent: &mut Vec<Sent>) -> Result<()
     Ok(())
 }
 
-// What an event gives.
-fn happen(alloc: Global, world: &mut World, event: &Event) -> Result<Vec<Output>, AllocError> {
-    let mut outs = world.run(&[event.clone()?])?;
-    Ok(match outs.pop() {
-        Some(outputs) => outputs,
-        None => Vec::new(alloc),
-    })
-}
-
 /// The run of the moments that it has. The error is want of memory.
-pub(crate) fn run_to(alloc: Global, records: &Records<'_>, stuck: &Stuck) -> Result<Run, AllocError>
-    requires least { 3 ≤ length records.now.lives.now }
-    requires most { length records.now.lives.now ≤ 7 }
+pub(crate) fn run_to(
+    alloc: Global,
+    evidence: &Evidence<'_>,
+    stuck: &Stuck,
+) -> Result<Run, AllocError>
+    requires least { 3 ≤ length evidence.now.lives.now }
+    requires most { length evidence.now.lives.now ≤ 7 }
 {
-    let mut world = World::new(alloc, records.lives.len(), records.schema.clone()?)?;
+    let mut world = World::new(alloc, evidence.lives.len(), evidence.schema.clone()?)?;
     let mut sent = Vec::new(alloc);
     for (event, mark) in stuck.events.iter().zip(stuck.marks.as_slice()) {
-        let outputs = happen(alloc, &mut world, event)?;
+        let outputs = world.step(event)?;
         add_sent(outputs, *mark, &mut sent)?;
     }
     Ok(Run { world, sent })
@@ -89,7 +84,7 @@ pub(crate) fn given_answer(
     run: &mut Run,
     event: &Event,
 ) -> Result<String, AllocError> {
-    let outputs = happen(alloc, &mut run.world, event)?;
+    let outputs = run.world.step(event)?;
     answer_in(alloc, outputs.as_slice())
 }
 
@@ -99,7 +94,7 @@ pub(crate) fn given_outcomes(
     run: &mut Run,
     event: &Event,
 ) -> Result<String, AllocError> {
-    let outputs = happen(alloc, &mut run.world, event)?;
+    let outputs = run.world.step(event)?;
     let told = told_in(alloc, outputs.as_slice())?;
     outcomes_text(alloc, told.as_slice())
 }
@@ -138,7 +133,7 @@ fn sent_then<'a>(run: &'a Run, node: Member, mark: Mark, message: &Message) -> O
 /// none. The error is want of memory.
 pub(crate) fn given_message(
     alloc: Global,
-    records: &Records<'_>,
+    evidence: &Evidence<'_>,
     run: &Run,
     node: Member,
     packet: &Packet,
@@ -158,7 +153,7 @@ pub(crate) fn given_message(
                 reading: *reading,
                 message: sent.clone()?,
             };
-            Ok(Some(packet_text(alloc, records.version, packet)?))
+            Ok(Some(packet_text(alloc, evidence.version, packet)?))
         }
         None => Ok(None),
     }
@@ -186,7 +181,7 @@ fn log_of(
 /// The text of what a node has stored as it starts at this mark; none where it is up in the run. The error is want of memory.
 pub(crate) fn given_opening(
     alloc: Global,
-    records: &Records<'_>,
+    evidence: &Evidence<'_>,
     run: &mut Run,
     node: Member,
     life: usize,
@@ -198,17 +193,17 @@ pub(crate) fn given_opening(
         floor: None,
     };
     if life == 0 {
-        let text = opening_text(alloc, records.version, mark, blank, Vec::new(alloc))?;
+        let text = opening_text(alloc, evidence.version, mark, blank, Vec::new(alloc))?;
         return Ok(Some(text));
     }
     if run.world.commit(node).is_some() {
         return Ok(None);
     }
-    run.world.run(&[Event::Start(node)])?;
+    run.world.step(&Event::Start(node))?;
     let Some(stored) = run.world.durable(node)? else {
         return Ok(None);
     };
     let log = log_of(alloc, &mut run.world, node, stored.length)?;
-    let text = opening_text(alloc, records.version, mark, stored.hard, log)?;
+    let text = opening_text(alloc, evidence.version, mark, stored.hard, log)?;
     Ok(Some(text))
 }

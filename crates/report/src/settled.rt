@@ -147,7 +147,7 @@ fn go_on(
 {
     // Its contract says that what members apply begins what is decided.
     safety::agreement();
-    world.run(&[event.clone()?])?;
+    world.step(event)?;
     add_all(world, members, list)
 }
 

@@ -13,7 +13,7 @@ use world::event::Event;
 
 /// What was recorded of a group: its version and tables, the lives of each node, and the answers.
 #[derive(Clone, Copy)]
-pub struct Records<'a> {
+pub struct Evidence<'a> {
     pub version: Version,
     pub schema: &'a Schema,
     pub lives: &'a [Vec<Life>],
@@ -46,20 +46,20 @@ fn note(replay: &Replay, mark: Mark, marks: &mut Vec<Mark>) -> Result<(), AllocE
 // Follows moments up to the first that the run does not have, and gives how many it has.
 fn follow_some(
     replay: &mut Replay,
-    records: &Records<'_>,
+    evidence: &Evidence<'_>,
     moments: &[Moment],
     marks: &mut Vec<Mark>,
 ) -> Result<usize, AllocError>
     requires live { IsLive replay.old }
-    requires tables { records.now.schema.now ≡ tables_in replay.old.world }
+    requires tables { evidence.now.schema.now ≡ tables_in replay.old.world }
 {
     let mut followed = 0;
     for moment in moments {
         match replay.follow(
-            records.version,
-            records.schema,
-            records.lives,
-            records.answers,
+            evidence.version,
+            evidence.schema,
+            evidence.lives,
+            evidence.answers,
             moment,
         ) {
             Ok(()) => {}
@@ -73,16 +73,16 @@ fn follow_some(
 }
 
 /// How far the run has what was recorded of a group of 3 to 7 nodes. The error is want of memory.
-pub(crate) fn stuck_at(alloc: Global, records: &Records<'_>) -> Result<Stuck, AllocError>
-    requires least { 3 ≤ length records.now.lives.now }
-    requires most { length records.now.lives.now ≤ 7 }
+pub(crate) fn stuck_at(alloc: Global, evidence: &Evidence<'_>) -> Result<Stuck, AllocError>
+    requires least { 3 ≤ length evidence.now.lives.now }
+    requires most { length evidence.now.lives.now ≤ 7 }
 {
-    let Ok(moments) = timeline(alloc, records.lives, records.answers) else {
+    let Ok(moments) = timeline(alloc, evidence.lives, evidence.answers) else {
         return Err(AllocError);
     };
-    let mut replay = Replay::new(alloc, records.lives.len(), records.schema.clone()?)?;
+    let mut replay = Replay::new(alloc, evidence.lives.len(), evidence.schema.clone()?)?;
     let mut marks = Vec::new(alloc);
-    let followed = follow_some(&mut replay, records, moments.as_slice(), &mut marks)?;
+    let followed = follow_some(&mut replay, evidence, moments.as_slice(), &mut marks)?;
     let mut events = events_in(alloc, &replay.world)?;
     let next = if events.len() > marks.len() {
         events.pop()

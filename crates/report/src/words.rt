@@ -1,6 +1,6 @@
 //! What a node did at a moment, in words.
 use crate::deeds::{life_of, step_of};
-use crate::stuck::Records;
+use crate::stuck::Evidence;
 use flight::life::{Life, Packet};
 use model::message::{Body, Input, Message};
 use moments::{Deed, Moment};
@@ -67,13 +67,13 @@ fn life_words(alloc: Global, life: &Life) -> Result<String, AllocError> {
 /// What a node did at a moment, in words; no words where it is not there. The error is want of memory.
 pub(crate) fn deed_words(
     alloc: Global,
-    records: &Records<'_>,
+    evidence: &Evidence<'_>,
     moment: &Moment,
 ) -> Result<String, AllocError> {
     match (
         moment.deed,
-        life_of(records, moment),
-        step_of(records, moment),
+        life_of(evidence, moment),
+        step_of(evidence, moment),
     ) {
         (Deed::Opens { .. }, Some(life), _) => life_words(alloc, life),
         (Deed::Takes { .. }, _, Some(step)) => packet_words(alloc, &step.packet),

@@ -1,7 +1,9 @@
 -- Lines bring the same in both words.
-use Rattle.std.proofs.Common.{refl, sym, subst}
-use Rattle.std.specs.Prelude.{◌≡◌, ℕ, zero, suc, ◌+◌, ◌*◌, if◌then◌else◌, unwrap_or, Option, Some, None, List, [], ◌∷◌, ◌++◌, map, drop, length, replicate}
+use Rattle.std.proofs.Common.{refl, sym, ap, subst, ◌∙◌}
+use Rattle.std.specs.Prelude.{◌≡◌, ℕ, zero, suc, ◌+◌, ◌*◌, ℤ, pos, Bool, ◌==◌, if◌then◌else◌, unwrap_or, Option, Some, None, Result, Ok, Err, List, [], ◌∷◌, ◌++◌, map, drop, length, replicate, codes, decimal}
+use Rattle.std.specs.List.{All, flat_map}
 use Rattle.std.specs.Option.{option_map_or}
+use Rattle.fault.specs.declared.refusal.Refusal.{Refusal}
 use Rattle.model.specs.Lists.{nth, with_nth}
 use Rattle.model.specs.declared.message.Input.TheVariants as input
 use Rattle.model.specs.Worlds.{World, Event}
@@ -13,15 +15,19 @@ use Rattle.sqlchecks.specs.Columns.{Tables}
 use Rattle.sqlread.specs.Meaning.{language_of, select_of}
 use Rattle.sqlread.specs.Texts.{query_in}
 use Rattle.world.specs.View.{outputs_of}
+use Rattle.world.specs.declared.output.Output.{Output}
 use Rattle.world.specs.declared.output.Output.TheVariants as output
-use Rattle.lines.specs.declared.line.Job.TheVariants as torn
-use Rattle.lines.specs.declared.line.Left.TheVariants as kept
+use Rattle.lines.specs.declared.line.TornJob.TheVariants as torn
 use Rattle.lines.specs.declared.line.Line.{Line}
 use Rattle.lines.specs.declared.line.Line.TheVariants.{Clock, ClockAll, Submit, Timeout, Beat, Close, Floor, Deliver, Lose, LoseAll, Settle, Recover, Stop, Start, Torn as TornLine, Ask}
 use Rattle.script.specs.declared.sent.Sent.{Sent}
-use Rattle.script.specs.Mail.{newly_sent, as_lost, changed, left_from}
+use Rattle.script.specs.Mail.{newly_sent, as_delivered, as_lost, changed, left_from}
+use Rattle.script.specs.Printing as printing
+use Rattle.believed.proofs.DaysSame.{instant_same}
+use Rattle.believed.proofs.Printed.{shown_same}
+use Rattle.answertext.proofs.LinesSame.{answer_same}
 use Rattle.script.specs.Standing.{standing_at, ends_own, foremost, longest, is_well}
-use Rattle.script.specs.Stage.{Act, Happens, Asks, Refuses, Stage, Played, reading_of, is_up, delivered, all_lost, nothing, followed, left_in, job_at, torn_stage, asked}
+use Rattle.script.specs.Stage.{Act, Happens, Asks, Refuses, Stage, Played, reading_of, is_up, delivered, all_lost, nothing, followed, job_at, torn_stage, asked}
 use Rattle.script.specs.Stage as before
 use Rattle.script.specs.Brought as now
 
@@ -123,7 +129,7 @@ module _ (happens : World → Event → World) (tables : Tables) (n : ℕ) where
   played s Recover = recovery s
   played s (Stop m) = event_at s (model.Stop m)
   played s (Start m) = event_at s (model.Start m)
-  played s (TornLine m left job) = if is_up s.world m then option_map_or (λ about. event_at (torn_stage tables n s job) (model.Torn m about (left_in left))) (job_at tables n s m job) (nothing s) else nothing s
+  played s (TornLine m left job) = if is_up s.world m then option_map_or (λ about. event_at (torn_stage tables n s job) (model.Torn m about left)) (job_at tables n s m job) (nothing s) else nothing s
   played s (Ask m text) = asked tables n s m (query_in tables text)
 
   -- what lines bring, each after the one before
@@ -139,11 +145,24 @@ played_same tables n lines s = λ i. played_all (happens_along tables n i) table
 
 -- ---- what is printed
 
+outcome_same : (outcome : Result ℕ Refusal) → now.outcome_text outcome ≡ printing.outcome_text outcome
+outcome_same (Ok stamp) = ap (λ (xs : List ℕ). codes "accepted " ++ xs ++ 10 ∷ []) (instant_same stamp)
+outcome_same (Err refusal) = ap (λ (xs : List ℕ). codes "refused " ++ xs ++ 10 ∷ []) (shown_same refusal)
+
+output_same : (o : Output) → now.output_text o ≡ printing.output_text o
+output_same (output.Sent number message) = refl
+output_same (output.Applied node told) = ap (λ (xs : List ℕ). printing.node_text node ++ (codes "entry " ++ decimal told.index ++ codes " request " ++ decimal told.client ++ codes " " ++ decimal told.number ++ codes " " ++ xs)) (outcome_same told.outcome)
+output_same (output.Refused node refusal) = ap (λ (xs : List ℕ). printing.node_text node ++ (codes "refused " ++ xs ++ 10 ∷ [])) (shown_same refusal)
+output_same (output.Answered node answer) = ap (λ (xs : List ℕ). codes "node " ++ (decimal node ++ (codes " answer" ++ 10 ∷ [])) ++ xs) (answer_same answer)
+
+texts_same : (outs : List Output) → flat_map now.output_text outs ≡ flat_map printing.output_text outs
+texts_same outs = λ i. flat_map (λ o. output_same o i) outs
+
 module _ (tables : Tables) (n : ℕ) where
   act_now : (w : World) (act : Act) (text : List ℕ) → before.PrintsAct tables n w act text → now.PrintsAct tables n w act text
-  act_now w (Happens e) text (outs, gives, is) = (outs, gives_now (language_of tables) n w e (outputs_of outs) gives, is)
-  act_now w (Asks m query) text (outs, gives, columns, is) = (outs, gives_now (language_of tables) n w (model.Ask m (select_of query)) (outputs_of outs) gives, columns, is)
-  act_now w (Refuses m refusal) text is = is
+  act_now w (Happens e) text (outs, gives, is) = (outs, gives_now (language_of tables) n w e (outputs_of outs) gives, is ∙ sym (texts_same outs))
+  act_now w (Asks m query) text (outs, gives, columns, is) = (outs, gives_now (language_of tables) n w (model.Ask m (select_of query)) (outputs_of outs) gives, columns, is ∙ sym (texts_same outs))
+  act_now w (Refuses m refusal) text is = is ∙ sym (output_same (output.Refused m refusal))
 
   after_same : (w : World) (act : Act) → now.after_act tables n w act ≡ before.after_act tables n w act
   after_same w (Happens e) = happens_same (language_of tables) n w e

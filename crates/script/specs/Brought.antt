@@ -1,5 +1,5 @@
 -- What the lines of a script bring to a group, and what is printed of it, in the words of `believed`.
-use Rattle.std.specs.Prelude.{◌≡◌, ℕ, zero, suc, ◌+◌, ◌*◌, ℤ, pos, Bool, ◌==◌, if◌then◌else◌, unwrap_or, Option, Some, None, Result, Ok, Err, List, [], ◌∷◌, ◌++◌, map, drop, length, replicate}
+use Rattle.std.specs.Prelude.{◌≡◌, ℕ, zero, suc, ◌+◌, ◌*◌, ℤ, pos, Bool, ◌==◌, if◌then◌else◌, unwrap_or, Option, Some, None, Result, Ok, Err, List, [], ◌∷◌, ◌++◌, map, drop, length, replicate, codes, decimal}
 use Rattle.std.specs.List.{All, flat_map}
 use Rattle.std.specs.Option.{option_map_or}
 use Rattle.std.specs.Io.KnownBytes.{Appends}
@@ -21,17 +21,33 @@ use Rattle.sqlread.specs.Texts.{query_in}
 use Rattle.world.specs.View.{if_up, outputs_of, HasColumns}
 use Rattle.world.specs.declared.output.Output.{Output}
 use Rattle.world.specs.declared.output.Output.TheVariants as output
-use Rattle.lines.specs.declared.line.Job.{Job as TornJob}
-use Rattle.lines.specs.declared.line.Job.TheVariants as torn
-use Rattle.lines.specs.declared.line.Left.{Left as TornLeft}
-use Rattle.lines.specs.declared.line.Left.TheVariants as kept
 use Rattle.lines.specs.declared.line.Line.{Line}
 use Rattle.lines.specs.declared.line.Line.TheVariants.{Clock, ClockAll, Submit, Timeout, Beat, Close, Floor, Deliver, Lose, LoseAll, Settle, Recover, Stop, Start, Torn as TornLine, Ask}
 use Rattle.script.specs.declared.sent.Sent.{Sent}
 use Rattle.script.specs.Mail.{newly_sent, as_delivered, as_lost, changed, left_from}
-use Rattle.script.specs.Printing.{output_text}
+use Rattle.script.specs.Printing.{sent_text, node_text}
+use Rattle.believed.specs.Days.{instant_text}
+use Rattle.believed.specs.Refusals.{shown}
+use Rattle.answertext.specs.Lines.{answer_text}
 use Rattle.script.specs.Standing.{standing_at, ends_own, foremost, longest, is_well}
-use Rattle.script.specs.Stage.{Act, Happens, Asks, Refuses, Stage, Played, reading_of, is_up, delivered, all_lost, nothing, followed, left_in, job_at, torn_stage, asked}
+use Rattle.script.specs.Stage.{Act, Happens, Asks, Refuses, Stage, Played, reading_of, is_up, delivered, all_lost, nothing, followed, job_at, torn_stage, asked}
+
+-- the line of a refusal
+abbrev pub refused_text : Refusal → List ℕ
+refused_text refusal = codes "refused " ++ shown refusal ++ 10 ∷ []
+
+-- and of an outcome
+abbrev pub outcome_text : Result ℕ Refusal → List ℕ
+outcome_text (Ok stamp) = codes "accepted " ++ instant_text stamp ++ 10 ∷ []
+outcome_text (Err refusal) = refused_text refusal
+
+-- the lines of an output
+abbrev pub output_text : Output → List ℕ
+output_text (output.Sent number message) = sent_text number message
+output_text (output.Applied node told) = node_text node ++ (codes "entry " ++ decimal told.index ++ codes " request " ++ decimal told.client
+    ++ codes " " ++ decimal told.number ++ codes " " ++ outcome_text told.outcome)
+output_text (output.Refused node refusal) = node_text node ++ refused_text refusal
+output_text (output.Answered node answer) = codes "node " ++ (decimal node ++ (codes " answer" ++ 10 ∷ [])) ++ answer_text answer
 
 -- in a group of n members with these tables
 module _ (tables : Tables) (n : ℕ) where
@@ -129,7 +145,7 @@ module _ (tables : Tables) (n : ℕ) where
   played s (Stop m) = event_at s (model.Stop m)
   played s (Start m) = event_at s (model.Start m)
   played s (TornLine m left job) = if is_up s.world m
-      then option_map_or (λ about. event_at (torn_stage tables n s job) (model.Torn m about (left_in left))) (job_at tables n s m job) (nothing s)
+      then option_map_or (λ about. event_at (torn_stage tables n s job) (model.Torn m about left)) (job_at tables n s m job) (nothing s)
       else nothing s
   played s (Ask m text) = asked tables n s m (query_in tables text)
 

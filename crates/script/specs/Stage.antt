@@ -20,10 +20,8 @@ use Rattle.sqlread.specs.Texts.{query_in}
 use Rattle.world.specs.View.{if_up, outputs_of, HasColumns}
 use Rattle.world.specs.declared.output.Output.{Output}
 use Rattle.world.specs.declared.output.Output.TheVariants as output
-use Rattle.lines.specs.declared.line.Job.{Job as TornJob}
-use Rattle.lines.specs.declared.line.Job.TheVariants as torn
-use Rattle.lines.specs.declared.line.Left.{Left as TornLeft}
-use Rattle.lines.specs.declared.line.Left.TheVariants as kept
+use Rattle.lines.specs.declared.line.TornJob.{TornJob}
+use Rattle.lines.specs.declared.line.TornJob.TheVariants as torn
 use Rattle.lines.specs.declared.line.Line.{Line}
 use Rattle.lines.specs.declared.line.Line.TheVariants.{Clock, ClockAll, Submit, Timeout, Beat, Close, Floor, Deliver, Lose, LoseAll, Settle, Recover, Stop, Start, Torn as TornLine, Ask}
 use Rattle.script.specs.declared.sent.Sent.{Sent}
@@ -84,11 +82,6 @@ followed p next = record { acts = p.acts ++ (next p.stage).acts; stage = (next p
 abbrev pub stage_if : {A : Type 0} → Option A → Stage → Stage → Stage
 stage_if None s later = s
 stage_if (Some found) s later = later
-
--- what a step that is cut short leaves, as an event says it
-abbrev pub left_in : TornLeft → Left
-left_in kept.Old = Old
-left_in kept.New = New
 
 -- in a group of n members with these tables
 module _ (tables : Tables) (n : ℕ) where
@@ -218,7 +211,7 @@ module _ (tables : Tables) (n : ℕ) where
   played s Recover = recovery s
   played s (Stop m) = event_at s (model.Stop m)
   played s (Start m) = event_at s (model.Start m)
-  played s (TornLine m left job) = if is_up s.world m then tear_of s m (left_in left) job (job_at s m job) else nothing s
+  played s (TornLine m left job) = if is_up s.world m then tear_of s m left job (job_at s m job) else nothing s
   played s (Ask m text) = asked s m (query_in tables text)
 
   -- what lines bring, each after the one before

@@ -6,14 +6,13 @@ ghost use Rattle.world.specs.Run.{events_of};
 ghost use Rattle.world.specs.View.{event_of};
 ghost use Rattle.script.specs.declared.sent.Sent.{Sent as AnySent};
 ghost use Rattle.script.specs.Faults.{IsFaultOf};
-ghost use Rattle.script.specs.Stage.{left_in};
 
 use crate::mail::Mail;
 use crate::printer::Printer;
 use crate::run_fault::RunFault;
 use crate::writing::{print_outputs, print_refusal};
 use fault::Text;
-use lines::line::{Job, Left, Line};
+use lines::line::{Line, TornJob};
 use model::entry::Request;
 use model::member::Member;
 use model::message::Input;
@@ -21,7 +20,7 @@ use model::request::{Client, RequestNumber};
 use schema::Schema;
 use sqlread::query::{Query, read_query};
 use std::alloc::{AllocError, Global};
-use world::event::{self, Event};
+use world::event::{Event, Job, Left};
 use world::history::World;
 
 // How many rounds a `settle` plays that names none.
@@ -41,7 +40,7 @@ impl Play {
     ghost use Rattle.script.specs.Stage.{opening_stage, reading_of, is_up as up_in, delivered, event_at, delivery, delivery_in_round, round, rounds, torn_delivery, job_at, torn_stage, stage_if, asked, played as played_by, played_all};
     ghost use Rattle.script.specs.Plays.{stage_of, tables_of, members_of, Plays};
 
-    // A group of 3 to 7 members with tables of this schema, at its opening, where all clocks show 0.
+    // A group of 3 to 7 members with tables of this schema, at its outset, where all clocks show 0.
     pub(crate) fn new(alloc: Global, members: usize, schema: Schema) -> Result<Play, AllocError>
         requires least { 3 ≤ members }
         requires most { members ≤ 7 }
@@ -223,7 +222,7 @@ impl Play {
     }
 
     // A delivery to this member that is cut short, if the message was sent to it.
-    fn torn_delivery(&mut self, node: Member, number: u64) -> Option<event::Job>
+    fn torn_delivery(&mut self, node: Member, number: u64) -> Option<Job>
         ensures job { result ≡ torn_delivery (tables_of self.old) (members_of self.old) (stage_of self.old) node number (nth self.old.mail number) }
         ensures stage { stage_of self.new ≡ stage_if result (stage_of self.old) (delivered (stage_of self.old) number) }
         ensures world { self.new.world ≡ self.old.world }
@@ -233,38 +232,38 @@ impl Play {
             return None;
         }
         let addressee = self.mark_delivered(place);
-        Some(event::Job::Delivery {
+        Some(Job::Delivery {
             message: place + 1,
             reading: self.reading_of(addressee),
         })
     }
 
     // What a step that is cut short is about, if it can be. A message counts as delivered then.
-    fn torn_job(&mut self, node: Member, job: &Job) -> Result<Option<event::Job>, AllocError>
+    fn torn_job(&mut self, node: Member, job: &TornJob) -> Result<Option<Job>, AllocError>
         ensures job { IfOk result (λ found. found ≡ job_at (tables_of self.old) (members_of self.old) (stage_of self.old) node job.now) }
         ensures stage { IfOk result (λ found. stage_of self.new ≡ stage_if found (stage_of self.old) (torn_stage (tables_of self.old) (members_of self.old) (stage_of self.old) job.now)) }
         ensures world { self.new.world ≡ self.old.world }
     {
         match job {
-            Job::Timeout => Ok(Some(event::Job::Local(Input::Timeout))),
-            Job::Beat => Ok(Some(event::Job::Local(Input::Beat))),
-            Job::Close => {
+            TornJob::Timeout => Ok(Some(Job::Local(Input::Timeout))),
+            TornJob::Beat => Ok(Some(Job::Local(Input::Beat))),
+            TornJob::Close => {
                 let reading = self.reading_of(node);
-                Ok(Some(event::Job::Local(Input::Close { reading })))
+                Ok(Some(Job::Local(Input::Close { reading })))
             }
-            Job::Floor => {
+            TornJob::Floor => {
                 let reading = self.reading_of(node);
-                Ok(Some(event::Job::Local(Input::Floor { reading })))
+                Ok(Some(Job::Local(Input::Floor { reading })))
             }
-            Job::Submit {
+            TornJob::Submit {
                 client,
                 number,
                 text,
             } => {
                 let input = self.submission(node, *client, *number, text)?;
-                Ok(Some(event::Job::Local(input)))
+                Ok(Some(Job::Local(input)))
             }
-            Job::Deliver { message } => Ok(self.torn_delivery(node, *message)),
+            TornJob::Deliver { message } => Ok(self.torn_delivery(node, *message)),
         }
     }
 
@@ -274,7 +273,7 @@ impl Play {
         &mut self,
         node: Member,
         left: Left,
-        job: &Job,
+        job: &TornJob,
         printer: &mut P,
     ) -> Result<(), RunFault>
         requires live { self.old.world.is_spent ≡ false }
@@ -285,7 +284,7 @@ impl Play {
             return Ok(());
         }
         match self.torn_job(node, job)? {
-            Some(job) => self.happen(Event::Torn(node, job, kept(left)), printer),
+            Some(job) => self.happen(Event::Torn(node, job, left), printer),
             None => Ok(()),
         }
     }
@@ -429,15 +428,5 @@ impl Play {
             }
         }
         Ok(())
-    }
-}
-
-// What a step that is cut short leaves in the store, as an event says it.
-fn kept(left: Left) -> event::Left
-    ensures { result ≡ left_in left }
-{
-    match left {
-        Left::Old => event::Left::Old,
-        Left::New => event::Left::New,
     }
 }

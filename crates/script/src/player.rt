@@ -28,7 +28,7 @@ pub struct Player {
 impl Player {
     ghost use Rattle.script.specs.Player.{clocks_of, commit_of, group_of, has_failed, member_in, sent_count, standing_of, Plays};
 
-    /// A group of 3 to 7 members with tables of this schema, at its opening, where all clocks show 0.
+    /// A group of 3 to 7 members with tables of this schema, at its outset, where all clocks show 0.
     pub fn new(alloc: Global, members: usize, schema: Schema) -> Result<Player, AllocError>
         requires least { 3 ≤ members }
         requires most { members ≤ 7 }

@@ -1,7 +1,7 @@
 //! The lines of a script played one thing at a time, so that a picture shows each.
 use crate::pencil::Pencil;
 use lanes::run::What;
-use lines::line::{Job, Line};
+use lines::line::{Line, TornJob};
 use model::member::Member;
 use script::player::Player;
 use script::run_fault::RunFault;
@@ -164,7 +164,7 @@ impl Stage {
     }
 
     // A step that is cut short: the member stops, unless it is down, or no such message was sent to it.
-    fn tear(&mut self, node: Member, job: &Job, line: &Line) -> Result<(), RunFault> {
+    fn tear(&mut self, node: Member, job: &TornJob, line: &Line) -> Result<(), RunFault> {
         let was_up = self.is_up(node);
         self.play(line)?;
         if !was_up {
@@ -172,7 +172,7 @@ impl Stage {
         } else if self.is_up(node) {
             self.does(node, "gets no message")?;
         } else {
-            if let Job::Deliver { message } = job {
+            if let TornJob::Deliver { message } = job {
                 self.take_torn(*message)?;
             }
             self.pencil.recorder.stop(node, "torn, stops")?;

@@ -17,7 +17,7 @@ use Rattle.flightread.specs.Files.{IsFileOf, IsOnlyOf, IsNoFile}
 use Rattle.flight.specs.Ranges.{IsFlight}
 use Rattle.flight.specs.Spelling.{flight_text}
 use Rattle.flight.specs.declared.flight.Flight.{Flight}
-use Rattle.flight.specs.declared.flight.Recorded.{Recorded}
+use Rattle.flight.specs.declared.flight.Answered.{Answered}
 use Rattle.flight.specs.declared.flight.Version.{Version}
 use Rattle.flight.specs.declared.flight.Version.TheVariants.{Two}
 use Rattle.flight.specs.declared.life.Life.{Life}
@@ -233,11 +233,11 @@ held_lives : (fs : List Flight) → map (λ (own : Vec Life Global). map in_life
 held_lives [] = refl
 held_lives (f ∷ fs) = ap (λ rest. map in_life f.lives.items ∷ rest) (held_lives fs)
 
-held_answers : (fs : List Flight) → map (λ (own : Vec Recorded Global). own.items) (map (λ (f : Flight). f.answers) fs) ≡ map (λ (f : FlightContents). f.answers) (map in_flight fs)
+held_answers : (fs : List Flight) → map (λ (own : Vec Answered Global). own.items) (map (λ (f : Flight). f.answers) fs) ≡ map (λ (f : FlightContents). f.answers) (map in_flight fs)
 held_answers [] = refl
 held_answers (f ∷ fs) = ap (λ rest. f.answers.items ∷ rest) (held_answers fs)
 
-pub held : (fs : List Flight) (lives : List (Vec Life Global)) (answers : List (Vec Recorded Global)) → lives ≡ map (λ (f : Flight). f.lives) fs → answers ≡ map (λ (f : Flight). f.answers) fs → AreHeld (map in_flight fs) lives answers
+pub held : (fs : List Flight) (lives : List (Vec Life Global)) (answers : List (Vec Answered Global)) → lives ≡ map (λ (f : Flight). f.lives) fs → answers ≡ map (λ (f : Flight). f.answers) fs → AreHeld (map in_flight fs) lives answers
 held fs lives answers l a = record {
   lived = rw l (held_lives fs);
   answered = rw a (held_answers fs);

@@ -1,6 +1,6 @@
 -- Lemmas on what is audited.
-use Rattle.std.proofs.Common.{◌≡◌, ◌≤◌, ◌∙◌, ℕ, inl, inr, List, [], length, get_or, map, ap, sym, subst, arith}
-use Rattle.std.specs.Prelude.{Option, Result, Ok, Err, IfErr, IfOk, ◌⊎◌, string_bytes}
+use Rattle.std.proofs.Common.{◌≡◌, ◌≤◌, ◌∙◌, ℕ, inl, inr, List, [], length, get_or, map, ap, sym, arith}
+use Rattle.std.specs.Prelude.{Result, Ok, Err, IfErr, IfOk, ◌⊎◌, string_bytes}
 use Rattle.std.specs.declared.vec.Vec.{Vec}
 use Rattle.std.specs.declared.string.String.{String}
 use Rattle.std.specs.declared.alloc.Global.{Global}
@@ -9,19 +9,16 @@ use Rattle.fault.specs.declared.refusal.Refusal.{Refusal}
 use Rattle.fault.specs.declared.refusal.Refusal.TheVariants.{NoMemory, BadFlight}
 use Rattle.flight.specs.Contents.{FlightContents, in_life}
 use Rattle.flight.specs.Ranges.{IsFlight}
-use Rattle.moments.specs.declared.recorded.Recorded.{Recorded as Judged}
-use Rattle.flight.specs.declared.flight.Recorded.{Recorded}
+use Rattle.flight.specs.declared.flight.Answered.{Answered}
 use Rattle.flight.specs.declared.flight.Version.{Version}
 use Rattle.flight.specs.declared.flight.Version.TheVariants.{Two}
 use Rattle.flight.specs.declared.life.Life.{Life}
 use Rattle.sqlchecks.specs.Columns.{Tables}
-use Rattle.moments.specs.declared.recorded.AuditFault.{AuditFault}
-use Rattle.shell.specs.Audit.{records_of, IsJudged, IsSaid}
+use Rattle.shell.specs.Audit.{evidence_of, IsJudged, IsSaid}
 use Rattle.shell.specs.Group.{IsNoGroup, IsRunIn}
-use Rattle.shell.specs.Reported.{IsVerdict}
 
 -- flight files that were read are of 3 to 7 nodes
-pub run_size : (texts : List (List ℕ)) (version : Version) (tables : Tables) (lives : List (Vec Life Global)) (answers : List (Vec Recorded Global)) → IsRunIn texts version tables lives answers
+pub run_size : (texts : List (List ℕ)) (version : Version) (tables : Tables) (lives : List (Vec Life Global)) (answers : List (Vec Answered Global)) → IsRunIn texts version tables lives answers
     → (3 ≤ length lives) × (length lives ≤ 7)
 run_size texts version tables lives answers (flights, are, held) =
     let many : length lives ≡ length flights = sym (length-map lives (λ (own : Vec Life Global). map in_life own.items)) ∙ (ap length held.lived ∙ length-map flights (λ (f : FlightContents). f.lives)) in
@@ -31,7 +28,7 @@ run_size texts version tables lives answers (flights, are, held) =
     let most : (get_or flights 0 blank).members ≤ 7 = first.0.0.1 in
     (omega (arith, many, least), omega (arith, many, most, first.2))
 
-pub never_another_group : {T : Type 0} (r : Result T Refusal) (texts : List (List ℕ)) (version : Version) (tables : Tables) (lives : List (Vec Life Global)) (answers : List (Vec Recorded Global)) → IsRunIn texts version tables lives answers
+pub never_another_group : {T : Type 0} (r : Result T Refusal) (texts : List (List ℕ)) (version : Version) (tables : Tables) (lives : List (Vec Life Global)) (answers : List (Vec Answered Global)) → IsRunIn texts version tables lives answers
     → IfErr r (λ refusal. (refusal ≡ NoMemory) ⊎ ((refusal ≡ BadFlight) × (3 ≤ length lives → length lives ≤ 7 → ⊥)))
     → IfErr r (λ refusal. (refusal ≡ NoMemory) ⊎ ((refusal ≡ BadFlight) × IsNoGroup texts))
 never_another_group (Ok v) texts version tables lives answers run said = said
@@ -42,21 +39,7 @@ never_another_group (Err e) texts version tables lives answers run (inr (h, none
 
 -- ---- what is said
 
-pub said_same : {E : Type 0} (r : Result (ℕ × String Global) E) (version : Version) (tables : Tables) (led lives : List (Vec Life Global)) (a b : List Judged) → led ≡ lives → a ≡ b
-    → IfOk r (λ said. IsSaid (record { version = version; tables = tables; lives = led; answers = a }) said.0 (string_bytes said.1))
-    → IfOk r (λ said. IsSaid (record { version = version; tables = tables; lives = lives; answers = b }) said.0 (string_bytes said.1))
-said_same r version tables led lives a b l same h =
-    let P : List (Vec Life Global) → List Judged → Type 0 = λ ls xs. IfOk r (λ said. IsSaid (record { version = version; tables = tables; lives = ls; answers = xs }) said.0 (string_bytes said.1)) in
-    subst (P lives) same (subst (λ ls. P ls a) l h)
-
-pub judged_said : {E : Type 0} (r : Result (ℕ × String Global) E) (texts : List (List ℕ)) (version : Version) (tables : Tables) (lives : List (Vec Life Global)) (answers : List (Vec Recorded Global))
-    → IsRunIn texts version tables lives answers → IfOk r (λ said. IsSaid (records_of version tables lives answers) said.0 (string_bytes said.1)) → IfOk r (λ said. IsJudged texts said.0 (string_bytes said.1))
+pub judged_said : {E : Type 0} (r : Result (ℕ × String Global) E) (texts : List (List ℕ)) (version : Version) (tables : Tables) (lives : List (Vec Life Global)) (answers : List (Vec Answered Global))
+    → IsRunIn texts version tables lives answers → IfOk r (λ said. IsSaid (evidence_of version tables lives answers) said.0 (string_bytes said.1)) → IfOk r (λ said. IsJudged texts said.0 (string_bytes said.1))
 judged_said (Ok said) texts version tables lives answers run h = record { version = version; tables = tables; lives = lives; answers = answers; run = run; said = h }
 judged_said (Err e) texts version tables lives answers run h = h
-
-pub verdict_same : {E : Type 0} (r : Result (Option AuditFault) E) (version : Version) (tables : Tables) (led lives : List (Vec Life Global)) (a b : List Judged) → led ≡ lives → a ≡ b
-    → IfOk r (λ fault. IsVerdict (record { version = version; tables = tables; lives = led; answers = a }) fault)
-    → IfOk r (λ fault. IsVerdict (record { version = version; tables = tables; lives = lives; answers = b }) fault)
-verdict_same r version tables led lives a b l same h =
-    let P : List (Vec Life Global) → List Judged → Type 0 = λ ls xs. IfOk r (λ fault. IsVerdict (record { version = version; tables = tables; lives = ls; answers = xs }) fault) in
-    subst (P lives) same (subst (λ ls. P ls a) l h)

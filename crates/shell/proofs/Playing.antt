@@ -7,7 +7,7 @@ use Rattle.std.specs.declared.alloc.Global.{Global}
 use Rattle.std.proofs.lemmas.List.{take-append-drop, take_more}
 use Rattle.answertext.specs.Appending.{append-none, appends-more, begins-more}
 use Rattle.answertext.specs.Sinks.{AppendsBeginning}
-use Rattle.flight.specs.declared.flight.Recorded.{Recorded}
+use Rattle.flight.specs.declared.flight.Answered.{Answered}
 use Rattle.flight.specs.declared.flight.Version.TheVariants.{Three}
 use Rattle.flight.specs.declared.life.Life.{Life}
 use Rattle.forms.specs.declared.form.Form.{Form}
@@ -16,7 +16,7 @@ use Rattle.lines.specs.Script.{HasLines}
 use Rattle.live.specs.Saying.{IsSaidOf}
 use Rattle.live.specs.declared.said.Said.{Said}
 use Rattle.sqlchecks.specs.Columns.{Tables}
-use Rattle.shell.specs.Audit.{records_of}
+use Rattle.shell.specs.Audit.{evidence_of}
 use Rattle.shell.specs.Live.{BeginsLines, BeginsRun, EndsRun, PlaysAll, PlaysLines, PrintsRun}
 use Rattle.shell.specs.Showing.{BeginsVerdict, IsVerdictIn, PlaysIn, PrintsLines, TellsIn, unshown}
 use Rattle.shell.specs.Sim.{IsOfText}
@@ -93,11 +93,11 @@ module _ {P : Type 0} (form : Form) (plays : P → Line → Said → P → Type 
       (q.0, p.1, p.2, says a.pilot line q.0 p.0.pilot q.1, q.2, subst (λ (f : Bool). PrintsLines form f lines p.2) q.4 (lines_printed p.0 lines p.2 b p.4), p.5)
 
 -- a run whose lines are all played
-module _ {P : Type 0} (form : Form) (plays : P → Line → Said → P → Type 0) (recorded : P → List (Vec Life Global) → List (Vec Recorded Global) → Type 0) (tables : Tables) (lines : List Line) (pilot : P)
-    (lives : List (Vec Life Global)) (answers : List (Vec Recorded Global)) (a : Option (List ℕ)) where
+module _ {P : Type 0} (form : Form) (plays : P → Line → Said → P → Type 0) (recorded : P → List (Vec Life Global) → List (Vec Answered Global) → Type 0) (tables : Tables) (lines : List Line) (pilot : P)
+    (lives : List (Vec Life Global)) (answers : List (Vec Answered Global)) (a : Option (List ℕ)) where
   -- what is said was
   pub run_printed : {E : Type 0} (r : Result ℕ E) (b c : Option (List ℕ)) → (printed : List ℕ) × (last : Showing P) × PlaysLines form plays pilot lines printed last × recorded last.pilot lives answers × Appends a b printed
-      → IfOk r (λ status. (text : List ℕ) × IsVerdictIn form (records_of Three tables lives answers) status text × Appends b c text)
+      → IfOk r (λ status. (text : List ℕ) × IsVerdictIn form (evidence_of Three tables lives answers) status text × Appends b c text)
       → IfOk r (λ status. PrintsRun form plays recorded tables lines pilot status a c)
   run_printed (Ok status) b c f s = record {
     printed = f.0;
@@ -114,7 +114,7 @@ module _ {P : Type 0} (form : Form) (plays : P → Line → Said → P → Type 
 
   -- what is said was not written whole
   pub run_begun : {E O : Type 0} (r : Result ℕ E) (holds : O → Option (List ℕ)) (x y : O) → (printed : List ℕ) × (last : Showing P) × PlaysLines form plays pilot lines printed last × recorded last.pilot lives answers × Appends a (holds x) printed
-      → OnErr r ((y ≡ x) ⊎ BeginsVerdict form (records_of Three tables lives answers) (holds x) (holds y))
+      → OnErr r ((y ≡ x) ⊎ BeginsVerdict form (evidence_of Three tables lives answers) (holds x) (holds y))
       → OnErr r (BeginsLines (PlaysIn form plays) lines (unshown pilot) a (holds y) ⊎ BeginsRun form plays recorded tables lines pilot a (holds y))
   run_begun (Ok status) holds x y f s = s
   run_begun {E} {O} (Err e) holds x y f (inl same) = inl (record {
@@ -142,7 +142,7 @@ module _ {P : Type 0} (form : Form) (plays : P → Line → Said → P → Type 
 -- what was read is a script; what was played is followed by what is said
 module _ (known : Option (List ℕ)) (text : List ℕ) (is : IfSome known (λ bytes. text ≡ bytes)) (nodes : ℕ) (tables : Tables) (lines : List Line) (has : HasLines text nodes tables lines)
     {P : Type 0} (form : Form) (plays : P → Line → Said → P → Type 0) (says : (a : P) (line : Line) (said : Said) (b : P) → plays a line said b → IsSaidOf line said)
-    (recorded : P → List (Vec Life Global) → List (Vec Recorded Global) → Type 0) (pilot : P) (a c : Option (List ℕ)) where
+    (recorded : P → List (Vec Life Global) → List (Vec Answered Global) → Type 0) (pilot : P) (a c : Option (List ℕ)) where
   pub run_ended : {E : Type 0} (r : Result ℕ E) → IfOk r (λ status. PrintsRun form plays recorded tables lines pilot status a c) → IfOk r (λ status. IsOfText known (EndsRun form nodes status a c))
   run_ended (Ok status) p = (text, is, (tables, lines, has, (p.lives, p.answers, (p.printed, p.text, lines_printed form plays says (unshown pilot) lines p.printed p.last p.played, p.said, p.grown))))
   run_ended (Err e) p = p

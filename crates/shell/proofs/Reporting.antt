@@ -1,5 +1,5 @@
 -- Lemmas on a report of flights.
-use Rattle.std.proofs.Common.{◌≡◌, ◌∙◌, ◌++◌, ℕ, List, map, ap, sym, subst, append_assoc, codes}
+use Rattle.std.proofs.Common.{◌≡◌, ◌∙◌, ◌++◌, ℕ, List, map, ap, sym, append_assoc, codes}
 use Rattle.std.specs.Prelude.{Result, Ok, Err, IfOk, Option, string_bytes}
 use Rattle.std.specs.declared.string.String.{String}
 use Rattle.std.specs.declared.vec.Vec.{Vec}
@@ -9,27 +9,19 @@ use Rattle.beginnings.specs.Beginnings.{beginning_of}
 use Rattle.fault.specs.declared.refusal.Refusal.{Refusal}
 use Rattle.flight.specs.Contents.{in_flight}
 use Rattle.flight.specs.declared.flight.Flight.{Flight}
-use Rattle.flight.specs.declared.flight.Recorded.{Recorded}
+use Rattle.flight.specs.declared.flight.Answered.{Answered}
 use Rattle.flight.specs.declared.flight.Version.{Version}
 use Rattle.flight.specs.declared.life.Life.{Life}
 use Rattle.moments.specs.declared.recorded.AuditFault.{AuditFault}
-use Rattle.moments.specs.declared.recorded.Recorded.{Recorded as Judged}
 use Rattle.report.specs.Digests.{all_said}
 use Rattle.report.specs.Whole.{held_of, seal_of, verdict_text}
 use Rattle.report.specs.declared.whole.Contents.{Contents}
 use Rattle.report.specs.declared.whole.Report.{Report}
 use Rattle.sha2.specs.Sha256.{sha256}
 use Rattle.sqlchecks.specs.Columns.{Tables}
-use Rattle.shell.specs.Audit.{records_of}
+use Rattle.shell.specs.Audit.{evidence_of}
 use Rattle.shell.specs.Group.{AreFilesOf, AreHeld}
 use Rattle.shell.specs.Reported.{IsReportOn, IsVerdict, verdict_line}
-
--- the verdict on the same lives and answers
-pub verdict_same : (fault : Option AuditFault) (version : Version) (tables : Tables) (led lives : List (Vec Life Global)) (a b : List Judged) → led ≡ lives → a ≡ b
-    → IsVerdict (record { version = version; tables = tables; lives = led; answers = a }) fault → IsVerdict (record { version = version; tables = tables; lives = lives; answers = b }) fault
-verdict_same fault version tables led lives a b l same h =
-    let P : List (Vec Life Global) → List Judged → Type 0 = λ ls xs. IsVerdict (record { version = version; tables = tables; lives = ls; answers = xs }) fault in
-    subst (P lives) same (subst (λ ls. P ls a) l h)
 
 -- a line of the verdict, and what stands behind it
 pub behind_line : {E : Type 0} (r : Result (String Global) E) (fault : Option AuditFault) (said page front kept : List ℕ) → IfOk r (λ s. string_bytes s ≡ codes "audit: " ++ (said ++ (codes "\n" ++ page))) → said ≡ verdict_text fault
@@ -41,11 +33,11 @@ behind_line (Ok s) fault said page front kept h is ends =
 behind_line (Err e) fault said page front kept h is ends = h
 
 -- a report on what was read of the flights of a group is one on their files
-pub reported_on : (r : Result Report Refusal) (texts : List (List ℕ)) (version : Version) (tables : Tables) (fs : List Flight) (lives : List (Vec Life Global)) (answers : List (Vec Recorded Global)) (contents : Contents)
+pub reported_on : (r : Result Report Refusal) (texts : List (List ℕ)) (version : Version) (tables : Tables) (fs : List Flight) (lives : List (Vec Life Global)) (answers : List (Vec Answered Global)) (contents : Contents)
     → AreFilesOf texts version tables (map in_flight fs) → AreHeld (map in_flight fs) lives answers
     → contents.nodes.items ≡ map (λ (f : Flight). held_of (in_flight f)) fs → contents.answers ≡ sha256 (all_said (map in_flight fs))
     → contents.beginnings.items ≡ map (λ (f : Flight). beginning_of (in_flight f)) fs
-    → IfOk r (λ x. IsVerdict (records_of version tables lives answers) x.fault) → IfOk r (λ x. x.contents ≡ contents) → IfOk r (λ x. x.seal ≡ seal_of x.contents x.settled x.fault)
+    → IfOk r (λ x. IsVerdict (evidence_of version tables lives answers) x.fault) → IfOk r (λ x. x.contents ≡ contents) → IfOk r (λ x. x.seal ≡ seal_of x.contents x.settled x.fault)
     → IfOk r (IsReportOn texts)
 reported_on (Ok x) texts version tables fs lives answers contents files held nodes said kept verdict same seal = record {
   version = version;

@@ -6,7 +6,7 @@ use Rattle.std.specs.declared.alloc.Global.{Global}
 use Rattle.flight.specs.Contents.{FlightContents, in_life}
 use Rattle.flight.specs.Ranges.{IsFlight}
 use Rattle.flight.specs.Spelling.{flight_text}
-use Rattle.flight.specs.declared.flight.Recorded.{Recorded}
+use Rattle.flight.specs.declared.flight.Answered.{Answered}
 use Rattle.flight.specs.declared.flight.Version.{Version}
 use Rattle.flight.specs.declared.life.Life.{Life}
 use Rattle.schemaread.specs.Schemas.{SchemaSays}
@@ -27,10 +27,10 @@ abbrev pub IsNoGroup : List (List ℕ) → Type 0
 IsNoGroup texts = (version : Version) (tables : Tables) (flights : List FlightContents) → AreFilesOf texts version tables flights → ⊥
 
 -- node by node, these are the lives and the answers that the flights hold
-pub record AreHeld (flights : List FlightContents) (lives : List (Vec Life Global)) (answers : List (Vec Recorded Global)) : Type 0 where
+pub record AreHeld (flights : List FlightContents) (lives : List (Vec Life Global)) (answers : List (Vec Answered Global)) : Type 0 where
   pub lived : map (λ (own : Vec Life Global). map in_life own.items) lives ≡ map (λ f. f.lives) flights
-  pub answered : map (λ (own : Vec Recorded Global). own.items) answers ≡ map (λ f. f.answers) flights
+  pub answered : map (λ (own : Vec Answered Global). own.items) answers ≡ map (λ f. f.answers) flights
 
 -- the texts are the flight files of a group with these tables, in this version, and the flights hold these lives and answers
-abbrev pub IsRunIn : List (List ℕ) → Version → Tables → List (Vec Life Global) → List (Vec Recorded Global) → Type 0
+abbrev pub IsRunIn : List (List ℕ) → Version → Tables → List (Vec Life Global) → List (Vec Answered Global) → Type 0
 IsRunIn texts version tables lives answers = (flights : List FlightContents) × AreFilesOf texts version tables flights × AreHeld flights lives answers

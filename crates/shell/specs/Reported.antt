@@ -5,11 +5,11 @@ use Rattle.std.specs.declared.alloc.Global.{Global}
 use Rattle.answertext.specs.Sinks.{AppendsBeginning}
 use Rattle.beginnings.specs.Beginnings.{beginning_of}
 use Rattle.flight.specs.Contents.{FlightContents}
-use Rattle.flight.specs.declared.flight.Recorded.{Recorded}
+use Rattle.flight.specs.declared.flight.Answered.{Answered}
 use Rattle.flight.specs.declared.flight.Version.{Version}
 use Rattle.flight.specs.declared.life.Life.{Life}
 use Rattle.looks.specs.Objects.{line_of}
-use Rattle.moments.specs.Behind.{Records}
+use Rattle.moments.specs.Behind.{Evidence}
 use Rattle.moments.specs.declared.recorded.AuditFault.{AuditFault}
 use Rattle.report.specs.Digests.{all_said}
 use Rattle.report.specs.Machine.{report_tokens}
@@ -18,11 +18,11 @@ use Rattle.report.specs.Whole.{held_of, seal_of, verdict_text}
 use Rattle.report.specs.declared.whole.Report.{Report}
 use Rattle.sha2.specs.Sha256.{sha256}
 use Rattle.sqlchecks.specs.Columns.{Tables}
-use Rattle.shell.specs.Audit.{IsExplained, IsFaultOf, records_of}
+use Rattle.shell.specs.Audit.{IsExplained, IsFaultOf, evidence_of}
 use Rattle.shell.specs.Group.{AreFilesOf, AreHeld}
 
 -- without a fault what was recorded is explained; a fault is that of what was recorded
-abbrev pub IsVerdict : Records → Option AuditFault → Type 0
+abbrev pub IsVerdict : Evidence → Option AuditFault → Type 0
 IsVerdict r None = IsExplained r
 IsVerdict r (Some fault) = IsFaultOf r fault
 
@@ -41,10 +41,10 @@ pub record IsReportOn (texts : List (List ℕ)) (r : Report) : Type 0 where
   pub tables : Tables
   pub flights : List FlightContents
   pub lives : List (Vec Life Global)
-  pub answers : List (Vec Recorded Global)
+  pub answers : List (Vec Answered Global)
   pub files : AreFilesOf texts version tables flights
   pub held : AreHeld flights lives answers
-  pub verdict : IsVerdict (records_of version tables lives answers) r.fault
+  pub verdict : IsVerdict (evidence_of version tables lives answers) r.fault
   pub nodes : r.contents.nodes.items ≡ map held_of flights
   pub said : r.contents.answers ≡ sha256 (all_said flights)
   pub kept : r.contents.beginnings.items ≡ map beginning_of flights

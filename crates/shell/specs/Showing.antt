@@ -10,7 +10,7 @@ use Rattle.live.specs.declared.said.Said.{Said}
 use Rattle.live.specs.declared.said.Said.TheVariants.{Nothing, Outcome, Answered, Refused}
 use Rattle.looks.specs.Objects.{line_of}
 use Rattle.looks.specs.Outcomes.{object}
-use Rattle.moments.specs.Behind.{Records}
+use Rattle.moments.specs.Behind.{Evidence}
 use Rattle.moments.specs.declared.recorded.AuditFault.{AuditFault}
 use Rattle.report.specs.Machine.{verdict_tokens}
 use Rattle.world.specs.declared.output.Output.TheVariants as output
@@ -58,19 +58,19 @@ PlaysIn form plays first line text last = (beside : List ℕ) × TellsIn form pl
 -- ---- the verdict
 
 -- With this exit status it is the line that an audit says; but in CSV that is told beside what is printed, and in JSON it is an object.
-abbrev pub IsVerdictIn : Form → Records → ℕ → List ℕ → Type 0
+abbrev pub IsVerdictIn : Form → Evidence → ℕ → List ℕ → Type 0
 IsVerdictIn Lines r status text = IsSaid r status text
 IsVerdictIn Table r status text = IsSaid r status text
 IsVerdictIn Csv r status text = (text ≡ []) × ((line : List ℕ) × IsSaid r status line)
 IsVerdictIn Json r status text = (fault : Option AuditFault) × IsVerdict r fault × (status ≡ status_of fault) × (text ≡ line_of (object (verdict_tokens fault)))
 
 -- what is told of it beside what is printed
-abbrev pub IsVerdictBeside : Form → Records → ℕ → List ℕ → Type 0
+abbrev pub IsVerdictBeside : Form → Evidence → ℕ → List ℕ → Type 0
 IsVerdictBeside Lines r status text = text ≡ []
 IsVerdictBeside Table r status text = text ≡ []
 IsVerdictBeside Csv r status text = IsSaid r status text
 IsVerdictBeside Json r status text = text ≡ []
 
 -- known bytes grow by a beginning of what is printed of it
-abbrev pub BeginsVerdict : Form → Records → Option (List ℕ) → Option (List ℕ) → Type 0
+abbrev pub BeginsVerdict : Form → Evidence → Option (List ℕ) → Option (List ℕ) → Type 0
 BeginsVerdict form r old new = (status : ℕ) × (text : List ℕ) × IsVerdictIn form r status text × AppendsBeginning old new text

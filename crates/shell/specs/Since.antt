@@ -6,11 +6,11 @@ use Rattle.answertext.specs.Sinks.{AppendsBeginning}
 use Rattle.beginnings.specs.Words.{IsTold}
 use Rattle.beginnings.specs.declared.beginning.Beginning.{Beginning}
 use Rattle.flight.specs.Contents.{FlightContents}
-use Rattle.flight.specs.declared.flight.Recorded.{Recorded}
+use Rattle.flight.specs.declared.flight.Answered.{Answered}
 use Rattle.flight.specs.declared.flight.Version.{Version}
 use Rattle.flight.specs.declared.life.Life.{Life}
 use Rattle.sqlchecks.specs.Columns.{Tables}
-use Rattle.shell.specs.Audit.{IsSaid, records_of}
+use Rattle.shell.specs.Audit.{IsSaid, evidence_of}
 use Rattle.shell.specs.Group.{AreFilesOf, AreHeld}
 
 -- the audit's status, or 1 where it is not so that all flights begin as was kept
@@ -25,12 +25,12 @@ pub record IsSince (texts : List (List ℕ)) (seen : List Beginning) (status : �
   pub tables : Tables
   pub flights : List FlightContents
   pub lives : List (Vec Life Global)
-  pub answers : List (Vec Recorded Global)
+  pub answers : List (Vec Answered Global)
   pub files : AreFilesOf texts version tables flights
   pub held : AreHeld flights lives answers
   pub verdict : ℕ
   pub line : List ℕ
-  pub said : IsSaid (records_of version tables lives answers) verdict line
+  pub said : IsSaid (evidence_of version tables lives answers) verdict line
   pub is_beginning : Bool
   pub words : List ℕ
   pub told : IsTold flights seen is_beginning words

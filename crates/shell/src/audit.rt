@@ -4,18 +4,16 @@ ghost use Rattle.std.specs.Io.KnownBytes.{Appends};
 ghost use Rattle.std.specs.declared.io.Error.{Error};
 ghost use Rattle.fault.specs.declared.refusal.Refusal.TheVariants.{NoMemory, BadFlight};
 ghost use Rattle.fault.specs.declared.refusal.Refusal.{Refusal as AnyRefusal};
-ghost use Rattle.shell.specs.Audit.{BeginsJudged, IsJudged, IsSaid, line_of, records_of};
+ghost use Rattle.shell.specs.Audit.{BeginsJudged, IsJudged, IsSaid, line_of, evidence_of};
 ghost use Rattle.shell.specs.Group.{IsNoGroup};
 ghost use Rattle.answertext.specs.Outlets.{IsLastError};
 
 use crate::group::read_run;
 use answertext::outlet::{Outlet, tell};
-use auditor::{AuditFault, Recorded as Judged, explain};
+use auditor::AuditFault;
 use fault::Refusal;
+use flight::Records;
 use flight::flight::Version;
-use flight::life::Life;
-use folder::Flown;
-use moments::all_answers;
 use schema::Schema;
 use script::run_fault::RunFault;
 use std::alloc::{AllocError, Global};
@@ -32,15 +30,14 @@ fn said_of(
     alloc: Global,
     version: Version,
     schema: &Schema,
-    lives: &[Vec<Life>],
-    answers: &[Judged],
+    records: &Records,
 ) -> Result<(u8, String), Refusal>
-    requires least { 3 ≤ length lives.now }
-    requires most { length lives.now ≤ 7 }
-    ensures said { IfOk result (λ said. IsSaid (record { version = version; tables = schema.now; lives = lives.now; answers = answers.now }) said.0 (string_bytes said.1)) }
+    requires least { 3 ≤ length records.now.lives.items }
+    requires most { length records.now.lives.items ≤ 7 }
+    ensures said { IfOk result (λ said. IsSaid (evidence_of version schema.now records.now.lives.items records.now.answers.items) said.0 (string_bytes said.1)) }
     ensures err { IfErr result (λ refusal. refusal ≡ NoMemory) }
 {
-    match explain(alloc, version, schema, lives, answers) {
+    match auditor::judge(alloc, version, schema, records) {
         Ok(()) => Ok((0, format!(in alloc; "audit: yes\n")?)),
         Err(AuditFault::NoMemory) => Err(Refusal::NoMemory),
         Err(fault) => Ok((1, fault_line(alloc, fault)?)),
@@ -53,17 +50,15 @@ pub(crate) fn audit_line(
     alloc: Global,
     version: Version,
     schema: &Schema,
-    flown: &Flown,
+    records: &Records,
 ) -> Result<(u8, String), Refusal>
-    ensures said { IfOk result (λ said. IsSaid (records_of version schema.now flown.now.lives.items flown.now.answers.items) said.0 (string_bytes said.1)) }
-    ensures err { IfErr result (λ refusal. (refusal ≡ NoMemory) ⊎ ((refusal ≡ BadFlight) × (3 ≤ length flown.now.lives.items → length flown.now.lives.items ≤ 7 → ⊥))) }
+    ensures said { IfOk result (λ said. IsSaid (evidence_of version schema.now records.now.lives.items records.now.answers.items) said.0 (string_bytes said.1)) }
+    ensures err { IfErr result (λ refusal. (refusal ≡ NoMemory) ⊎ ((refusal ≡ BadFlight) × (3 ≤ length records.now.lives.items → length records.now.lives.items ≤ 7 → ⊥))) }
 {
-    if flown.lives.len() < 3 || flown.lives.len() > 7 {
+    if records.lives.len() < 3 || records.lives.len() > 7 {
         return Err(Refusal::BadFlight);
     }
-    let judged = all_answers(alloc, flown.answers.as_slice())?;
-    let lives = flown.lives.as_slice();
-    said_of(alloc, version, schema, lives, judged.as_slice())
+    said_of(alloc, version, schema, records)
 }
 
 // What an audit says of the flights in these texts.
@@ -71,8 +66,8 @@ fn judge(alloc: Global, texts: &[String]) -> Result<(u8, String), Refusal>
     ensures said { IfOk result (λ said. IsJudged (map string_bytes texts.now) said.0 (string_bytes said.1)) }
     ensures err { IfErr result (λ refusal. (refusal ≡ NoMemory) ⊎ ((refusal ≡ BadFlight) × IsNoGroup (map string_bytes texts.now))) }
 {
-    let (version, schema, flown) = read_run(alloc, texts)?;
-    audit_line(alloc, version, &schema, &flown)
+    let (version, schema, records) = read_run(alloc, texts)?;
+    audit_line(alloc, version, &schema, &records)
 }
 
 /// Judges the flights in these texts, one of each node in any order, and prints what an audit says of them: the one line

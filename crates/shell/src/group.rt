@@ -10,14 +10,14 @@ ghost use Rattle.shell.specs.Group.{AreFilesOf, IsNoGroup, IsRunIn};
 ghost use Rattle.shell.specs.Reading.{AreRead, InOrder, LacksNode};
 
 use fault::Refusal;
+use flight::Records;
 use flight::flight::{Flight, Version};
 use flightread::read_flight;
-use folder::Flown;
 use model::member::Member;
 use schema::Schema;
 use schemaread::laws::schema_says;
 use schemaread::schemas::read_schema;
-use std::alloc::{AllocError, Global};
+use std::alloc::Global;
 
 fn read_flights(alloc: Global, texts: &[String]) -> Result<Vec<Flight>, Refusal>
     ensures ok { IfOk result (λ flights. AreRead texts.now flights.items) }
@@ -96,34 +96,15 @@ pub(crate) fn read_group(
     Ok((version, tables, in_order(alloc, flights)?))
 }
 
-// What the flights hold.
-pub(crate) fn run_of(alloc: Global, flights: Vec<Flight>) -> Result<Flown, AllocError>
-    ensures lives { IfOk result (λ run. run.lives.items ≡ map (λ f. f.lives) flights.items) }
-    ensures answers { IfOk result (λ run. run.answers.items ≡ map (λ f. f.answers) flights.items) }
-{
-    let mut lives = Vec::new(alloc);
-    let mut answers = Vec::new(alloc);
-    for flight in flights {
-        let Flight {
-            version: _,
-            node: _,
-            members: _,
-            schema: _,
-            lives: led,
-            answers: given,
-        } = flight;
-        lives.push(led)?;
-        answers.push(given)?;
-    }
-    Ok(Flown { lives, answers })
-}
-
 /// The version and the tables of the group of which these texts are the flight files, one of each node in any order, and
 /// what the flights hold, node by node. 50 where the texts are not the flight files of a group, 43 for want of memory.
-pub(crate) fn read_run(alloc: Global, texts: &[String]) -> Result<(Version, Schema, Flown), Refusal>
+pub(crate) fn read_run(
+    alloc: Global,
+    texts: &[String],
+) -> Result<(Version, Schema, Records), Refusal>
     ensures ok { IfOk result (λ run. IsRunIn (map string_bytes texts.now) run.0 run.1 run.2.lives.items run.2.answers.items) }
     ensures err { IfErr result (λ refusal. (refusal ≡ NoMemory) ⊎ ((refusal ≡ BadFlight) × IsNoGroup (map string_bytes texts.now))) }
 {
     let (version, tables, flights) = read_group(alloc, texts)?;
-    Ok((version, tables, run_of(alloc, flights)?))
+    Ok((version, tables, Records::of(alloc, flights)?))
 }

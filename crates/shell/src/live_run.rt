@@ -4,7 +4,7 @@ ghost use Rattle.std.specs.Io.KnownBytes.{Appends};
 ghost use Rattle.std.specs.declared.io.Error.{Error};
 ghost use Rattle.flight.specs.declared.flight.Version.TheVariants.{Three};
 ghost use Rattle.answertext.specs.Sinks.{AppendsBeginning};
-ghost use Rattle.shell.specs.Audit.{records_of};
+ghost use Rattle.shell.specs.Audit.{evidence_of};
 ghost use Rattle.shell.specs.Live.{BeginsLines, BeginsRun, EndsRun, PlaysAll, PlaysLines, PrintsRun};
 ghost use Rattle.answertext.specs.Outlets.{IsLastError};
 ghost use Rattle.shell.specs.Showing.{BeginsVerdict, IsVerdictIn, PlaysIn, unshown};
@@ -22,8 +22,9 @@ use answertext::outlet::{Outlet, tell};
 use causes::{Cause, Found, Name, Trouble};
 use durable::SqlKeeper;
 use fault::{Refusal, Text};
+use flight::Records;
 use flight::life::{Ending, Life};
-use folder::{Flown, Folder, Made, make_databases};
+use folder::{Folder, Made, make_databases};
 use forms::Look;
 use lines::line::Line;
 use live::driver::stations;
@@ -116,9 +117,9 @@ fn fly<R: Eprint + Wait + Threads, P: Pilot, O: Outlet, Q: Progress>(
     lines: &[Line],
     outlet: &mut O,
     progress: &Q,
-) -> Result<Flown, RunFault>
-    ensures flown { IfOk result (λ flown. (printed : List ℕ) × (last : AnyShowing P) × PlaysLines manner.entry.look.form P.plays pilot lines.now printed last
-        × P.recorded last.pilot flown.lives.items flown.answers.items × Appends (O.holds outlet.old) (O.holds outlet.new) printed) }
+) -> Result<Records, RunFault>
+    ensures records { IfOk result (λ records. (printed : List ℕ) × (last : AnyShowing P) × PlaysLines manner.entry.look.form P.plays pilot lines.now printed last
+        × P.recorded last.pilot records.lives.items records.answers.items × Appends (O.holds outlet.old) (O.holds outlet.new) printed) }
     ensures begun { OnErr result (BeginsLines (PlaysIn manner.entry.look.form P.plays) lines.now (unshown pilot) (O.holds outlet.old) (O.holds outlet.new)) }
     ensures failed { (error : Error) → result ≡ Err (RunFault.Output error) → IsLastError O.fails error outlet.new }
 {
@@ -249,10 +250,10 @@ fn finish<'a, R: Files>(
     host: &HostRuntime,
     made: Option<Made<'a>>,
     schema: &Text,
-    flown: Flown,
+    records: Records,
 ) -> Result<(), Trouble<'a>> {
     match made {
-        Some(made) => made.finish(rt, host, schema, flown),
+        Some(made) => made.finish(rt, host, schema, records),
         None => Ok(()),
     }
 }
@@ -263,19 +264,19 @@ fn end_run<'a, R, O>(
     host: &HostRuntime,
     run: Run<'a>,
     script: &LiveScript,
-    flown: Flown,
+    records: Records,
     outlet: &mut O,
 ) -> Result<u8, Stop<'a>>
 where
     R: AllocGlobal + Eprint + Files,
     O: Outlet,
-    ensures said { IfOk result (λ status. (text : List ℕ) × IsVerdictIn run.entry.look.form (records_of Three script.now.schema flown.lives.items flown.answers.items) status text × Appends (O.holds outlet.old) (O.holds outlet.new) text) }
+    ensures said { IfOk result (λ status. (text : List ℕ) × IsVerdictIn run.entry.look.form (evidence_of Three script.now.schema records.lives.items records.answers.items) status text × Appends (O.holds outlet.old) (O.holds outlet.new) text) }
     ensures sent { OnOk result (O.is_sent outlet.new) }
-    ensures begun { OnErr result ((outlet.new ≡ outlet.old) ⊎ BeginsVerdict run.entry.look.form (records_of Three script.now.schema flown.lives.items flown.answers.items) (O.holds outlet.old) (O.holds outlet.new)) }
+    ensures begun { OnErr result ((outlet.new ≡ outlet.old) ⊎ BeginsVerdict run.entry.look.form (evidence_of Three script.now.schema records.lives.items records.answers.items) (O.holds outlet.old) (O.holds outlet.new)) }
     ensures failed { IfErr result (λ stop. (error : Error) → stop.fault ≡ RunFault.Output error → IsLastError O.fails error outlet.new) }
 {
-    let said = verdict_in(rt.alloc(), run.look.form, &script.schema, &flown);
-    finish(rt, host, run.made, &script.schema_text, flown)?;
+    let said = verdict_in(rt.alloc(), run.look.form, &script.schema, &records);
+    finish(rt, host, run.made, &script.schema_text, records)?;
     let (status, verdict) = said?;
     tell_beside(rt, &verdict);
     tell(verdict.text.as_str(), outlet)?;
@@ -317,9 +318,9 @@ where
         schema: &script.schema,
     };
     match fly(rt, manner, pilot, script.lines.as_slice(), outlet, progress) {
-        Ok(flown) => {
-            tell_fallen(rt, run.live, flown.lives.as_slice());
-            end_run(rt, host, run, script, flown, outlet)
+        Ok(records) => {
+            tell_fallen(rt, run.live, records.lives.as_slice());
+            end_run(rt, host, run, script, records, outlet)
         }
         Err(fault) => {
             give_up(rt, host, run.made);

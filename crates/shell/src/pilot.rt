@@ -2,7 +2,7 @@
 ghost use Rattle.std.specs.Prelude.{◌≡◌, List, map, IfOk};
 ghost use Rattle.std.specs.declared.vec.Vec.{Vec as AnyVec};
 ghost use Rattle.std.specs.declared.alloc.Global.{Global as AnyGlobal};
-ghost use Rattle.flight.specs.declared.flight.Recorded.{Recorded as AnyRecorded};
+ghost use Rattle.flight.specs.declared.flight.Answered.{Answered as AnyAnswered};
 ghost use Rattle.flight.specs.declared.life.Life.{Life as AnyLife};
 ghost use Rattle.lines.specs.declared.line.Line.{Line as AnyLine};
 ghost use Rattle.live.specs.Saying.{IsSaidOf};
@@ -11,8 +11,7 @@ ghost use Rattle.live.specs.declared.said.Said.{Said as AnySaid};
 ghost use Rattle.shell.specs.Pilots.{answers_in};
 
 use fault::Refusal;
-use flight::flight::Recorded;
-use folder::Flown;
+use flight::{Answered, Records};
 use lines::line::Line;
 use live::station::Station;
 use live::{Driver, Said};
@@ -28,15 +27,15 @@ pub trait Pilot {
     ghost plays: { Self → AnyLine → AnySaid → Self → Type 0 };
 
     /// The pilot before its end, and the lives and answers that its nodes recorded, node by node.
-    ghost recorded: { Self → List (AnyVec AnyLife AnyGlobal) → List (AnyVec AnyRecorded AnyGlobal) → Type 0 };
+    ghost recorded: { Self → List (AnyVec AnyLife AnyGlobal) → List (AnyVec AnyAnswered AnyGlobal) → Type 0 };
 
     /// Plays a line, and gives what it says.
     fn play<R: Wait>(&mut self, rt: &R, line: &Line) -> Result<Said, Refusal>
         ensures { IfOk result (λ said. plays self.old line.now said self.new) };
 
     /// Stops all nodes, and gives what they recorded. The error is want of memory.
-    fn end<R: Wait + Threads>(self, rt: &R, alloc: Global) -> Result<Flown, AllocError>
-        ensures { IfOk result (λ flown. recorded self flown.lives.items flown.answers.items) };
+    fn end<R: Wait + Threads>(self, rt: &R, alloc: Global) -> Result<Records, AllocError>
+        ensures { IfOk result (λ records. recorded self records.lives.items records.answers.items) };
 }
 
 impl Pilot for Driver {
@@ -48,11 +47,11 @@ impl Pilot for Driver {
         Driver::play(self, rt, line)
     }
 
-    fn end<R: Wait + Threads>(self, rt: &R, alloc: Global) -> Result<Flown, AllocError> {
+    fn end<R: Wait + Threads>(self, rt: &R, alloc: Global) -> Result<Records, AllocError> {
         let (cluster, stations) = self.into_parts();
         let ended = cluster.stop(rt);
         let answers = answers_of(alloc, stations)?;
-        Ok(Flown {
+        Ok(Records {
             lives: ended.lives,
             answers,
         })
@@ -60,7 +59,7 @@ impl Pilot for Driver {
 }
 
 // What the stations' views answered.
-fn answers_of(alloc: Global, stations: Vec<Station>) -> Result<Vec<Vec<Recorded>>, AllocError>
+fn answers_of(alloc: Global, stations: Vec<Station>) -> Result<Vec<Vec<Answered>>, AllocError>
     ensures { IfOk result (λ answers. answers.items ≡ map answers_in stations.items) }
 {
     let mut answers = Vec::new(alloc);

@@ -9,24 +9,24 @@ ghost use Rattle.moments.specs.declared.recorded.AuditFault.TheVariants.{NoMemor
 ghost use Rattle.report.specs.Machine.{report_tokens};
 ghost use Rattle.report.specs.Pages.{kept_lines};
 ghost use Rattle.report.specs.Whole.{seal_of};
-ghost use Rattle.shell.specs.Audit.{records_of};
+ghost use Rattle.shell.specs.Audit.{evidence_of};
 ghost use Rattle.shell.specs.Group.{IsNoGroup};
 ghost use Rattle.answertext.specs.Outlets.{IsLastError};
 ghost use Rattle.shell.specs.Reported.{BeginsReported, IsPrinted, IsReported, IsReportOn, IsVerdict, status_of, verdict_line};
 
-use crate::group::{read_group, run_of};
+use crate::group::read_group;
 use answertext::outlet::{Outlet, tell};
 use auditor::{AuditFault, audit};
 use fault::Refusal;
+use flight::Records;
 use flight::flight::Version;
-use folder::Flown;
 use moments::all_answers;
 use report::difference::{Difference, difference_of};
 use report::files::{File, files_of};
 use report::machine::report_as_json;
 use report::page::page_of;
 use report::settled::{Settled, decided_of};
-use report::stuck::Records;
+use report::stuck::Evidence;
 use report::whole::{Contents, Report, verdict_of};
 use schema::Schema;
 use script::run_fault::RunFault;
@@ -44,18 +44,18 @@ struct Verdict {
 // The verdict of a fault, with what differs there. The error is want of memory, be it the fault itself.
 fn verdict_of_fault(
     alloc: Global,
-    records: &Records<'_>,
+    evidence: &Evidence<'_>,
     files: &[File<'_>],
     fault: &AuditFault,
 ) -> Result<Verdict, AllocError>
-    requires least { 3 ≤ length records.now.lives.now }
-    requires most { length records.now.lives.now ≤ 7 }
+    requires least { 3 ≤ length evidence.now.lives.now }
+    requires most { length evidence.now.lives.now ≤ 7 }
     ensures { IfOk result (λ verdict. (verdict.fault ≡ Some fault.now) × (fault.now ≢ NoMemoryLeft)) }
 {
     if let AuditFault::NoMemory = *fault {
         return Err(AllocError);
     }
-    let (difference, events) = difference_of(alloc, records, files, *fault)?;
+    let (difference, events) = difference_of(alloc, evidence, files, *fault)?;
     Ok(Verdict {
         fault: Some(*fault),
         difference,
@@ -66,26 +66,26 @@ fn verdict_of_fault(
 // What an audit says of what was recorded of a group of 3 to 7 nodes. The error is want of memory.
 fn verdict_on(
     alloc: Global,
-    records: &Records<'_>,
+    evidence: &Evidence<'_>,
     files: &[File<'_>],
 ) -> Result<Verdict, AllocError>
-    requires least { 3 ≤ length records.now.lives.now }
-    requires most { length records.now.lives.now ≤ 7 }
-    ensures { IfOk result (λ verdict. IsVerdict (record { version = records.now.version; tables = records.now.schema.now; lives = records.now.lives.now; answers = records.now.answers.now }) verdict.fault) }
+    requires least { 3 ≤ length evidence.now.lives.now }
+    requires most { length evidence.now.lives.now ≤ 7 }
+    ensures { IfOk result (λ verdict. IsVerdict (record { version = evidence.now.version; tables = evidence.now.schema.now; lives = evidence.now.lives.now; answers = evidence.now.answers.now }) verdict.fault) }
 {
     match audit(
         alloc,
-        records.version,
-        records.schema,
-        records.lives,
-        records.answers,
+        evidence.version,
+        evidence.schema,
+        evidence.lives,
+        evidence.answers,
     ) {
         Ok(events) => Ok(Verdict {
             fault: None,
             difference: None,
             events,
         }),
-        Err(fault) => verdict_of_fault(alloc, records, files, &fault),
+        Err(fault) => verdict_of_fault(alloc, evidence, files, &fault),
     }
 }
 
@@ -99,13 +99,13 @@ pub(crate) fn status_of(fault: &Option<AuditFault>) -> u8
 // The report on what flights of a group of 3 to 7 nodes with these files hold. The error is want of memory.
 fn report_on(
     alloc: Global,
-    records: &Records<'_>,
+    evidence: &Evidence<'_>,
     files: &[File<'_>],
     contents: Contents,
 ) -> Result<Report, AllocError>
-    requires least { 3 ≤ length records.now.lives.now }
-    requires most { length records.now.lives.now ≤ 7 }
-    ensures verdict { IfOk result (λ r. IsVerdict (record { version = records.now.version; tables = records.now.schema.now; lives = records.now.lives.now; answers = records.now.answers.now }) r.fault) }
+    requires least { 3 ≤ length evidence.now.lives.now }
+    requires most { length evidence.now.lives.now ≤ 7 }
+    ensures verdict { IfOk result (λ r. IsVerdict (record { version = evidence.now.version; tables = evidence.now.schema.now; lives = evidence.now.lives.now; answers = evidence.now.answers.now }) r.fault) }
     ensures contents { IfOk result (λ r. r.contents ≡ contents) }
     ensures seal { IfOk result (λ r. r.seal ≡ seal_of r.contents r.settled r.fault) }
 {
@@ -113,9 +113,9 @@ fn report_on(
         fault,
         difference,
         events,
-    } = verdict_on(alloc, records, files)?;
-    let schema = records.schema;
-    let list = decided_of(alloc, records.lives.len(), schema, events.as_slice())?;
+    } = verdict_on(alloc, evidence, files)?;
+    let schema = evidence.schema;
+    let list = decided_of(alloc, evidence.lives.len(), schema, events.as_slice())?;
     let settled = Settled::of(alloc, schema, list.as_slice())?;
     Report::of(alloc, files, fault, contents, schema, settled, difference)
 }
@@ -125,26 +125,26 @@ fn report_of(
     alloc: Global,
     version: Version,
     schema: &Schema,
-    flown: &Flown,
+    records: &Records,
     files: &[File<'_>],
     contents: Contents,
 ) -> Result<Report, Refusal>
-    ensures verdict { IfOk result (λ r. IsVerdict (records_of version schema.now flown.now.lives.items flown.now.answers.items) r.fault) }
+    ensures verdict { IfOk result (λ r. IsVerdict (evidence_of version schema.now records.now.lives.items records.now.answers.items) r.fault) }
     ensures contents { IfOk result (λ r. r.contents ≡ contents) }
     ensures seal { IfOk result (λ r. r.seal ≡ seal_of r.contents r.settled r.fault) }
-    ensures err { IfErr result (λ refusal. (refusal ≡ NoMemory) ⊎ ((refusal ≡ BadFlight) × (3 ≤ length flown.now.lives.items → length flown.now.lives.items ≤ 7 → ⊥))) }
+    ensures err { IfErr result (λ refusal. (refusal ≡ NoMemory) ⊎ ((refusal ≡ BadFlight) × (3 ≤ length records.now.lives.items → length records.now.lives.items ≤ 7 → ⊥))) }
 {
-    if flown.lives.len() < 3 || flown.lives.len() > 7 {
+    if records.lives.len() < 3 || records.lives.len() > 7 {
         return Err(Refusal::BadFlight);
     }
-    let judged = all_answers(alloc, flown.answers.as_slice())?;
-    let records = Records {
+    let judged = all_answers(alloc, records.answers.as_slice())?;
+    let evidence = Evidence {
         version,
         schema,
-        lives: flown.lives.as_slice(),
+        lives: records.lives.as_slice(),
         answers: judged.as_slice(),
     };
-    Ok(report_on(alloc, &records, files, contents)?)
+    Ok(report_on(alloc, &evidence, files, contents)?)
 }
 
 // The report on the flights in the files of these names, with these texts.
@@ -154,9 +154,16 @@ fn judge(alloc: Global, names: &[&str], texts: &[String]) -> Result<Report, Refu
 {
     let (version, schema, flights) = read_group(alloc, texts)?;
     let contents = Contents::of(alloc, flights.as_slice())?;
-    let flown = run_of(alloc, flights)?;
+    let records = Records::of(alloc, flights)?;
     let files = files_of(alloc, names, texts)?;
-    report_of(alloc, version, &schema, &flown, files.as_slice(), contents)
+    report_of(
+        alloc,
+        version,
+        &schema,
+        &records,
+        files.as_slice(),
+        contents,
+    )
 }
 
 // A report as JSON.

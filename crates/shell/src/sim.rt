@@ -1,11 +1,19 @@
 //! The command `sim`.
-ghost use Rattle.std.specs.Prelude.{◌≡◌, ◌⊎◌, ◌≤◌, ℕ, List, string_bytes, IfSome, IfOk, IfErr, OnOk, OnErr, Err};
+ghost use Rattle.std.specs.Prelude.{◌≡◌, ◌⊎◌, ◌≤◌, ◌↔◌, ℕ, List, Result, string_bytes, IfSome, IfOk, IfErr, OnOk, OnErr, Err};
 ghost use Rattle.std.specs.declared.io.Error.{Error};
 ghost use Rattle.fault.specs.declared.refusal.Refusal.TheVariants.{NoMemory, BadScript};
 ghost use Rattle.fault.specs.declared.refusal.Refusal.{Refusal as AnyRefusal};
 ghost use Rattle.model.specs.Worlds.{new_world};
 ghost use Rattle.script.specs.Brought.{IsBegun, IsPrinted};
+ghost use Rattle.believed.specs.Meaning.{IsLanguage};
+ghost use Rattle.believedsql.specs.Questions.{IsAsking};
+ghost use Rattle.believedsql.specs.Schemas.{IsSchema};
+ghost use Rattle.schemaread.specs.Schemas.{SchemaSays};
 ghost use Rattle.script.specs.Faults.{IsFaultOf};
+ghost use Rattle.sqlchecks.specs.Columns.{Tables};
+ghost use Rattle.sqlread.specs.Meaning.{language_of, select_of};
+ghost use Rattle.sqlread.specs.Texts.{query_in};
+ghost use Rattle.std.specs.Result.{result_map_both};
 ghost use Rattle.shell.specs.Sim.{acts_of, EndsScript, IsBadScript, IsNoScript, IsScript, IsToldAs};
 
 use crate::source::Source;
@@ -27,16 +35,22 @@ pub fn run_sim<S: Source, O: Outlet>(
     source: &mut S,
     outlet: &mut O,
 ) -> Result<u8, RunFault>
-    ensures { ((bytes : List ℕ) × S.gives source.old bytes source.new × EndsScript O.holds O.fails O.is_sent bytes outlet.old result outlet.new)
+    ensures ends { ((bytes : List ℕ) × S.gives source.old bytes source.new × EndsScript O.holds O.fails O.is_sent bytes outlet.old result outlet.new)
         ⊎ ((error : Error) × S.fails source.old error source.new × ((refusal : AnyRefusal) × IsToldAs error refusal × (result ≡ Err (RunFault.Refused refusal))) × (outlet.new ≡ outlet.old)) }
+    ensures language { (tables : Tables) → IsLanguage tables (language_of tables) }
+    ensures questions { (tables : Tables) → IsAsking tables (λ text. result_map_both select_of (λ refusal. refusal) (query_in tables text)) }
+    ensures schemas { (text : List ℕ) (answer : Result Tables AnyRefusal) → SchemaSays text answer ↔ IsSchema text answer }
 {
+    believed::meanings();
+    believedsql::questions();
+    believedsql::schemas();
     match source.read_all(alloc) {
         Ok(bytes) => play_text(alloc, bytes.as_slice(), outlet),
         Err(error) => Err(RunFault::Refused(told_as(&error))),
     }
 }
 
-/// Plays the script whose text these bytes are, and prints exactly what its lines give, from the opening of its group on. It gives the
+/// Plays the script whose text these bytes are, and prints exactly what its lines give, from the outset of its group on. It gives the
 /// exit status 0, or what ended it: 60 where they are no script, at line 0 where they are not UTF-8, or the refusal of the
 /// script's schema, and then nothing is printed; want of memory, or the error of the outlet's last call, and then a
 /// beginning is.
@@ -68,7 +82,7 @@ fn script_of(alloc: Global, bytes: &[u8]) -> Result<Script, Refusal>
     }
 }
 
-// Plays the lines of a script from the opening of its group on, and prints exactly what they give.
+// Plays the lines of a script from the outset of its group on, and prints exactly what they give.
 fn play_lines<O: Outlet>(
     alloc: Global,
     members: usize,

@@ -9,11 +9,12 @@ ghost use Rattle.shell.specs.Group.{IsNoGroup};
 ghost use Rattle.shell.specs.Since.{BeginsSince, IsSince, status_with};
 
 use crate::audit::audit_line;
-use crate::group::{read_group, run_of};
+use crate::group::read_group;
 use answertext::outlet::{Outlet, tell};
 use beginnings::Beginning;
 use beginnings::words::told_of;
 use fault::Refusal;
+use flight::Records;
 use script::run_fault::RunFault;
 use std::alloc::{AllocError, Global};
 
@@ -40,8 +41,8 @@ fn judge(alloc: Global, seen: &[Beginning], texts: &[String]) -> Result<(u8, Str
 {
     let (version, schema, flights) = read_group(alloc, texts)?;
     let told = told_of(alloc, flights.as_slice(), seen)?;
-    let flown = run_of(alloc, flights)?;
-    let (verdict, line) = audit_line(alloc, version, &schema, &flown)?;
+    let records = Records::of(alloc, flights)?;
+    let (verdict, line) = audit_line(alloc, version, &schema, &records)?;
     let text = joined(alloc, line.as_str(), told.words.as_str())?;
     Ok((status_with(verdict, told.is_beginning), text))
 }

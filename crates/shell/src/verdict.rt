@@ -4,20 +4,18 @@ ghost use Rattle.flight.specs.declared.flight.Version.TheVariants.{Three};
 ghost use Rattle.looks.specs.Objects.{line_of};
 ghost use Rattle.looks.specs.Outcomes.{object};
 ghost use Rattle.report.specs.Machine.{verdict_tokens};
-ghost use Rattle.shell.specs.Audit.{IsSaid, records_of};
+ghost use Rattle.shell.specs.Audit.{IsSaid, evidence_of};
 ghost use Rattle.shell.specs.Reported.{IsVerdict, status_of as status_with};
 ghost use Rattle.shell.specs.Showing.{IsVerdictBeside, IsVerdictIn};
 
 use crate::audit::audit_line;
 use crate::report_run::status_of;
 use crate::showing::{Printed, text_of};
-use auditor::{AuditFault, Recorded, explain};
+use auditor::{AuditFault, judge};
 use fault::Refusal;
+use flight::Records;
 use flight::flight::Version;
-use flight::life::Life;
-use folder::Flown;
 use forms::Form;
-use moments::all_answers;
 use report::machine::verdict_as_json;
 use schema::Schema;
 use std::alloc::{AllocError, Global};
@@ -26,14 +24,13 @@ use std::alloc::{AllocError, Global};
 fn found_in(
     alloc: Global,
     schema: &Schema,
-    lives: &[Vec<Life>],
-    answers: &[Recorded],
+    records: &Records,
 ) -> Result<Option<AuditFault>, Refusal>
-    requires least { 3 ≤ length lives.now }
-    requires most { length lives.now ≤ 7 }
-    ensures { IfOk result (λ fault. IsVerdict (record { version = Three; tables = schema.now; lives = lives.now; answers = answers.now }) fault) }
+    requires least { 3 ≤ length records.now.lives.items }
+    requires most { length records.now.lives.items ≤ 7 }
+    ensures { IfOk result (λ fault. IsVerdict (evidence_of Three schema.now records.now.lives.items records.now.answers.items) fault) }
 {
-    match explain(alloc, Version::Three, schema, lives, answers) {
+    match judge(alloc, Version::Three, schema, records) {
         Ok(()) => Ok(None),
         Err(AuditFault::NoMemory) => Err(Refusal::NoMemory),
         Err(fault) => Ok(Some(fault)),
@@ -41,15 +38,17 @@ fn found_in(
 }
 
 // The same, of a run. 50 of another group than one of 3 to 7 nodes, else 43 for want of memory.
-fn fault_of(alloc: Global, schema: &Schema, flown: &Flown) -> Result<Option<AuditFault>, Refusal>
-    ensures { IfOk result (λ fault. IsVerdict (records_of Three schema.now flown.now.lives.items flown.now.answers.items) fault) }
+fn fault_of(
+    alloc: Global,
+    schema: &Schema,
+    records: &Records,
+) -> Result<Option<AuditFault>, Refusal>
+    ensures { IfOk result (λ fault. IsVerdict (evidence_of Three schema.now records.now.lives.items records.now.answers.items) fault) }
 {
-    if flown.lives.len() < 3 || flown.lives.len() > 7 {
+    if records.lives.len() < 3 || records.lives.len() > 7 {
         return Err(Refusal::BadFlight);
     }
-    let judged = all_answers(alloc, flown.answers.as_slice())?;
-    let lives = flown.lives.as_slice();
-    found_in(alloc, schema, lives, judged.as_slice())
+    found_in(alloc, schema, records)
 }
 
 // A verdict as JSON.
@@ -72,30 +71,30 @@ fn object_with(alloc: Global, fault: Option<AuditFault>) -> Result<(u8, Printed)
 }
 
 // The exit status and the verdict of a run, as JSON.
-fn object_of(alloc: Global, schema: &Schema, flown: &Flown) -> Result<(u8, Printed), Refusal>
-    ensures printed { IfOk result (λ said. IsVerdictIn Form.Json (records_of Three schema.now flown.now.lives.items flown.now.answers.items) said.0 (string_bytes said.1.text)) }
+fn object_of(alloc: Global, schema: &Schema, records: &Records) -> Result<(u8, Printed), Refusal>
+    ensures printed { IfOk result (λ said. IsVerdictIn Form.Json (evidence_of Three schema.now records.now.lives.items records.now.answers.items) said.0 (string_bytes said.1.text)) }
     ensures beside { IfOk result (λ said. string_bytes said.1.beside ≡ []) }
 {
-    let fault = fault_of(alloc, schema, flown)?;
+    let fault = fault_of(alloc, schema, records)?;
     Ok(object_with(alloc, fault)?)
 }
 
 // The exit status and the verdict of a run, as the line that an audit says.
-fn line_of_run(alloc: Global, schema: &Schema, flown: &Flown) -> Result<(u8, Printed), Refusal>
-    ensures printed { IfOk result (λ said. IsSaid (records_of Three schema.now flown.now.lives.items flown.now.answers.items) said.0 (string_bytes said.1.text)) }
+fn line_of_run(alloc: Global, schema: &Schema, records: &Records) -> Result<(u8, Printed), Refusal>
+    ensures printed { IfOk result (λ said. IsSaid (evidence_of Three schema.now records.now.lives.items records.now.answers.items) said.0 (string_bytes said.1.text)) }
     ensures beside { IfOk result (λ said. string_bytes said.1.beside ≡ []) }
 {
-    let (status, text) = audit_line(alloc, Version::Three, schema, flown)?;
+    let (status, text) = audit_line(alloc, Version::Three, schema, records)?;
     let beside = String::new(alloc);
     Ok((status, Printed { text, beside }))
 }
 
 // The same, told beside what is printed.
-fn line_beside(alloc: Global, schema: &Schema, flown: &Flown) -> Result<(u8, Printed), Refusal>
+fn line_beside(alloc: Global, schema: &Schema, records: &Records) -> Result<(u8, Printed), Refusal>
     ensures printed { IfOk result (λ said. string_bytes said.1.text ≡ []) }
-    ensures beside { IfOk result (λ said. IsSaid (records_of Three schema.now flown.now.lives.items flown.now.answers.items) said.0 (string_bytes said.1.beside)) }
+    ensures beside { IfOk result (λ said. IsSaid (evidence_of Three schema.now records.now.lives.items records.now.answers.items) said.0 (string_bytes said.1.beside)) }
 {
-    let (status, beside) = audit_line(alloc, Version::Three, schema, flown)?;
+    let (status, beside) = audit_line(alloc, Version::Three, schema, records)?;
     let text = String::new(alloc);
     Ok((status, Printed { text, beside }))
 }
@@ -106,15 +105,15 @@ pub(crate) fn verdict_in(
     alloc: Global,
     form: Form,
     schema: &Schema,
-    flown: &Flown,
+    records: &Records,
 ) -> Result<(u8, Printed), Refusal>
-    ensures printed { IfOk result (λ said. IsVerdictIn form (records_of Three schema.now flown.now.lives.items flown.now.answers.items) said.0 (string_bytes said.1.text)) }
-    ensures beside { IfOk result (λ said. IsVerdictBeside form (records_of Three schema.now flown.now.lives.items flown.now.answers.items) said.0 (string_bytes said.1.beside)) }
+    ensures printed { IfOk result (λ said. IsVerdictIn form (evidence_of Three schema.now records.now.lives.items records.now.answers.items) said.0 (string_bytes said.1.text)) }
+    ensures beside { IfOk result (λ said. IsVerdictBeside form (evidence_of Three schema.now records.now.lives.items records.now.answers.items) said.0 (string_bytes said.1.beside)) }
 {
     match form {
-        Form::Lines => line_of_run(alloc, schema, flown),
-        Form::Table => line_of_run(alloc, schema, flown),
-        Form::Csv => line_beside(alloc, schema, flown),
-        Form::Json => object_of(alloc, schema, flown),
+        Form::Lines => line_of_run(alloc, schema, records),
+        Form::Table => line_of_run(alloc, schema, records),
+        Form::Csv => line_beside(alloc, schema, records),
+        Form::Json => object_of(alloc, schema, records),
     }
 }

@@ -7,3 +7,4 @@ pub mod Periods
 pub mod Refusals
 pub mod Saying
 pub mod Reading
+mod Refusing

@@ -7,6 +7,7 @@ mod given;
 mod insert;
 pub mod laws;
 pub mod query;
+mod refused;
 pub mod statement;
 pub mod term;
 pub mod time;

@@ -54,7 +54,7 @@ fn read_stamp(text: Quoted) -> Result<Stamp, Refusal>
 
 /// The instants of FOR SYSTEM_TIME: `OutOfRange` for each that is none, then `EmptyPeriod` where none lies between.
 #[tactic(auto, unfolding(crate::specs::Questions::time_in))]
-fn read_time(time: TimeText) -> Result<SystemTime, Refusal>
+pub(crate) fn read_time(time: TimeText) -> Result<SystemTime, Refusal>
     ensures { Gives time_of result (time_in (time_form time.entry)) }
 {
     match time {

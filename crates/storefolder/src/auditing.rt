@@ -6,15 +6,17 @@ use crate::databases::open_databases;
 use crate::form::Form;
 use crate::journals::tell_all;
 use crate::place::enter;
-use auditor::AuditFault;
+use auditor::{AuditFault, judge};
 use durable::SqlKeeper;
 use fault::Refusal;
+use flight::flight::Version;
 use flight::life::Life;
+use flight::records::Records;
 use journal::Summary;
 use model::entry::Entry;
 use model::member::Member;
 use node::Node;
-use playback::{Flown, Play, judge};
+use playback::Play;
 use progressline::Progress;
 use schema::Schema;
 use sqlite::{Alter, Connection};
@@ -29,7 +31,7 @@ pub struct Audited {
     /// The tables.
     pub schema: Schema,
     /// What the journals spell, node by node.
-    pub flown: Flown,
+    pub records: Records,
     /// How many journals there are.
     pub sessions: u64,
     /// How many outcomes of requests were given out.
@@ -172,23 +174,23 @@ fn is_verdict(refusal: &StoreRefusal) -> bool {
 
 // What an audit says of what journals spell whose databases are what they give. 43 for want of memory; 50 of another number of members
 // than 3 to 7.
-fn judge_flown(
+fn judge_records(
     alloc: Global,
     schema: Schema,
-    flown: Flown,
+    records: Records,
     counts: (u64, u64),
     missing: Vec<Member>,
 ) -> Result<Verdict, StoreRefusal>
     ensures { IfOk result IsUpheld }
 {
-    if flown.lives.len() < 3 || flown.lives.len() > 7 {
+    if records.lives.len() < 3 || records.lives.len() > 7 {
         return Err(StoreRefusal::Refused(Refusal::BadFlight));
     }
     let (sessions, requests) = counts;
-    match judge(alloc, &schema, &flown) {
+    match judge(alloc, Version::Three, &schema, &records) {
         Ok(()) => Ok(Verdict::Yes(Audited {
             schema,
-            flown,
+            records,
             sessions,
             requests,
             missing,
@@ -232,10 +234,10 @@ pub fn audit<Q: Progress>(
         Err(refusal) => return Err(refusal),
     };
     let counts = play.counts();
-    let flown = play.into_flown()?;
+    let records = play.into_records()?;
     let schema = form.schema.clone()?;
-    progress.judge(steps_in(flown.lives.as_slice()));
-    let verdict = judge_flown(alloc, schema, flown, counts, missing);
+    progress.judge(steps_in(records.lives.as_slice()));
+    let verdict = judge_records(alloc, schema, records, counts, missing);
     progress.hide();
     verdict
 }

@@ -5,9 +5,9 @@ use crate::place::enter;
 use answertext::outlet::WriteFault;
 use fault::{Refusal, Text};
 use flight::flight::{Flight, Version};
-use flight::write_flight;
+use flight::{Records, write_flight};
 use model::member::Member;
-use playback::{Flown, Play};
+use playback::Play;
 use progressline::Progress;
 use std::alloc::Global;
 use std::fs;
@@ -60,9 +60,9 @@ fn write_all(
     alloc: Global,
     out: &str,
     schema: &Text,
-    flown: Flown,
+    records: Records,
 ) -> Result<(), StoreRefusal> {
-    let Flown { lives, answers } = flown;
+    let Records { lives, answers } = records;
     let members = lives.len();
     let mut node: Member = 0;
     for (lives, answers) in lives.into_iter().zip(answers) {
@@ -103,9 +103,9 @@ pub fn flights<Q: Progress>(
     let form = &folder.form;
     let mut play = Play::new(alloc, form.members, form.schema.clone()?, true)?;
     tell_all(rt, alloc, dir, form, &mut play, progress)?;
-    let flown = play.into_flown()?;
+    let records = play.into_records()?;
     make_folder(rt, out)?;
-    write_all(rt, alloc, out, &form.schema_text, flown)
+    write_all(rt, alloc, out, &form.schema_text, records)
 }
 
 /// Whether this is the name of a file, which no folder has.

@@ -14,12 +14,12 @@ use Rattle.history.specs.Items.{entries_in, closed_in}
 use Rattle.journal.specs.Digests.{digest_of}
 use Rattle.view.specs.declared.told.Name.{Name}
 use Rattle.view.specs.declared.view.View.{View}
-use Rattle.view.specs.Viewing.{seen_by, name_seen, schema_seen}
+use Rattle.view.specs.Viewing.{seen_by}
 use Rattle.node.specs.declared.node.Node.{Node}
 use Rattle.node.specs.Member.{member_of}
 use Rattle.store.specs.declared.since.Since.{Since}
 use Rattle.store.specs.declared.refusal.StoreRefusal.{StoreRefusal}
-use Rattle.store.specs.Applied.{IsSince}
+use Rattle.store.specs.Applied.{IsKept, IsSince}
 use Rattle.storeviews.specs.Listing.{items_since}
 use Rattle.storeviews.specs.Showing.{list_of, shown_of, GoesOn, IsBrought, IsDown, IsLater, IsLive, IsOf, IsShown, IsStill, IsViewOf}
 use Rattle.storeviews.specs.declared.window.Window.{Window}
@@ -48,11 +48,6 @@ are_of_next tables at old new each here others i =
     (λ (same : i ≡ at). subst (λ (k : ℕ). IsOf tables k (new k)) (sym same) (here (each at)))
     (λ (other : i ≡ at → ⊥). subst (λ (o : Option Window). IsOf tables i o) (sym (others i other)) (each i))
     (same_or i at)
-
--- so is a view of one
-pub life_of : (tables : Tables) (at member : ℕ) (o : Option Window) (v : View) → member ≡ at + 1 → MatchOption o ⊥ (λ w. IsViewOf w v) → IsOf tables at o → (schema_seen v ≡ tables) × ((name_seen v).node ≡ member)
-life_of tables at member None v is view of = absurd view
-life_of tables at member (Some w) v is view of = (view.2 ∙ of.0, ap (λ (name : Name). name.node) view.1 ∙ of.1 ∙ sym is)
 
 -- with one brought up
 pub later_next : (at : ℕ) (first old new : ℕ → Option Window) → ((i : ℕ) → IsLater (first i) (old i)) → ((i : ℕ) → at ≤ i → old i ≡ first i) → IsLater (old at) (new at) → ((i : ℕ) → (i ≡ at → ⊥) → new i ≡ old i) → (i : ℕ) → IsLater (first i) (new i)
@@ -109,6 +104,14 @@ module _ {K I : Type 0} {g : _} {s : _} where
   brought_by honest n w x mark o (Err e) since shows ended = tt
   brought_by honest n w x mark None (Ok done) since shows ended = ended_at honest n w x since (ended refl)
   brought_by honest n w x mark (Some v) (Ok done) since shows ended = let all = shows v refl in brought_at honest n w v x mark since all.0 all.1 all.2 all.3
+
+  -- ---- members that stay the same
+
+  pub kept_then : (honest : K → Type 0) (a b c : Option (Node K I g s)) → IsKept honest a b → IsKept honest b c → IsKept honest a c
+  kept_then honest None b c h k = subst (λ (m : Option (Node K I g s)). IsKept honest m c) h k
+  kept_then honest (Some n) None c h k = absurd h
+  kept_then honest (Some n) (Some m) None h k = absurd k
+  kept_then honest (Some n) (Some m) (Some o) h k = (k.0 ∙ h.0, k.1 ∙ h.1, λ hon. let last = k.2 hon in let first = h.2 last.0 in (first.0, last.1 ∙ first.1))
 
   -- ---- one member after another
 

@@ -7,7 +7,7 @@ ghost use Rattle.history.specs.Items.{entries_in, closed_in};
 ghost use Rattle.journal.specs.Digests.{digest_of};
 ghost use Rattle.view.specs.Publishing.{published, pending, name_of, schema_of, book_of, given_of, IsSameLife};
 ghost use Rattle.view.specs.Viewing.{seen_by, name_seen, schema_seen, book_seen};
-ghost use Rattle.store.specs.Applied.{found, IsSince, SaysDown};
+ghost use Rattle.store.specs.Applied.{found, IsKept, IsSince, SaysDown};
 ghost use Rattle.storeviews.specs.Listing.{listed, items_since, marked, marked_rise};
 
 use crate::times::{is_below, risen};
@@ -51,7 +51,8 @@ where
     ensures since { IfOk result (λ r. IfSome r (λ since. MatchOption (found store.new.seats.items at (λ seat. seat.node)) ⊥ (λ n. IsSince K.is_honest n after since))) }
     ensures none { IfOk result (λ r. r ≡ None → ForSome (found store.new.seats.items at (λ seat. seat.node)) (λ n. n.is_up ≡ false)) }
     ensures others { (i : ℕ) → i ≢ at → slice_get store.new.seats.items i ≡ slice_get store.old.seats.items i }
-    ensures tables { OnOk result (store.new.schema ≡ store.old.schema) }
+    ensures kept { OnOk result ((i : ℕ) → IsKept K.is_honest (found store.old.seats.items i (λ seat. seat.node)) (found store.new.seats.items i (λ seat. seat.node))) }
+    ensures rest { OnOk result (store.new ≡ record store.old { seats = store.new.seats }) }
     ensures why { IfErr result (λ refusal. SaysDown refusal → ⊥) }
 {
     store.applied_since(at + 1, after)
@@ -215,7 +216,8 @@ impl Window {
         ensures later { IsLater (Some self) result.0 }
         ensures why { IfErr result.1 (λ refusal. SaysDown refusal → ⊥) }
         ensures others { (i : ℕ) → i ≢ at → slice_get store.new.seats.items i ≡ slice_get store.old.seats.items i }
-        ensures tables { OnOk result.1 (store.new.schema ≡ store.old.schema) }
+        ensures kept { OnOk result.1 ((i : ℕ) → IsKept K.is_honest (found store.old.seats.items i (λ seat. seat.node)) (found store.new.seats.items i (λ seat. seat.node))) }
+        ensures rest { OnOk result.1 (store.new ≡ record store.old { seats = store.new.seats }) }
     {
         match since_at(store, at, self.count) {
             Ok(Some(since)) => self.go_on(rt, mark, &since),

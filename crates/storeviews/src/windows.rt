@@ -1,7 +1,7 @@
 //! What is shown of the members of an open store.
 ghost use Rattle.std.specs.Prelude.{◌≡◌, ◌≢◌, ◌⊎◌, ◌<◌, ◌-◌, ◌+◌, ℕ, None, IfOk, IfErr, OnOk, OnErr, MatchBool, MatchOption, length, slice_get, vec_len};
 ghost use Rattle.std.specs.Option.{ForSome};
-ghost use Rattle.store.specs.Applied.{found, SaysDown};
+ghost use Rattle.store.specs.Applied.{found, IsKept, SaysDown};
 ghost use Rattle.sqlchecks.specs.Columns.{Tables};
 ghost use Rattle.view.specs.Viewing.{seen_by, name_seen, schema_seen};
 ghost use Rattle.storeviews.specs.Showing.{window_in, AreOf, IsBrought, IsDown, IsLater, IsLive, IsOf, IsShown, IsStill, IsViewOf};
@@ -113,7 +113,8 @@ impl Windows {
         ensures why { IfErr result (λ refusal. SaysDown refusal → ⊥) }
         ensures others { (i : ℕ) → i ≢ at → window_in self.new i ≡ window_in self.old i }
         ensures seats { (i : ℕ) → i ≢ at → slice_get store.new.seats.items i ≡ slice_get store.old.seats.items i }
-        ensures tables { OnOk result (store.new.schema ≡ store.old.schema) }
+        ensures kept { OnOk result ((i : ℕ) → IsKept K.is_honest (found store.old.seats.items i (λ seat. seat.node)) (found store.new.seats.items i (λ seat. seat.node))) }
+        ensures rest { OnOk result (store.new ≡ record store.old { seats = store.new.seats }) }
         ensures same { (vec_len self.new.windows ≡ vec_len self.old.windows) × (self.new.last ≡ self.old.last) }
     {
         match self.take(at) {
@@ -143,6 +144,8 @@ impl Windows {
         ensures brought { OnOk result ((at : ℕ) → IsBrought K.is_honest (found store.new.seats.items at (λ seat. seat.node)) (window_in self.old at) (window_in self.new at)) }
         ensures failed { IfErr result (λ refusal. (refusal ≡ StoreRefusal.Refused Refusal.BadStore → ⊥) → (at : ℕ) → IsBrought K.is_honest (found store.new.seats.items at (λ seat. seat.node)) (window_in self.old at) (window_in self.new at) ⊎ IsStill (window_in self.old at) (window_in self.new at)) }
         ensures later { (at : ℕ) → IsLater (window_in self.old at) (window_in self.new at) }
+        ensures kept { OnOk result ((i : ℕ) → IsKept K.is_honest (found store.old.seats.items i (λ seat. seat.node)) (found store.new.seats.items i (λ seat. seat.node))) }
+        ensures rest { OnOk result (store.new ≡ record store.old { seats = store.new.seats }) }
         ensures why { IfErr result (λ refusal. SaysDown refusal → ⊥) }
     {
         let mark = self.next_mark()?;
@@ -161,6 +164,8 @@ impl Windows {
         ensures brought { OnOk result ((at : ℕ) → IsBrought K.is_honest (found store.new.seats.items at (λ seat. seat.node)) (window_in self.old at) (window_in self.new at)) }
         ensures failed { IfErr result (λ refusal. (refusal ≡ StoreRefusal.Refused Refusal.BadStore → ⊥) → (at : ℕ) → IsBrought K.is_honest (found store.new.seats.items at (λ seat. seat.node)) (window_in self.old at) (window_in self.new at) ⊎ IsStill (window_in self.old at) (window_in self.new at)) }
         ensures later { (at : ℕ) → IsLater (window_in self.old at) (window_in self.new at) }
+        ensures kept { OnOk result ((i : ℕ) → IsKept K.is_honest (found store.old.seats.items i (λ seat. seat.node)) (found store.new.seats.items i (λ seat. seat.node))) }
+        ensures rest { OnOk result (store.new ≡ record store.old { seats = store.new.seats }) }
         ensures why { IfErr result (λ refusal. SaysDown refusal → ⊥) }
     {
         for at in 0..self.windows.len() {
@@ -184,6 +189,8 @@ impl Windows {
         requires { at < vec_len self.old.windows }
         ensures live { OnOk result (IsLive K.is_honest (found store.new.seats.items at (λ seat. seat.node)) (window_in self.new at)) }
         ensures of { IsOf store.old.schema at (window_in self.old at) → IsOf store.old.schema at (window_in self.new at) }
+        ensures kept { OnOk result ((i : ℕ) → IsKept K.is_honest (found store.old.seats.items i (λ seat. seat.node)) (found store.new.seats.items i (λ seat. seat.node))) }
+        ensures rest { OnOk result (store.new ≡ record store.old { seats = store.new.seats }) }
         ensures why { IfErr result (λ refusal. SaysDown refusal → ⊥) }
         ensures others { (i : ℕ) → i ≢ at → window_in self.new i ≡ window_in self.old i }
         ensures same { (vec_len self.new.windows ≡ vec_len self.old.windows) × (self.new.last ≡ self.old.last) }
@@ -221,6 +228,8 @@ impl Windows {
         requires { at < vec_len self.old.windows }
         ensures live { OnOk result (IsLive K.is_honest (found store.new.seats.items at (λ seat. seat.node)) (window_in self.new at)) }
         ensures of { IsOf store.old.schema at (window_in self.old at) → IsOf store.old.schema at (window_in self.new at) }
+        ensures kept { OnOk result ((i : ℕ) → IsKept K.is_honest (found store.old.seats.items i (λ seat. seat.node)) (found store.new.seats.items i (λ seat. seat.node))) }
+        ensures rest { OnOk result (store.new ≡ record store.old { seats = store.new.seats }) }
         ensures why { IfErr result (λ refusal. SaysDown refusal → ⊥) }
         ensures others { (i : ℕ) → i ≢ at → window_in self.new i ≡ window_in self.old i }
         ensures same { (vec_len self.new.windows ≡ vec_len self.old.windows) × (self.new.last ≡ self.old.last) }
@@ -263,6 +272,8 @@ impl Windows {
         ensures down { IfErr result (λ refusal. SaysDown refusal → (member ≡ 0) ⊎ (length self.old.windows.items < member) ⊎ ForSome (found store.new.seats.items (member - 1) (λ seat. seat.node)) (λ n. IsDown K.is_honest n)) }
         ensures life { AreOf store.old.schema self.old → IfOk result (λ v. (schema_seen v ≡ store.old.schema) × ((name_seen v).node ≡ member)) }
         ensures of { AreOf store.old.schema self.old → AreOf store.old.schema self.new }
+        ensures kept { OnOk result ((i : ℕ) → IsKept K.is_honest (found store.old.seats.items i (λ seat. seat.node)) (found store.new.seats.items i (λ seat. seat.node))) }
+        ensures rest { OnOk result (store.new ≡ record store.old { seats = store.new.seats }) }
         ensures others { (i : ℕ) → i ≢ member - 1 → window_in self.new i ≡ window_in self.old i }
     {
         let at = self.place_of(member)?;

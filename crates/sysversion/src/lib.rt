@@ -4,6 +4,7 @@
 pub mod key_versions;
 pub mod lists;
 mod reached;
+mod refused;
 pub mod table;
 pub mod version;
 mod version_list;

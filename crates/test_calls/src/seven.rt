@@ -6,10 +6,10 @@ ghost use Rattle.keep.specs.Log.{IsLog};
 
 use crate::held::Door;
 use crate::stored::SCHEMA;
-use auditor::{Recorded, audit};
+use auditor::judge;
 use fault::{Refusal, Text};
-use flight::flight::{Recorded as Answered, Version};
 use flight::life::Life;
+use flight::{Answered, Records, Version};
 use keep::{MemImage, MemKeeper};
 use lines::line::Line;
 use live::driver::{Driver, stations};
@@ -54,7 +54,6 @@ const QUESTIONS: [&str; 4] = [
 // A view of a node, and the question that it is asked.
 #[derive(Drop)]
 struct Asker {
-    node: Member,
     station: Station,
     question: Text,
 }
@@ -100,14 +99,10 @@ impl Asker {
 }
 
 // An asker with this view of a node.
-fn asker_with(alloc: Global, node: Member, view: View, question: Text) -> Asker {
+fn asker_with(alloc: Global, view: View, question: Text) -> Asker {
     let mut station = Station::new(alloc, 0);
     station.view = Some(view);
-    Asker {
-        node,
-        station,
-        question,
-    }
+    Asker { station, question }
 }
 
 // An asker of a node.
@@ -120,10 +115,10 @@ fn asker_of<R: Wait>(
 ) -> Result<Asker, Refusal> {
     let question = Text::new(alloc, question)?;
     let view = cluster.view(rt, node)?;
-    Ok(asker_with(alloc, node, view, question))
+    Ok(asker_with(alloc, view, question))
 }
 
-// Askers of the first four nodes.
+// Askers of the first four nodes, in their order.
 fn askers<R: Wait>(rt: &R, alloc: Global, cluster: &Cluster) -> Result<Vec<Asker>, Refusal> {
     let mut askers = Vec::new(alloc);
     let mut node: Member = 0;
@@ -198,42 +193,17 @@ fn play_and_ask<R: Threads + Wait + Clock + Sync>(
     (played, asked)
 }
 
-// An answer of this node.
-fn recorded_at(node: Member, answered: Answered) -> Recorded {
-    Recorded {
-        node,
-        mark: answered.mark,
-        query: answered.query,
-        answer: answered.answer,
-    }
-}
-
-// Adds answers of this node.
-fn add_answers(
-    node: Member,
-    answers: Vec<Answered>,
-    recorded: &mut Vec<Recorded>,
-) -> Result<(), AllocError> {
-    for answered in answers {
-        recorded.push(recorded_at(node, answered))?;
-    }
-    Ok(())
-}
-
-// Which node an asker asked, and what it was answered.
-fn answers_of(asker: Asker) -> (Member, Vec<Answered>) {
-    let Asker { node, station, .. } = asker;
-    (node, station.answers)
-}
-
-// What the askers were answered, each at its node.
-fn recorded(alloc: Global, asked: Vec<Result<Asker, Refusal>>) -> Result<Vec<Recorded>, Refusal> {
-    let mut recorded = Vec::new(alloc);
+// What the askers were answered, node by node.
+fn answers_of(
+    alloc: Global,
+    asked: Vec<Result<Asker, Refusal>>,
+) -> Result<Vec<Vec<Answered>>, Refusal> {
+    let mut answers = Vec::new(alloc);
     for asker in asked {
-        let (node, answers) = answers_of(asker?);
-        add_answers(node, answers, &mut recorded)?;
+        let Asker { station, .. } = asker?;
+        answers.push(station.answers)?;
     }
-    Ok(recorded)
+    Ok(answers)
 }
 
 // A store without anything, for each of seven members.
@@ -269,7 +239,7 @@ fn start_seven<R: Wait + Threads + Copy + Send + Drop + 'static>(
 
 // What the threads leave.
 #[derive(Drop)]
-struct Flown {
+struct Ended {
     lives: Vec<Vec<Life>>,
     played: Result<(), Refusal>,
     asked: Asked,
@@ -282,11 +252,11 @@ fn fly<R: Threads + Wait + Clock + Sync>(
     mut driver: Driver,
     lines: &[Line],
     askers: Vec<Asker>,
-) -> Flown {
+) -> Ended {
     let (played, asked) = play_and_ask(rt, &mut driver, lines, schema, askers);
     let (cluster, _stations) = driver.into_parts();
     let ended = cluster.stop(rt);
-    Flown {
+    Ended {
         lives: ended.lives,
         played,
         asked,
@@ -298,7 +268,7 @@ fn take_off<R: Threads + Wait + Clock + Copy + Send + Sync + Drop + 'static>(
     rt: &R,
     alloc: Global,
     schema: &Schema,
-) -> Result<Flown, Fail> {
+) -> Result<Ended, Fail> {
     let lines = script(alloc)?;
     let tables = schema.clone()?;
     let stations = stations(alloc, 7, SEED)?;
@@ -337,25 +307,19 @@ fn steps_in(lives: &[Life]) -> usize {
 }
 
 // Each takes its packets, and all that was answered is what the lives replay to.
-fn judge(
-    rt: &impl Abort,
-    alloc: Global,
-    schema: &Schema,
-    lives: &[Vec<Life>],
-    answers: &[Recorded],
-) {
-    assert_eq!(rt; lives.len(), 7);
-    for node in lives {
+fn check(rt: &impl Abort, alloc: Global, schema: &Schema, records: &Records) {
+    assert_eq!(rt; records.lives.len(), 7);
+    for node in &records.lives {
         assert!(rt; steps_in(node) >= PACKETS);
     }
-    assert!(rt; audit(alloc, Version::Three, schema, lives, answers).is_ok());
+    assert!(rt; judge(alloc, Version::Three, schema, records).is_ok());
 }
 
 #[test]
 fn seven_in_bad_weather(rt: HostRuntime) -> Result<(), Fail> {
     let alloc = rt.alloc();
     let schema = read_schema(alloc, SCHEMA)?;
-    let Flown {
+    let Ended {
         lives,
         played,
         asked,
@@ -363,7 +327,8 @@ fn seven_in_bad_weather(rt: HostRuntime) -> Result<(), Fail> {
     played?;
     let asked = asked?;
     assert!(rt; are_answered(&asked));
-    let answers = recorded(alloc, asked)?;
-    judge(&rt, alloc, &schema, &lives, &answers);
+    let answers = answers_of(alloc, asked)?;
+    let records = Records { lives, answers };
+    check(&rt, alloc, &schema, &records);
     Ok(())
 }

@@ -1,14 +1,13 @@
 //! A group's flight files, and what is said of them where one is another.
 use anyhow::{Result, bail};
-use auditor::{AuditFault, Recorded as Judged, audit};
+use auditor::{AuditFault, judge};
 use causes::{Found, find_heading};
 use fault::Refusal;
-use flight::life::Life;
-use flight::{Flight, Recorded, Version};
+use flight::{Flight, Records, Version};
 use flightread::read_flight;
 use schema::Schema;
 use schemaread::schemas::read_schema;
-use std::alloc::{AllocError, Global};
+use std::alloc::Global;
 use std::fs;
 use std::rt::Files;
 
@@ -109,19 +108,18 @@ pub fn judge_all(alloc: Global, texts: &[&str]) -> Result<Verdict> {
         bail!("there is no file");
     };
     let first = read_flight(alloc, text)?;
-    let mut lives = Vec::new(alloc);
-    let mut answers = Vec::new(alloc);
+    let mut flights = Vec::new(alloc);
     for (at, text) in texts.iter().enumerate() {
         let flight = read_flight(alloc, text)?;
         let node = at.saturating_add(1);
         if flight.node != node || flight.members != texts.len() || !are_alike(&flight, &first) {
             return Ok(Verdict::NoGroup);
         }
-        add_answers(&mut answers, node, &flight.answers)?;
-        lives.push(flight.lives)?;
+        flights.push(flight)?;
     }
     let tables = read_schema(alloc, first.schema.as_str())?;
-    verdict_of(alloc, first.version, &tables, &lives, &answers)
+    let records = Records::of(alloc, flights)?;
+    verdict_of(alloc, first.version, &tables, &records)
 }
 
 fn are_alike(one: &Flight, other: &Flight) -> bool {
@@ -133,35 +131,17 @@ fn verdict_of(
     alloc: Global,
     version: Version,
     tables: &Schema,
-    lives: &[Vec<Life>],
-    answers: &[Judged],
+    records: &Records,
 ) -> Result<Verdict> {
-    if lives.len() < 3 || lives.len() > 7 {
+    if records.lives.len() < 3 || records.lives.len() > 7 {
         bail!("a group has 3 to 7 nodes");
     }
-    match audit(alloc, version, tables, lives, answers) {
-        Ok(_) => Ok(Verdict::Yes),
+    match judge(alloc, version, tables, records) {
+        Ok(()) => Ok(Verdict::Yes),
         Err(AuditFault::Broken { .. }) => Ok(Verdict::Broken),
         Err(AuditFault::Unsent { .. }) => Ok(Verdict::Unsent),
         Err(AuditFault::OutOfOrder { .. }) => Ok(Verdict::Unordered),
         Err(AuditFault::Wrong { .. }) => Ok(Verdict::Wrong),
         Err(AuditFault::NoMemory) => bail!("there is no memory"),
     }
-}
-
-// The answers of a node, as an audit takes them.
-fn add_answers(
-    judged: &mut Vec<Judged>,
-    node: usize,
-    answers: &[Recorded],
-) -> Result<(), AllocError> {
-    for answer in answers {
-        judged.push(Judged {
-            node,
-            mark: answer.mark,
-            query: answer.query.clone()?,
-            answer: answer.answer.clone()?,
-        })?;
-    }
-    Ok(())
 }

@@ -8,7 +8,7 @@ use crate::printed::{Told, hear, read_told};
 use crate::seals::Seals;
 use crate::staff::STAFF;
 use anyhow::{Result, bail, ensure};
-use lines::line::{Job, Line, read_line};
+use lines::line::{Line, TornJob, read_line};
 use schema::Schema;
 use schemaread::schemas::read_schema;
 use script::player::Player;
@@ -202,7 +202,7 @@ impl Group {
             Line::Deliver { message } => self.known.place_of(*message),
             Line::Torn {
                 node,
-                job: Job::Deliver { message },
+                job: TornJob::Deliver { message },
                 ..
             } => {
                 let place = self.known.place_of(*message)?;

@@ -5,3 +5,4 @@ pub mod Parts
 pub mod Seeing
 pub mod Appending
 pub mod Staying
+mod Refusing

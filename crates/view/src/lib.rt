@@ -4,6 +4,7 @@
 pub mod laws;
 mod published;
 pub mod publisher;
+mod refused;
 mod replay;
 mod rule;
 pub mod told;

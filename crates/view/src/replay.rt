@@ -129,7 +129,7 @@ impl Replay {
     }
 
     // The closed time of what was taken in.
-    fn closed(&self) -> Option<Stamp>
+    pub(crate) fn closed(&self) -> Option<Stamp>
         requires { is_failed self.now.tables ≡ false }
         ensures { result ≡ closed_in self.now.front.seen.log }
     {

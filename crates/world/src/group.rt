@@ -174,7 +174,7 @@ impl Group {
 
     /// Cuts a step of a member short. Nothing comes of it where the member is down or not there, or
     /// where no such message was sent to it.
-    fn tear(&mut self, member: Member, job: &Job, left: Left) -> Result<(), AllocError>
+    pub(crate) fn tear(&mut self, member: Member, job: &Job, left: Left) -> Result<(), AllocError>
         requires group { IsGroup self.old.schema self.old.members self.old.seats.items }
         ensures group { OnOk result (IsGroup self.old.schema self.old.members self.new.seats.items) }
         ensures world { OnOk result (world_of self.new ≡ happens (language_of self.old.schema) self.old.members (world_of self.old) (Torn member job.now left)) }

@@ -7,6 +7,7 @@ pub mod history;
 pub mod laws;
 pub mod output;
 mod outset;
+mod refused;
 mod seat;
 
 pub use node::durable::StoredState;

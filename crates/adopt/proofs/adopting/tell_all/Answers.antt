@@ -1,7 +1,7 @@
 use Rattle.std.proofs.Common.{rules, ◌≡◌, ◌∙◌, ◌+◌, ◌<◌, List, [], ◌∷◌, ◌++◌, take, length, ap, sym, subst}
 use Rattle.std.specs.Prelude.{IfErr}
 use Rattle.std.proofs.lemmas.List.{take_more}
-use Rattle.moments.specs.Behind.{Records, IsBehind}
+use Rattle.moments.specs.Behind.{Evidence, IsBehind}
 use Rattle.moments.specs.Faults.{IsFaultAt, IsNo, Lacks}
 use Rattle.moments.specs.View.{past_of}
 use Rattle.moments.specs.declared.moment.Moment.{Moment}
@@ -28,6 +28,6 @@ returns-in_err-tell-clause-fault c =
     let m = c.moment-item.result in
     let cur = c.loop-moment.telling in
     let within : i < length ms = search rules in
-    let r : Records = record { version = c.args.version; tables = tables_in cur.replay.world; lives = c.args.lives.now; answers = c.args.answers.now } in
+    let r : Evidence = record { version = c.args.version; tables = tables_in cur.replay.world; lives = c.args.lives.now; answers = c.args.answers.now } in
     let said : IfErr c.from_residual.result (IsNo (Lacks (IsFaultAt c.args.lives.now (past_of cur.replay) m) (IsBehind r (members_in cur.replay.world) (past_of cur.replay) m))) = search rules in
     stuck_if c.args.version c.args.lives.now c.args.answers.now c.args.telling.now cur ms i m c.from_residual.result c.loop-moment.invariant within c.moment-item.is said

@@ -1,6 +1,6 @@
 use Rattle.std.proofs.Common.{rules, ◌≡◌, ◌∙◌, ◌+◌, ◌<◌, List, [], ◌∷◌, ◌++◌, take, length, ap, sym, subst, refl, append-nil}
 use Rattle.std.specs.Prelude.{IfErr}
-use Rattle.moments.specs.Behind.{Records, IsBehind}
+use Rattle.moments.specs.Behind.{Evidence, IsBehind}
 use Rattle.moments.specs.Faults.{IsFaultAt, IsNo, Lacks}
 use Rattle.std.proofs.lemmas.List.{take_more}
 use Rattle.model.specs.Worlds.{Event}
@@ -34,6 +34,6 @@ returns-in_err-follow-clause-fault c =
     let cur = c.loop-moment.replay in
     let within : i < length ms = search rules in
     let inv = c.loop-moment.invariant in
-    let r : Records = record { version = c.args.version; tables = tables_in cur.world; lives = c.args.lives.now; answers = c.args.answers.now } in
+    let r : Evidence = record { version = c.args.version; tables = tables_in cur.world; lives = c.args.lives.now; answers = c.args.answers.now } in
     let said : IfErr c.from_residual.result (IsNo (Lacks (IsFaultAt c.args.lives.now (past_of cur) m) (IsBehind r (members_in cur.world) (past_of cur) m))) = search rules in
     stuck_if c.args.version c.args.lives.now c.args.answers.now c.args.replay.now cur ms i m inv.0 c.from_residual.result inv.1 within c.moment-item.is said

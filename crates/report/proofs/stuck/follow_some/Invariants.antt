@@ -7,5 +7,5 @@ abbrev pub invariant-loop-moment : goal.invariant-loop-moment
 invariant-loop-moment l = record {
   count : l.followed ≡ l.moment-index;
   live : IsLive l.replay;
-  tables : l.records.schema.now ≡ tables_in l.replay.world;
+  tables : l.evidence.schema.now ≡ tables_in l.replay.world;
 }

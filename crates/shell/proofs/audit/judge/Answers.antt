@@ -4,10 +4,10 @@ use Rattle.shell.proofs.audit.judge.Goals as goal
 
 pub returns-clause-said : goal.returns-clause-said
 returns-clause-said c =
-    let flown = c.in_ok-version.flown in
-    judged_said c.audit_line.result (map string_bytes c.args.texts.now) c.in_ok-version.version c.in_ok-version.schema flown.lives.items flown.answers.items c.in_ok-version.ensures.ok c.audit_line.ensures.said
+    let records = c.in_ok-version.records in
+    judged_said c.audit_line.result (map string_bytes c.args.texts.now) c.in_ok-version.version c.in_ok-version.schema records.lives.items records.answers.items c.in_ok-version.ensures.ok c.audit_line.ensures.said
 
 pub returns-clause-err : goal.returns-clause-err
 returns-clause-err c =
-    let flown = c.in_ok-version.flown in
-    never_another_group c.audit_line.result (map string_bytes c.args.texts.now) c.in_ok-version.version c.in_ok-version.schema flown.lives.items flown.answers.items c.in_ok-version.ensures.ok c.audit_line.ensures.err
+    let records = c.in_ok-version.records in
+    never_another_group c.audit_line.result (map string_bytes c.args.texts.now) c.in_ok-version.version c.in_ok-version.schema records.lives.items records.answers.items c.in_ok-version.ensures.ok c.audit_line.ensures.err

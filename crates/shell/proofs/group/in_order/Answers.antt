@@ -3,14 +3,14 @@ use Rattle.std.specs.Prelude.{IsPermutation, slice_index_or}
 use Rattle.std.specs.List.{All}
 use Rattle.std.proofs.lemmas.List.{length_push}
 use Rattle.std.proofs.lemmas.List.Sorted.{IsPermutation-swap_remove, length_permutation}
-use Rattle.flight.specs.declared.flight.Flight.{Flight as Flown}
+use Rattle.flight.specs.declared.flight.Flight.{Flight as Held}
 use Rattle.shell.proofs.Groups.{lacks_node, in_order_more, taken, none_left}
 use Rattle.shell.proofs.group.in_order.Goals as goal
 
 pub returns-in_default-clause-err : goal.returns-in_default-clause-err
 returns-in_default-clause-err c =
     let inv = c.loop-at.invariant in
-    let none : All (λ (f : Flown). f.node ≢ c.loop-at.at + 1) c.loop-at.left.items = rw c.deref.ensures.value at c.in_default.ensures in
+    let none : All (λ (f : Held). f.node ≢ c.loop-at.at + 1) c.loop-at.left.items = rw c.deref.ensures.value at c.in_default.ensures in
     inr (refl, lacks_node c.args.flights.items c.loop-at.ordered.items c.loop-at.left.items c.loop-at.at inv.moved inv.ordered inv.count (search rules) none)
 
 pub loop-at-preserved : goal.loop-at-preserved
@@ -19,9 +19,9 @@ loop-at-preserved c =
     let left = c.loop-at.left.items in
     let done = c.loop-at.ordered.items in
     let place = c.in-Some.place in
-    let x : Flown = c.swap_remove.result in
-    let found : (place < length left) × ((d : Flown) → (slice_index_or left place d).node ≡ c.loop-at.at + 1) = rw c.deref.ensures.value at c.in-Some.ensures in
-    let its : x.node ≡ c.loop-at.at + 1 = ap (λ (f : Flown). f.node) c.swap_remove.ensures.value ∙ found.1 x in
+    let x : Held = c.swap_remove.result in
+    let found : (place < length left) × ((d : Held) → (slice_index_or left place d).node ≡ c.loop-at.at + 1) = rw c.deref.ensures.value at c.in-Some.ensures in
+    let its : x.node ≡ c.loop-at.at + 1 = ap (λ (f : Held). f.node) c.swap_remove.ensures.value ∙ found.1 x in
     let moved : IsPermutation c.args.flights.items ((done ++ x ∷ []) ++ c.swap_remove.new.self.items) =
     taken c.args.flights.items done left c.swap_remove.new.self.items place x inv.moved found.0 c.swap_remove.ensures.value (rw c.swap_remove.ensures.items (IsPermutation-swap_remove left place x found.0 c.swap_remove.ensures.value)) in
     rw c.in_ok-push.ensures.items (record {

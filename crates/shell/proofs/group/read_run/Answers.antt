@@ -5,5 +5,5 @@ use Rattle.shell.proofs.group.read_run.Goals as goal
 
 pub returns-clause-ok : goal.returns-clause-ok
 returns-clause-ok c =
-    let run = c.in_ok-run_of.field-0 in
-    (map in_flight c.in_ok-version.flights.items, c.in_ok-version.ensures.ok, held c.in_ok-version.flights.items run.lives.items run.answers.items c.in_ok-run_of.ensures.lives c.in_ok-run_of.ensures.answers)
+    let run = c.in_ok-of.field-0 in
+    (map in_flight c.in_ok-version.flights.items, c.in_ok-version.ensures.ok, held c.in_ok-version.flights.items run.lives.items run.answers.items c.in_ok-of.ensures.lives c.in_ok-of.ensures.answers)

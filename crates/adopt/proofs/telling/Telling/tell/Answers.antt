@@ -1,6 +1,6 @@
 use Rattle.std.proofs.Common.{rules, refl, ap, length}
 use Rattle.std.specs.Prelude.{IfErr}
-use Rattle.moments.specs.Behind.{Records, IsBehind}
+use Rattle.moments.specs.Behind.{Evidence, IsBehind}
 use Rattle.moments.specs.Faults.{IsFaultAt, IsNo, Lacks}
 use Rattle.moments.specs.View.{past_of}
 use Rattle.world.specs.Run.{tables_in, members_in}
@@ -12,7 +12,7 @@ pub returns-in_err-follow-clause-fault : goal.returns-in_err-follow-clause-fault
 returns-in_err-follow-clause-fault c =
     let m = c.args.moment.now in
     let one = c.stored_before.new.self in
-    let r : Records = record { version = c.args.version; tables = tables_in one.replay.world; lives = c.args.lives.now; answers = c.args.answers.now } in
+    let r : Evidence = record { version = c.args.version; tables = tables_in one.replay.world; lives = c.args.lives.now; answers = c.args.answers.now } in
     let said : IfErr c.from_residual-in_err-follow.result (IsNo (Lacks (IsFaultAt c.args.lives.now (past_of one.replay) m) (IsBehind r (members_in one.replay.world) (past_of one.replay) m))) = search rules in
     same_fault c.from_residual-in_err-follow.result c.args.version c.args.lives.now c.args.answers.now c.args.self.now.replay one.replay m c.in_ok-before.ensures.same.run said
 

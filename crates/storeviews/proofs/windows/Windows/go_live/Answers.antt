@@ -1,4 +1,4 @@
-use Rattle.std.proofs.Common.{sym, subst}
+use Rattle.std.proofs.Common.{sym, ap, subst}
 use Rattle.sqlchecks.specs.Columns.{Tables}
 use Rattle.store.specs.Applied.{found}
 use Rattle.storeviews.specs.Showing.{window_in, IsOf}
@@ -19,5 +19,5 @@ pub returns-clause-of : goal.returns-clause-of
 returns-clause-of g c of =
     let at = c.args.at in
     let before = of_later c.args.store.now.schema at (window_in c.args.self.now at) (window_in c.bring.new.self at) c.bring.ensures.later of in
-    let same = c.in_ok-bring.ensures.tables in
+    let same = ap (λ store. store.schema) c.in_ok-bring.ensures.rest in
     subst (λ (tables : Tables). IsOf tables at (window_in c.begin.new.self at)) same (c.begin.ensures.of (subst (λ (tables : Tables). IsOf tables at (window_in c.bring.new.self at)) (sym same) before))

@@ -1,0 +1,4 @@
+mod Checked
+mod Spelled
+mod SchemasSame
+mod QuestionsSame
