@@ -85,7 +85,24 @@ fn judge(rt: &HostRuntime, asked: &Audit<'_>) -> ExitCode {
         Some(name) if is_folder(rt, name) => {
             end_store(rt, console::run(rt, StoreCommand::Audit(name)))
         }
-        _ => end(rt, audit(rt, rt, asked)),
+        _ => {
+            let status = end(rt, audit(rt, rt, asked));
+            hint_at_flights(rt, asked);
+            status
+        }
+    }
+}
+
+// Below what an audit of flights says of a folder: how a store's flights are had.
+fn hint_at_flights(rt: &HostRuntime, asked: &Audit<'_>) {
+    let [name] = asked.files.as_slice() else {
+        return;
+    };
+    let name = *name;
+    if is_folder(rt, name) {
+        let _ = eprintln!(*rt;
+            "        bitable flights {name} OUT writes the flights of a store: these have a report."
+        );
     }
 }
 

@@ -1,6 +1,7 @@
 //! How much room the log of a store has left.
-ghost use Rattle.std.specs.Prelude.{◌≤◌, ◌<◌, MatchBool};
+ghost use Rattle.std.specs.Prelude.{◌+◌, ◌≤◌, ◌<◌, MatchBool};
 
+use fault::Refusal;
 use model::message::LOG_ROOM;
 use std::alloc::{AllocError, Global};
 use store::announcing::Announces;
@@ -12,6 +13,10 @@ pub(crate) const NEARLY_FULL: usize = 90_000;
 
 // After how many entries more it is told of again.
 const AGAIN: usize = 1_000;
+
+// How many entries of a log are for requests. The rest is for openings, each of which adds one: without room for it nothing that is there
+// could be asked again.
+const FOR_REQUESTS: usize = 99_000;
 
 // How many entries the longest log has of those that are up.
 fn most_entries(all: &[Status]) -> usize {
@@ -28,11 +33,34 @@ fn is_nearly_full(entries: usize) -> bool
 // How much of a log is full.
 fn put_room(entries: usize, text: &mut String) -> Result<(), AllocError> {
     write!(text, "the log has {entries} of its {LOG_ROOM} entries")?;
-    text.push_str(if entries < LOG_ROOM {
-        ": once it is full, requests are refused\n"
+    if entries < FOR_REQUESTS {
+        write!(text, ": from {FOR_REQUESTS} on requests are refused\n")
     } else {
-        ": requests are refused\n"
-    })
+        text.push_str(": requests are refused, the rest is for openings\n")
+    }
+}
+
+// Whether a log with so many entries has room for so many requests.
+fn has_room(entries: usize, requests: usize) -> bool
+    ensures { MatchBool result (entries + requests ≤ 99000) (99000 < entries + requests) }
+{
+    entries <= FOR_REQUESTS && requests <= FOR_REQUESTS - entries
+}
+
+/// Refuses so many requests where a store's log has no room for them: 36. Its last thousand entries are for openings.
+pub(crate) fn check_room<K: Announces>(
+    store: &Store<K>,
+    requests: usize,
+) -> Result<(), StoreRefusal>
+where
+    K::Image: Drop,
+{
+    let all = store.status()?;
+    if has_room(most_entries(all.as_slice()), requests) {
+        Ok(())
+    } else {
+        Err(StoreRefusal::Refused(Refusal::LogFull))
+    }
 }
 
 /// Below the table of `.status`: how much of a log is full; nothing before nine tenths are.

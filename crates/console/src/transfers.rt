@@ -1,5 +1,5 @@
 //! Imports and exports over a store's folder.
-use crate::room::{NEARLY_FULL, warn_of_room};
+use crate::room::{NEARLY_FULL, check_room, warn_of_room};
 use progressline::{Progress, ProgressLine};
 use sqlite::Alter;
 use std::alloc::Global;
@@ -23,7 +23,8 @@ fn work_of<'a>(
     look_at(rt, alloc, order, &folder.form.schema)
 }
 
-// Does it with a store that is open, and says where its log is nearly full: what came of it, and the store.
+// Does it with a store that is open, and says where its log is nearly full: what came of it, and the store. 36 where the log has no room
+// for all of an import.
 fn work_at<S: Alter + Drop, J: Device, Q: Progress>(
     rt: &HostRuntime,
     alloc: Global,
@@ -33,6 +34,11 @@ fn work_at<S: Alter + Drop, J: Device, Q: Progress>(
     progress: &Q,
 ) -> (Result<u8, Fault>, Opened<Kept<S, J>>) {
     let mut opened = opened;
+    if let Work::Import(_, requests) = work {
+        if let Err(refusal) = check_room(&opened.store, requests.len()) {
+            return (Err(Fault::from(refusal)), opened);
+        }
+    }
     let done = work_on(rt, alloc, work, reading, &mut opened.store, progress);
     let _ = warn_of_room(rt, alloc, &opened.store, NEARLY_FULL);
     (done, opened)
