@@ -52,9 +52,10 @@ def number(value):
 class Page:
     """What stands on a page."""
 
-    def __init__(self, title, description, size, rules=""):
+    def __init__(self, title, description, size, rules="", more=None):
+        """`more` are colours of this page alone."""
         def colours(which):
-            return "svg{" + "".join(f"--{name}:{both[which]};" for name, both in COLOURS.items()) + "}"
+            return "svg{" + "".join(f"--{name}:{both[which]};" for name, both in (COLOURS | (more or {})).items()) + "}"
 
         width, height = map(number, size)
         self.parts = [

@@ -18,7 +18,7 @@ use std::{env, fs};
 use store::announcing::Announces;
 use store::{Device, StoreRefusal};
 use storecommands::{Command, ExportRows, ImportRows, NewStore, OpenStore};
-use storefolder::{Audited, Kept, Opened, Verdict, reading_of};
+use storefolder::{Audited, Kept, Later, Opened, Verdict, reading_of};
 use transfer::{Export, Import, Order, Versions};
 
 // How many columns a terminal has, where nothing tells.
@@ -240,14 +240,37 @@ fn run_open<'a>(rt: &HostRuntime, alloc: Global, open: OpenStore<'a>) -> Result<
 fn yes_lines(alloc: Global, audited: &Audited) -> Result<String, AllocError> {
     let mut text = String::new(alloc);
     put_missing(audited.missing.as_slice(), &mut text)?;
-    let sessions = audited.sessions;
-    let requests = audited.requests;
     let members = audited.records.lives.len();
+    put_counts(audited.sessions, audited.requests, members, &mut text)?;
+    text.push_str("audit: yes\n")?;
+    Ok(text)
+}
+
+// The same where the first journals are away.
+fn later_lines(alloc: Global, later: &Later) -> Result<String, AllocError> {
+    let mut text = String::new(alloc);
+    put_missing(later.missing.as_slice(), &mut text)?;
+    put_counts(later.sessions, later.requests, later.members, &mut text)?;
+    let journal = later.journal;
+    let before = journal.saturating_sub(1);
     write!(
         text,
-        "sessions {sessions}, requests {requests}, members {members}: each database is what the journals give\naudit: yes\n"
+        "audit: yes, from journal {journal} on; it rests on what journal {before} left\n"
     )?;
     Ok(text)
+}
+
+// How many journals were played, and what came of them.
+fn put_counts(
+    sessions: u64,
+    requests: u64,
+    members: usize,
+    text: &mut String,
+) -> Result<(), AllocError> {
+    write!(
+        text,
+        "sessions {sessions}, requests {requests}, members {members}: each database is what the journals give\n"
+    )
 }
 
 fn put_missing(missing: &[Member], text: &mut String) -> Result<(), AllocError> {
@@ -263,6 +286,11 @@ fn run_audit(rt: &HostRuntime, alloc: Global, dir: &str) -> Result<u8, Fault> {
     match storefolder::audit(rt, alloc, dir, &progress_on(rt))? {
         Verdict::Yes(audited) => {
             let lines = yes_lines(alloc, &audited)?;
+            print(rt, lines.as_str())?;
+            Ok(0)
+        }
+        Verdict::Later(later) => {
+            let lines = later_lines(alloc, &later)?;
             print(rt, lines.as_str())?;
             Ok(0)
         }

@@ -71,7 +71,7 @@ where
 
     fn show_status(&self, rt: &HostRuntime) -> Result<(), Fault> {
         let all = self.store.status()?;
-        let lines = status_lines(self.alloc, all.as_slice())?;
+        let lines = status_lines(self.alloc, all.as_slice(), self.store.room())?;
         print(rt, lines.as_str())
     }
 

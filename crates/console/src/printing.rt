@@ -11,7 +11,7 @@ use std::io;
 use std::io::Write;
 use store::announcing::Announces;
 use store::status::{Standing, Status};
-use store::{Store, StoreRefusal};
+use store::{Room, Store, StoreRefusal};
 use storefolder::Found;
 
 // How many columns an instant has.
@@ -184,7 +184,11 @@ fn put_status(status: &Status, text: &mut String) -> Result<(), AllocError> {
 }
 
 /// How the members stand, as a table; below it how much of the log is full, once nine tenths are.
-pub(crate) fn status_lines(alloc: Global, all: &[Status]) -> Result<String, AllocError> {
+pub(crate) fn status_lines(
+    alloc: Global,
+    all: &[Status],
+    room: Room,
+) -> Result<String, AllocError> {
     let mut text = String::from_str(
         alloc,
         "member           term  entries  applied  time is closed to\n",
@@ -193,6 +197,6 @@ pub(crate) fn status_lines(alloc: Global, all: &[Status]) -> Result<String, Allo
     for status in all {
         put_status(status, &mut text)?;
     }
-    put_room_left(all, &mut text)?;
+    put_room_left(room, &mut text)?;
     Ok(text)
 }

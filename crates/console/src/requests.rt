@@ -1,7 +1,6 @@
 //! Requests and questions of a sitting.
 use crate::outputs::{shown_answer, shown_outcome};
 use crate::printing::{print, print_bytes};
-use crate::room::check_room;
 use crate::session::Session;
 use crate::stop::Fault;
 use diagnosis::{fault_in_question, fault_in_request};
@@ -57,9 +56,6 @@ where
         text: &str,
     ) -> Result<(), Fault> {
         let reading = self.reading(rt)?;
-        if let Err(refusal) = check_room(&self.store, 1) {
-            return self.refuse(rt, "", refusal);
-        }
         match self.store.submit(reading, client, number, text) {
             Ok(outcome) => self.show_outcome(rt, client, number, outcome, text),
             Err(refusal) => self.refuse(rt, "", refusal),
@@ -72,9 +68,6 @@ where
         let Some(client) = Client::new(OWN_CLIENT) else {
             return Ok(());
         };
-        if let Err(refusal) = check_room(&self.store, 1) {
-            return self.refuse(rt, "", refusal);
-        }
         match self.store.execute(reading, text) {
             Ok((number, outcome)) => self.show_outcome(rt, client, number, outcome, text),
             Err(refusal) => self.refuse(rt, "", refusal),

@@ -1,73 +1,27 @@
-//! How much room the log of a store has left.
-ghost use Rattle.std.specs.Prelude.{◌+◌, ◌≤◌, ◌<◌, MatchBool};
-
-use fault::Refusal;
-use model::message::LOG_ROOM;
+//! What is said of a store's log that is nearly full.
 use std::alloc::{AllocError, Global};
 use store::announcing::Announces;
-use store::status::Status;
-use store::{Store, StoreRefusal};
-
-/// How many entries a log has as its end is first told of: nine tenths of its room.
-pub(crate) const NEARLY_FULL: usize = 90_000;
+use store::room::FOR_REQUESTS;
+use store::{Room, Store, StoreRefusal};
 
 // After how many entries more it is told of again.
 const AGAIN: usize = 1_000;
 
-// How many entries of a log are for requests. The rest is for openings, each of which adds one: without room for it nothing that is there
-// could be asked again.
-const FOR_REQUESTS: usize = 99_000;
-
-// How many entries the longest log has of those that are up.
-fn most_entries(all: &[Status]) -> usize {
-    all.iter().map(|status| status.entries).max().unwrap_or(0)
-}
-
-// Whether nine tenths of a log with so many entries are full.
-fn is_nearly_full(entries: usize) -> bool
-    ensures { MatchBool result (90000 ≤ entries) (entries < 90000) }
-{
-    entries >= NEARLY_FULL
-}
-
 // How much of a log is full.
-fn put_room(entries: usize, text: &mut String) -> Result<(), AllocError> {
-    write!(text, "the log has {entries} of its {LOG_ROOM} entries")?;
-    if entries < FOR_REQUESTS {
+fn put_room(room: Room, text: &mut String) -> Result<(), AllocError> {
+    let Room { entries, most } = room;
+    write!(text, "the log has {entries} of its {most} entries")?;
+    if room.takes(1) {
         write!(text, ": from {FOR_REQUESTS} on requests are refused\n")
     } else {
         text.push_str(": requests are refused, the rest is for openings\n")
     }
 }
 
-// Whether a log with so many entries has room for so many requests.
-fn has_room(entries: usize, requests: usize) -> bool
-    ensures { MatchBool result (entries + requests ≤ 99000) (99000 < entries + requests) }
-{
-    entries <= FOR_REQUESTS && requests <= FOR_REQUESTS - entries
-}
-
-/// Refuses so many requests where a store's log has no room for them: 36. Its last thousand entries are for openings.
-pub(crate) fn check_room<K: Announces>(
-    store: &Store<K>,
-    requests: usize,
-) -> Result<(), StoreRefusal>
-where
-    K::Image: Drop,
-{
-    let all = store.status()?;
-    if has_room(most_entries(all.as_slice()), requests) {
-        Ok(())
-    } else {
-        Err(StoreRefusal::Refused(Refusal::LogFull))
-    }
-}
-
 /// Below the table of `.status`: how much of a log is full; nothing before nine tenths are.
-pub(crate) fn put_room_left(all: &[Status], text: &mut String) -> Result<(), AllocError> {
-    let entries = most_entries(all);
-    if is_nearly_full(entries) {
-        put_room(entries, text)?;
+pub(crate) fn put_room_left(room: Room, text: &mut String) -> Result<(), AllocError> {
+    if room.is_nearly_full() {
+        put_room(room, text)?;
     }
     Ok(())
 }
@@ -83,15 +37,14 @@ pub(crate) fn warn_of_room<K: Announces>(
 where
     K::Image: Drop,
 {
-    let all = store.status()?;
-    let entries = most_entries(all.as_slice());
-    if entries < from {
+    let room = store.room();
+    if room.entries < from {
         return Ok(from);
     }
     let mut text = String::new(alloc);
-    put_room(entries, &mut text)?;
+    put_room(room, &mut text)?;
     let _ = eprint!(*rt;
         "{text}        What is there stays to be asked. A new store takes the rows: bitable export, new, import.\n"
     );
-    Ok(entries.saturating_add(AGAIN))
+    Ok(room.entries.saturating_add(AGAIN))
 }

@@ -5,11 +5,12 @@ ghost use Rattle.console.specs.Sittings.{IsOfPrinting};
 
 use crate::outputs::Manner;
 use crate::printing::{banner, name_of, print, refusal_lines, warnings};
-use crate::room::{NEARLY_FULL, warn_of_room};
+use crate::room::warn_of_room;
 use crate::stop::Fault;
 use fault::Refusal;
 use std::alloc::Global;
 use store::announcing::Announces;
+use store::room::NEARLY_FULL;
 use store::{Store, StoreRefusal};
 use storecommands::dot::Form;
 use storefolder::{Found, reading_of};

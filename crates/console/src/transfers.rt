@@ -1,10 +1,12 @@
 //! Imports and exports over a store's folder.
-use crate::room::{NEARLY_FULL, check_room, warn_of_room};
+use crate::room::warn_of_room;
+use fault::Refusal;
 use progressline::{Progress, ProgressLine};
 use sqlite::Alter;
 use std::alloc::Global;
 use std::io::IsTerminal;
 use store::Device;
+use store::room::NEARLY_FULL;
 use storefolder::{Kept, Opened, reading_of};
 use transfer::{Fault, Order, Work, look_at, work_on};
 
@@ -35,8 +37,8 @@ fn work_at<S: Alter + Drop, J: Device, Q: Progress>(
 ) -> (Result<u8, Fault>, Opened<Kept<S, J>>) {
     let mut opened = opened;
     if let Work::Import(_, requests) = work {
-        if let Err(refusal) = check_room(&opened.store, requests.len()) {
-            return (Err(Fault::from(refusal)), opened);
+        if !opened.store.room().takes(requests.len()) {
+            return (Err(Fault::from(Refusal::LogFull)), opened);
         }
     }
     let done = work_on(rt, alloc, work, reading, &mut opened.store, progress);

@@ -2,7 +2,7 @@
 use crate::columns::{Named, look_at_column, look_at_comparison, look_at_period, look_at_table};
 use crate::lists::look_at_row;
 use crate::literals::{look_at_day, look_at_literal, look_at_order, token_count};
-use crate::walk::{Found, Stop, Walk, found_by, wrong};
+use crate::walk::{Found, Stop, Walk, found_by, joined, wrong, wrong_as};
 use fault::Refusal;
 use schema::{Kind, Schema, Table};
 use sqlchecks::column::field_of;
@@ -54,15 +54,17 @@ fn look_at_conditions(
 
 // Why SET can't change a column that begins or ends this period.
 fn of_period(alloc: Global, name: &str, does: &str, period: &str) -> Result<String, AllocError> {
-    [
-        name,
-        does,
-        period,
-        ", which SET can't change.\nFOR PORTION OF ",
-        period,
-        " changes some days; DELETE and INSERT move a row.",
-    ]
-    .concat(alloc)
+    joined(
+        alloc,
+        &[
+            name,
+            does,
+            period,
+            ", which SET can't change.\nFOR PORTION OF ",
+            period,
+            " changes some days; DELETE and INSERT move a row.",
+        ],
+    )
 }
 
 // Why SET can't change the column at this place.
@@ -83,7 +85,7 @@ fn unassignable(
     } else {
         " is of the key, which SET can't change: DELETE and INSERT move a row."
     };
-    [name, why].concat(alloc)
+    joined(alloc, &[name, why])
 }
 
 // Looks at the column that the next token names as one that SET sets behind these.
@@ -96,12 +98,16 @@ fn look_at_set(
     place: usize,
 ) -> Result<(), Stop> {
     if !matches!(field_of(table, place), Some(Field::Value(_))) {
-        let hint = unassignable(alloc, table, place, name)?;
+        let hint = unassignable(alloc, table, place, name);
         return Err(wrong(walk.spot(1), Refusal::NotAssignable, hint));
     }
-    if before.iter().any(|set| *set == place) {
-        let hint = [name, " is set twice."].concat(alloc)?;
-        return Err(wrong(walk.spot(1), Refusal::NotAssignable, hint));
+    if before.contains(&place) {
+        return Err(wrong_as(
+            alloc,
+            walk.spot(1),
+            Refusal::NotAssignable,
+            &[name, " is set twice."],
+        ));
     }
     Ok(())
 }
@@ -121,16 +127,28 @@ fn look_at_changed(
     let (name, other) = names;
     let (place, _) = look_at_column(alloc, named, walk, other)?;
     if place != column.0 {
-        let hint = ["what ", name, " is set to can start from ", name, " alone."].concat(alloc)?;
-        return Err(wrong(walk.spot(1), Refusal::NotAssignable, hint));
+        return Err(wrong_as(
+            alloc,
+            walk.spot(1),
+            Refusal::NotAssignable,
+            &["what ", name, " is set to can start from ", name, " alone."],
+        ));
     }
     if column.1 != Kind::Integer {
-        let hint = [name, " is no INTEGER, and nothing can be added to it."].concat(alloc)?;
-        return Err(wrong(walk.spot(3), Refusal::WrongType, hint));
+        return Err(wrong_as(
+            alloc,
+            walk.spot(3),
+            Refusal::WrongType,
+            &[name, " is no INTEGER, and nothing can be added to it."],
+        ));
     }
-    if !digits.parse::<u64>().is_ok_and(|number| number <= MOST) {
-        let hint = format!(in alloc; "at most {MOST} is added or taken away.")?;
-        return Err(wrong(walk.spot(3), Refusal::OutOfRange, hint));
+    if !matches!(digits.parse::<u64>(), Ok(number) if number <= MOST) {
+        return Err(wrong_as(
+            alloc,
+            walk.spot(3),
+            Refusal::OutOfRange,
+            &["at most 9223372036854775807 is added or taken away."],
+        ));
     }
     Ok(())
 }
@@ -245,7 +263,7 @@ fn look_at_statements(
         let count = statements.len();
         let hint = format!(in alloc;
             "a transaction has at most {MOST_STATEMENTS} statements, and these are {count}."
-        )?;
+        );
         return Err(wrong(walk.spot(usize::MAX), Refusal::TooLarge, hint));
     }
     let mut walk = walk;

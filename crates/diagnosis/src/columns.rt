@@ -1,7 +1,7 @@
 //! Tables and columns that are named where they are not, or may not be.
 use crate::literals::{look_at_literal, token_count};
-use crate::names::{column_names, put_nearest, table_names};
-use crate::walk::{Stop, Walk, wrong};
+use crate::names::{nearest_column, nearest_table};
+use crate::walk::{Stop, Walk, joined, wrong, wrong_as};
 use fault::Refusal;
 use schema::{Kind, Schema, Table};
 use sqlchecks::column::{field_of, find_column, find_table};
@@ -17,10 +17,7 @@ pub(crate) struct Named<'s> {
 
 /// That no table has this name, and the one that may be meant, where its name is near. The error is want of memory.
 pub fn no_table(alloc: Global, schema: &Schema, name: &str) -> Result<String, AllocError> {
-    let mut hint = format!(in alloc; "there is no table {name}.")?;
-    let names = table_names(alloc, schema)?;
-    put_nearest(alloc, name, &names, &mut hint)?;
-    Ok(hint)
+    nearest_table(alloc, schema, name)?.told(alloc, &["there is no table ", name, "."])
 }
 
 fn find_named<'s>(schema: &'s Schema, name: &str) -> Option<Named<'s>> {
@@ -44,7 +41,7 @@ pub(crate) fn look_at_table<'s>(
     match find_named(schema, name) {
         Some(named) => Ok(named),
         None => {
-            let hint = no_table(alloc, schema, name)?;
+            let hint = no_table(alloc, schema, name);
             Err(wrong(walk.spot(1), Refusal::UnknownTable, hint))
         }
     }
@@ -52,11 +49,8 @@ pub(crate) fn look_at_table<'s>(
 
 // That no column of a table has this name.
 fn no_column(alloc: Global, named: Named, name: &str) -> Result<String, AllocError> {
-    let table = named.name;
-    let mut hint = format!(in alloc; "{table} has no column {name}.")?;
-    let names = column_names(alloc, named.table)?;
-    put_nearest(alloc, name, &names, &mut hint)?;
-    Ok(hint)
+    let near = nearest_column(alloc, named.table, name)?;
+    near.told(alloc, &[named.name, " has no column ", name, "."])
 }
 
 /// The place and the kind of the column that the next token names.
@@ -69,7 +63,7 @@ pub(crate) fn look_at_column(
     match find_column(named.table, name) {
         Ok(column) => Ok(column),
         Err(_) => {
-            let hint = no_column(alloc, named, name)?;
+            let hint = no_column(alloc, named, name);
             Err(wrong(walk.spot(1), Refusal::UnknownColumn, hint))
         }
     }
@@ -86,9 +80,19 @@ pub(crate) fn look_at_period(
     if name.eq_ignore_ascii_case(period) {
         return Ok(());
     }
-    let table = named.name;
-    let hint = format!(in alloc; "{table} has no period {name}. Its period is {period}.")?;
-    Err(wrong(walk.spot(1), Refusal::UnknownColumn, hint))
+    Err(wrong_as(
+        alloc,
+        walk.spot(1),
+        Refusal::UnknownColumn,
+        &[
+            named.name,
+            " has no period ",
+            name,
+            ". Its period is ",
+            period,
+            ".",
+        ],
+    ))
 }
 
 // How a column that WHERE compares no value with is asked about.
@@ -96,26 +100,30 @@ fn uncompared(alloc: Global, named: Named, place: usize, name: &str) -> Result<S
     if place == named.table.start() || place == named.table.end() {
         return of_period(alloc, name, named.table.period().as_str());
     }
-    [
-        name,
-        " is of the system: ask FOR SYSTEM_TIME behind the table's name.",
-    ]
-    .concat(alloc)
+    joined(
+        alloc,
+        &[
+            name,
+            " is of the system: ask FOR SYSTEM_TIME behind the table's name.",
+        ],
+    )
 }
 
 // How a column that begins or ends this period is asked about.
 fn of_period(alloc: Global, name: &str, period: &str) -> Result<String, AllocError> {
-    [
-        name,
-        " is of the period ",
-        period,
-        ": ask SELECT .. WHERE ",
-        period,
-        " CONTAINS DATE '2026-01-31', or FOR PORTION OF ",
-        period,
-        ".",
-    ]
-    .concat(alloc)
+    joined(
+        alloc,
+        &[
+            name,
+            " is of the period ",
+            period,
+            ": ask SELECT .. WHERE ",
+            period,
+            " CONTAINS DATE '2026-01-31', or FOR PORTION OF ",
+            period,
+            ".",
+        ],
+    )
 }
 
 // The kind of a literal that a column of this kind is compared with.
@@ -136,7 +144,7 @@ pub(crate) fn look_at_comparison(
 ) -> Result<(), Stop> {
     let (place, kind) = look_at_column(alloc, named, *walk, name)?;
     if field_of(named.table, place).is_none() {
-        let hint = uncompared(alloc, named, place, name)?;
+        let hint = uncompared(alloc, named, place, name);
         return Err(wrong(walk.spot(1), Refusal::UnknownColumn, hint));
     }
     walk.pass(2);

@@ -2,19 +2,19 @@
 use period::Day;
 use std::alloc::{AllocError, Global};
 
-const MONTHS: [(&str, &str); 12] = [
-    ("01", "January"),
-    ("02", "February"),
-    ("03", "March"),
-    ("04", "April"),
-    ("05", "May"),
-    ("06", "June"),
-    ("07", "July"),
-    ("08", "August"),
-    ("09", "September"),
-    ("10", "October"),
-    ("11", "November"),
-    ("12", "December"),
+const MONTHS: [&str; 12] = [
+    "January",
+    "February",
+    "March",
+    "April",
+    "May",
+    "June",
+    "July",
+    "August",
+    "September",
+    "October",
+    "November",
+    "December",
 ];
 
 // How many days the month of a text of the shape dddd-dd-dd has, if there is such a month.
@@ -31,11 +31,12 @@ fn month_len(alloc: Global, text: &str) -> Result<Option<u8>, AllocError> {
     Ok(None)
 }
 
-fn month_name(month: &str) -> Option<&'static str> {
-    MONTHS
-        .iter()
-        .find(|named| named.0 == month)
-        .map(|named| named.1)
+// The name of the month of this number, in two digits.
+fn month_name(digits: &str) -> Option<&'static str> {
+    match digits.parse::<usize>() {
+        Ok(number) if number > 0 => MONTHS.get(number - 1).copied(),
+        _ => None,
+    }
 }
 
 /// Why a text of the shape dddd-dd-dd names no day.

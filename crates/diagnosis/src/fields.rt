@@ -1,12 +1,12 @@
 //! What is wrong in a line of a script.
-use crate::names::put_nearest;
-use crate::walk::{Found, Spot, Stop, found_by, wrong};
+use crate::names::nearest_of;
+use crate::walk::{Found, Spot, Stop, found_by, joined, wrong, wrong_as};
 use fault::Refusal;
 use lines::number::{read_number, read_signed};
 use std::alloc::{AllocError, Global};
 
 /// What a word of a line says.
-#[derive(Clone, Copy, Debug, PartialEq, Eq)]
+#[derive(Clone, Copy)]
 enum Field {
     Node,
     NodeOrAll,
@@ -75,7 +75,7 @@ fn fields_of_job(word: &str) -> Option<&'static [Field]> {
 }
 
 fn is_within(word: &str, least: u64, most: u64) -> bool {
-    read_number(word).is_some_and(|number| least <= number && number <= most)
+    matches!(read_number(word), Some(number) if least <= number && number <= most)
 }
 
 // Whether a word says what it has to say here, in a group of so many members.
@@ -160,9 +160,9 @@ fn look_at_fields<'a>(
     let mut last = "";
     for field in fields {
         let Some((word, spot, after)) = rest.word() else {
-            return Err(lacking(alloc, line)?);
+            return Err(lacking(alloc, line));
         };
-        if *field == Field::Text {
+        if matches!(field, Field::Text) {
             return Ok((
                 Rest {
                     at: rest.at,
@@ -172,7 +172,7 @@ fn look_at_fields<'a>(
             ));
         }
         if !is_field(members, *field, word) {
-            let hint = hint_of(alloc, members, *field)?;
+            let hint = hint_of(alloc, members, *field);
             return Err(wrong(spot, Refusal::BadScript(0), hint));
         }
         rest = after;
@@ -182,14 +182,14 @@ fn look_at_fields<'a>(
 }
 
 // That a line ends too early.
-fn lacking(alloc: Global, line: &str) -> Result<Stop, AllocError> {
+fn lacking(alloc: Global, line: &str) -> Stop {
     let usage = usage(first_word(line));
-    let hint = format!(in alloc; "something is missing here. The line is {usage}.")?;
+    let pieces = ["something is missing here. The line is ", usage, "."];
     let spot = Spot {
         at: line.len(),
         len: 0,
     };
-    Ok(wrong(spot, Refusal::BadScript(0), hint))
+    wrong_as(alloc, spot, Refusal::BadScript(0), &pieces)
 }
 
 // Looks at whether a line ends here.
@@ -198,12 +198,12 @@ fn look_at_end(alloc: Global, line: &str, rest: Rest) -> Result<(), Stop> {
         return Ok(());
     };
     let usage = usage(first_word(line));
-    let hint = format!(in alloc; "nothing can follow here. The line is {usage}.")?;
+    let pieces = ["nothing can follow here. The line is ", usage, "."];
     let spot = Spot {
         at: rest.at,
         len: text.len(),
     };
-    Err(wrong(spot, Refusal::BadScript(0), hint))
+    Err(wrong_as(alloc, spot, Refusal::BadScript(0), &pieces))
 }
 
 fn first_word(line: &str) -> &str {
@@ -213,20 +213,23 @@ fn first_word(line: &str) -> &str {
     }
 }
 
+fn begins_request(word: &str) -> bool {
+    word.eq_ignore_ascii_case("INSERT")
+        || word.eq_ignore_ascii_case("UPDATE")
+        || word.eq_ignore_ascii_case("DELETE")
+}
+
 // What is said of a line that begins with no word of lines.
 fn hint_of_word(alloc: Global, word: &str) -> Result<String, AllocError> {
-    let mut hint = format!(in alloc; "no line begins with {word}.")?;
     if word.eq_ignore_ascii_case("SELECT") {
-        hint.push_str(" A question is a line ask NODE TEXT.")?;
-    } else if ["INSERT", "UPDATE", "DELETE"]
-        .iter()
-        .any(|sql| word.eq_ignore_ascii_case(*sql))
-    {
-        hint.push_str(" A request is a line submit NODE CLIENT NUMBER TEXT.")?;
-    } else {
-        put_nearest(alloc, word, &WORDS, &mut hint)?;
+        let question = ". A question is a line ask NODE TEXT.";
+        return joined(alloc, &["no line begins with ", word, question]);
     }
-    Ok(hint)
+    if begins_request(word) {
+        let request = ". A request is a line submit NODE CLIENT NUMBER TEXT.";
+        return joined(alloc, &["no line begins with ", word, request]);
+    }
+    nearest_of(alloc, word, &WORDS)?.told(alloc, &["no line begins with ", word, "."])
 }
 
 /// What is said of a line that ends with a carriage return.
@@ -238,12 +241,11 @@ fn look_at_return(alloc: Global, line: &str) -> Result<(), Stop> {
     if !line.ends_with('\r') {
         return Ok(());
     }
-    let hint = String::from_str(alloc, RETURN)?;
     let spot = Spot {
         at: line.len().saturating_sub(1),
         len: 1,
     };
-    Err(wrong(spot, Refusal::BadScript(0), hint))
+    Err(wrong_as(alloc, spot, Refusal::BadScript(0), &[RETURN]))
 }
 
 // Looks at the words of a line.
@@ -257,7 +259,7 @@ fn look_at_line(alloc: Global, members: usize, line: &str) -> Result<(), Stop> {
         return Ok(());
     };
     let Some(fields) = fields_of(word) else {
-        let hint = hint_of_word(alloc, word)?;
+        let hint = hint_of_word(alloc, word);
         return Err(wrong(spot, Refusal::BadScript(0), hint));
     };
     let (rest, last) = look_at_fields(alloc, members, line, rest, fields)?;

@@ -5,13 +5,13 @@ ghost use Rattle.diagnosis.specs.Faultless.{IsFaultless, IsFaultlessScript, IsFa
 
 use crate::faultless::{fault_of_schema, fault_of_script};
 use crate::page::{Diagnosis, Line, Page};
-use crate::scripts::{Look, look_at_tables};
+use crate::scripts::{Look, last_line, look_at_tables};
 use crate::walk::{Found, Spot};
 use fault::Refusal;
 use std::alloc::{AllocError, Global};
 
 /// What a file is read as.
-#[derive(Clone, Copy, Debug, PartialEq, Eq)]
+#[derive(Clone, Copy)]
 pub enum Subject {
     /// A script.
     Script,
@@ -77,15 +77,11 @@ fn end_look(alloc: Global, look: Look, fault: Option<Refusal>) -> Result<Diagnos
     ensures clean { IfOk result (λ told. told.is_clean ≡ is_none fault) }
     ensures counted { IfOk result (λ told. IsTrue told.is_clean ↔ (told.faults ≡ 0)) }
 {
-    let is_unread = look.has_unread();
+    let unread = look.told_unread();
     let has = counted(alloc, look.requests, look.questions)?;
-    let told = look.into_page().end(alloc, fault, has.as_str())?;
-    if is_unread {
-        return told.with_line(
-            "what its requests and questions say was not read: its schema has a fault\n",
-        );
-    }
-    Ok(told)
+    look.into_page()
+        .end(alloc, fault, has.as_str())?
+        .with_line(unread)
 }
 
 fn diagnose_script(alloc: Global, file: &str, text: &str) -> Result<Diagnosis, AllocError>
@@ -100,11 +96,7 @@ fn diagnose_script(alloc: Global, file: &str, text: &str) -> Result<Diagnosis, A
 // Where the first byte stands that is no UTF-8: its line, its place in the line, and itself.
 fn first_stray(bytes: &[u8], valid: usize) -> (usize, usize, u8) {
     let before = bytes.get(..valid).unwrap_or(bytes);
-    let lines = before.iter().filter(|byte| **byte == b'\n').count();
-    let start = before
-        .iter()
-        .rposition(|byte| *byte == b'\n')
-        .map_or(0, |at| at.saturating_add(1));
+    let (lines, start) = last_line(before);
     let stray = bytes.get(valid).copied().unwrap_or(0);
     (lines.saturating_add(1), valid.saturating_sub(start), stray)
 }

@@ -1,13 +1,12 @@
 //! What is wrong in a text, as its reader refuses it, with its place.
 use crate::changes::found_in_changes;
+use crate::faultless::{fault_of_question, fault_of_transaction};
 use crate::questions::found_in_question;
 use crate::schemas::found_in_schema;
 use crate::standing::{Grammar, found_at};
 use crate::walk::{Found, Spot};
 use fault::Refusal;
 use schema::Schema;
-use sqlread::query::read_query;
-use sqlread::transaction::misreading;
 use std::alloc::{AllocError, Global};
 
 // What is said of a text that is too long, where it is.
@@ -47,14 +46,14 @@ pub(crate) fn judge_transaction(
     schema: &Schema,
     text: &str,
 ) -> Result<Option<Found>, AllocError> {
-    let looked = match misreading(alloc, schema, text)? {
-        None => return Ok(None),
-        Some(Refusal::Syntax(at)) => {
-            return Ok(Some(found_at(alloc, Grammar::Transaction, text, at)?));
+    match fault_of_transaction(alloc, schema, text)? {
+        None => Ok(None),
+        Some(Refusal::Syntax(at)) => Ok(Some(found_at(alloc, Grammar::Transaction, text, at)?)),
+        Some(refusal) => {
+            let looked = found_in_changes(alloc, schema, text)?;
+            Ok(Some(placed(alloc, text, refusal, looked)?))
         }
-        Some(refusal) => (refusal, found_in_changes(alloc, schema, text)?),
-    };
-    Ok(Some(placed(alloc, text, looked.0, looked.1)?))
+    }
 }
 
 /// What a question's text is refused for; none where it is one.
@@ -63,13 +62,14 @@ pub(crate) fn judge_question(
     schema: &Schema,
     text: &str,
 ) -> Result<Option<Found>, AllocError> {
-    let looked = match read_query(alloc, schema, text) {
-        Ok(_) => return Ok(None),
-        Err(Refusal::NoMemory) => return Err(AllocError),
-        Err(Refusal::Syntax(at)) => return Ok(Some(found_at(alloc, Grammar::Query, text, at)?)),
-        Err(refusal) => (refusal, found_in_question(alloc, schema, text)?),
-    };
-    Ok(Some(placed(alloc, text, looked.0, looked.1)?))
+    match fault_of_question(alloc, schema, text)? {
+        None => Ok(None),
+        Some(Refusal::Syntax(at)) => Ok(Some(found_at(alloc, Grammar::Query, text, at)?)),
+        Some(refusal) => {
+            let looked = found_in_question(alloc, schema, text)?;
+            Ok(Some(placed(alloc, text, refusal, looked)?))
+        }
+    }
 }
 
 /// What a schema's text is refused for, where this is its refusal.

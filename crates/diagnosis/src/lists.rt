@@ -2,7 +2,7 @@
 use crate::columns::{Named, look_at_column};
 use crate::literals::{look_at_day, look_at_literal, look_at_order, token_count};
 use crate::names::column_name;
-use crate::walk::{Spot, Stop, Walk, wrong};
+use crate::walk::{Spot, Stop, Walk, wrong, wrong_as};
 use fault::Refusal;
 use schema::{Kind, Table};
 use sqlsyntax::{Insert, Literal, Name};
@@ -12,8 +12,18 @@ fn is_system(table: &Table, place: usize) -> bool {
     place == table.system_start() || place == table.system_end()
 }
 
+// Where the column of this place stands in a list.
+fn listed_at(columns: &[(usize, Kind)], place: usize) -> Option<usize> {
+    for (at, column) in columns.iter().enumerate() {
+        if column.0 == place {
+            return Some(at);
+        }
+    }
+    None
+}
+
 fn is_listed(columns: &[(usize, Kind)], place: usize) -> bool {
-    columns.iter().any(|column| column.0 == place)
+    listed_at(columns, place).is_some()
 }
 
 // Looks at whether a column may stand in the list behind these. Its name is the next token.
@@ -26,14 +36,13 @@ fn look_at_listed(
     place: usize,
 ) -> Result<(), Stop> {
     let why = if is_system(table, place) {
-        "is set by the system alone."
+        " is set by the system alone."
     } else if is_listed(before, place) {
-        "is named twice."
+        " is named twice."
     } else {
         return Ok(());
     };
-    let hint = format!(in alloc; "{name} {why}")?;
-    Err(wrong(walk.spot(1), Refusal::NotAssignable, hint))
+    Err(wrong_as(alloc, walk.spot(1), Refusal::NotAssignable, &[name, why]))
 }
 
 // The columns of a list, which is next, each with the token behind it, and passes them.
@@ -53,6 +62,12 @@ fn look_at_names(
     Ok(columns)
 }
 
+// That a list at this spot has no column of this name.
+fn left_out(alloc: Global, name: &str, spot: Spot) -> Stop {
+    let why = " is left out: an INSERT names all columns but those of the system.";
+    wrong_as(alloc, spot, Refusal::UnknownColumn, &[name, why])
+}
+
 // Looks at whether a list at this spot has all columns but those of the system.
 fn look_at_all(
     alloc: Global,
@@ -62,11 +77,7 @@ fn look_at_all(
 ) -> Result<(), Stop> {
     for place in 0..table.column_count() {
         if !is_system(table, place) && !is_listed(columns, place) {
-            let name = column_name(table, place);
-            let hint = format!(in alloc;
-                "{name} is left out: an INSERT names all columns but those of the system."
-            )?;
-            return Err(wrong(spot, Refusal::UnknownColumn, hint));
+            return Err(left_out(alloc, column_name(table, place), spot));
         }
     }
     Ok(())
@@ -99,7 +110,7 @@ fn look_at_count(
     if named == given {
         return Ok(());
     }
-    let hint = format!(in alloc; "there are {named} columns and {given} values.")?;
+    let hint = format!(in alloc; "there are {named} columns and {given} values.");
     Err(wrong(
         walk.spot(all_token_count(literals)),
         Refusal::WrongType,
@@ -138,7 +149,7 @@ fn given<'a>(
     spots: &[Spot],
     place: usize,
 ) -> Option<(Literal<'a>, Spot)> {
-    let at = columns.iter().position(|column| column.0 == place)?;
+    let at = listed_at(columns, place)?;
     Some((*literals.get(at)?, *spots.get(at)?))
 }
 

@@ -1,6 +1,6 @@
 //! Literals that a column does not take.
 use crate::days::why_no_day;
-use crate::walk::{Spot, Stop, Walk, wrong};
+use crate::walk::{Spot, Stop, Walk, wrong, wrong_as};
 use fault::Refusal;
 use period::{Day, Instant};
 use schema::Kind;
@@ -22,23 +22,13 @@ pub(crate) fn token_count(literal: Literal) -> usize {
 }
 
 // What values of a kind are.
-fn put_kind(kind: Kind, hint: &mut String) -> Result<(), AllocError> {
+fn told_kind<'a>(kind: Kind) -> &'a str {
     match kind {
-        Kind::Integer => hint.push_str("an INTEGER")?,
-        Kind::Varchar(_) => hint.push_str("a VARCHAR, a text between quotes")?,
-        Kind::Date => hint.push_str("a DATE, as DATE '2026-01-31'")?,
-        Kind::SystemStart | Kind::SystemEnd => hint.push_str("an instant")?,
+        Kind::Integer => "an INTEGER",
+        Kind::Varchar(_) => "a VARCHAR, a text between quotes",
+        Kind::Date => "a DATE, as DATE '2026-01-31'",
+        Kind::SystemStart | Kind::SystemEnd => "an instant",
     }
-    Ok(())
-}
-
-// That a column takes values of another type.
-fn other_type(alloc: Global, column: &str, kind: Kind) -> Result<String, AllocError> {
-    let mut hint = String::from_str(alloc, column)?;
-    hint.push_str(" is ")?;
-    put_kind(kind, &mut hint)?;
-    hint.push_str(".")?;
-    Ok(hint)
 }
 
 fn too_long(alloc: Global, column: &str, most: u8) -> Result<String, AllocError> {
@@ -77,11 +67,15 @@ pub(crate) fn look_at_literal(
         Ok(_) => Ok(()),
         Err(Refusal::NoMemory) => Err(Stop::NoMemory),
         Err(Refusal::WrongType) => {
-            let hint = other_type(alloc, column, kind)?;
-            Err(wrong(spot, Refusal::WrongType, hint))
+            Err(wrong_as(
+                alloc,
+                spot,
+                Refusal::WrongType,
+                &[column, " is ", told_kind(kind), "."],
+            ))
         }
         Err(refusal) => {
-            let hint = out_of_range(alloc, column, kind, literal)?;
+            let hint = out_of_range(alloc, column, kind, literal);
             Err(wrong(spot, refusal, hint))
         }
     }
@@ -92,7 +86,7 @@ pub(crate) fn look_at_day(alloc: Global, walk: Walk, text: Quoted) -> Result<Day
     match Day::read(text.source, 0) {
         Ok(day) => Ok(day),
         Err(_) => {
-            let hint = why_no_day(alloc, text.source)?;
+            let hint = why_no_day(alloc, text.source);
             Err(wrong(walk.spot(2), Refusal::OutOfRange, hint))
         }
     }
@@ -103,11 +97,12 @@ pub(crate) fn look_at_instant(alloc: Global, walk: Walk, text: Quoted) -> Result
     match Instant::read(text.source, 0) {
         Ok(instant) => Ok(instant.microseconds),
         Err(_) => {
-            let hint = String::from_str(
+            Err(wrong_as(
                 alloc,
-                "instants go from 1970-01-01 00:00:00.000000 to 9999-12-30 23:59:59.999999.",
-            )?;
-            Err(wrong(walk.spot(2), Refusal::OutOfRange, hint))
+                walk.spot(2),
+                Refusal::OutOfRange,
+                &["instants go from 1970-01-01 00:00:00.000000 to 9999-12-30 23:59:59.999999."],
+            ))
         }
     }
 }
@@ -123,10 +118,8 @@ pub(crate) fn look_at_order(
     if start.number < end.number {
         return Ok(());
     }
-    let hint = format!(in alloc;
-        "{name} has to begin before it ends: the end is the first day after it."
-    )?;
-    Err(wrong(spot, Refusal::EmptyPeriod, hint))
+    let why = " has to begin before it ends: the end is the first day after it.";
+    Err(wrong_as(alloc, spot, Refusal::EmptyPeriod, &[name, why]))
 }
 
 /// Looks at the days of `PERIOD (DATE from, DATE to)`, which is next, and passes it.

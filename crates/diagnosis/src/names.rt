@@ -1,4 +1,5 @@
 //! Names that are near to one that is not there.
+use crate::walk::joined;
 use schema::{Schema, Table};
 use std::alloc::{AllocError, Global};
 use strsim::damerau_levenshtein;
@@ -28,55 +29,85 @@ fn reach(letters: usize) -> usize {
     (letters / 3).max(1).min(3)
 }
 
-/// The first of the names that are nearest to a word, where one is near enough to be meant.
-pub(crate) fn nearest<'n>(
-    alloc: Global,
-    word: &str,
-    names: &[&'n str],
-) -> Result<Option<&'n str>, AllocError> {
-    let mut least = reach(word.len()).saturating_add(1);
-    let mut nearest = None;
-    for name in names {
-        let far = distance(alloc, word, *name)?;
-        if far < least {
-            least = far;
-            nearest = Some(*name);
+/// A word, and of the names that were looked at the first that is nearest to it, where one is near enough to be meant.
+#[derive(Clone, Copy)]
+pub(crate) struct Nearest<'n> {
+    word: &'n str,
+    far: usize,
+    pub name: Option<&'n str>,
+}
+
+impl<'n> Nearest<'n> {
+    /// Before the first name.
+    pub fn new(word: &'n str) -> Nearest<'n> {
+        Nearest {
+            word,
+            far: reach(word.len()).saturating_add(1),
+            name: None,
         }
     }
-    Ok(nearest)
+
+    /// With one more name.
+    pub fn with(self, alloc: Global, name: &'n str) -> Result<Nearest<'n>, AllocError> {
+        let far = distance(alloc, self.word, name)?;
+        Ok(if far < self.far {
+            Nearest {
+                word: self.word,
+                far,
+                name: Some(name),
+            }
+        } else {
+            self
+        })
+    }
+
+    /// What is told of the word in pieces, and which name may be meant.
+    pub fn told(self, alloc: Global, pieces: &[&str]) -> Result<String, AllocError> {
+        let told = joined(alloc, pieces)?;
+        match self.name {
+            Some(name) => joined(alloc, &[told.as_str(), " Did you mean ", name, "?"]),
+            None => Ok(told),
+        }
+    }
 }
 
-/// Adds which name may be meant, where one is near.
-pub(crate) fn put_nearest(
+/// The nearest of some names.
+pub(crate) fn nearest_of<'n>(
     alloc: Global,
-    word: &str,
-    names: &[&str],
-    hint: &mut String,
-) -> Result<(), AllocError> {
-    if let Some(name) = nearest(alloc, word, names)? {
-        hint.push_str(" Did you mean ")?;
-        hint.push_str(name)?;
-        hint.push_str("?")?;
+    word: &'n str,
+    names: &[&'n str],
+) -> Result<Nearest<'n>, AllocError> {
+    let mut near = Nearest::new(word);
+    for name in names {
+        near = near.with(alloc, *name)?;
     }
-    Ok(())
+    Ok(near)
 }
 
-/// The names of the tables.
-pub(crate) fn table_names(alloc: Global, schema: &Schema) -> Result<Vec<&str>, AllocError> {
-    let mut names = Vec::new(alloc);
+/// The nearest of the names of tables.
+pub(crate) fn nearest_table<'s>(
+    alloc: Global,
+    schema: &'s Schema,
+    word: &'s str,
+) -> Result<Nearest<'s>, AllocError> {
+    let mut near = Nearest::new(word);
     for place in 0..schema.len() {
-        names.push(schema.table(place).0.as_str())?;
+        near = near.with(alloc, schema.table(place).0.as_str())?;
     }
-    Ok(names)
+    Ok(near)
 }
 
-/// The names of the columns.
-pub(crate) fn column_names(alloc: Global, table: &Table) -> Result<Vec<&str>, AllocError> {
-    let mut names = Vec::new(alloc);
+/// The nearest of the names of columns.
+pub(crate) fn nearest_column<'s>(
+    alloc: Global,
+    table: &'s Table,
+    word: &'s str,
+) -> Result<Nearest<'s>, AllocError> {
+    let mut near = Nearest::new(word);
     for place in 0..table.column_count() {
-        names.push(table.column(place).0.as_str())?;
+        near = near.with(alloc, table.column(place).0.as_str())?;
     }
-    Ok(names)
+    Ok(near)
 }
 
 /// The name of the column at this place.

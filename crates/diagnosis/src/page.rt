@@ -2,7 +2,7 @@
 ghost use Rattle.std.specs.Prelude.{◌≡◌, ◌↔◌, ◌<◌, IsTrue, IfOk, OnOk, true, false};
 ghost use Rattle.std.specs.Option.{is_none};
 
-use crate::walk::{Found, Spot};
+use crate::walk::{Found, Spot, joined};
 use fault::Refusal;
 use std::alloc::{AllocError, Global};
 
@@ -13,7 +13,7 @@ const WIDE: usize = 80;
 const GUTTER: usize = 8;
 
 /// What is told of a file.
-#[derive(Debug, Drop)]
+#[derive(Drop)]
 pub struct Diagnosis {
     /// Whether nothing is wrong in it.
     pub is_clean: bool,
@@ -116,15 +116,35 @@ fn put_part(text: &str, window: Window, page: &mut String) -> Result<(), AllocEr
 }
 
 // The line's number before its text.
-fn put_gutter(alloc: Global, number: Option<usize>, page: &mut String) -> Result<(), AllocError> {
-    let told = match number {
-        Some(number) => format!(in alloc; "{number}")?,
-        None => String::new(alloc),
-    };
-    put_many(" ", 5usize.saturating_sub(told.len()), page)?;
-    page.push_str(told.as_str())?;
-    page.push_str(" | ")?;
-    Ok(())
+fn put_gutter(number: Option<usize>, page: &mut String) -> Result<(), AllocError> {
+    match number {
+        Some(number) => write!(page, "{number:5} | "),
+        None => page.push_str("      | "),
+    }
+}
+
+fn put_dots(has_more: bool, page: &mut String) -> Result<(), AllocError> {
+    page.push_str(if has_more { ".." } else { "" })
+}
+
+// A line, as far as it is shown.
+fn put_line(line: Line, window: Window, page: &mut String) -> Result<(), AllocError> {
+    put_gutter(Some(line.number), page)?;
+    put_dots(window.has_before, page)?;
+    put_part(line.text, window, page)?;
+    put_dots(window.has_behind, page)?;
+    page.push_str("\n")
+}
+
+// Carets below what is wrong in a line.
+fn put_carets(spot: Spot, window: Window, page: &mut String) -> Result<(), AllocError> {
+    let dots = if window.has_before { 2 } else { 0 };
+    let blanks = spot.at.saturating_sub(window.first).saturating_add(dots);
+    let room = window.end.saturating_sub(spot.at);
+    put_gutter(None, page)?;
+    put_many(" ", blanks, page)?;
+    put_many("^", spot.len.min(room).max(1), page)?;
+    page.push_str("\n")
 }
 
 // What could be done, on lines of their own.
@@ -139,8 +159,7 @@ fn put_hint(hint: &str, page: &mut String) -> Result<(), AllocError> {
             put_many(" ", GUTTER, page)?;
         }
     }
-    page.push_str("\n")?;
-    Ok(())
+    page.push_str("\n")
 }
 
 impl<'f> Page<'f> {
@@ -164,38 +183,18 @@ impl<'f> Page<'f> {
         let file = self.file;
         let column = at.saturating_add(1);
         let place = format!(in alloc; "{file}:{number}:{column}: {refusal}\n")?;
-        self.text.push_str(place.as_str())?;
-        Ok(())
+        self.text.push_str(place.as_str())
     }
 
     /// Shows what was found in a line, whose spot counts the bytes of the line.
     pub fn tell(&mut self, alloc: Global, line: Line, found: &Found) -> Result<(), AllocError> {
         self.faults = self.faults.saturating_add(1);
-        let spot = found.spot;
-        self.put_place(alloc, line.number, spot.at, &found.refusal)?;
-        let window = window_at(line.text.len(), spot.at);
-        put_gutter(alloc, Some(line.number), &mut self.text)?;
-        self.put_dots(window.has_before)?;
-        put_part(line.text, window, &mut self.text)?;
-        self.put_dots(window.has_behind)?;
-        self.text.push_str("\n")?;
-        put_gutter(alloc, None, &mut self.text)?;
-        let dots = if window.has_before { 2 } else { 0 };
-        let blanks = spot.at.saturating_sub(window.first).saturating_add(dots);
-        put_many(" ", blanks, &mut self.text)?;
-        let room = window.end.saturating_sub(spot.at);
-        put_many("^", spot.len.min(room).max(1), &mut self.text)?;
-        self.text.push_str("\n")?;
+        self.put_place(alloc, line.number, found.spot.at, &found.refusal)?;
+        let window = window_at(line.text.len(), found.spot.at);
+        put_line(line, window, &mut self.text)?;
+        put_carets(found.spot, window, &mut self.text)?;
         put_hint(found.hint.as_str(), &mut self.text)?;
-        self.text.push_str("\n")?;
-        Ok(())
-    }
-
-    fn put_dots(&mut self, has_more: bool) -> Result<(), AllocError> {
-        if has_more {
-            self.text.push_str("..")?;
-        }
-        Ok(())
+        self.text.push_str("\n")
     }
 
     /// Shows a fault of a file whose lines can't be shown.
@@ -219,8 +218,7 @@ impl<'f> Page<'f> {
     fn end_clean(self, alloc: Global, has: &str) -> Result<Diagnosis, AllocError>
         ensures { IfOk result (λ told. (told.is_clean ≡ true) × (told.faults ≡ 0)) }
     {
-        let file = self.file;
-        let text = format!(in alloc; "{file}: no faults; {has}\n")?;
+        let text = joined(alloc, &[self.file, ": no faults; ", has, "\n"])?;
         Ok(Diagnosis {
             is_clean: true,
             faults: 0,

@@ -1,7 +1,7 @@
 //! What is wrong in a question whose text is in the grammar.
 use crate::columns::{Named, look_at_comparison, look_at_period, look_at_table};
 use crate::literals::{look_at_day, look_at_instant, look_at_span};
-use crate::walk::{Found, Stop, Walk, found_by, wrong};
+use crate::walk::{Found, Stop, Walk, found_by, wrong_as};
 use fault::Refusal;
 use schema::Schema;
 use sqlread::token::tokens;
@@ -27,11 +27,12 @@ fn look_at_instants(
     if start < end || (may_equal && start == end) {
         return Ok(());
     }
-    let hint = String::from_str(
+    Err(wrong_as(
         alloc,
-        "the first instant has to lie before the second: no instant lies between.",
-    )?;
-    Err(wrong(first.spot(5), Refusal::EmptyPeriod, hint))
+        first.spot(5),
+        Refusal::EmptyPeriod,
+        &["the first instant has to lie before the second: no instant lies between."],
+    ))
 }
 
 // Looks at FOR SYSTEM_TIME, where there is one, which is next, and passes it.

@@ -1,40 +1,45 @@
 //! What is wrong in the tables of a schema whose text is in the grammar.
-use crate::names::put_nearest;
+use crate::names::Nearest;
 use crate::tables::{look_at_key_names, look_at_parts, same_type, type_of, wrong_word};
-use crate::walk::{Found, Stop, Walk, found_by, wrong};
+use crate::walk::{Found, Stop, Walk, found_by, wrong, wrong_as};
 use fault::Refusal;
 use schemasyntax::{ForeignKey, Name, Table, read_schema_form};
 use sqlread::token::tokens;
 use std::alloc::{AllocError, Global};
 
 fn find_declared<'t, 'a>(tables: &'t [Table<'a>], name: &str) -> Option<&'t Table<'a>> {
-    tables
-        .iter()
-        .find(|table| table.name.written.eq_ignore_ascii_case(name))
+    for table in tables {
+        if table.name.written.eq_ignore_ascii_case(name) {
+            return Some(table);
+        }
+    }
+    None
 }
 
-// That no table of this name is declared before another. The name is the next token.
-fn no_parent(
+// That no table of this name is declared before another.
+fn no_parent<'a>(
     alloc: Global,
-    earlier: &[Table],
-    table: &str,
-    walk: Walk,
-    name: &str,
-) -> Result<(), Stop> {
-    let mut hint = format!(in alloc; "no table {name} is declared before {table}.")?;
-    let mut names = Vec::new(alloc);
+    earlier: &[Table<'a>],
+    table: &'a str,
+    name: &'a str,
+) -> Result<String, AllocError> {
+    let mut near = Nearest::new(name);
     for declared in earlier {
-        names.push(declared.name.written)?;
+        near = near.with(alloc, declared.name.written)?;
     }
-    put_nearest(alloc, name, &names, &mut hint)?;
-    Err(wrong(walk.spot(1), Refusal::UnknownTable, hint))
+    near.told(
+        alloc,
+        &["no table ", name, " is declared before ", table, "."],
+    )
 }
 
 fn same_names(names: &[Name], others: &[Name]) -> bool {
+    for (name, other) in names.iter().zip(others) {
+        if !name.written.eq_ignore_ascii_case(other.written) {
+            return false;
+        }
+    }
     names.len() == others.len()
-        && names.iter().zip(others).all(|(name, other)| name
-            .written
-            .eq_ignore_ascii_case(other.written))
 }
 
 fn names_key(key: &ForeignKey, parent: &Table) -> bool {
@@ -58,12 +63,12 @@ fn have_same_type(table: &Table, column: &str, parent: &Table, other: &str) -> b
 }
 
 fn have_same_types(table: &Table, key: &ForeignKey, parent: &Table) -> bool {
-    key.names.columns.iter().zip(&parent.key.columns).all(|(one, other)| have_same_type(
-        table,
-        one.written,
-        parent,
-        other.written,
-    ))
+    for (one, other) in key.names.columns.iter().zip(&parent.key.columns) {
+        if !have_same_type(table, one.written, parent, other.written) {
+            return false;
+        }
+    }
+    true
 }
 
 // Looks at the parent that a foreign key names, the next token.
@@ -76,17 +81,34 @@ fn look_at_parent(
 ) -> Result<(), Stop> {
     let name = key.parent.written;
     let Some(parent) = find_declared(earlier, name) else {
-        return no_parent(alloc, earlier, table.name.written, walk, name);
+        let hint = no_parent(alloc, earlier, table.name.written, name);
+        return Err(wrong(walk.spot(1), Refusal::UnknownTable, hint));
     };
     if !names_key(key, parent) {
-        let hint = format!(in alloc;
-            "a foreign key refers to the columns of {name}'s key, in their order, and to {name}'s period."
-        )?;
-        return Err(wrong(walk.spot(1), Refusal::BadSchema, hint));
+        return Err(wrong_as(
+            alloc,
+            walk.spot(1),
+            Refusal::BadSchema,
+            &[
+                "a foreign key refers to the columns of ",
+                name,
+                "'s key, in their order, and to ",
+                name,
+                "'s period.",
+            ],
+        ));
     }
     if !have_same_types(table, key, parent) {
-        let hint = format!(in alloc; "its columns have other types than those of {name}'s key.")?;
-        return Err(wrong(walk.spot(1), Refusal::WrongType, hint));
+        return Err(wrong_as(
+            alloc,
+            walk.spot(1),
+            Refusal::WrongType,
+            &[
+                "its columns have other types than those of ",
+                name,
+                "'s key.",
+            ],
+        ));
     }
     Ok(())
 }
@@ -119,7 +141,7 @@ fn look_at_foreign_keys(
     for (at, key) in table.foreign_keys.iter().enumerate() {
         if at >= 8 {
             let why = "a table has at most eight foreign keys.";
-            return wrong_word(alloc, *walk, Refusal::TooLarge, why);
+            return Err(wrong_word(alloc, *walk, Refusal::TooLarge, why));
         }
         look_at_foreign_key(alloc, earlier, table, walk, key)?;
     }
@@ -135,12 +157,8 @@ fn look_at_declared(
 ) -> Result<(), Stop> {
     walk.pass(2);
     if find_declared(earlier, table.name.written).is_some() {
-        return wrong_word(
-            alloc,
-            *walk,
-            Refusal::BadSchema,
-            "an earlier table has this name.",
-        );
+        let why = "an earlier table has this name.";
+        return Err(wrong_word(alloc, *walk, Refusal::BadSchema, why));
     }
     walk.pass(2);
     look_at_parts(alloc, table, walk)?;
@@ -151,8 +169,12 @@ fn look_at_declared(
 
 fn look_at_schema(alloc: Global, walk: Walk, tables: &[Table]) -> Result<(), Stop> {
     if tables.len() > 16 {
-        let hint = String::from_str(alloc, "a schema has at most 16 tables.")?;
-        return Err(wrong(walk.spot(3), Refusal::TooLarge, hint));
+        return Err(wrong_as(
+            alloc,
+            walk.spot(3),
+            Refusal::TooLarge,
+            &["a schema has at most 16 tables."],
+        ));
     }
     let mut walk = walk;
     for (at, table) in tables.iter().enumerate() {

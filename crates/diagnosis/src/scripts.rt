@@ -11,7 +11,7 @@ use schemaread::schemas::read_schema;
 use std::alloc::{AllocError, Global};
 
 // Which line of a script has to come next.
-#[derive(Clone, Copy, Debug, PartialEq, Eq)]
+#[derive(Clone, Copy)]
 enum Part {
     Members,
     Schema,
@@ -33,34 +33,81 @@ pub(crate) struct Look<'f> {
     pub questions: usize,
 }
 
-// That a line is bad from its first byte to its last.
-fn bad_line(alloc: Global, number: usize, text: &str, why: &str) -> Result<Found, AllocError> {
-    Ok(Found {
+const MEMBERS_FIRST: &str = "a script begins with a line members N, where N is 3 to 7.";
+
+const SCHEMA_NEXT: &str =
+    "behind the members comes a line schema, then the tables, then a line end.";
+
+// Shows that a line is bad from this byte on.
+fn tell_bad(
+    alloc: Global,
+    page: &mut Page,
+    line: Line,
+    at: usize,
+    why: &str,
+) -> Result<(), AllocError> {
+    let found = Found {
         spot: Spot {
-            at: 0,
-            len: text.len(),
+            at,
+            len: line.text.len().saturating_sub(at),
         },
-        refusal: Refusal::BadScript(number),
+        refusal: Refusal::BadScript(line.number),
         hint: String::from_str(alloc, why)?,
-    })
+    };
+    page.tell(alloc, line, &found)
 }
 
-// That a line is bad, which a carriage return may be to blame for.
-fn bad_head(alloc: Global, number: usize, text: &str, why: &str) -> Result<Found, AllocError> {
-    if text.ends_with('\r') {
-        return bad_line(alloc, number, text, RETURN);
+// Why a line is bad, which a carriage return may be to blame for.
+fn why_bad<'a>(text: &str, why: &'a str) -> &'a str {
+    if text.ends_with('\r') { RETURN } else { why }
+}
+
+// What is missing behind the last line of a script, where something is.
+fn missing(part: Part) -> Option<&'static str> {
+    match part {
+        Part::Members => Some(MEMBERS_FIRST),
+        Part::Schema => Some(SCHEMA_NEXT),
+        Part::Tables => Some("the line end is missing behind the tables."),
+        Part::Lines => None,
     }
-    bad_line(alloc, number, text, why)
 }
 
 // How many members a line says that the group has.
 fn members_of(text: &str) -> Option<usize> {
     let number = read_number(text.strip_prefix("members ")?)?;
-    (3 <= number && number <= 7).then_some(number as usize)
+    if 3 <= number && number <= 7 {
+        Some(number as usize)
+    } else {
+        None
+    }
 }
 
 fn is_skipped(text: &str) -> bool {
     text.is_empty() || text.starts_with('#')
+}
+
+/// How many lines end in these bytes, and where the one begins that does not.
+pub(crate) fn last_line(bytes: &[u8]) -> (usize, usize) {
+    let mut lines: usize = 0;
+    let mut start = 0;
+    for (at, byte) in bytes.iter().enumerate() {
+        if *byte == b'\n' {
+            lines = lines.saturating_add(1);
+            start = at.saturating_add(1);
+        }
+    }
+    (lines, start)
+}
+
+// The line in which a byte of a text stands: how many come before it, where it begins, and itself.
+fn line_at(text: &str, at: usize) -> (usize, usize, &str) {
+    let before = text.get(..at).unwrap_or(text);
+    let (lines, start) = last_line(before.as_bytes());
+    let rest = text.get(start..).unwrap_or("");
+    match rest.split_once('\n') {
+        Some((line, _)) => (lines, start, line),
+        None => (lines, start, rest),
+    }
 }
 
 /// Shows what was found in a text of several lines, the first of which has this number.
@@ -71,34 +118,10 @@ pub(crate) fn tell_in_lines(
     text: &str,
     found: Found,
 ) -> Result<(), AllocError> {
-    let before = text.get(..found.spot.at).unwrap_or(text);
-    let number = first.saturating_add(
-        before
-            .as_bytes()
-            .iter()
-            .filter(|byte| **byte == b'\n')
-            .count(),
-    );
-    let start = match before.rsplit_once('\n') {
-        Some((lines, _)) => lines.len().saturating_add(1),
-        None => 0,
-    };
-    let rest = text.get(start..).unwrap_or("");
-    let line = match rest.split_once('\n') {
-        Some((line, _)) => line,
-        None => rest,
-    };
-    let Found {
-        spot,
-        refusal,
-        hint,
-    } = found;
-    let at = spot.at.saturating_sub(start);
-    let found = Found {
-        spot: Spot { at, len: spot.len },
-        refusal,
-        hint,
-    };
+    let (lines, start, line) = line_at(text, found.spot.at);
+    let mut found = found;
+    found.spot.at = found.spot.at.saturating_sub(start);
+    let number = first.saturating_add(lines);
     page.tell(alloc, Line { number, text: line }, &found)
 }
 
@@ -134,9 +157,13 @@ impl<'f> Look<'f> {
         }
     }
 
-    /// Whether it has requests or questions that were not read, since its schema has a fault.
-    pub fn has_unread(&self) -> bool {
-        self.schema.is_none() && (self.requests > 0 || self.questions > 0)
+    /// A line that tells that there are requests or questions, and that they were not read since the schema has a fault; else nothing.
+    pub fn told_unread(&self) -> &'static str {
+        if self.schema.is_none() && (self.requests > 0 || self.questions > 0) {
+            "what its requests and questions say was not read: its schema has a fault\n"
+        } else {
+            ""
+        }
     }
 
     /// What was shown.
@@ -162,9 +189,8 @@ impl<'f> Look<'f> {
             self.members = members;
             return Ok(());
         }
-        let why = "a script begins with a line members N, where N is 3 to 7.";
-        let found = bad_head(alloc, line.number, line.text, why)?;
-        self.page.tell(alloc, line, &found)
+        let why = why_bad(line.text, MEMBERS_FIRST);
+        tell_bad(alloc, &mut self.page, line, 0, why)
     }
 
     fn take_schema_word(&mut self, alloc: Global, line: Line) -> Result<(), AllocError> {
@@ -173,16 +199,14 @@ impl<'f> Look<'f> {
         if line.text == "schema" {
             return Ok(());
         }
-        let why = "behind the members comes a line schema, then the tables, then a line end.";
-        let found = bad_head(alloc, line.number, line.text, why)?;
-        self.page.tell(alloc, line, &found)
+        let why = why_bad(line.text, SCHEMA_NEXT);
+        tell_bad(alloc, &mut self.page, line, 0, why)
     }
 
     fn take_table_line(&mut self, alloc: Global, line: Line) -> Result<(), AllocError> {
         if line.text != "end" {
             self.tables.push_str(line.text)?;
-            self.tables.push_str("\n")?;
-            return Ok(());
+            return self.tables.push_str("\n");
         }
         self.part = Part::Lines;
         let text = self.tables.as_str();
@@ -245,21 +269,11 @@ impl<'f> Look<'f> {
     pub fn end(&mut self, alloc: Global, last: Line) -> Result<(), AllocError> {
         if !last.text.is_empty() {
             let why = "the last line does not end with LF: end it with a new line.";
-            let mut found = bad_line(alloc, last.number, last.text, why)?;
-            found.spot = Spot {
-                at: last.text.len(),
-                len: 0,
-            };
-            return self.page.tell(alloc, last, &found);
+            return tell_bad(alloc, &mut self.page, last, last.text.len(), why);
         }
-        let why = match self.part {
-            Part::Members => "a script begins with a line members N, where N is 3 to 7.",
-            Part::Schema =>
-                "behind the members comes a line schema, then the tables, then a line end.",
-            Part::Tables => "the line end is missing behind the tables.",
-            Part::Lines => return Ok(()),
-        };
-        let found = bad_line(alloc, last.number, "", why)?;
-        self.page.tell(alloc, last, &found)
+        match missing(self.part) {
+            Some(why) => tell_bad(alloc, &mut self.page, last, 0, why),
+            None => Ok(()),
+        }
     }
 }

@@ -1,6 +1,6 @@
 //! What could stand where a text leaves the grammar.
-use crate::names::nearest;
-use crate::walk::{Found, Spot, Walk, token_len};
+use crate::names::nearest_of;
+use crate::walk::{Found, Spot, Walk, joined, token_len};
 use fault::Refusal;
 use schemasyntax::read_schema_form;
 use sqlread::token::tokens;
@@ -9,7 +9,7 @@ use sqltokens::{Keyword, Kind, Token, has_shape};
 use std::alloc::{AllocError, Global};
 
 /// What a text is read as.
-#[derive(Clone, Copy, Debug, PartialEq, Eq)]
+#[derive(Clone, Copy)]
 pub(crate) enum Grammar {
     Transaction,
     Query,
@@ -124,7 +124,7 @@ fn can_stand(
     before: &str,
     token: &str,
 ) -> Result<bool, AllocError> {
-    let text = format!(in alloc; "{before} {token} ")?;
+    let text = joined(alloc, &[before, " ", token, " "])?;
     let left = leaves_at(alloc, grammar, text.as_str())?;
     Ok(match left {
         Some(at) => at > before.len().saturating_add(1),
@@ -162,7 +162,12 @@ fn standing(
 }
 
 fn has(words: &[&str], word: &str) -> bool {
-    words.iter().any(|one| *one == word)
+    for one in words {
+        if *one == word {
+            return true;
+        }
+    }
+    false
 }
 
 // Adds the words with commas between them, and `or` before the last.
@@ -196,7 +201,14 @@ fn hint_of_instant(alloc: Global, text: &str) -> Result<String, AllocError> {
     } else {
         "2026-01-31 00:00:00"
     };
-    format!(in alloc; "an instant is written to the microsecond: '{second}.000000'.")
+    joined(
+        alloc,
+        &[
+            "an instant is written to the microsecond: '",
+            second,
+            ".000000'.",
+        ],
+    )
 }
 
 // What could stand in place of a token, where few things could.
@@ -219,7 +231,7 @@ fn hint_of_one(alloc: Global, word: &str) -> Result<String, AllocError> {
             "after SELECT only * can follow: an answer has all columns.",
         );
     }
-    ["only ", word, " can stand here."].concat(alloc)
+    joined(alloc, &["only ", word, " can stand here."])
 }
 
 fn hint_of_some(alloc: Global, words: &[&str]) -> Result<String, AllocError> {
@@ -241,8 +253,11 @@ fn hint_of_stray(alloc: Global, byte: u8) -> Result<String, AllocError> {
 
 // What is said of a word that can't stand where it does.
 fn hint_of_word(alloc: Global, word: &str, words: &[&str]) -> Result<String, AllocError> {
-    match nearest(alloc, word, words)? {
-        Some(near) => format!(in alloc; "{word} can't stand here. Did you mean {near}?"),
+    match nearest_of(alloc, word, words)?.name {
+        Some(near) => joined(
+            alloc,
+            &[word, " can't stand here. Did you mean ", near, "?"],
+        ),
         None => hint_of_few(alloc, words),
     }
 }
@@ -258,7 +273,7 @@ fn hint_of_token(
         Kind::Stray => hint_of_stray(alloc, written.as_bytes().first().copied().unwrap_or(0)),
         Kind::Text(text) if has(words, AN_INSTANT) => hint_of_instant(alloc, text.source),
         Kind::Keyword(_) if has(words, A_NAME) => {
-            format!(in alloc; "{written} is a reserved word, and no name.")
+            joined(alloc, &[written, " is a reserved word, and no name."])
         }
         Kind::Name(_) => hint_of_word(alloc, written, words),
         _ => hint_of_few(alloc, words),

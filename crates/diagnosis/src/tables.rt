@@ -1,6 +1,6 @@
 //! What is wrong in the columns, the periods and the key of a table that is declared.
-use crate::names::put_nearest;
-use crate::walk::{Stop, Walk, wrong};
+use crate::names::Nearest;
+use crate::walk::{Stop, Walk, wrong, wrong_as};
 use fault::Refusal;
 use schemasyntax::{Column, ColumnType, KeyNames, Name, Table};
 use sqlchecks::literal::unsigned;
@@ -12,10 +12,12 @@ fn same_name(one: &str, other: &str) -> bool {
 
 /// The type of the column of this name.
 pub(crate) fn type_of<'a>(columns: &[Column<'a>], name: &str) -> Option<ColumnType<'a>> {
-    let column = columns
-        .iter()
-        .find(|column| same_name(column.name.written, name))?;
-    Some(column.column_type)
+    for column in columns {
+        if same_name(column.name.written, name) {
+            return Some(column.column_type);
+        }
+    }
+    None
 }
 
 /// Whether two types are the same, whatever the length of a text.
@@ -38,31 +40,31 @@ fn token_count(column_type: ColumnType) -> usize {
 }
 
 /// That the next token is wrong, with a reason of words.
-pub(crate) fn wrong_word(
-    alloc: Global,
-    walk: Walk,
-    refusal: Refusal,
-    why: &str,
-) -> Result<(), Stop> {
-    let hint = String::from_str(alloc, why)?;
-    Err(wrong(walk.spot(1), refusal, hint))
+pub(crate) fn wrong_word(alloc: Global, walk: Walk, refusal: Refusal, why: &str) -> Stop {
+    wrong_as(alloc, walk.spot(1), refusal, &[why])
+}
+
+// That a table has no column of this name.
+fn no_column(alloc: Global, table: &Table, name: &str) -> Result<String, AllocError> {
+    let mut near = Nearest::new(name);
+    for column in &table.columns {
+        near = near.with(alloc, column.name.written)?;
+    }
+    near.told(alloc, &[table.name.written, " has no column ", name, "."])
 }
 
 // That a table has no column of the name that is the next token.
-fn unknown(alloc: Global, table: &Table, walk: Walk, name: &str) -> Result<(), Stop> {
-    let written = table.name.written;
-    let mut hint = format!(in alloc; "{written} has no column {name}.")?;
-    let mut names = Vec::new(alloc);
-    for column in &table.columns {
-        names.push(column.name.written)?;
-    }
-    put_nearest(alloc, name, &names, &mut hint)?;
-    Err(wrong(walk.spot(1), Refusal::UnknownColumn, hint))
+fn unknown(alloc: Global, table: &Table, walk: Walk, name: &str) -> Stop {
+    wrong(
+        walk.spot(1),
+        Refusal::UnknownColumn,
+        no_column(alloc, table, name),
+    )
 }
 
 fn has_wrong_length(column_type: ColumnType) -> bool {
     match column_type {
-        ColumnType::Varchar(digits) => !unsigned(digits).is_some_and(|n| 1 <= n && n <= 255),
+        ColumnType::Varchar(digits) => !matches!(unsigned(digits), Some(n) if 1 <= n && n <= 255),
         _ => false,
     }
 }
@@ -75,17 +77,17 @@ fn look_at_column(
     column: Column,
 ) -> Result<(), Stop> {
     if type_of(before, column.name.written).is_some() {
-        return wrong_word(
-            alloc,
-            *walk,
-            Refusal::BadSchema,
-            "an earlier column has this name.",
-        );
+        let why = "an earlier column has this name.";
+        return Err(wrong_word(alloc, *walk, Refusal::BadSchema, why));
     }
     walk.pass(1);
     if has_wrong_length(column.column_type) {
-        let hint = String::from_str(alloc, "a VARCHAR has 1 to 255 bytes.")?;
-        return Err(wrong(walk.spot(4), Refusal::BadSchema, hint));
+        return Err(wrong_as(
+            alloc,
+            walk.spot(4),
+            Refusal::BadSchema,
+            &["a VARCHAR has 1 to 255 bytes."],
+        ));
     }
     walk.pass(token_count(column.column_type).saturating_add(1));
     Ok(())
@@ -94,18 +96,27 @@ fn look_at_column(
 // Looks at the columns, which are next, and passes them.
 fn look_at_columns(alloc: Global, table: &Table, walk: &mut Walk) -> Result<(), Stop> {
     if table.columns.len() > 16 {
-        return wrong_word(
-            alloc,
-            *walk,
-            Refusal::TooLarge,
-            "a table has at most 16 columns.",
-        );
+        let why = "a table has at most 16 columns.";
+        return Err(wrong_word(alloc, *walk, Refusal::TooLarge, why));
     }
     let columns = table.columns.as_slice();
     for (at, column) in columns.iter().enumerate() {
         look_at_column(alloc, &columns[..at], walk, *column)?;
     }
     Ok(())
+}
+
+fn has_twice(columns: &[Column], wanted: ColumnType) -> bool {
+    let mut has_one = false;
+    for column in columns {
+        if same_type(column.column_type, wanted) {
+            if has_one {
+                return true;
+            }
+            has_one = true;
+        }
+    }
+    false
 }
 
 // Looks at the column that begins or ends a period, the next token.
@@ -117,7 +128,7 @@ fn look_at_edge(
     wanted: ColumnType,
 ) -> Result<(), Stop> {
     let Some(column_type) = type_of(&table.columns, name) else {
-        return unknown(alloc, table, walk, name);
+        return Err(unknown(alloc, table, walk, name));
     };
     if !same_type(column_type, wanted) {
         let why = match wanted {
@@ -125,16 +136,11 @@ fn look_at_edge(
             ColumnType::RowEnd => "this column has to be GENERATED ALWAYS AS ROW END.",
             _ => "a period goes from one DATE column to another.",
         };
-        return wrong_word(alloc, walk, Refusal::BadSchema, why);
+        return Err(wrong_word(alloc, walk, Refusal::BadSchema, why));
     }
-    let same = table
-        .columns
-        .iter()
-        .filter(|column| same_type(column.column_type, wanted))
-        .count();
-    if same > 1 && !matches!(wanted, ColumnType::Date) {
+    if !matches!(wanted, ColumnType::Date) && has_twice(&table.columns, wanted) {
         let why = "a table has one ROW START column and one ROW END column.";
-        return wrong_word(alloc, walk, Refusal::BadSchema, why);
+        return Err(wrong_word(alloc, walk, Refusal::BadSchema, why));
     }
     Ok(())
 }
@@ -151,11 +157,11 @@ fn look_at_known(
     let mut walk = walk;
     walk.pass(2);
     if type_of(&table.columns, start).is_none() {
-        return unknown(alloc, table, walk, start);
+        return Err(unknown(alloc, table, walk, start));
     }
     walk.pass(2);
     if type_of(&table.columns, end).is_none() {
-        return unknown(alloc, table, walk, end);
+        return Err(unknown(alloc, table, walk, end));
     }
     Ok(())
 }
@@ -165,12 +171,8 @@ fn look_at_period(alloc: Global, table: &Table, walk: &mut Walk) -> Result<(), S
     let period = table.application_period;
     walk.pass(2);
     if type_of(&table.columns, period.name.written).is_some() {
-        return wrong_word(
-            alloc,
-            *walk,
-            Refusal::BadSchema,
-            "a column has the name of the period.",
-        );
+        let why = "a column has the name of the period.";
+        return Err(wrong_word(alloc, *walk, Refusal::BadSchema, why));
     }
     look_at_known(
         alloc,
@@ -185,7 +187,7 @@ fn look_at_period(alloc: Global, table: &Table, walk: &mut Walk) -> Result<(), S
     look_at_edge(alloc, table, *walk, period.end.written, ColumnType::Date)?;
     if same_name(period.start.written, period.end.written) {
         let why = "a period goes from one DATE column to another.";
-        return wrong_word(alloc, *walk, Refusal::BadSchema, why);
+        return Err(wrong_word(alloc, *walk, Refusal::BadSchema, why));
     }
     walk.pass(3);
     Ok(())
@@ -223,6 +225,15 @@ fn is_of_period(table: &Table, name: &str) -> bool {
         || same_name(name, table.system_period.end.written)
 }
 
+fn has_name(names: &[Name], name: &str) -> bool {
+    for one in names {
+        if same_name(one.written, name) {
+            return true;
+        }
+    }
+    false
+}
+
 // Looks at a column of a key behind these, the next token.
 fn look_at_key_column(
     alloc: Global,
@@ -232,19 +243,15 @@ fn look_at_key_column(
     name: &str,
 ) -> Result<(), Stop> {
     if type_of(&table.columns, name).is_none() {
-        return unknown(alloc, table, walk, name);
+        return Err(unknown(alloc, table, walk, name));
     }
     if is_of_period(table, name) {
         let why = "a key names the period itself, and not the columns of a period.";
-        return wrong_word(alloc, walk, Refusal::BadSchema, why);
+        return Err(wrong_word(alloc, walk, Refusal::BadSchema, why));
     }
-    if before.iter().any(|one| same_name(one.written, name)) {
-        return wrong_word(
-            alloc,
-            walk,
-            Refusal::BadSchema,
-            "the key has this column twice.",
-        );
+    if has_name(before, name) {
+        let why = "the key has this column twice.";
+        return Err(wrong_word(alloc, walk, Refusal::BadSchema, why));
     }
     Ok(())
 }
@@ -266,8 +273,12 @@ pub(crate) fn look_at_key_names(
     walk.pass(between);
     let period = table.application_period.name.written;
     if !same_name(names.period.written, period) {
-        let hint = format!(in alloc; "a key ends with the period, which is {period}.")?;
-        return Err(wrong(walk.spot(1), Refusal::BadSchema, hint));
+        return Err(wrong_as(
+            alloc,
+            walk.spot(1),
+            Refusal::BadSchema,
+            &["a key ends with the period, which is ", period, "."],
+        ));
     }
     Ok(())
 }
@@ -277,7 +288,7 @@ fn look_at_key(alloc: Global, table: &Table, walk: &mut Walk) -> Result<(), Stop
     walk.pass(3);
     if table.key.columns.len() > 3 {
         let why = "a key has at most three columns and the period.";
-        return wrong_word(alloc, *walk, Refusal::TooLarge, why);
+        return Err(wrong_word(alloc, *walk, Refusal::TooLarge, why));
     }
     look_at_key_names(alloc, table, walk, &table.key, 0)?;
     walk.pass(4);

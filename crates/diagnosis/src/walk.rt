@@ -1,10 +1,10 @@
 //! Places in a text, found by its tokens.
 use fault::Refusal;
 use sqltokens::{KEYWORDS, Keyword, Kind, Sign, Token};
-use std::alloc::{AllocError, AllocFailed};
+use std::alloc::{AllocError, AllocFailed, Global};
 
 /// Bytes of a text that stand together.
-#[derive(Clone, Copy, Debug, PartialEq, Eq)]
+#[derive(Clone, Copy)]
 pub(crate) struct Spot {
     /// The first of them, counted from 0.
     pub at: usize,
@@ -29,7 +29,7 @@ impl Spot {
 }
 
 /// What is wrong in a text, where, and what could be done.
-#[derive(Debug, Drop)]
+#[derive(Drop)]
 pub(crate) struct Found {
     pub spot: Spot,
     pub refusal: Refusal,
@@ -38,7 +38,7 @@ pub(crate) struct Found {
 }
 
 /// What ends a look into a text.
-#[derive(Debug, Drop)]
+#[derive(Drop)]
 pub(crate) enum Stop {
     NoMemory,
     Found(Found),
@@ -65,13 +65,26 @@ pub(crate) fn found_by(looked: Result<(), Stop>) -> Result<Option<Found>, AllocE
     }
 }
 
-/// That this is wrong there.
-pub(crate) fn wrong(spot: Spot, refusal: Refusal, hint: String) -> Stop {
-    Stop::Found(Found {
-        spot,
-        refusal,
-        hint,
-    })
+/// That this is wrong there, with what could be done.
+pub(crate) fn wrong(spot: Spot, refusal: Refusal, hint: Result<String, AllocError>) -> Stop {
+    match hint {
+        Ok(hint) => Stop::Found(Found {
+            spot,
+            refusal,
+            hint,
+        }),
+        Err(AllocError) => Stop::NoMemory,
+    }
+}
+
+/// Pieces of a text, one behind the other.
+pub(crate) fn joined(alloc: Global, pieces: &[&str]) -> Result<String, AllocError> {
+    pieces.concat(alloc)
+}
+
+/// That this is wrong there, with what could be done in pieces.
+pub(crate) fn wrong_as(alloc: Global, spot: Spot, refusal: Refusal, pieces: &[&str]) -> Stop {
+    wrong(spot, refusal, joined(alloc, pieces))
 }
 
 /// The tokens of a text, and which of them is next.
@@ -120,15 +133,22 @@ impl<'t, 'a> Walk<'t, 'a> {
 
     /// The token that begins at this byte.
     pub fn token_at(self, at: usize) -> Option<Token<'a>> {
-        self.tokens.iter().find(|token| token.at == at).copied()
+        for token in self.tokens {
+            if token.at == at {
+                return Some(*token);
+            }
+        }
+        None
     }
 }
 
 fn keyword_len(keyword: Keyword) -> usize {
-    match KEYWORDS.iter().find(|word| word.1 == keyword) {
-        Some(word) => word.0.len(),
-        None => 1,
+    for word in &KEYWORDS {
+        if word.1 == keyword {
+            return word.0.len();
+        }
     }
+    1
 }
 
 /// How many bytes a token has.

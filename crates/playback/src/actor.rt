@@ -6,6 +6,7 @@ use model::entry::Entry;
 use model::stamp::Stamp;
 use std::alloc::{AllocError, Global};
 use store::chain::Chain;
+use store::past::Tale;
 use world::event::{Event, Job};
 
 /// A step that is begun.
@@ -46,6 +47,10 @@ pub(crate) struct Actor {
     pub known: Vec<Known>,
     /// The number of the mark of its last life or step, 0 for none.
     pub mark: u64,
+    /// Whether it is known what it goes on from.
+    pub is_known: bool,
+    /// What is told of it before that is known.
+    pub tale: Option<Tale>,
 }
 
 impl Actor {
@@ -57,12 +62,43 @@ impl Actor {
             chain: Chain::new(alloc),
             known: Vec::new(alloc),
             mark: 0,
+            is_known: true,
+            tale: None,
         }
     }
 
     /// Whether it is up and in no step.
     pub fn is_idle(&self) -> bool {
         self.is_open && self.begun.is_none()
+    }
+
+    /// It is not up as a journal begins, with this stored: told of one that is not known yet.
+    pub fn rest(&mut self, stored: &Summary) {
+        if !self.is_known && self.tale.is_none() {
+            self.tale = Some(Tale {
+                stored: *stored,
+                announced: None,
+                is_up: false,
+                is_begun: false,
+            });
+        }
+    }
+
+    /// It is about to store this, or was when it was last up.
+    pub fn announce(&mut self, stored: &Summary) {
+        if let Some(begun) = &mut self.begun {
+            begun.announced = Some(*stored);
+        } else if let Some(tale) = &mut self.tale {
+            tale.announced = Some(*stored);
+        }
+    }
+
+    /// Whether it may have this stored, by what is told of it.
+    pub fn may_have(&self, found: &Summary) -> bool {
+        match &self.tale {
+            Some(tale) => tale.fits(found),
+            None => true,
+        }
     }
 
     /// A life begins at this mark.

@@ -70,7 +70,7 @@ impl Play {
         if outcome.index <= last {
             return Ok(());
         }
-        let Some(entry) = self.world.entry(member, outcome.index)? else {
+        let Some(entry) = self.stage.entry(member, outcome.index)? else {
             return Ok(());
         };
         let Some(request) = &entry.request else {

@@ -5,12 +5,15 @@ use store::StoreRefusal;
 use store::past::Hears;
 
 impl Play {
-    // A journal begins, before which so many marks were given out.
+    // A journal begins, before which so many marks were given out. The first one that is there tells how many, where others are away.
     fn open(&mut self, marks: u64) -> Result<(), StoreRefusal> {
         self.sessions = self.sessions.saturating_add(1);
         self.before = self.posts.len();
         self.is_head = true;
         self.words.clear();
+        if self.sessions == 1 && self.first > 0 {
+            self.marks = marks;
+        }
         if marks == self.marks {
             Ok(())
         } else {

@@ -5,14 +5,20 @@
 mod actor;
 mod decided;
 mod found;
+mod group;
 mod hearing;
+mod held;
+mod later;
 mod lives;
 mod play;
 mod post;
 mod printed;
+mod seat;
+mod stage;
 mod steps;
 mod stored;
 mod told;
 
 pub use decided::Decided;
+pub use held::HeldLog;
 pub use play::Play;

@@ -46,7 +46,7 @@ impl Play {
 
     /// A member comes up. Its first life begins as the world does, where all are up.
     pub(crate) fn start(&mut self, member: Member) -> Result<(), StoreRefusal> {
-        if self.world.commit(member).is_some() {
+        if self.stage.commit(member).is_some() {
             let _ = self.happen(Event::Stop(member))?;
         }
         let _ = self.happen(Event::Start(member))?;
@@ -78,6 +78,7 @@ impl Play {
     ) -> Result<(), StoreRefusal> {
         self.close(member, found)?;
         self.marks = self.marks.saturating_add(1);
+        self.meet(member, found)?;
         self.start(member)?;
         if self.stored(member)? != Some(*found) {
             return Err(self.broken(member));
@@ -95,6 +96,7 @@ impl Play {
     /// A member is not up as a journal begins. After a step that was cut short it is not known what it left.
     pub(crate) fn rest(&mut self, member: Member, stored: &Summary) -> Result<(), StoreRefusal> {
         let at = self.place(member)?;
+        self.actors[at].rest(stored);
         if !self.actors[at].is_idle() {
             return Ok(());
         }

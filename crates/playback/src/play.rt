@@ -3,7 +3,9 @@ ghost use Rattle.std.specs.Prelude.{◌≡◌, ◌<◌, ◌+◌, IfOk, vec_len};
 
 use crate::actor::Actor;
 use crate::decided::Decided;
+use crate::held::HeldLog;
 use crate::post::Post;
+use crate::stage::Stage;
 use crate::told::Word;
 use fault::Refusal;
 use flight::{Answered, Records};
@@ -16,14 +18,15 @@ use world::event::Event;
 use world::history::World;
 use world::output::Output;
 
-/// The journals of a store, played on a world line by line. A line whose events don't give what it tells is refused:
+/// The journals of a store, played line by line on a world or, where the first ones are away, on members that go on from what they had
+/// stored. A line whose events don't give what it tells is refused:
 /// 51 where a member begins with what it does not have there, or is about to store what it does not come to; 52 where it takes a
 /// message that was not sent to it; 54 where it tells other outcomes, or an answer or a printed outcome is another one. One that may not
 /// stand there is refused 50.
 #[derive(Drop)]
 pub struct Play {
     pub(crate) alloc: Global,
-    pub(crate) world: World,
+    pub(crate) stage: Stage,
     pub(crate) actors: Vec<Actor>,
     /// Whether flights are kept.
     pub(crate) keeps: bool,
@@ -32,6 +35,10 @@ pub struct Play {
     /// How many were sent before the last journal.
     pub(crate) before: usize,
     pub(crate) marks: u64,
+    /// The number of the first journal, where those before it are away; else 0.
+    pub(crate) first: u64,
+    /// The logs that the members' databases hold, where the first journals are away.
+    pub(crate) held: Vec<Option<HeldLog>>,
     pub(crate) reading: i64,
     /// Up to which entry outcomes are written.
     pub(crate) noted: usize,
@@ -94,16 +101,29 @@ impl Play {
         if members < 3 || members > 7 {
             return Err(StoreRefusal::Refused(Refusal::OutOfRange));
         }
+        let stage = Stage::World(World::new(alloc, members, schema)?);
+        Ok(Play::on(alloc, members, stage, keeps)?)
+    }
+
+    // Before anything happened to so many members on this stage.
+    pub(crate) fn on(
+        alloc: Global,
+        members: usize,
+        stage: Stage,
+        keeps: bool,
+    ) -> Result<Play, AllocError> {
         let actors = new_actors(alloc, members)?;
         let answers = no_answers(alloc, members)?;
         Ok(Play {
             alloc,
-            world: World::new(alloc, members, schema)?,
+            stage,
             actors,
             keeps,
             posts: Vec::new(alloc),
             before: 0,
             marks: 0,
+            first: 0,
+            held: Vec::new(alloc),
             reading: 0,
             noted: 0,
             is_head: false,
@@ -168,11 +188,6 @@ impl Play {
 
     /// What an event gives.
     pub(crate) fn happen(&mut self, event: Event) -> Result<Vec<Output>, AllocError> {
-        let events = [event];
-        let mut outs = self.world.run(&events)?;
-        Ok(match outs.pop() {
-            Some(outputs) => outputs,
-            None => Vec::new(self.alloc),
-        })
+        self.stage.happen(self.alloc, event)
     }
 }

@@ -48,7 +48,7 @@ impl Play {
 
     // What the text of a question asks; 54 where it is none.
     fn read_asked(&self, member: Member, mark: u64, query: &Text) -> Result<Query, StoreRefusal> {
-        match read_query(self.alloc, self.world.schema(), query.as_str()) {
+        match read_query(self.alloc, self.stage.schema(), query.as_str()) {
             Ok(asked) => Ok(asked),
             Err(Refusal::NoMemory) => Err(StoreRefusal::Refused(Refusal::NoMemory)),
             Err(_) => Err(self.wrong(member, mark)),

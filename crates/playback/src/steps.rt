@@ -123,9 +123,7 @@ impl Play {
         stored: &Summary,
     ) -> Result<(), StoreRefusal> {
         let at = self.place(member)?;
-        if let Some(begun) = &mut self.actors[at].begun {
-            begun.announced = Some(*stored);
-        }
+        self.actors[at].announce(stored);
         Ok(())
     }
 

@@ -9,7 +9,7 @@ use store::StoreRefusal;
 impl Play {
     /// Brings the chain of a member's log up to what it has, and gives what it has stored; none where it is down.
     pub(crate) fn stored(&mut self, member: Member) -> Result<Option<Summary>, StoreRefusal> {
-        let Some(stored) = self.world.durable(member)? else {
+        let Some(stored) = self.stage.durable(member)? else {
             return Ok(None);
         };
         let kept = self.kept(member, stored.length)?;
@@ -28,7 +28,7 @@ impl Play {
         length: usize,
     ) -> Result<bool, StoreRefusal> {
         for index in kept..length {
-            let Some(entry) = self.world.entry(member, index.saturating_add(1))? else {
+            let Some(entry) = self.stage.entry(member, index.saturating_add(1))? else {
                 return Ok(false);
             };
             let at = self.place(member)?;
@@ -60,7 +60,7 @@ impl Play {
 
     // Whether a member has the entry at an index that its chain has there.
     fn is_known(&mut self, member: Member, index: usize) -> Result<bool, StoreRefusal> {
-        let Some(entry) = self.world.entry(member, index)? else {
+        let Some(entry) = self.stage.entry(member, index)? else {
             return Ok(false);
         };
         let place = index.saturating_sub(1);
@@ -79,7 +79,7 @@ impl Play {
     ) -> Result<Vec<Entry>, StoreRefusal> {
         let mut entries = Vec::new(self.alloc);
         for index in 0..length {
-            if let Some(entry) = self.world.entry(member, index.saturating_add(1))? {
+            if let Some(entry) = self.stage.entry(member, index.saturating_add(1))? {
                 entries.push(entry)?;
             }
         }

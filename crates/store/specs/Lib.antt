@@ -2,6 +2,7 @@ pub mod Announcing
 pub mod Applied
 pub mod Asking
 pub mod Chains
+pub mod Fullness
 pub mod Journals
 pub mod Pasts
 pub mod Refusals

@@ -2,7 +2,7 @@
 use Rattle.std.specs.Prelude.{◌≡◌, ℕ, Some, None, List, ◌++◌, codes, decimal}
 use Rattle.fault.specs.declared.refusal.Refusal.{Refusal}
 use Rattle.fault.specs.Refusal.{shown}
-use Rattle.fault.specs.declared.refusal.Refusal.TheVariants.{StoreFault, NoMemory}
+use Rattle.fault.specs.declared.refusal.Refusal.TheVariants.{StoreFault, NoMemory, LogFull}
 use Rattle.keep.specs.Errors.{refusal_of}
 use Rattle.keep.specs.declared.error.StoreError.{StoreError}
 use Rattle.store.specs.declared.device.DeviceError.{DeviceError}
@@ -38,6 +38,10 @@ error_refusal error = Refused (refusal_of error)
 -- how want of memory is told
 abbrev pub no_memory : StoreRefusal
 no_memory = Refused NoMemory
+
+-- how a log without room is told
+abbrev pub log_full : StoreRefusal
+log_full = Refused LogFull
 
 -- the journal can't be written, or memory is refused
 abbrev pub IsOfJournal : StoreRefusal → Type 0

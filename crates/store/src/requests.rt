@@ -1,7 +1,8 @@
 //! Requests of clients.
-ghost use Rattle.std.specs.Prelude.{◌≡◌, ◌⊎◌, IsErr, IfOk, IfErr, OnOk, OnErr};
+ghost use Rattle.std.specs.Prelude.{◌≡◌, ◌≤◌, ◌⊎◌, Err, IsErr, IfOk, IfErr, OnOk, OnErr};
 ghost use Rattle.store.specs.Journals.{IsSpent, EndsWith};
-ghost use Rattle.store.specs.Refusals.{IsOfJournal};
+ghost use Rattle.store.specs.Refusals.{IsOfJournal, log_full};
+ghost use Rattle.store.specs.Fullness.{entries_of, longest};
 ghost use Rattle.store.specs.Words.{words_of};
 
 use crate::announcing::Announces;
@@ -132,14 +133,8 @@ where
         self.flush()
     }
 
-    /// Hands in a request of a client, with its number, and gives what came of it: `Accepted` at an instant or `Refused` once it is
-    /// decided and told, and in the journal. `Unanswered` where no majority is up, or it was handed to three leaders in turn and none
-    /// told of it.
-    ///
-    /// The store's own client is 65535. The clock shows `reading`, in microseconds since 1970. 38, 40 and 43 where the journal
-    /// can't be written; of a store that was spent before nothing changes then. 43 for want of memory otherwise. After each of these
-    /// it is not known whether the request is decided, as with `Unanswered`.
-    pub fn submit(
+    // Hands in a request, whatever room the log has.
+    fn hand_in(
         &mut self,
         reading: i64,
         client: Client,
@@ -149,9 +144,7 @@ where
         ensures told { IfOk result (λ o. EndsWith K.Journal.contents self.new.scribe (Line.Printed client number (words_of o))) }
         ensures why { IfErr result IsOfJournal }
         ensures fails { OnErr result (IsSpent self.new.scribe ⊎ (self.new ≡ self.old)) }
-        ensures spent { IsSpent self.old.scribe → IsErr result × (self.new ≡ self.old) }
     {
-        self.check()?;
         let text = Text::new(self.alloc, text)?;
         self.watched = Some(Watched {
             client,
@@ -164,6 +157,34 @@ where
         let outcome = decided?;
         self.print(client, number, &outcome)?;
         Ok(outcome)
+    }
+
+    /// Hands in a request of a client, with its number, and gives what came of it: `Accepted` at an instant or `Refused` once it is
+    /// decided and told, and in the journal. `Unanswered` where no majority is up, or it was handed to three leaders in turn and none
+    /// told of it.
+    ///
+    /// The store's own client is 65535. The clock shows `reading`, in microseconds since 1970. 36 where the longest log of those that are
+    /// up has 99,000 entries or more: nothing is handed in then, and nothing changes. 38, 40 and 43 where the journal can't be written;
+    /// of a store that was spent before nothing changes then. 43 for want of memory otherwise. After each of these but 36 it is not known
+    /// whether the request is decided, as with `Unanswered`.
+    #[tactic(auto, using(crate::proofs::Fullness::room_left))]
+    pub fn submit(
+        &mut self,
+        reading: i64,
+        client: Client,
+        number: RequestNumber,
+        text: &str,
+    ) -> Result<Outcome, StoreRefusal>
+        ensures told { IfOk result (λ o. EndsWith K.Journal.contents self.new.scribe (Line.Printed client number (words_of o))) }
+        ensures full { ¬ IsSpent self.old.scribe → 99000 ≤ longest self.old.seats.items (λ seat. entries_of seat.node seat.chain.links.items) → (result ≡ Err log_full) × (self.new ≡ self.old) }
+        ensures room { result ≡ Err log_full → (99000 ≤ longest self.old.seats.items (λ seat. entries_of seat.node seat.chain.links.items)) × (self.new ≡ self.old) }
+        ensures why { IfErr result (λ r. IsOfJournal r ⊎ (r ≡ log_full)) }
+        ensures fails { OnErr result (IsSpent self.new.scribe ⊎ (self.new ≡ self.old)) }
+        ensures spent { IsSpent self.old.scribe → IsErr result × (self.new ≡ self.old) }
+    {
+        self.check()?;
+        self.check_room()?;
+        self.hand_in(reading, client, number, text)
     }
 
     /// The number that the next request of the store's own client has: one more than the last one in the leader's log, or in the
@@ -200,20 +221,25 @@ where
 
     /// Hands in a request in the store's own name, with the next number: the number, and what came of it. What `submit` refuses; 31
     /// where no number is left.
+    #[tactic(auto, using(crate::proofs::Fullness::room_left))]
     pub fn execute(
         &mut self,
         reading: i64,
         text: &str,
     ) -> Result<(RequestNumber, Outcome), StoreRefusal>
         ensures told { IfOk result (λ r. EndsWith K.Journal.contents self.new.scribe (Line.Printed 65535 r.0 (words_of r.1))) }
+        ensures full { ¬ IsSpent self.old.scribe → 99000 ≤ longest self.old.seats.items (λ seat. entries_of seat.node seat.chain.links.items) → (result ≡ Err log_full) × (self.new ≡ self.old) }
+        ensures room { result ≡ Err log_full → (99000 ≤ longest self.old.seats.items (λ seat. entries_of seat.node seat.chain.links.items)) × (self.new ≡ self.old) }
         ensures spent { IsSpent self.old.scribe → IsErr result × (self.new ≡ self.old) }
     {
+        self.check()?;
+        self.check_room()?;
         let next = self.next_number(reading)?;
         let (Some(client), Some(number)) = (Client::new(OWN_CLIENT), RequestNumber::new(next))
         else {
             return Err(StoreRefusal::Refused(Refusal::Gap));
         };
-        let outcome = self.submit(reading, client, number, text)?;
+        let outcome = self.hand_in(reading, client, number, text)?;
         Ok((number, outcome))
     }
 }

@@ -1,1 +1,2 @@
+pub mod Follows
 mod Forms

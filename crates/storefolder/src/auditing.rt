@@ -5,6 +5,8 @@ ghost use Rattle.storefolder.specs.Audit.{IsUpheld};
 use crate::databases::open_databases;
 use crate::form::Form;
 use crate::journals::tell_all;
+use crate::later::{Later, audit_later};
+use crate::numbers::{Journals, find_journals};
 use crate::place::enter;
 use auditor::{AuditFault, judge};
 use durable::SqlKeeper;
@@ -13,16 +15,14 @@ use flight::flight::Version;
 use flight::life::Life;
 use flight::records::Records;
 use journal::Summary;
-use model::entry::Entry;
 use model::member::Member;
 use node::Node;
-use playback::Play;
+use playback::{HeldLog, Play};
 use progressline::Progress;
 use schema::Schema;
 use sqlite::{Alter, Connection};
 use std::alloc::Global;
 use store::announcing::Judging;
-use store::chain::Chain;
 use store::{Past, StoreRefusal};
 
 /// What an audit that says yes found.
@@ -44,17 +44,19 @@ pub struct Audited {
 #[derive(Drop)]
 pub enum Verdict {
     Yes(Audited),
+    /// Yes of the journals that are there, where the first ones are away.
+    Later(Later),
     /// No: the first fault.
     No(StoreRefusal),
 }
 
 // What a database holds: in short, and its log. 49 where it holds no state of a member.
-fn found_in<K: Judging>(
+pub(crate) fn found_in<K: Judging>(
     alloc: Global,
     database: K::Image,
     form: &Form,
     member: Member,
-) -> Result<(Summary, Vec<Entry>), StoreRefusal>
+) -> Result<(Summary, HeldLog), StoreRefusal>
 where
     K::Image: Drop,
 {
@@ -66,9 +68,8 @@ where
         Ok(node) => node,
         Err((error, _)) => return Err(refusal_of(Refusal::from(error), member)),
     };
-    let entries = node.entries()?;
-    let chain = Chain::of(alloc, &entries)?;
-    Ok((chain.summary(node.hard_state()), entries))
+    let log = HeldLog::new(alloc, node.entries()?)?;
+    Ok((log.summary(node.hard_state()), log))
 }
 
 // A database that holds no state of a member is one that was altered.
@@ -96,8 +97,8 @@ where
     let Some(database) = database else {
         return Ok(false);
     };
-    let (found, entries) = found_in::<K>(alloc, database, form, member)?;
-    play.check_found(member, &found, &entries)?;
+    let (found, log) = found_in::<K>(alloc, database, form, member)?;
+    play.check_found(member, &found, log.entries())?;
     Ok(true)
 }
 
@@ -138,11 +139,12 @@ fn check_databases<Q: Progress>(
     alloc: Global,
     dir: &str,
     form: &Form,
+    journals: Journals,
     play: &mut Play,
     progress: &Q,
 ) -> Result<Vec<Member>, StoreRefusal> {
     let mut past = Past::new(alloc, form.members)?;
-    tell_all(rt, alloc, dir, form, &mut past, progress)?;
+    tell_all(rt, alloc, dir, form, journals, &mut past, progress)?;
     let databases = open_databases(rt, alloc, dir, &past)?;
     compare_stored(alloc, databases, form, play)
 }
@@ -153,11 +155,12 @@ fn check_all<Q: Progress>(
     alloc: Global,
     dir: &str,
     form: &Form,
+    journals: Journals,
     play: &mut Play,
     progress: &Q,
 ) -> Result<Vec<Member>, StoreRefusal> {
-    tell_all(rt, alloc, dir, form, play, progress)?;
-    check_databases(rt, alloc, dir, form, play, progress)
+    tell_all(rt, alloc, dir, form, journals, play, progress)?;
+    check_databases(rt, alloc, dir, form, journals, play, progress)
 }
 
 // Whether a refusal is what an audit says no by.
@@ -169,6 +172,17 @@ fn is_verdict(refusal: &StoreRefusal) -> bool {
         StoreRefusal::Refused(Refusal::Unsent { .. }) => true,
         StoreRefusal::Refused(Refusal::WrongAnswer { .. }) => true,
         _ => false,
+    }
+}
+
+// What an audit says where this ends it.
+fn verdict_of(refusal: StoreRefusal) -> Result<Verdict, StoreRefusal>
+    ensures { IfOk result IsUpheld }
+{
+    if is_verdict(&refusal) {
+        Ok(Verdict::No(refusal))
+    } else {
+        Err(refusal)
     }
 }
 
@@ -212,11 +226,12 @@ fn steps_in(lives: &[Vec<Life>]) -> usize {
 }
 
 /// Audits the store in a folder: whether the events that its journals spell give each outcome and each answer that these tell of, each
-/// database holds what they come to, and an audit of the lives and answers that they spell says yes. A yes comes with these.
+/// database holds what they come to, and an audit of the lives and answers that they spell says yes. A yes comes with these. Where the first
+/// journals are away, the others are judged in the same way but for that audit, from what the databases say that was stored before.
 ///
-/// A fault is 49 of a database that holds something else, 55 of a journal that spells nothing, 51 of a member that began with what it did
-/// not have, 52 of a message that was not sent, 53 of marks that do not rise, 54 of an outcome or an answer that the events don't give.
-/// Refused is 46 to 48, and 40 and 43. How many journals are read and how many steps are judged is told to who asks for it.
+/// A fault is 49 of a database that holds something else, 55 of a journal that spells nothing or is missing, 51 of a member that began with
+/// what it did not have, 52 of a message that was not sent, 53 of marks that do not rise, 54 of an outcome or an answer that the events don't
+/// give. Refused is 46 to 48, and 40 and 43. How many journals are read and how many steps are judged is told to who asks for it.
 pub fn audit<Q: Progress>(
     rt: &HostRuntime,
     alloc: Global,
@@ -227,11 +242,20 @@ pub fn audit<Q: Progress>(
 {
     let folder = enter(rt, alloc, dir)?;
     let form = &folder.form;
+    let journals = match find_journals(rt, alloc, dir) {
+        Ok(journals) => journals,
+        Err(refusal) => return verdict_of(refusal),
+    };
+    if journals.is_later() {
+        return match audit_later(rt, alloc, dir, form, journals, progress) {
+            Ok(later) => Ok(Verdict::Later(later)),
+            Err(refusal) => verdict_of(refusal),
+        };
+    }
     let mut play = Play::new(alloc, form.members, form.schema.clone()?, true)?;
-    let missing = match check_all(rt, alloc, dir, form, &mut play, progress) {
+    let missing = match check_all(rt, alloc, dir, form, journals, &mut play, progress) {
         Ok(missing) => missing,
-        Err(refusal) if is_verdict(&refusal) => return Ok(Verdict::No(refusal)),
-        Err(refusal) => return Err(refusal),
+        Err(refusal) => return verdict_of(refusal),
     };
     let counts = play.counts();
     let records = play.into_records()?;

@@ -1,9 +1,10 @@
 //! All journals of a store, one after the other.
 use crate::form::Form;
-use crate::place::{count_journals, read_journal};
-use journal::blocks::text_in;
+use crate::numbers::Journals;
+use crate::place::read_journal;
+use journal::blocks::{first_block, text_in};
 use progressline::Progress;
-use std::alloc::Global;
+use std::alloc::{AllocError, Global};
 use store::StoreRefusal;
 use store::past::{End, Hears, tell_journal};
 
@@ -11,11 +12,11 @@ use store::past::{End, Hears, tell_journal};
 // where the last one has no block.
 fn sum_at_end(
     journal: u64,
-    count: u64,
+    last: u64,
     length: usize,
     end: Option<End>,
 ) -> Result<Option<u64>, StoreRefusal> {
-    let is_last = journal == count;
+    let is_last = journal == last;
     match end {
         Some(end) if is_last || end.at == length => Ok(Some(end.sum)),
         Some(end) => Err(StoreRefusal::BadJournal {
@@ -27,43 +28,75 @@ fn sum_at_end(
     }
 }
 
-/// Tells each line of all journals of the store in a folder. 55 of a journal that spells nothing somewhere, or lines that may not stand
-/// there, or that is missing; what the hearer refuses otherwise; 40 and 43 where one can't be read. How many journals were told is told
-/// to who asks for it, and is taken away at the end.
+// Whether the first line of a journal names this number; so does one without a whole block.
+fn is_numbered(alloc: Global, journal: u64, text: &str) -> Result<bool, AllocError> {
+    let Some(first) = first_block(text) else {
+        return Ok(true);
+    };
+    let line = format!(in alloc; "opens {journal} ")?;
+    Ok(first.body.starts_with(line.as_str()))
+}
+
+/// Tells each line of a journal's whole blocks, which go on from this sum, as `tell_journal` does. Where none is given 55 also of one whose
+/// first line names another number.
+pub(crate) fn tell_one<H: Hears>(
+    alloc: Global,
+    journal: u64,
+    text: &str,
+    before: Option<u64>,
+    hearer: &mut H,
+) -> Result<Option<End>, StoreRefusal> {
+    if before.is_none() && !is_numbered(alloc, journal, text)? {
+        return Err(StoreRefusal::BadJournal { journal, at: 0 });
+    }
+    tell_journal(alloc, journal, text, before, hearer)
+}
+
+/// Tells each line of the journals of the store in a folder. 55 of a journal that spells nothing somewhere, or lines that may not stand
+/// there, and of the one before the first where the last one that is there can't be read without it; what the hearer refuses otherwise; 40
+/// and 43 where one can't be read. How many journals were told is told to who asks for it, and is taken away at the end.
 pub(crate) fn tell_all<H: Hears, Q: Progress>(
     rt: &HostRuntime,
     alloc: Global,
     dir: &str,
     form: &Form,
+    journals: Journals,
     hearer: &mut H,
     progress: &Q,
 ) -> Result<(), StoreRefusal> {
-    let count = count_journals(rt, alloc, dir)?;
-    progress.begin("journals", usize::try_from(count).unwrap_or(usize::MAX));
-    let told = tell_each(rt, alloc, dir, form, count, hearer, progress);
+    let count = usize::try_from(journals.count()).unwrap_or(usize::MAX);
+    progress.begin("journals", count);
+    let told = tell_each(rt, alloc, dir, form, journals, hearer, progress);
     progress.hide();
     told
 }
 
-// The same, of so many journals.
+// The same.
 fn tell_each<H: Hears, Q: Progress>(
     rt: &HostRuntime,
     alloc: Global,
     dir: &str,
     form: &Form,
-    count: u64,
+    journals: Journals,
     hearer: &mut H,
     progress: &Q,
 ) -> Result<(), StoreRefusal> {
-    let mut sum = form.sum();
-    for before in 0..count {
-        let journal = before.saturating_add(1);
+    let mut sum = if journals.is_later() {
+        None
+    } else {
+        Some(form.sum())
+    };
+    for before in 0..journals.count() {
+        let journal = journals.first.saturating_add(before);
         let bytes = read_journal(rt, alloc, dir, journal)?;
-        let end = tell_journal(alloc, journal, text_in(&bytes), Some(sum), hearer)?;
-        if let Some(next) = sum_at_end(journal, count, bytes.len(), end)? {
-            sum = next;
+        let end = tell_one(alloc, journal, text_in(&bytes), sum, hearer)?;
+        if let Some(next) = sum_at_end(journal, journals.last, bytes.len(), end)? {
+            sum = Some(next);
         }
-        progress.tell(usize::try_from(journal).unwrap_or(usize::MAX));
+        progress.tell(usize::try_from(before.saturating_add(1)).unwrap_or(usize::MAX));
     }
-    Ok(())
+    match sum {
+        Some(_) => Ok(()),
+        None => Err(journals.refusal_before()),
+    }
 }

@@ -3,7 +3,9 @@ use crate::databases::{Database, open_databases};
 use crate::faults::file_refusal;
 use crate::form::Form;
 use crate::journal_file::JournalFile;
-use crate::place::{Folder, count_journals, cut_journal, enter, new_journal, read_journal};
+use crate::journals::tell_one;
+use crate::numbers::find_journals;
+use crate::place::{Folder, cut_journal, enter, new_journal, read_journal};
 use durable::SqlKeeper;
 use journal::blocks::text_in;
 use model::member::Member;
@@ -11,7 +13,7 @@ use sqlite::{Alter, Connection, File as DatabaseFile, FileStore};
 use std::alloc::Global;
 use store::announcing::{Announces, Announcing};
 use store::members::Members;
-use store::past::{End, tell_journal};
+use store::past::End;
 use store::scribe::Scribe;
 use store::{Device, Past, Store, StoreRefusal};
 
@@ -102,7 +104,7 @@ fn read_alone(
     let bytes = read_journal(rt, alloc, dir, journal)?;
     let mut past = Past::new(alloc, form.members)?;
     let before = if journal == 1 { Some(form.sum()) } else { None };
-    match tell_journal(alloc, journal, text_in(&bytes), before, &mut past)? {
+    match tell_one(alloc, journal, text_in(&bytes), before, &mut past)? {
         Some(end) => Ok(Some(Before {
             past,
             next: journal.saturating_add(1),
@@ -120,18 +122,18 @@ fn read_before(
     dir: &str,
     form: &Form,
 ) -> Result<Before, StoreRefusal> {
-    let count = count_journals(rt, alloc, dir)?;
+    let journals = find_journals(rt, alloc, dir)?;
     for back in 0..2u64 {
-        let journal = count.saturating_sub(back);
-        if journal > 0 && back <= count {
+        let journal = journals.last.saturating_sub(back);
+        if journals.has(journal) {
             if let Some(before) = read_alone(rt, alloc, dir, form, journal)? {
                 return Ok(before);
             }
         }
     }
-    if count > 1 {
+    if journals.last > 1 {
         return Err(StoreRefusal::BadJournal {
-            journal: count.saturating_sub(1),
+            journal: journals.last.saturating_sub(1),
             at: 0,
         });
     }
@@ -210,7 +212,7 @@ fn open_over<S: Alter + Drop, J: Device, F: FnOnce() -> Result<J, StoreRefusal>>
     })
 }
 
-/// Opens the store in a folder: reads what its last journal tells, looks whether each member's database is what that says, and only
+/// Opens the store in a folder: reads what its last journal tells, which may be the only one that is there, looks whether each member's database is what that says, and only
 /// then cuts what is torn at the journal's end, begins the next journal, and has a member elected. The clock shows `reading`. Where it does
 /// not sync the journal, a kill of the process loses nothing, but a power cut may.
 ///

@@ -127,30 +127,6 @@ pub fn enter(rt: &HostRuntime, alloc: Global, dir: &str) -> Result<Folder, Store
     Ok(Folder { form, _lock: lock })
 }
 
-/// How many journals there are, from the first on. 55 where one is missing before a later one.
-pub(crate) fn count_journals(
-    rt: &HostRuntime,
-    alloc: Global,
-    dir: &str,
-) -> Result<u64, StoreRefusal> {
-    let mut count = 0u64;
-    for journal in 1..u64::MAX {
-        if !exists(rt, journal_path(alloc, dir, journal)?.as_str())? {
-            break;
-        }
-        count = journal;
-    }
-    let missing = count.saturating_add(1);
-    let later = journal_path(alloc, dir, missing.saturating_add(1))?;
-    if exists(rt, later.as_str())? {
-        return Err(StoreRefusal::BadJournal {
-            journal: missing,
-            at: 0,
-        });
-    }
-    Ok(count)
-}
-
 /// The bytes of a journal.
 pub(crate) fn read_journal(
     rt: &HostRuntime,

@@ -1,6 +1,8 @@
 //! What else the journals of a store give: its decided requests, and the flights of its members.
 use crate::faults::file_refusal;
 use crate::journals::tell_all;
+use crate::later::play_later;
+use crate::numbers::find_journals;
 use crate::place::enter;
 use answertext::outlet::WriteFault;
 use fault::{Refusal, Text};
@@ -15,7 +17,7 @@ use std::fs::File;
 use store::StoreRefusal;
 
 /// The journals of the store in a folder, played: its requests that are decided, in the order of the log. What `audit` refuses, and
-/// each of its faults but 49 and 53. How many journals are played is told to who asks for it.
+/// each of its faults but 53 and, where all journals are there, 49. How many journals are played is told to who asks for it.
 pub fn replay<Q: Progress>(
     rt: &HostRuntime,
     alloc: Global,
@@ -24,8 +26,13 @@ pub fn replay<Q: Progress>(
 ) -> Result<Play, StoreRefusal> {
     let folder = enter(rt, alloc, dir)?;
     let form = &folder.form;
+    let journals = find_journals(rt, alloc, dir)?;
+    if journals.is_later() {
+        let (play, _) = play_later(rt, alloc, dir, form, journals, progress)?;
+        return Ok(play);
+    }
     let mut play = Play::new(alloc, form.members, form.schema.clone()?, false)?;
-    tell_all(rt, alloc, dir, form, &mut play, progress)?;
+    tell_all(rt, alloc, dir, form, journals, &mut play, progress)?;
     Ok(play)
 }
 
@@ -90,7 +97,7 @@ fn make_folder(rt: &HostRuntime, out: &str) -> Result<(), StoreRefusal> {
 }
 
 /// Writes the flights of the store in a folder into new files of another folder, which is made if it is not there: `node1.flight` and so
-/// on, as `live` writes them. What `replay` refuses; 56 where one of these files is there already; 40 where one can't be written. How
+/// on, as `live` writes them. What `replay` refuses; 55 of the journal before the first one, where that is away; 56 where one of these files is there already; 40 where one can't be written. How
 /// many journals are played is told to who asks for it.
 pub fn flights<Q: Progress>(
     rt: &HostRuntime,
@@ -101,8 +108,12 @@ pub fn flights<Q: Progress>(
 ) -> Result<(), StoreRefusal> {
     let folder = enter(rt, alloc, dir)?;
     let form = &folder.form;
+    let journals = find_journals(rt, alloc, dir)?;
+    if journals.is_later() {
+        return Err(journals.refusal_before());
+    }
     let mut play = Play::new(alloc, form.members, form.schema.clone()?, true)?;
-    tell_all(rt, alloc, dir, form, &mut play, progress)?;
+    tell_all(rt, alloc, dir, form, journals, &mut play, progress)?;
     let records = play.into_records()?;
     make_folder(rt, out)?;
     write_all(rt, alloc, out, &form.schema_text, records)

@@ -13,7 +13,7 @@ use flight::life::{Ending, Life, Packet};
 use keep::{MemImage, MemKeeper};
 use model::member::Member;
 use nodes::cluster::{Cluster, Config};
-use nodes::desk::NotSent;
+use nodes::desk::{NotSent, Stopped};
 use schema::Schema;
 use sqlread::query::{Query, read_query};
 use std::alloc::{AllocError, Global};
@@ -33,28 +33,28 @@ const QUESTION: &str =
     "SELECT * FROM Dept FOR SYSTEM_TIME AS OF TIMESTAMP '1970-01-01 00:00:00.000100';";
 
 // Sends node 2 what it is held in. Whether it comes to the door.
-fn hold<R: Wait>(rt: &R, cluster: &Cluster, door: &Door) -> Result<bool, Refusal> {
-    cluster.send(rt, 2, READING, timeout())?;
-    Ok(door.is_reached())
+fn hold<R: Wait>(rt: &R, cluster: &Cluster, door: &Door) -> bool {
+    cluster.send(rt, 2, READING, timeout()).is_ok() && door.is_reached()
 }
 
 // Whether the next feed of a node was made.
-fn is_fed<R: Wait>(rt: &R, cluster: &Cluster, node: Member) -> Result<bool, Refusal> {
-    let report = cluster.report(rt, node)?;
-    Ok(report.outcome.is_ok())
+fn is_fed<R: Wait>(rt: &R, cluster: &Cluster, node: Member) -> bool {
+    match cluster.report(rt, node) {
+        Ok(report) => report.outcome.is_ok(),
+        Err(_) => false,
+    }
 }
 
 // Whether node 1 feeds.
-fn feeds<R: Wait>(rt: &R, cluster: &Cluster, packet: Packet) -> Result<bool, Refusal> {
-    cluster.send(rt, 1, READING, packet)?;
-    is_fed(rt, cluster, 1)
+fn feeds<R: Wait>(rt: &R, cluster: &Cluster, packet: Packet) -> bool {
+    cluster.send(rt, 1, READING, packet).is_ok() && is_fed(rt, cluster, 1)
 }
 
 // Whether node 2 is let go, which did not go by itself.
-fn let_go<R: Wait>(rt: &R, cluster: &Cluster, door: &Door) -> Result<bool, Refusal> {
+fn let_go<R: Wait>(rt: &R, cluster: &Cluster, door: &Door) -> bool {
     let gave_up = door.gave_up();
     door.open();
-    Ok(is_fed(rt, cluster, 2)? && !gave_up)
+    is_fed(rt, cluster, 2) && !gave_up
 }
 
 // While node 2 is held in a feed, node 1 feeds, and a view of node 2 answers.
@@ -64,24 +64,17 @@ fn while_held<R: Wait + Abort>(
     door: &Door,
     seen: &mut View,
     query: &Query,
-) -> Result<(), Refusal> {
-    assert!(rt; hold(rt, cluster, door)?);
-    let goes_on = feeds(rt, cluster, timeout())?;
-    let is_early = is_early(seen, query);
-    let is_let_go = let_go(rt, cluster, door)?;
-    assert!(rt; goes_on && is_early && is_let_go);
-    Ok(())
+) {
+    assert!(rt; hold(rt, cluster, door));
+    assert!(rt; feeds(rt, cluster, timeout()));
+    assert!(rt; is_early(seen, query));
+    assert!(rt; let_go(rt, cluster, door));
 }
 
 // With a view of it.
-fn held<R: Wait + Abort>(
-    rt: &R,
-    cluster: &Cluster,
-    door: &Door,
-    query: &Query,
-) -> Result<(), Refusal> {
-    let mut seen = cluster.view(rt, 2)?;
-    while_held(rt, cluster, door, &mut seen, query)
+fn held<R: Wait + Abort>(rt: &R, cluster: &Cluster, door: &Door, query: &Query) {
+    let mut seen = cluster.view(rt, 2).expect(rt, "no view");
+    while_held(rt, cluster, door, &mut seen, query);
 }
 
 // Whether a packet was refused since the node does not run.
@@ -93,49 +86,55 @@ fn is_refused(sent: Result<u64, NotSent>) -> bool {
 }
 
 // Node 1 is stopped, which sends it no packet any more.
-fn stops<R: Wait + Abort>(rt: &R, cluster: &Cluster) -> Result<(), Refusal> {
-    let left = cluster.stop_node(rt, 1)?;
-    let is_unsent = is_refused(cluster.send(rt, 1, READING, beat()));
-    let is_down = matches!(cluster.stop_node(rt, 1), Err(Refusal::NodeDown));
-    assert!(rt; left.unfed.is_empty() && left.lost == 0 && is_unsent && is_down);
-    Ok(())
+fn stops<R: Wait + Abort>(rt: &R, cluster: &Cluster) {
+    assert!(rt; leaves_nothing(rt, cluster));
+    assert!(rt; is_refused(cluster.send(rt, 1, READING, beat())));
+    assert!(rt; matches!(cluster.stop_node(rt, 1), Err(Refusal::NodeDown)));
+}
+
+// Whether node 1 stops with nothing unfed or lost.
+fn leaves_nothing<R: Wait>(rt: &R, cluster: &Cluster) -> bool {
+    match cluster.stop_node(rt, 1) {
+        Ok(left) => left.unfed.is_empty() && left.lost == 0,
+        Err(_) => false,
+    }
 }
 
 // Sends node 3 a thousand beats, and stops it at once. Each was fed, in the order in which they were sent.
-fn all_fed<R: Wait>(rt: &R, cluster: &Cluster) -> Result<bool, Refusal> {
+fn all_fed<R: Wait + Abort>(rt: &R, cluster: &Cluster) -> bool {
     for _ in 0..BEATS {
-        let _ = cluster.send(rt, 3, READING, beat())?;
+        assert!(rt; cluster.send(rt, 3, READING, beat()).is_ok());
     }
-    let left = cluster.stop_node(rt, 3)?;
+    match cluster.stop_node(rt, 3) {
+        Ok(left) => are_reported(rt, &left) && left.unfed.is_empty(),
+        Err(_) => false,
+    }
+}
+
+// Whether it left a report of each beat, in order, and no other.
+fn are_reported<R: Wait>(rt: &R, left: &Stopped) -> bool {
     for number in 1..=BEATS {
         match left.report(rt) {
             Some(report) if report.number == number => {}
-            _ => return Ok(false),
+            _ => return false,
         }
     }
-    Ok(left.unfed.is_empty() && left.report(rt).is_none())
+    left.report(rt).is_none()
 }
 
 // It starts again.
-fn starts<R: Wait + Abort>(rt: &R, cluster: &Cluster) -> Result<(), Refusal> {
-    cluster.start_node(rt, 1)?;
-    cluster.start_node(rt, 1)?;
-    assert!(rt; feeds(rt, cluster, beat())?);
-    Ok(())
+fn starts<R: Wait + Abort>(rt: &R, cluster: &Cluster) {
+    assert!(rt; cluster.start_node(rt, 1).is_ok());
+    assert!(rt; cluster.start_node(rt, 1).is_ok());
+    assert!(rt; feeds(rt, cluster, beat()));
 }
 
 // The one and then the others.
-fn held_and_restarted<R: Wait + Abort>(
-    rt: &R,
-    cluster: &Cluster,
-    door: &Door,
-    query: &Query,
-) -> Result<(), Refusal> {
-    held(rt, cluster, door, query)?;
-    stops(rt, cluster)?;
-    starts(rt, cluster)?;
-    assert!(rt; all_fed(rt, cluster)?);
-    Ok(())
+fn held_and_restarted<R: Wait + Abort>(rt: &R, cluster: &Cluster, door: &Door, query: &Query) {
+    held(rt, cluster, door, query);
+    stops(rt, cluster);
+    starts(rt, cluster);
+    assert!(rt; all_fed(rt, cluster));
 }
 
 // The opening's mark of a life, how many steps it has, and whether it was stopped.
@@ -203,13 +202,10 @@ fn lead_all<R: Wait + Abort + Threads>(
     cluster: Cluster,
     closed: &Door,
     query: &Query,
-) -> Result<Vec<Vec<Life>>, Refusal> {
-    let tried = held_and_restarted(rt, &cluster, closed, query);
+) -> Vec<Vec<Life>> {
+    held_and_restarted(rt, &cluster, closed, query);
     let ended = cluster.stop(rt);
-    match tried {
-        Ok(()) => Ok(ended.lives),
-        Err(refusal) => Err(refusal),
-    }
+    ended.lives
 }
 
 // The gate before feeds and the door within saves, of which this one is closed and the other is open.
@@ -238,7 +234,7 @@ fn lives<R: Wait + Abort + Threads + Copy + Send + Drop + 'static>(
     let closed = Arc::new(alloc, Door::new(false))?;
     let (gate, save) = doors(alloc, &closed, in_save)?;
     let cluster = open(rt, alloc, schema.clone()?, gate, save)?;
-    lead_all(rt, cluster, &closed, query)
+    Ok(lead_all(rt, cluster, &closed, query))
 }
 
 // What is told of them.

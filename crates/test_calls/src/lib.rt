@@ -10,8 +10,6 @@ mod lives;
 #[cfg(test)]
 mod locked;
 #[cfg(test)]
-mod scripts;
-#[cfg(test)]
 mod seven;
 #[cfg(test)]
 mod stored;

@@ -1,5 +1,5 @@
 //! Three locked nodes that three threads feed, beside cells that took the same.
-ghost use Rattle.std.specs.Prelude.{◌≡◌, ◌<◌, [], IfOk};
+ghost use Rattle.std.specs.Prelude.{◌≡◌, ◌<◌, []};
 ghost use Rattle.view.specs.Publishing.{book_of};
 ghost use Rattle.view.specs.Viewing.{book_seen};
 ghost use Rattle.flight.specs.Lives.{all_steps};
@@ -9,7 +9,6 @@ use crate::stored::read_tables;
 use crate::views::{finish, learnt, started, take_view};
 use cells::cell::{Cell, Out};
 use cells::locked::{LockedNode, Naming};
-use fault::Refusal;
 use flight::life::{Life, Packet};
 use keep::MemKeeper;
 use model::mark::Mark;
@@ -52,83 +51,72 @@ struct Group {
 }
 
 // Keeps what came of a packet as text.
-fn note(
-    alloc: Global,
-    outcomes: &mut Vec<String>,
-    answer: &Result<Out, Fault>,
-) -> Result<(), AllocError> {
-    outcomes.push(format!(in alloc; "{answer:?}")?)?;
-    Ok(())
+fn note(rt: &impl Abort, alloc: Global, outcomes: &mut Vec<String>, answer: &Result<Out, Fault>) {
+    let text = format!(in alloc; "{answer:?}").expect(rt, "no text");
+    outcomes.push(text).expect(rt, "no memory");
 }
 
 impl Fed {
     // Feeds it while its clock shows 100, and keeps what came of it.
-    fn feed<R: Wait>(&mut self, rt: &R, alloc: Global, packet: Packet) -> Result<Out, Fail> {
+    fn feed(&mut self, rt: &(impl Abort + Wait), alloc: Global, packet: Packet) -> Out {
         let answer = self.cell.feed(rt, 100, packet);
-        note(alloc, &mut self.outcomes, &answer)?;
-        Ok(answer?)
+        note(rt, alloc, &mut self.outcomes, &answer);
+        answer.expect(rt, "the packet is not taken")
     }
 
     // The trace of its life.
-    fn stop<R: Wait>(self, rt: &R, alloc: Global) -> Result<Trace, AllocError> {
+    fn stop(self, rt: &(impl Abort + Wait), alloc: Global) -> Trace {
         let Fed { cell, outcomes } = self;
-        trace_of(alloc, finish(rt, cell), outcomes)
+        trace_of(rt, alloc, finish(rt, cell), outcomes)
     }
 }
 
 impl Group {
     // Sends the messages of a step on their way.
-    fn send(&mut self, out: Out) -> Result<(), AllocError> {
+    fn send(&mut self, rt: &impl Abort, out: Out) {
         let Out { mark, given } = out;
         let Given { messages, .. } = given;
         for message in messages {
-            self.letters.push_back((mark, message))?;
+            self.letters
+                .push_back((mark, message))
+                .expect(rt, "no memory");
         }
-        Ok(())
     }
 
     // Feeds a node, and sends its messages on their way.
-    fn feed<R: Wait>(&mut self, rt: &R, node: Member, packet: Packet) -> Result<(), Fail> {
+    fn feed(&mut self, rt: &(impl Abort + Wait), node: Member, packet: Packet) {
         let alloc = self.alloc;
         let Some(fed) = self.nodes.get_mut(node.saturating_sub(1)) else {
-            return Err(Fail::from("no such node"));
+            panic!(rt; "no such node");
         };
-        let out = fed.feed(rt, alloc, packet)?;
-        self.send(out)?;
-        Ok(())
+        let out = fed.feed(rt, alloc, packet);
+        self.send(rt, out);
     }
 
     // Delivers the message that was sent first.
-    fn deliver<R: Wait>(&mut self, rt: &R) -> Result<(), Fail> {
-        let Some((mark, message)) = self.letters.pop_front() else {
-            return Err(Fail::from("no message is left"));
-        };
+    fn deliver(&mut self, rt: &(impl Abort + Wait)) {
+        let (mark, message) = self.letters.pop_front().expect(rt, "no message is left");
         let node = message.addressee;
         let packet = Packet::Delivered {
             mark,
             reading: 100,
             message,
         };
-        self.feed(rt, node, packet)
+        self.feed(rt, node, packet);
     }
 
     // Delivers the twelve messages of an election and of its first entry.
-    fn deliver_all<R: Wait>(&mut self, rt: &R) -> Result<(), Fail> {
+    fn deliver_all(&mut self, rt: &(impl Abort + Wait)) {
         for _ in 0..12 {
-            self.deliver(rt)?;
+            self.deliver(rt);
         }
-        Ok(())
     }
 
     // The first node stands for election.
-    fn elect<R: Wait>(&mut self, rt: &R) -> Result<(), Fail> {
-        self.feed(rt, 1, timeout())?;
-        self.deliver_all(rt)?;
-        if self.letters.is_empty() {
-            Ok(())
-        } else {
-            Err(Fail::from("messages are left"))
-        }
+    fn elect(&mut self, rt: &(impl Abort + Wait)) {
+        self.feed(rt, 1, timeout());
+        self.deliver_all(rt);
+        assert!(rt; self.letters.is_empty());
     }
 }
 
@@ -147,12 +135,13 @@ fn new_node(cell: Cell<MemKeeper>) -> NewNode
 }
 
 // Three of them.
-fn three<R: Wait>(rt: &R, alloc: Global, schema: &Schema) -> Result<Vec<NewNode>, Refusal> {
+fn three(rt: &(impl Abort + Wait), alloc: Global, schema: &Schema) -> Vec<NewNode> {
     let mut nodes = Vec::new(alloc);
     for me in 1..4 {
-        nodes.push(new_node(started(rt, alloc, schema, me)?))?;
+        let node = new_node(started(rt, alloc, schema, me));
+        nodes.push(node).expect(rt, "no memory");
     }
-    Ok(nodes)
+    nodes
 }
 
 // What a node took, what came of each packet and its life, the last two as text.
@@ -164,60 +153,60 @@ struct Trace {
 }
 
 // A life as text.
-fn life_text(alloc: Global, life: &Life) -> Result<String, AllocError> {
-    format!(in alloc; "{life:?}")
+fn life_text(rt: &impl Abort, alloc: Global, life: &Life) -> String {
+    format!(in alloc; "{life:?}").expect(rt, "no text")
 }
 
 // What a node took in its life.
-fn packets_of(alloc: Global, life: Life) -> Result<Vec<Packet>, AllocError> {
+fn packets_of(rt: &impl Abort, alloc: Global, life: Life) -> Vec<Packet> {
     let mut packets = Vec::new(alloc);
     for step in life.steps {
-        packets.push(step.packet)?;
+        packets.push(step.packet).expect(rt, "no memory");
     }
-    Ok(packets)
+    packets
 }
 
 // The trace of a cell's life.
-fn trace_of(alloc: Global, life: Life, outcomes: Vec<String>) -> Result<Trace, AllocError> {
-    let text = life_text(alloc, &life)?;
-    let packets = packets_of(alloc, life)?;
-    Ok(Trace {
-        packets,
+fn trace_of(rt: &impl Abort, alloc: Global, life: Life, outcomes: Vec<String>) -> Trace {
+    let text = life_text(rt, alloc, &life);
+    Trace {
+        packets: packets_of(rt, alloc, life),
         outcomes,
         life: text,
-    })
+    }
 }
 
 // Three nodes that took nothing yet.
-fn new_nodes<R: Wait>(rt: &R, alloc: Global, schema: &Schema) -> Result<Vec<Fed>, Refusal> {
+fn new_nodes(rt: &impl Abort, alloc: Global, cells: Vec<NewNode>) -> Vec<Fed> {
     let mut nodes = Vec::new(alloc);
-    for NewNode { cell } in three(rt, alloc, schema)? {
-        nodes.push(Fed {
+    for NewNode { cell } in cells {
+        let fed = Fed {
             cell,
             outcomes: Vec::new(alloc),
-        })?;
+        };
+        nodes.push(fed).expect(rt, "no memory");
     }
-    Ok(nodes)
+    nodes
 }
 
 // Three cells, of which the first stood for election.
-fn elected<R: Wait>(rt: &R, alloc: Global, nodes: Vec<Fed>) -> Result<Vec<Fed>, Fail> {
+fn elected(rt: &(impl Abort + Wait), alloc: Global, nodes: Vec<Fed>) -> Vec<Fed> {
     let mut group = Group {
         alloc,
         nodes,
         letters: VecDeque::new(alloc),
     };
-    group.elect(rt)?;
-    Ok(group.nodes)
+    group.elect(rt);
+    group.nodes
 }
 
 // The traces of three cells, after an election and its first entry.
-fn traces<R: Wait>(rt: &R, alloc: Global, nodes: Vec<Fed>) -> Result<Vec<Trace>, Fail> {
+fn traces(rt: &(impl Abort + Wait), alloc: Global, nodes: Vec<Fed>) -> Vec<Trace> {
     let mut traces = Vec::new(alloc);
-    for fed in elected(rt, alloc, nodes)? {
-        traces.push(fed.stop(rt, alloc)?)?;
+    for fed in elected(rt, alloc, nodes) {
+        traces.push(fed.stop(rt, alloc)).expect(rt, "no memory");
     }
-    Ok(traces)
+    traces
 }
 
 // A node that is to be fed what a cell took, and that cell's trace.
@@ -241,22 +230,22 @@ pub(crate) fn feed_locked<L: Naming, R: Wait>(
 }
 
 // Feeds it each packet.
-fn feed_all<L: Naming, R: Wait>(
+fn feed_all<L: Naming, R: Wait + Abort>(
     rt: &R,
     alloc: Global,
     node: &Mutex<LockedNode<MemKeeper, L>>,
     share: &mut Share<L>,
     packets: Vec<Packet>,
-) -> Result<Vec<String>, AllocError>
+) -> Vec<String>
     requires { 0 < share.old.parts }
     ensures { share.new.parts ≡ share.old.parts }
 {
     let mut outcomes = Vec::new(alloc);
     for packet in packets {
         let answer = feed_locked(rt, node, share, packet);
-        note(alloc, &mut outcomes, &answer)?;
+        note(rt, alloc, &mut outcomes, &answer);
     }
-    Ok(outcomes)
+    outcomes
 }
 
 // A node that was fed under a lock, what came of each packet, and how many steps all shares are together.
@@ -268,65 +257,65 @@ struct Run {
 }
 
 // Feeds a node under a lock.
-fn run_locked<L: Naming, R: Wait>(
+fn run_locked<L: Naming, R: Wait + Abort>(
     rt: &R,
     alloc: Global,
     cell: Cell<MemKeeper>,
     packets: Vec<Packet>,
     blank: Blank,
-) -> Result<Run, AllocError>
+) -> Run
     requires name { blank.name ≡ L.name }
     requires parts { (blank.parts ≡ L.parts) × (blank.parts ≡ 1) }
     requires cell { (book_of cell.publisher ≡ L.history) × (all_steps cell.life ≡ []) }
-    ensures { IfOk result (λ run. book_of run.cell.publisher ≡ L.history) }
+    ensures { book_of result.cell.publisher ≡ L.history }
 {
     let (book, mut share) = blank.open::<L>();
     let node = Mutex::new(LockedNode::new(cell, book));
-    let outcomes = feed_all(rt, alloc, &node, &mut share, packets)?;
+    let outcomes = feed_all(rt, alloc, &node, &mut share, packets);
     let mut node = node.into_inner();
     let steps = node.all_recorded(&mut share);
-    let cell = node.into_cell();
-    Ok(Run {
-        cell,
+    Run {
+        cell: node.into_cell(),
         outcomes,
         steps,
-    })
+    }
 }
 
 impl Run {
     // Whether the shares are the steps, and the node leaves the outcomes and the life of a cell.
-    fn is_as<R: Wait>(
+    fn is_as(
         self,
-        rt: &R,
+        rt: &(impl Abort + Wait),
         alloc: Global,
         outcomes: &[String],
         life: &str,
-    ) -> Result<bool, AllocError> {
+    ) -> bool {
         let Run {
             cell,
             outcomes: own,
             steps,
         } = self;
-        let text = life_text(alloc, &finish(rt, cell))?;
-        Ok(steps == own.len() && own.as_slice() == outcomes && text.as_str() == life)
+        let text = life_text(rt, alloc, &finish(rt, cell));
+        steps == own.len() && own.as_slice() == outcomes && text.as_str() == life
     }
 }
 
 // Whether a view answers from the first entry that is told of the node.
 fn answers(
+    rt: &impl Abort,
     alloc: Global,
     cell: &Cell<MemKeeper>,
     view: &mut View,
     query: &Query,
-) -> Result<bool, Refusal>
+) -> bool
     requires { book_seen view.old ≡ book_of cell.now.publisher }
 {
-    let answer = learnt(alloc, &cell.told(), view, query)?;
-    Ok(answer.as_str() == FIRST_ANSWER)
+    let answer = learnt(rt, alloc, &cell.told(), view, query);
+    answer.as_str() == FIRST_ANSWER
 }
 
 // Feeds a node under a lock, and a view of it that is told of it. What the node left, and whether the view answers.
-fn run_and_ask<L: Naming, R: Wait>(
+fn run_and_ask<L: Naming, R: Wait + Abort>(
     rt: &R,
     alloc: Global,
     query: &Query,
@@ -334,75 +323,67 @@ fn run_and_ask<L: Naming, R: Wait>(
     view: &mut View,
     packets: Vec<Packet>,
     blank: Blank,
-) -> Result<(Run, bool), Refusal>
+) -> (Run, bool)
     requires name { blank.name ≡ L.name }
     requires parts { (blank.parts ≡ L.parts) × (blank.parts ≡ 1) }
     requires cell { (book_of cell.publisher ≡ L.history) × (all_steps cell.life ≡ []) }
     requires view { book_seen view.old ≡ L.history }
 {
-    let run = run_locked::<L, R>(rt, alloc, cell, packets, blank)?;
-    let has_answered = answers(alloc, &run.cell, view, query)?;
-    Ok((run, has_answered))
+    let run = run_locked::<L, R>(rt, alloc, cell, packets, blank);
+    let has_answered = answers(rt, alloc, &run.cell, view, query);
+    (run, has_answered)
 }
 
 // The same of a node that took nothing yet.
-fn fed_and_asked<R: Wait>(
-    rt: &R,
+fn fed_and_asked(
+    rt: &(impl Abort + Wait),
     alloc: Global,
     query: &Query,
     node: NewNode,
     packets: Vec<Packet>,
-) -> Result<(Run, bool), Refusal> {
+) -> (Run, bool) {
     let NewNode { mut cell } = node;
-    let mut view = take_view(&mut cell)?;
+    let mut view = take_view(rt, &mut cell);
     run_and_ask::<Brand, _>(rt, alloc, query, cell, &mut view, packets, Blank::new(1))
 }
 
 impl Task {
     // Whether the node leaves the cell's trace, and answers from the first entry.
-    fn run<R: Wait>(self, rt: &R, alloc: Global, query: &Query) -> Result<bool, Refusal> {
+    fn run(self, rt: &(impl Abort + Wait), alloc: Global, query: &Query) -> bool {
         let Task { node, trace } = self;
         let Trace {
             packets,
             outcomes,
             life,
         } = trace;
-        let (run, has_answered) = fed_and_asked(rt, alloc, query, node, packets)?;
-        let is_same = run.is_as(rt, alloc, &outcomes, life.as_str())?;
-        Ok(has_answered && is_same)
+        let (run, has_answered) = fed_and_asked(rt, alloc, query, node, packets);
+        run.is_as(rt, alloc, &outcomes, life.as_str()) && has_answered
     }
 }
 
 // Each on a thread of its own.
-fn run_all<R: Threads + Wait + Sync>(
+fn run_all<R: Threads + Wait + Abort + Sync>(
     rt: &R,
     alloc: Global,
     query: &Query,
     tasks: Vec<Task>,
-) -> Result<Vec<Result<bool, Refusal>>, AllocError> {
+) -> Result<Vec<bool>, AllocError> {
     thread::map_vec(rt, tasks, &|task: Task| task.run(rt, alloc, query))
 }
 
 // For each of three new nodes what a cell took.
-fn tasks(alloc: Global, nodes: Vec<NewNode>, traces: Vec<Trace>) -> Result<Vec<Task>, AllocError> {
+fn tasks(rt: &impl Abort, alloc: Global, nodes: Vec<NewNode>, traces: Vec<Trace>) -> Vec<Task> {
     let mut tasks = Vec::new(alloc);
     for (node, trace) in nodes.into_iter().zip(traces) {
-        tasks.push(Task { node, trace })?;
+        tasks.push(Task { node, trace }).expect(rt, "no memory");
     }
-    Ok(tasks)
+    tasks
 }
 
 // The tasks of three nodes.
-fn three_tasks<R: Wait>(rt: &R, alloc: Global, schema: &Schema) -> Result<Vec<Task>, Fail> {
-    let traces = traces(rt, alloc, new_nodes(rt, alloc, schema)?)?;
-    Ok(tasks(alloc, three(rt, alloc, schema)?, traces)?)
-}
-
-// All of them are run, and none differs.
-fn judge(rt: &impl Abort, all: &[Result<bool, Refusal>]) {
-    for done in all {
-        assert!(rt; *done == Ok(true));
-    }
+fn three_tasks(rt: &(impl Abort + Wait), alloc: Global, schema: &Schema) -> Vec<Task> {
+    let traces = traces(rt, alloc, new_nodes(rt, alloc, three(rt, alloc, schema)));
+    tasks(rt, alloc, three(rt, alloc, schema), traces)
 }
 
 #[test]
@@ -410,7 +391,8 @@ fn locked_as_cell(rt: HostRuntime) -> Result<(), Fail> {
     let alloc = rt.alloc();
     let schema = read_tables(alloc)?;
     let query = read_query(alloc, &schema, QUESTION)?;
-    let tasks = three_tasks(&rt, alloc, &schema)?;
-    judge(&rt, &run_all(&rt, alloc, &query, tasks)?);
+    let tasks = three_tasks(&rt, alloc, &schema);
+    let done = run_all(&rt, alloc, &query, tasks)?;
+    assert!(rt; done.len() == 3 && done.iter().all(|is_same| *is_same));
     Ok(())
 }

@@ -68,33 +68,27 @@ fn is_repeated(answers: &[Answered]) -> bool {
 
 impl Asker {
     // Asks once, and keeps an answer that is not the one before again.
-    fn ask(&mut self, schema: &Schema) -> Result<(), Refusal> {
+    fn ask(&mut self, rt: &impl Abort, schema: &Schema) {
         match self.station.ask(schema, &self.question) {
             Ok(_) | Err(Refusal::NotClosed(_)) => {}
-            Err(refusal) => return Err(refusal),
+            Err(refusal) => panic!(rt; "{refusal}"),
         }
         if is_repeated(&self.station.answers) {
             let _ = self.station.answers.pop();
         }
-        Ok(())
     }
 
     // Asks a thousand times a second till the run is over, and then once more.
-    fn ask_on<R: Clock>(
-        mut self,
-        rt: &R,
-        schema: &Schema,
-        is_over: &AtomicBool,
-    ) -> Result<Asker, Refusal> {
+    fn ask_on<R: Clock + Abort>(mut self, rt: &R, schema: &Schema, is_over: &AtomicBool) -> Asker {
         for _ in 0..u64::MAX {
             let was_over = is_over.load(Ordering::SeqCst);
-            self.ask(schema)?;
+            self.ask(rt, schema);
             if was_over {
                 break;
             }
             thread::sleep(rt, Duration::from_millis(1));
         }
-        Ok(self)
+        self
     }
 }
 
@@ -106,78 +100,76 @@ fn asker_with(alloc: Global, view: View, question: Text) -> Asker {
 }
 
 // An asker of a node.
-fn asker_of<R: Wait>(
+fn asker_of<R: Wait + Abort>(
     rt: &R,
     alloc: Global,
     cluster: &Cluster,
     node: Member,
     question: &str,
-) -> Result<Asker, Refusal> {
-    let question = Text::new(alloc, question)?;
-    let view = cluster.view(rt, node)?;
-    Ok(asker_with(alloc, view, question))
+) -> Asker {
+    let question = Text::new(alloc, question).expect(rt, "no text");
+    let view = cluster.view(rt, node).expect(rt, "no view");
+    asker_with(alloc, view, question)
 }
 
 // Askers of the first four nodes, in their order.
-fn askers<R: Wait>(rt: &R, alloc: Global, cluster: &Cluster) -> Result<Vec<Asker>, Refusal> {
+fn askers<R: Wait + Abort>(rt: &R, alloc: Global, cluster: &Cluster) -> Vec<Asker> {
     let mut askers = Vec::new(alloc);
     let mut node: Member = 0;
     for question in QUESTIONS {
         node = node.saturating_add(1);
-        askers.push(asker_of(rt, alloc, cluster, node, question)?)?;
+        askers
+            .push(asker_of(rt, alloc, cluster, node, question))
+            .expect(rt, "no memory");
     }
-    Ok(askers)
+    askers
 }
 
 // A request of one department.
-fn submit(alloc: Global, number: u64) -> Result<Line, Fail> {
+fn submit(rt: &impl Abort, alloc: Global, number: u64) -> Line {
     let text = format!(in alloc;
         "INSERT INTO Dept (DNo, DStart, DEnd, DName) \
         VALUES ({number}, DATE '2000-01-01', DATE '2020-01-01', 'Test');"
-    )?;
-    let (Some(client), Some(number)) = (Client::new(7), RequestNumber::new(number)) else {
-        return Err(Fail::from("no request"));
-    };
-    Ok(Line::Submit {
+    )
+    .expect(rt, "no text");
+    Line::Submit {
         node: 1,
-        client,
-        number,
-        text: Text::from_string(text)?,
-    })
+        client: Client::new(7).expect(rt, "no client"),
+        number: RequestNumber::new(number).expect(rt, "no number"),
+        text: Text::from_string(text).expect(rt, "no text"),
+    }
 }
 
 // The requests, with many rounds after each.
-fn script(alloc: Global) -> Result<Vec<Line>, Fail> {
+fn script(rt: &impl Abort, alloc: Global) -> Vec<Line> {
     let mut lines = Vec::new(alloc);
     for number in 1..=REQUESTS {
-        lines.push(submit(alloc, number)?)?;
-        lines.push(Line::Settle {
-            rounds: Some(ROUNDS),
-        })?;
+        lines
+            .push(submit(rt, alloc, number))
+            .expect(rt, "no memory");
+        let rounds = Some(ROUNDS);
+        lines.push(Line::Settle { rounds }).expect(rt, "no memory");
     }
-    Ok(lines)
+    lines
 }
 
 // Plays the lines.
-fn play_all<R: Wait>(rt: &R, driver: &mut Driver, lines: &[Line]) -> Result<(), Refusal> {
+fn play_all<R: Wait + Abort>(rt: &R, driver: &mut Driver, lines: &[Line]) {
     for line in lines {
-        let _ = driver.play(rt, line)?;
+        assert!(rt; driver.play(rt, line).is_ok());
     }
-    Ok(())
 }
 
-type Asked = Result<Vec<Result<Asker, Refusal>>, AllocError>;
-
 // Plays the lines, while each asker asks on a thread of its own.
-fn play_and_ask<R: Threads + Wait + Clock + Sync>(
+fn play_and_ask<R: Threads + Wait + Clock + Abort + Sync>(
     rt: &R,
     driver: &mut Driver,
     lines: &[Line],
     schema: &Schema,
     askers: Vec<Asker>,
-) -> (Result<(), Refusal>, Asked) {
+) -> Vec<Asker> {
     let is_over = AtomicBool::new(false);
-    let (asked, played) = thread::join(
+    let (asked, _) = thread::join(
         rt,
         || thread::map_vec(
             rt,
@@ -185,25 +177,20 @@ fn play_and_ask<R: Threads + Wait + Clock + Sync>(
             &|asker: Asker| asker.ask_on(rt, schema, &is_over),
         ),
         || {
-            let played = play_all(rt, driver, lines);
+            play_all(rt, driver, lines);
             is_over.store(true, Ordering::SeqCst);
-            played
         },
     );
-    (played, asked)
+    asked.expect(rt, "no memory")
 }
 
 // What the askers were answered, node by node.
-fn answers_of(
-    alloc: Global,
-    asked: Vec<Result<Asker, Refusal>>,
-) -> Result<Vec<Vec<Answered>>, Refusal> {
+fn answers_of(rt: &impl Abort, alloc: Global, asked: Vec<Asker>) -> Vec<Vec<Answered>> {
     let mut answers = Vec::new(alloc);
-    for asker in asked {
-        let Asker { station, .. } = asker?;
-        answers.push(station.answers)?;
+    for Asker { station, .. } in asked {
+        answers.push(station.answers).expect(rt, "no memory");
     }
-    Ok(answers)
+    answers
 }
 
 // A store without anything, for each of seven members.
@@ -241,59 +228,50 @@ fn start_seven<R: Wait + Threads + Copy + Send + Drop + 'static>(
 #[derive(Drop)]
 struct Ended {
     lives: Vec<Vec<Life>>,
-    played: Result<(), Refusal>,
-    asked: Asked,
+    asked: Vec<Asker>,
 }
 
 // Drives the nodes through the lines, while askers ask, and ends them.
-fn fly<R: Threads + Wait + Clock + Sync>(
+fn fly<R: Threads + Wait + Clock + Abort + Sync>(
     rt: &R,
     schema: &Schema,
     mut driver: Driver,
     lines: &[Line],
     askers: Vec<Asker>,
 ) -> Ended {
-    let (played, asked) = play_and_ask(rt, &mut driver, lines, schema, askers);
+    let asked = play_and_ask(rt, &mut driver, lines, schema, askers);
     let (cluster, _stations) = driver.into_parts();
     let ended = cluster.stop(rt);
     Ended {
         lives: ended.lives,
-        played,
         asked,
     }
 }
 
 // Starts seven nodes, and drives them through the requests.
-fn take_off<R: Threads + Wait + Clock + Copy + Send + Sync + Drop + 'static>(
+fn take_off<R: Threads + Wait + Clock + Abort + Copy + Send + Sync + Drop + 'static>(
     rt: &R,
     alloc: Global,
     schema: &Schema,
-) -> Result<Ended, Fail> {
-    let lines = script(alloc)?;
-    let tables = schema.clone()?;
-    let stations = stations(alloc, 7, SEED)?;
-    let cluster = start_seven(rt, alloc, schema)?;
-    match askers(rt, alloc, &cluster) {
-        Ok(askers) => {
-            let weather = Weather::new(SEED, LOSS);
-            let driver = Driver::new(alloc, tables, cluster, stations, weather);
-            Ok(fly(rt, schema, driver, &lines, askers))
-        }
-        Err(refusal) => {
-            drop(cluster.stop(rt));
-            Err(Fail::from(refusal))
-        }
-    }
+) -> Ended {
+    let lines = script(rt, alloc);
+    let cluster = start_seven(rt, alloc, schema).expect(rt, "the nodes do not start");
+    let askers = askers(rt, alloc, &cluster);
+    let driver = driver_of(rt, alloc, schema, cluster);
+    fly(rt, schema, driver, &lines, askers)
+}
+
+fn driver_of(rt: &impl Abort, alloc: Global, schema: &Schema, cluster: Cluster) -> Driver {
+    let tables = schema.clone().expect(rt, "no memory");
+    let stations = stations(alloc, 7, SEED).expect(rt, "no memory");
+    Driver::new(alloc, tables, cluster, stations, Weather::new(SEED, LOSS))
 }
 
 // Whether the last answer of each is one, and no refusal.
-fn are_answered(asked: &[Result<Asker, Refusal>]) -> bool {
-    asked.iter().all(|asker| match asker {
-        Ok(asker) => match asker.station.answers.last() {
-            Some(last) => last.answer.as_str().starts_with("last "),
-            None => false,
-        },
-        Err(_) => false,
+fn are_answered(asked: &[Asker]) -> bool {
+    asked.iter().all(|asker| match asker.station.answers.last() {
+        Some(last) => last.answer.as_str().starts_with("last "),
+        None => false,
     })
 }
 
@@ -319,16 +297,9 @@ fn check(rt: &impl Abort, alloc: Global, schema: &Schema, records: &Records) {
 fn seven_in_bad_weather(rt: HostRuntime) -> Result<(), Fail> {
     let alloc = rt.alloc();
     let schema = read_schema(alloc, SCHEMA)?;
-    let Ended {
-        lives,
-        played,
-        asked,
-    } = take_off(&rt, alloc, &schema)?;
-    played?;
-    let asked = asked?;
+    let Ended { lives, asked } = take_off(&rt, alloc, &schema);
     assert!(rt; are_answered(&asked));
-    let answers = answers_of(alloc, asked)?;
-    let records = Records { lives, answers };
-    check(&rt, alloc, &schema, &records);
+    let answers = answers_of(&rt, alloc, asked);
+    check(&rt, alloc, &schema, &Records { lives, answers });
     Ok(())
 }

@@ -1,11 +1,11 @@
 //! What cells publish, and cells under a lock.
-ghost use Rattle.std.specs.Prelude.{◌≡◌, ◌<◌, ◌≤◌, [], IfOk};
+ghost use Rattle.std.specs.Prelude.{◌≡◌, ◌<◌, ◌≤◌, []};
 ghost use Rattle.node.specs.Member.{me_of, members_of, tables_of};
 ghost use Rattle.view.specs.Publishing.{book_of};
 ghost use Rattle.view.specs.Viewing.{book_seen, name_seen, name_told, IsOwn, IsSameView};
 ghost use Rattle.flight.specs.Lives.{all_steps};
 
-use crate::lives::{beat, lead, start};
+use crate::lives::{beat, feed, lead, start};
 use crate::locked::feed_locked;
 use crate::stored::read_tables;
 use answertext::Lines;
@@ -21,7 +21,7 @@ use model::message::{Body, Input, Message};
 use model::request::{Client, RequestNumber};
 use schema::Schema;
 use sqlread::query::{Query, read_query};
-use std::alloc::{AllocError, Global};
+use std::alloc::Global;
 use std::marker::Brand;
 use std::process::Abort;
 use std::sync::ledger::{Blank, Share};
@@ -45,41 +45,38 @@ fn reply(mark: Mark, matched: usize) -> Packet {
 }
 
 // One department.
-fn insert(alloc: Global) -> Result<Packet, Fail> {
+fn insert(rt: &impl Abort, alloc: Global) -> Packet {
     let text = "INSERT INTO Dept (DNo, DStart, DEnd, DName) \
         VALUES (3, DATE '2000-01-01', DATE '2020-01-01', 'Test');";
-    let (Some(client), Some(number)) = (Client::new(7), RequestNumber::new(1)) else {
-        return Err(Fail::from("no request"));
-    };
     let request = Request {
-        client,
-        number,
-        text: Text::new(alloc, text)?,
+        client: Client::new(7).expect(rt, "no client"),
+        number: RequestNumber::new(1).expect(rt, "no number"),
+        text: Text::new(alloc, text).expect(rt, "no text"),
     };
-    Ok(Packet::Local(Input::Submit {
+    Packet::Local(Input::Submit {
         reading: 100,
         request,
-    }))
+    })
 }
 
 const QUESTION: &str =
     "SELECT * FROM Dept FOR SYSTEM_TIME AS OF TIMESTAMP '1970-01-01 00:00:00.000101';";
 
 // A new life of a member of three.
-pub(crate) fn started<R: Wait>(
-    rt: &R,
+pub(crate) fn started(
+    rt: &(impl Abort + Wait),
     alloc: Global,
     schema: &Schema,
     me: Member,
-) -> Result<Cell<MemKeeper>, Refusal>
+) -> Cell<MemKeeper>
     requires { (1 ≤ me) × (me ≤ 3) }
-    ensures group { IfOk result (λ c. (members_of c.node ≡ 3) × (tables_of c.node ≡ schema.now)) }
-    ensures seat { IfOk result (λ c. me_of c.node ≡ me) }
-    ensures none { IfOk result (λ c. all_steps c.life ≡ []) }
+    ensures group { (members_of result.node ≡ 3) × (tables_of result.node ≡ schema.now) }
+    ensures seat { me_of result.node ≡ me }
+    ensures none { all_steps result.life ≡ [] }
 {
     match start(rt, alloc, MemImage::new(alloc), schema, me, None) {
-        Ok(cell) => Ok(cell),
-        Err((refusal, _image)) => Err(refusal),
+        Ok(cell) => cell,
+        Err((refusal, _image)) => panic!(rt; "it does not start: {refusal}"),
     }
 }
 
@@ -90,55 +87,48 @@ pub(crate) fn finish<R: Wait>(rt: &R, cell: Cell<MemKeeper>) -> Life {
 }
 
 // The text of an answer.
-fn text_of(alloc: Global, asked: &Marked) -> Result<String, AllocError> {
-    format!(in alloc; "{}", Lines(&asked.answer))
+fn text_of(rt: &impl Abort, alloc: Global, asked: &Marked) -> String {
+    format!(in alloc; "{}", Lines(&asked.answer)).expect(rt, "no text")
 }
 
 // What a view answers, as text.
-fn answer_of(alloc: Global, view: &mut View, query: &Query) -> Result<String, Refusal>
+fn answer_of(rt: &impl Abort, alloc: Global, view: &mut View, query: &Query) -> String
     ensures { IsSameView view.old view.new }
 {
-    let asked = view.ask(query)?;
-    Ok(text_of(alloc, &asked)?)
+    let asked = view.ask(query).expect(rt, "no answer");
+    text_of(rt, alloc, &asked)
 }
 
 // What a view answers that was told of this.
-fn told_and_asked(told: &Notice, view: &mut View, query: &Query) -> Result<Marked, Refusal>
+fn told_and_asked(rt: &impl Abort, told: &Notice, view: &mut View, query: &Query) -> Marked
     requires { IsOwn told.now view.old }
     ensures { IsSameView view.old view.new }
 {
-    view.learn(told)?;
-    view.ask(query)
+    assert!(rt; view.learn(told).is_ok());
+    view.ask(query).expect(rt, "no answer")
 }
 
 // The same as text.
 pub(crate) fn learnt(
+    rt: &impl Abort,
     alloc: Global,
     told: &Notice,
     view: &mut View,
     query: &Query,
-) -> Result<String, Refusal>
+) -> String
     requires { IsOwn told.now view.old }
 {
-    let asked = told_and_asked(told, view, query)?;
-    Ok(text_of(alloc, &asked)?)
+    let asked = told_and_asked(rt, told, view, query);
+    text_of(rt, alloc, &asked)
 }
 
 // A view of another node is refused this token, and answers as before.
-fn is_refused(
-    rt: &impl Abort,
-    alloc: Global,
-    view: &mut View,
-    query: &Query,
-    told: &Notice,
-) -> Result<(), Refusal>
+fn is_refused(rt: &impl Abort, alloc: Global, view: &mut View, query: &Query, told: &Notice)
     requires { IsOwn told.now view.old }
 {
-    let before = answer_of(alloc, view, query)?;
-    let learnt = view.learn(told);
-    let after = answer_of(alloc, view, query)?;
-    assert!(rt; learnt == Err(Refusal::NoView) && before == after);
-    Ok(())
+    let before = answer_of(rt, alloc, view, query);
+    assert!(rt; view.learn(told) == Err(Refusal::NoView));
+    assert!(rt; answer_of(rt, alloc, view, query) == before);
 }
 
 // Whether a view answers that nothing is closed.
@@ -149,12 +139,11 @@ pub(crate) fn is_early(view: &mut View, query: &Query) -> bool
 }
 
 // A request is submitted to the leader, and member 2 has it.
-fn submit<R: Wait>(rt: &R, alloc: Global, cell: &mut Cell<MemKeeper>) -> Result<(), Fail>
+fn submit(rt: &(impl Abort + Wait), alloc: Global, cell: &mut Cell<MemKeeper>)
     ensures { book_of cell.new.publisher ≡ book_of cell.old.publisher }
 {
-    let _ = cell.feed(rt, 100, insert(alloc)?)?;
-    let _ = cell.feed(rt, 100, reply(Mark::new(20), 2))?;
-    Ok(())
+    feed(rt, cell, insert(rt, alloc));
+    feed(rt, cell, reply(Mark::new(20), 2));
 }
 
 // Before the request, the first entry is not closed.
@@ -164,21 +153,19 @@ fn lead_and_submit(
     cell: &mut Cell<MemKeeper>,
     view: &mut View,
     query: &Query,
-) -> Result<(), Fail>
+)
     ensures book { book_of cell.new.publisher ≡ book_of cell.old.publisher }
     ensures seen { IsSameView view.old view.new }
 {
-    lead(rt, cell)?;
+    lead(rt, cell);
     assert!(rt; is_early(view, query));
-    submit(rt, alloc, cell)
+    submit(rt, alloc, cell);
 }
 
 // One answer, which names the mark of the step that applied the request.
-fn judge(rt: &impl Abort, alloc: Global, one: &Marked, two: &Marked) -> Result<(), AllocError> {
+fn judge(rt: &impl Abort, alloc: Global, one: &Marked, two: &Marked) {
     assert_eq!(rt; (one.mark.number(), one.answer.rows.len()), (21, 1));
-    let (one, two) = (text_of(alloc, one)?, text_of(alloc, two)?);
-    assert_eq!(rt; one.as_str(), two.as_str());
-    Ok(())
+    assert!(rt; text_of(rt, alloc, one) == text_of(rt, alloc, two));
 }
 
 // Views that were told of it give one answer.
@@ -189,24 +176,24 @@ fn answer_alike(
     first: &mut View,
     second: &mut View,
     query: &Query,
-) -> Result<(), Refusal>
+)
     requires one { IsOwn told.now first.old }
     requires other { IsOwn told.now second.old }
     ensures { IsSameView first.old first.new }
 {
-    let one = told_and_asked(told, first, query)?;
-    let two = told_and_asked(told, second, query)?;
-    Ok(judge(rt, alloc, &one, &two)?)
+    let one = told_and_asked(rt, told, first, query);
+    let two = told_and_asked(rt, told, second, query);
+    judge(rt, alloc, &one, &two);
 }
 
 // A view of a cell.
-pub(crate) fn take_view(cell: &mut Cell<MemKeeper>) -> Result<View, Refusal>
+pub(crate) fn take_view(rt: &impl Abort, cell: &mut Cell<MemKeeper>) -> View
     ensures life { cell.new.life ≡ cell.old.life }
     ensures same { (me_of cell.new.node ≡ me_of cell.old.node) × (book_of cell.new.publisher ≡ book_of cell.old.publisher) }
-    ensures name { IfOk result (λ v. (name_seen v).node ≡ me_of cell.old.node) }
-    ensures book { IfOk result (λ v. book_seen v ≡ book_of cell.old.publisher) }
+    ensures name { (name_seen result).node ≡ me_of cell.old.node }
+    ensures book { book_seen result ≡ book_of cell.old.publisher }
 {
-    cell.take_view()
+    cell.take_view().expect(rt, "no view")
 }
 
 // A leader publishes its first entry and one of a request, and two views are told of it; a token of another node is
@@ -219,16 +206,15 @@ fn published_to(
     second: &mut View,
     query: &Query,
     other: &Notice,
-) -> Result<(), Fail>
+)
     requires seat { (name_seen first.old).node ≡ 1 }
     requires another { (name_told other.now).node ≡ 2 }
     requires book { book_seen first.old ≡ book_of cell.old.publisher }
     requires same_book { book_seen second.old ≡ book_of cell.old.publisher }
 {
-    lead_and_submit(rt, alloc, cell, first, query)?;
-    answer_alike(rt, alloc, &cell.told(), first, second, query)?;
-    is_refused(rt, alloc, first, query, other)?;
-    Ok(())
+    lead_and_submit(rt, alloc, cell, first, query);
+    answer_alike(rt, alloc, &cell.told(), first, second, query);
+    is_refused(rt, alloc, first, query, other);
 }
 
 // That is done with two views of it.
@@ -238,13 +224,13 @@ fn published(
     cell: &mut Cell<MemKeeper>,
     query: &Query,
     other: &Notice,
-) -> Result<(), Fail>
+)
     requires one { me_of cell.old.node ≡ 1 }
     requires another { (name_told other.now).node ≡ 2 }
 {
-    let mut first = take_view(cell)?;
-    let mut second = take_view(cell)?;
-    published_to(rt, alloc, cell, &mut first, &mut second, query, other)
+    let mut first = take_view(rt, cell);
+    let mut second = take_view(rt, cell);
+    published_to(rt, alloc, cell, &mut first, &mut second, query, other);
 }
 
 // That is done beside a life of member 2.
@@ -253,14 +239,13 @@ fn published_beside(
     alloc: Global,
     schema: &Schema,
     cell: &mut Cell<MemKeeper>,
-) -> Result<(), Fail>
+    query: &Query,
+)
     requires { me_of cell.old.node ≡ 1 }
 {
-    let query = read_query(alloc, schema, QUESTION)?;
-    let other = started(rt, alloc, schema, 2)?;
-    let done = published(rt, alloc, cell, &query, &other.told());
+    let other = started(rt, alloc, schema, 2);
+    published(rt, alloc, cell, query, &other.told());
     let _ = finish(rt, other);
-    done
 }
 
 // Why there is no further view, if there is none.
@@ -277,18 +262,19 @@ fn take_rest(rt: &impl Abort, cell: &mut Cell<MemKeeper>) {
 }
 
 // The life of a member that did all this.
-fn published_life(rt: &(impl Abort + Wait), alloc: Global, schema: &Schema) -> Result<Life, Fail> {
-    let mut cell = started(rt, alloc, schema, 1)?;
-    published_beside(rt, alloc, schema, &mut cell)?;
+fn published_life(rt: &(impl Abort + Wait), alloc: Global, schema: &Schema, query: &Query) -> Life {
+    let mut cell = started(rt, alloc, schema, 1);
+    published_beside(rt, alloc, schema, &mut cell, query);
     take_rest(rt, &mut cell);
-    Ok(finish(rt, cell))
+    finish(rt, cell)
 }
 
 #[test]
 fn read_back(rt: HostRuntime) -> Result<(), Fail> {
     let alloc = rt.alloc();
     let schema = read_tables(alloc)?;
-    let life = published_life(&rt, alloc, &schema)?;
+    let query = read_query(alloc, &schema, QUESTION)?;
+    let life = published_life(&rt, alloc, &schema, &query);
     assert_eq!(rt; life.steps.len(), 4);
     Ok(())
 }
@@ -364,12 +350,17 @@ fn fed_by_two<L: Naming + Send + Sync, R: Threads + Wait + Sync>(
     counted(rt, node.into_inner(), all)
 }
 
+fn count_shares<R: Threads + Wait + Sync + Abort>(rt: &R, cell: Cell<MemKeeper>)
+    requires { all_steps cell.life ≡ [] }
+{
+    let counts = fed_by_two::<Brand, _>(rt, cell, Blank::new(2));
+    assert_eq!(rt; counts, (100, 100));
+}
+
 #[test]
 fn all_shares(rt: HostRuntime) -> Result<(), Fail> {
     let alloc = rt.alloc();
     let schema = read_tables(alloc)?;
-    let cell = started(&rt, alloc, &schema, 1)?;
-    let counts = fed_by_two::<Brand, _>(&rt, cell, Blank::new(2));
-    assert_eq!(rt; counts, (100, 100));
+    count_shares(&rt, started(&rt, alloc, &schema, 1));
     Ok(())
 }

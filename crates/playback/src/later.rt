@@ -1,0 +1,81 @@
+//! Journals that go on from others, which are away.
+use crate::group::Group;
+use crate::held::{HeldLog, beginning_of};
+use crate::play::Play;
+use crate::stage::Stage;
+use fault::Refusal;
+use journal::Summary;
+use model::member::Member;
+use schema::Schema;
+use std::alloc::Global;
+use store::StoreRefusal;
+
+impl Play {
+    /// Before the journal of this number, where those before it are away: each member goes on from what this journal tells that it has
+    /// stored, with the beginning of a log that is held, of its own database or of another one. No lives are kept. 16 for another number
+    /// of members than 3 to 7.
+    pub fn later(
+        alloc: Global,
+        members: usize,
+        schema: Schema,
+        journal: u64,
+        held: Vec<Option<HeldLog>>,
+    ) -> Result<Play, StoreRefusal> {
+        if members < 3 || members > 7 {
+            return Err(StoreRefusal::Refused(Refusal::OutOfRange));
+        }
+        let stage = Stage::Group(Group::new(alloc, schema, members)?);
+        let mut play = Play::on(alloc, members, stage, false)?;
+        for actor in play.actors.iter_mut() {
+            actor.is_known = false;
+        }
+        play.first = journal;
+        play.held = held;
+        Ok(play)
+    }
+
+    /// A member is met for the first time, with this stored: it goes on from there. 51 where it was told to have something else; 55 of the
+    /// journal before the first one, where no log that is held begins so.
+    pub(crate) fn meet(&mut self, member: Member, found: &Summary) -> Result<(), StoreRefusal> {
+        let at = self.place(member)?;
+        if self.actors[at].is_known {
+            return Ok(());
+        }
+        if !self.actors[at].may_have(found) {
+            return Err(self.broken(member));
+        }
+        let Some(entries) = beginning_of(self.held.as_slice(), at, found) else {
+            return Err(StoreRefusal::BadJournal {
+                journal: self.first.saturating_sub(1),
+                at: 0,
+            });
+        };
+        self.stage.load(member, found.hard, entries)?;
+        let at = self.place(member)?;
+        self.actors[at].is_known = true;
+        Ok(())
+    }
+
+    /// Whether a member's database, whose log is held and which holds this, is what the journals give: 49 where it isn't, with the first
+    /// entry that differs, where it is known.
+    pub fn check_held(&mut self, member: Member, found: &Summary) -> Result<(), StoreRefusal> {
+        match self.meet(member, found) {
+            Err(StoreRefusal::Refused(Refusal::BrokenLife { .. })) => {
+                return Err(StoreRefusal::Altered {
+                    member,
+                    entry: None,
+                });
+            }
+            met => met?,
+        }
+        let at = self.place(member)?;
+        let held = match self.held.get_mut(at) {
+            Some(held) => held.take(),
+            None => None,
+        };
+        match held {
+            Some(log) => self.check_found(member, found, log.entries()),
+            None => Ok(()),
+        }
+    }
+}

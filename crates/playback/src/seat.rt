@@ -1,0 +1,194 @@
+//! A member that goes on from what it had stored.
+ghost use Rattle.std.specs.Prelude.{◌≡◌, ◌≤◌, true};
+ghost use Rattle.std.specs.Option.{ForSome};
+ghost use Rattle.keep.specs.Durable.{stored_in};
+ghost use Rattle.keep.specs.Log.{IsLog, is_vote, log_prop};
+ghost use Rattle.model.specs.Steps.{TERM_LAST};
+ghost use Rattle.node.specs.Member.{me_of, members_of, tables_of};
+ghost use Rattle.sqlread.specs.Meaning.{language_of};
+
+use answer::Answer;
+use fault::Refusal;
+use keep::{HardState, MemImage, MemKeeper};
+use model::entry::{Entries, Entry};
+use model::member::Member;
+use model::message::{Body, CARRIED_MOST, LAST_TERM, Message};
+use node::{Fault, Node, Out, Work};
+use schema::Schema;
+use sqlread::query::Query;
+use std::alloc::{AllocError, Global};
+use std::mem::replace;
+use world::StoredState;
+use world::event::Left;
+
+/// A member in memory, up or down.
+#[derive(Drop)]
+pub(crate) struct Seat {
+    alloc: Global,
+    schema: Schema,
+    members: usize,
+    me: Member,
+    node: Option<Node<MemKeeper>>,
+    /// What it has stored, where it is down.
+    image: MemImage,
+    ghost among: { (1 ≤ me) × (me ≤ members) × (members ≤ 7) },
+    ghost same: { ForSome node (λ n. (tables_of n ≡ schema) × (members_of n ≡ members) × (me_of n ≡ me)) },
+    ghost forms: { IsLog members (language_of schema) (stored_in image) } by { log_prop _ _ _ },
+}
+
+// Whether a member of so many may have stored this.
+fn is_in_range(hard: &HardState, members: usize) -> bool
+    ensures { result ≡ true → (hard.now.term ≤ TERM_LAST) × (is_vote members hard.now.vote ≡ true) }
+{
+    let is_member = match hard.vote {
+        None => true,
+        Some(vote) => vote > 0 && vote <= members,
+    };
+    hard.term <= LAST_TERM && is_member
+}
+
+impl Seat {
+    /// A member of so many, at most 7, that is down and has stored nothing; none where there is no such member.
+    pub fn new(alloc: Global, schema: Schema, members: usize, me: Member) -> Option<Seat> {
+        if me < 1 || me > members || members > 7 {
+            return None;
+        }
+        Some(Seat {
+            alloc,
+            schema,
+            members,
+            me,
+            node: None,
+            image: MemImage::new(alloc),
+        })
+    }
+
+    /// It is down, and has this stored, with a log of these entries; where a member can't have that, something else.
+    pub fn load(&mut self, hard: HardState, entries: &[Entry]) -> Result<(), AllocError> {
+        self.stop();
+        if !is_in_range(&hard, self.members) {
+            return Ok(());
+        }
+        self.image = MemImage::with_hard_state(self.alloc, hard);
+        self.start()?;
+        let mut index = 0usize;
+        let mut term = 0;
+        for batch in entries.chunks(CARRIED_MOST) {
+            self.append(hard.term, index, term, batch)?;
+            index = index.saturating_add(batch.len());
+            if let Some(last) = batch.last() {
+                term = last.term;
+            }
+        }
+        self.stop();
+        Ok(())
+    }
+
+    // It is brought entries in this term, which come after an index that has an entry of another one.
+    fn append(
+        &mut self,
+        term: u64,
+        prev_index: usize,
+        prev_term: u64,
+        entries: &[Entry],
+    ) -> Result<(), AllocError> {
+        let message = Message {
+            sender: if self.me == 1 { 2 } else { 1 },
+            addressee: self.me,
+            term,
+            body: Body::Append {
+                prev_index,
+                prev_term,
+                entries: Entries::new(entries.to_vec(self.alloc)?),
+                commit: 0,
+            },
+        };
+        let _ = self.step(Work::Delivered {
+            reading: 0,
+            message,
+        })?;
+        Ok(())
+    }
+
+    /// A step: what it gives, or why it is refused. One that is down refuses all.
+    pub fn step(&mut self, work: Work) -> Result<Result<Out, Refusal>, AllocError> {
+        let Some(node) = &mut self.node else {
+            return Ok(Err(Refusal::NodeDown));
+        };
+        match node.step(work) {
+            Ok(out) => Ok(Ok(out)),
+            Err(Fault::Kept(refusal)) => Ok(Err(refusal)),
+            Err(Fault::Down(_)) => Err(AllocError),
+        }
+    }
+
+    /// Stops it; one that is down stays so.
+    pub fn stop(&mut self) {
+        if let Some(node) = self.node.take() {
+            self.image = node.stop();
+        }
+    }
+
+    /// Starts it with what it has stored; one that is up stays so.
+    pub fn start(&mut self) -> Result<(), AllocError> {
+        if self.node.is_some() {
+            return Ok(());
+        }
+        let schema = self.schema.clone()?;
+        let image = replace(&mut self.image, MemImage::new(self.alloc));
+        match Node::start(self.alloc, image, schema, self.members, self.me) {
+            Ok(node) => {
+                self.node = Some(node);
+                Ok(())
+            }
+            Err((_, image)) => {
+                self.image = image;
+                Err(AllocError)
+            }
+        }
+    }
+
+    /// Cuts a step short: what it has stored from before it, or from after it, is all that is left.
+    pub fn tear(&mut self, work: Work, left: Left) -> Result<(), AllocError> {
+        if let Left::New = left {
+            let _ = self.step(work)?;
+        }
+        self.stop();
+        Ok(())
+    }
+
+    /// What it has stored, none where it is down.
+    pub fn durable(&self) -> Option<StoredState> {
+        match &self.node {
+            Some(node) => node.durable().ok(),
+            None => None,
+        }
+    }
+
+    /// The entry at an index of its log, none where it is down.
+    pub fn entry(&mut self, index: usize) -> Result<Option<Entry>, AllocError> {
+        let Some(node) = &mut self.node else {
+            return Ok(None);
+        };
+        match node.entry(index) {
+            Ok(entry) => Ok(entry),
+            Err(_) => Err(AllocError),
+        }
+    }
+
+    /// Up to which index it has applied its log, none where it is down.
+    pub fn commit(&self) -> Option<usize> {
+        match &self.node {
+            Some(node) => node.commit(),
+            None => None,
+        }
+    }
+
+    /// What it answers.
+    pub fn ask(&self, query: &Query) -> Result<Answer, Refusal> {
+        match &self.node {
+            Some(node) => node.ask(query),
+            None => Err(Refusal::NodeDown),
+        }
+    }
+}
