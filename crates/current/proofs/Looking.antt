@@ -1,0 +1,160 @@
+-- A search for the first day without a parent: what it has looked at.
+use Rattle.std.proofs.Common.{◌≡◌, ℕ, zero, suc, ◌+◌, ◌-◌, ◌<◌, ◌≤◌, ◌⊎◌, inl, inr, Bool, true, false, ◌||◌, IsTrue, List, [], ◌∷◌, map, drop, take, length, get_or, Option, Some, None, option_map, refl, sym, ap, ◌∙◌, subst, arith, Ordering}
+use Rattle.std.proofs.lemmas.Bool.{cases_Bool}
+use Rattle.std.specs.BTreeSet.{insert_key}
+use Rattle.std.specs.List.{list_any}
+use Rattle.std.specs.Ordering.{match_ordering, is_eq}
+use Rattle.std.specs.declared.cmp.Ordering.TheVariants.{Less, Equal, Greater}
+use Rattle.model.specs.declared.value.Value.{Value}
+use Rattle.model.specs.Values.{key_cmp}
+use Rattle.model.specs.Tables.{Row}
+use Rattle.model.specs.Periods.{is_free}
+use Rattle.model.specs.Statements.{days_of}
+use Rattle.model.specs.Transactions.{Place}
+use Rattle.period.specs.declared.period.Period.{Period as DeclaredPeriod}
+use Rattle.rowlaws.specs.Rows.{Has}
+use Rattle.rowlaws.specs.Covering.{missing, periods_of, place_at}
+use Rattle.rowlaws.specs.Losing.{lost_days}
+use Rattle.rowlaws.specs.Suspects.{earlier, first_among}
+use Rattle.rowlaws.proofs.Anys.{has_any}
+use Rattle.rowlaws.proofs.Keys.{key_same, key_itself}
+use Rattle.rowlaws.proofs.Members.{filter_has, has_left, has_right}
+use Rattle.rowlaws.proofs.RowFacts.{both}
+use Rattle.current.specs.declared.row.Row.{Row as Declared}
+use Rattle.current.specs.declared.suspects.Search.{Search}
+use Rattle.current.specs.Rows.{row_of}
+use Rattle.current.specs.ByKey.{rows_in}
+use Rattle.current.specs.Suspects.{IsIn, IsFirstOf, rows_by, references_by, LooksAt}
+use Rattle.current.proofs.Lists.{drop_here, drop_none}
+use Rattle.current.proofs.Planning.{Entry}
+
+-- ---- the rows before a place of a walk are looked at
+
+abbrev pub LooksTo : Search → (Row → Type 0) → (Row → Type 0) → Option Place → Option Place → Type 0
+LooksTo s wanted left old new =
+    (picked : List Row) → IsFirstOf (references_by s) (rows_by s) s.place picked old →
+    (more : List Row) × IsFirstOf (references_by s) (rows_by s) s.place more new × ((r : Row) → Has picked r → Has more r) × ((r : Row) → wanted r → Has more r ⊎ left r)
+
+module _ (s : Search) (wanted : Row → Type 0) where
+  pub looks_first : (left : Row → Type 0) (x : Option Place) → ((r : Row) → wanted r → left r) → LooksTo s wanted left x x
+  looks_first left x all picked is = (picked, is, (λ r h. h), (λ r w. inr (all r w)))
+
+  -- these are looked at, and those are left
+  pub looks_then : (left next found : Row → Type 0) (x y z : Option Place) → LooksTo s wanted left x y → LooksAt s found y z → ((r : Row) → wanted r → left r → found r ⊎ next r) → LooksTo s wanted next x z
+  looks_then left next found x y z first second by picked is =
+      let a = first picked is in
+      let b = second a.0 a.1 in (
+        b.0,
+        b.1,
+        (λ r h. b.2 r (a.2 r h)),
+        (λ r w. elim (a.3 r w) [ inl h ↦ inl (b.2 r h) | inr l ↦ elim (by r w l) [ inl f ↦ inl (b.3 r f) | inr n ↦ inr n ] ]),
+      )
+
+  -- nothing is looked at
+  pub looks_past : (left next : Row → Type 0) (x y : Option Place) → LooksTo s wanted left x y → ((r : Row) → wanted r → left r → next r) → LooksTo s wanted next x y
+  looks_past left next x y first by picked is =
+      let a = first picked is in
+      (a.0, a.1, a.2, (λ r w. elim (a.3 r w) [ inl h ↦ inl h | inr l ↦ inr (by r w l) ]))
+
+  pub looks_last : (left : Row → Type 0) (x y : Option Place) → LooksTo s wanted left x y → ((r : Row) → wanted r → left r → ⊥) → LooksAt s wanted x y
+  looks_last left x y first none picked is =
+      let a = first picked is in
+      (a.0, a.1, a.2, (λ r w. elim (a.3 r w) [ inl h ↦ h | inr l ↦ absurd (none r w l) ]))
+
+  pub looks_none : (x : Option Place) → ((r : Row) → wanted r → ⊥) → LooksAt s wanted x x
+  looks_none x none picked is = (picked, is, (λ r h. h), (λ r w. absurd (none r w)))
+
+  pub looks_at_more : (found : Row → Type 0) (x y : Option Place) → LooksAt s found x y → ((r : Row) → wanted r → found r) → LooksAt s wanted x y
+  looks_at_more found x y look by picked is = let a = look picked is in (a.0, a.1, a.2, (λ r w. a.3 r (by r w)))
+
+-- one row is looked at
+pub looks_at_row : (s : Search) (row : Row) (x y : Option Place) → Has (rows_by s s.place) row → y ≡ earlier (place_at s.place row (missing (references_by s) (rows_by s) s.place row) None) x → LooksAt s (λ r. r ≡ row) x y
+looks_at_row s row x y has e picked is = (
+  row ∷ picked,
+  ((λ r h. elim h [ inl same ↦ subst (Has (rows_by s s.place)) (sym same) has | inr g ↦ is.0 r g ]), e ∙ ap (earlier (place_at s.place row (missing (references_by s) (rows_by s) s.place row) None)) is.1),
+  (λ r h. inr h),
+  (λ r same. inl same),
+)
+
+-- ---- rows of a walk
+
+-- the row at the place is this one, or a later one
+pub next_row : (rows : List Declared) (i : ℕ) (x : Declared) → i < length rows → x ≡ get_or rows i x → (r : Row) → Has (map row_of (drop i rows)) r → (r ≡ row_of x) ⊎ Has (map row_of (drop (i + 1) rows)) r
+next_row rows i x l e r h = subst (λ (ys : List Declared). Has (map row_of ys) r) (drop_here rows i x l e) h
+
+pub none_after : (rows : List Declared) (i : ℕ) → length rows ≤ i → (r : Row) → Has (map row_of (drop i rows)) r → ⊥
+none_after rows i l r h = subst (λ (ys : List Declared). Has (map row_of ys) r) (drop_none rows i l) h
+
+pub row_here : (rows : List Declared) (i : ℕ) (x : Declared) → i < length rows → x ≡ get_or rows i x → Has (map row_of rows) (row_of x)
+row_here [] i x l e = absurd (omega arith)
+row_here (y ∷ rows) zero x l e = inl (ap row_of e)
+row_here (y ∷ rows) (suc i) x l e = inr (row_here rows i x (omega arith) e)
+
+-- and of the keys in turn
+pub next_strand : (e : Entry) (rest es : List Entry) → es ≡ e ∷ rest → (r : Row) → Has (rows_in es) r → Has (map row_of e.1) r ⊎ Has (rows_in rest) r
+next_strand e rest es split r h = parts (map row_of e.1) (subst (λ (xs : List Entry). Has (rows_in xs) r) split h)
+  where
+    use Rattle.rowlaws.proofs.Members.{has_cases}
+    parts : (xs : List Row) → Has (map row_of e.1 ++ rows_in rest) r → Has (map row_of e.1) r ⊎ Has (rows_in rest) r
+    parts xs g = has_cases (map row_of e.1) (rows_in rest) r g
+
+-- ---- keys in a set
+
+abbrev Keys : Type 0
+Keys = List (List Value)
+
+key_put : (k x : List Value) (xs : Keys) (o : Ordering) → key_cmp k x ≡ o → Has (insert_key key_cmp xs k) k → Has (match_ordering o (k ∷ x ∷ xs) (x ∷ xs) (x ∷ insert_key key_cmp xs k)) k
+key_put k x xs Less e h = inl refl
+key_put k x xs Equal e h = inl (key_same k x e)
+key_put k x xs Greater e h = inr h
+
+pub put_key : (k : List Value) (xs : Keys) → Has (insert_key key_cmp xs k) k
+put_key k [] = inl refl
+put_key k (x ∷ xs) = key_put k x xs (key_cmp k x) refl (put_key k xs)
+
+key_kept : (k l x : List Value) (xs : Keys) (o : Ordering) → Has (x ∷ xs) l → (Has xs l → Has (insert_key key_cmp xs k) l) → Has (match_ordering o (k ∷ x ∷ xs) (x ∷ xs) (x ∷ insert_key key_cmp xs k)) l
+key_kept k l x xs Less h more = inr h
+key_kept k l x xs Equal h more = h
+key_kept k l x xs Greater (inl e) more = inl e
+key_kept k l x xs Greater (inr h) more = inr (more h)
+
+pub kept_key : (k l : List Value) (xs : Keys) → Has xs l → Has (insert_key key_cmp xs k) l
+kept_key k l [] h = absurd h
+kept_key k l (x ∷ xs) h = key_kept k l x xs (key_cmp k x) h (kept_key k l xs)
+
+-- a key of the set is found
+pub key_found : (k : List Value) (xs : Keys) → Has xs k → list_any (λ x. is_eq (key_cmp k x)) xs ≡ true
+key_found k xs h = has_any (λ x. is_eq (key_cmp k x)) xs k h (ap is_eq (key_itself k))
+
+-- ---- what is lost, row by row
+
+-- each lost day of the rows before the i-th is there
+abbrev pub IsLostTo : List Declared → List Row → ℕ → Keys → Option DeclaredPeriod → Type 0
+IsLostTo rows more i keys span = (row : Row) (d : ℕ) → Has (map row_of rows) row → Has (lost_days more row) d → (Has keys row.key × IsIn span d) ⊎ Has (map row_of (drop i rows)) row
+
+module _ (rows : List Declared) (more : List Row) (i : ℕ) (x : Declared) (l : i < length rows) (e : x ≡ get_or rows i x) (keys : Keys) (span : Option DeclaredPeriod) (h : IsLostTo rows more i keys span) where
+  -- the row lost no day
+  pub lost_past : ((d : ℕ) → Has (lost_days more (row_of x)) d → ⊥) → IsLostTo rows more (i + 1) keys span
+  lost_past none row d has lost = elim (h row d has lost) [
+    | inl there ↦ inl there
+    | inr g ↦ elim (next_row rows i x l e row g) [
+      | inl same ↦ absurd (none d (subst (λ (r : Row). Has (lost_days more r) d) same lost))
+      | inr later ↦ inr later
+    ]
+  ]
+
+  -- it lost days of this period, which the new span has with those from before
+  pub lost_then : (next : Keys) (p : DeclaredPeriod) (k : List Value) → k ≡ x.key → next ≡ insert_key key_cmp keys k
+      → ((d : ℕ) → IsIn span d → (p.start.number ≤ d) × (d < p.end.number)) → ((d : ℕ) → Has (lost_days more (row_of x)) d → (p.start.number ≤ d) × (d < p.end.number)) → IsLostTo rows more (i + 1) next (Some p)
+  lost_then next p k key put old new row d has lost = elim (h row d has lost) [
+    | inl there ↦ inl (subst (λ (ks : Keys). Has ks row.key) (sym put) (kept_key k row.key keys there.0), old d there.1)
+    | inr g ↦ elim (next_row rows i x l e row g) [
+      | inl same ↦
+          let own : row.key ≡ k = ap (λ (r : Row). r.key) same ∙ sym key in
+          inl (subst (λ (ks : Keys). Has ks row.key) (sym put) (subst (λ (m : List Value). Has (insert_key key_cmp keys k) m) (sym own) (put_key k keys)), new d (subst (λ (r : Row). Has (lost_days more r) d) same lost))
+      | inr later ↦ inr later
+    ]
+  ]
+
+pub lost_day_free : (more : List Row) (row : Row) (d : ℕ) → Has (lost_days more row) d → Has (days_of row.period) d × (is_free (periods_of more row.key) d ≡ true)
+lost_day_free more row d h = filter_has (is_free (periods_of more row.key)) (days_of row.period) d h
