@@ -1,32 +1,38 @@
 -- A search for the first day without a parent: what it has looked at.
-use Rattle.std.proofs.Common.{◌≡◌, ℕ, zero, suc, ◌+◌, ◌-◌, ◌<◌, ◌≤◌, ◌⊎◌, inl, inr, Bool, true, false, ◌||◌, IsTrue, List, [], ◌∷◌, map, drop, take, length, get_or, Option, Some, None, option_map, refl, sym, ap, ◌∙◌, subst, arith, Ordering}
-use Rattle.std.proofs.lemmas.Bool.{cases_Bool}
+use Rattle.std.proofs.Common.{leb, ltb, ◌&&◌, Result, Ok, Err, ◌≡◌, ℕ, zero, suc, ◌+◌, ◌-◌, ◌<◌, ◌≤◌, ◌⊎◌, inl, inr, Bool, true, false, ◌||◌, IsTrue, List, [], ◌∷◌, map, drop, take, length, get_or, Option, Some, None, option_map, refl, sym, ap, ◌∙◌, subst, arith, Ordering}
+use Rattle.std.proofs.lemmas.Bool.{cases_Bool, and_parts, leb-true, ltb-true}
+use Rattle.std.specs.Prelude.{IfOk}
+use Rattle.std.specs.BTreeMap.{IsOrdered}
 use Rattle.std.specs.BTreeSet.{insert_key}
 use Rattle.std.specs.List.{list_any}
 use Rattle.std.specs.Ordering.{match_ordering, is_eq}
 use Rattle.std.specs.declared.cmp.Ordering.TheVariants.{Less, Equal, Greater}
 use Rattle.model.specs.declared.value.Value.{Value}
-use Rattle.model.specs.Values.{key_cmp}
-use Rattle.model.specs.Tables.{Row}
+use Rattle.model.specs.Values.{key_cmp, same_key}
+use Rattle.model.specs.Tables.{Period, Row, inside}
 use Rattle.model.specs.Periods.{is_free}
 use Rattle.model.specs.Statements.{days_of}
-use Rattle.model.specs.Transactions.{Place}
-use Rattle.period.specs.declared.period.Period.{Period as DeclaredPeriod}
+use Rattle.model.specs.Transactions.{Reference, Place}
 use Rattle.rowlaws.specs.Rows.{Has}
 use Rattle.rowlaws.specs.Covering.{missing, periods_of, place_at}
 use Rattle.rowlaws.specs.Losing.{lost_days}
-use Rattle.rowlaws.specs.Suspects.{earlier, first_among}
-use Rattle.rowlaws.proofs.Anys.{has_any}
-use Rattle.rowlaws.proofs.Keys.{key_same, key_itself}
-use Rattle.rowlaws.proofs.Members.{filter_has, has_left, has_right}
+use Rattle.rowlaws.specs.Suspects.{earlier, first_among, rows_losing}
+use Rattle.rowlaws.specs.Touching.{same_row}
+use Rattle.rowlaws.proofs.Anys.{any_has, has_any}
+use Rattle.rowlaws.proofs.Keys.{key_same, key_itself, same_key-true}
+use Rattle.rowlaws.proofs.Members.{filter_has, has_cases}
 use Rattle.rowlaws.proofs.RowFacts.{both}
 use Rattle.current.specs.declared.row.Row.{Row as Declared}
+use Rattle.current.specs.declared.suspects.Lost.{Lost}
 use Rattle.current.specs.declared.suspects.Search.{Search}
 use Rattle.current.specs.Rows.{row_of}
-use Rattle.current.specs.ByKey.{rows_in}
-use Rattle.current.specs.Suspects.{IsIn, IsFirstOf, rows_by, references_by, LooksAt}
+use Rattle.current.specs.declared.references.Place.{Place as Held}
+use Rattle.current.specs.Orphans.{place_of}
+use Rattle.current.specs.ByKey.{Map, rows_in, strands_of, in_strand}
+use Rattle.current.specs.Suspects.{IsIn, IsLost, IsFirstOf, rows_by, references_by, LooksAt}
 use Rattle.current.proofs.Lists.{drop_here, drop_none}
 use Rattle.current.proofs.Planning.{Entry}
+use Rattle.current.proofs.Undoing.{not_in_strand}
 
 -- ---- the rows before a place of a walk are looked at
 
@@ -94,7 +100,6 @@ row_here (y ∷ rows) (suc i) x l e = inr (row_here rows i x (omega arith) e)
 pub next_strand : (e : Entry) (rest es : List Entry) → es ≡ e ∷ rest → (r : Row) → Has (rows_in es) r → Has (map row_of e.1) r ⊎ Has (rows_in rest) r
 next_strand e rest es split r h = parts (map row_of e.1) (subst (λ (xs : List Entry). Has (rows_in xs) r) split h)
   where
-    use Rattle.rowlaws.proofs.Members.{has_cases}
     parts : (xs : List Row) → Has (map row_of e.1 ++ rows_in rest) r → Has (map row_of e.1) r ⊎ Has (rows_in rest) r
     parts xs g = has_cases (map row_of e.1) (rows_in rest) r g
 
@@ -129,32 +134,46 @@ key_found k xs h = has_any (λ x. is_eq (key_cmp k x)) xs k h (ap is_eq (key_its
 -- ---- what is lost, row by row
 
 -- each lost day of the rows before the i-th is there
-abbrev pub IsLostTo : List Declared → List Row → ℕ → Keys → Option DeclaredPeriod → Type 0
-IsLostTo rows more i keys span = (row : Row) (d : ℕ) → Has (map row_of rows) row → Has (lost_days more row) d → (Has keys row.key × IsIn span d) ⊎ Has (map row_of (drop i rows)) row
+abbrev pub IsLostTo : List Declared → List Row → ℕ → Lost → Type 0
+IsLostTo rows more i lost = (row : Row) (d : ℕ) → Has (map row_of rows) row → Has (lost_days more row) d → IsLost lost row.key d ⊎ Has (map row_of (drop i rows)) row
 
-module _ (rows : List Declared) (more : List Row) (i : ℕ) (x : Declared) (l : i < length rows) (e : x ≡ get_or rows i x) (keys : Keys) (span : Option DeclaredPeriod) (h : IsLostTo rows more i keys span) where
-  -- the row lost no day
-  pub lost_past : ((d : ℕ) → Has (lost_days more (row_of x)) d → ⊥) → IsLostTo rows more (i + 1) keys span
-  lost_past none row d has lost = elim (h row d has lost) [
-    | inl there ↦ inl there
-    | inr g ↦ elim (next_row rows i x l e row g) [
-      | inl same ↦ absurd (none d (subst (λ (r : Row). Has (lost_days more r) d) same lost))
-      | inr later ↦ inr later
-    ]
+pub lost_then : (rows : List Declared) (more : List Row) (i : ℕ) (x : Declared) → i < length rows → x ≡ get_or rows i x → (lost next : Lost) → IsLostTo rows more i lost
+    → ((key : List Value) (d : ℕ) → IsLost lost key d → IsLost next key d) → ((d : ℕ) → Has (lost_days more (row_of x)) d → IsLost next x.key d) → IsLostTo rows more (i + 1) next
+lost_then rows more i x l e lost next h old new row d has days = elim (h row d has days) [
+  | inl there ↦ inl (old row.key d there)
+  | inr g ↦ elim (next_row rows i x l e row g) [
+    | inl same ↦ inl (subst (λ (r : Row). IsLost next r.key d) (sym same) (new d (subst (λ (r : Row). Has (lost_days more r) d) same days)))
+    | inr later ↦ inr later
   ]
+]
 
-  -- it lost days of this period, which the new span has with those from before
-  pub lost_then : (next : Keys) (p : DeclaredPeriod) (k : List Value) → k ≡ x.key → next ≡ insert_key key_cmp keys k
-      → ((d : ℕ) → IsIn span d → (p.start.number ≤ d) × (d < p.end.number)) → ((d : ℕ) → Has (lost_days more (row_of x)) d → (p.start.number ≤ d) × (d < p.end.number)) → IsLostTo rows more (i + 1) next (Some p)
-  lost_then next p k key put old new row d has lost = elim (h row d has lost) [
-    | inl there ↦ inl (subst (λ (ks : Keys). Has ks row.key) (sym put) (kept_key k row.key keys there.0), old d there.1)
-    | inr g ↦ elim (next_row rows i x l e row g) [
-      | inl same ↦
-          let own : row.key ≡ k = ap (λ (r : Row). r.key) same ∙ sym key in
-          inl (subst (λ (ks : Keys). Has ks row.key) (sym put) (subst (λ (m : List Value). Has (insert_key key_cmp keys k) m) (sym own) (put_key k keys)), new d (subst (λ (r : Row). Has (lost_days more r) d) same lost))
-      | inr later ↦ inr later
-    ]
-  ]
+pub lost_all : (rows : List Declared) (more : List Row) (i : ℕ) (lost : Lost) → length rows ≤ i → IsLostTo rows more i lost → (row : Row) (d : ℕ) → Has (map row_of rows) row → Has (lost_days more row) d → IsLost lost row.key d
+lost_all rows more i lost l h row d has days = elim (h row d has days) [ inl there ↦ there | inr g ↦ absurd (none_after rows i l row g) ]
 
 pub lost_day_free : (more : List Row) (row : Row) (d : ℕ) → Has (lost_days more row) d → Has (days_of row.period) d × (is_free (periods_of more row.key) d ≡ true)
 lost_day_free more row d h = filter_has (is_free (periods_of more row.key)) (days_of row.period) d h
+
+-- ---- a row that stands is found
+
+pub there_found : (m : Map) → IsOrdered key_cmp m → ((k : List Value) → in_strand k 0 (strands_of m k) ≡ true) → (row : Row) → Has (rows_in m.entries) row → list_any (same_row row) (strands_of m row.key) ≡ true
+there_found m ordered in_strands row h = elim (cases_Bool (list_any (same_row row) (strands_of m row.key))) [
+  | inl y ↦ y
+  | inr n ↦ absurd (not_in_strand m ordered in_strands row n h)
+]
+
+-- what a call looks at
+pub ok_looks : {E : Type 0} (s : Search) (found wanted : Row → Type 0) (x : Option Place) (r : Result (Option Held) E) → IfOk r (λ now. LooksAt s found x (option_map place_of now)) → ((q : Row) → wanted q → found q) → IfOk r (λ now. LooksAt s wanted x (option_map place_of now))
+ok_looks s found wanted x (Ok now) look by = looks_at_more s wanted found x (option_map place_of now) look by
+ok_looks s found wanted x (Err e) look by = look
+
+-- a row that has a day that a key lost with a row that went
+pub losing_parts : (f : Reference) (rows more : List Row) (q r : Row) → Has (rows_losing f rows more q) r → Has rows r × (f.refers r.key r.values ≡ q.key) × (d : ℕ) × Has (lost_days more q) d × (r.period.start ≤ d) × (d < r.period.end)
+losing_parts f rows more q r h =
+    let x = filter_has (λ (x : Row). same_key (f.refers x.key x.values) q.key && list_any (inside x.period) (lost_days more q)) rows r h in
+    let parts = and_parts (same_key (f.refers r.key r.values) q.key) (list_any (inside r.period) (lost_days more q)) x.1 in
+    let d = any_has (inside r.period) (lost_days more q) parts.1 in
+    let day = and_parts (leb r.period.start d.0) (ltb d.0 r.period.end) d.2 in
+    (x.0, same_key-true (f.refers r.key r.values) q.key parts.0, d.0, d.1, leb-true _ _ day.0, ltb-true _ _ day.1)
+
+pub in_span : (p : Period) (r : Row) (d : ℕ) → (p.start ≤ d) × (d < p.end) → r.period.start ≤ d → d < r.period.end → (r.period.start < p.end) × (p.start < r.period.end)
+in_span p r d x a b = let c = x.0 in let e = x.1 in (omega (arith, a, e), omega (arith, b, c))

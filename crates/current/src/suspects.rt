@@ -77,6 +77,34 @@ fn joined(one: Option<Period>, other: Period) -> Period
     }
 }
 
+impl Lost {
+    ghost use Rattle.model.specs.declared.value.Value.{Value};
+    ghost use Rattle.std.specs.Prelude.{List};
+
+    // And what it lost with one row more.
+    fn with(
+        self,
+        alloc: Global,
+        tables: &[TableRows],
+        table: usize,
+        row: &Row,
+    ) -> Result<Lost, AllocError>
+        ensures before { IfOk result (λ lost. (key : List Value) (d : ℕ) → IsLost self key d → IsLost lost key d) }
+        ensures row { IfOk result (λ lost. (d : ℕ) → Has (lost_days (rows_at rows_of_table tables.now table) (row_of row.now)) d → IsLost lost row.now.key d) }
+    {
+        let Some(more) = free_span(alloc, tables, table, &row.key, row.period)? else {
+            return Ok(self);
+        };
+        let Lost { mut keys, span } = self;
+        let key = row.key.clone()?;
+        keys.insert(key)?;
+        Ok(Lost {
+            keys,
+            span: Some(joined(span, more)),
+        })
+    }
+}
+
 /// What a table lost with these rows that went: each day that none of a row's key has now, and its key.
 pub(crate) fn lost_with(
     alloc: Global,
@@ -86,15 +114,15 @@ pub(crate) fn lost_with(
 ) -> Result<Lost, AllocError>
     ensures { IfOk result (λ lost. (row : TableRow) (d : ℕ) → Has (map row_of removed.now) row → Has (lost_days (rows_at rows_of_table tables.now table) row) d → IsLost lost row.key d) }
 {
-    let mut keys = BTreeSet::new(alloc);
-    let mut span = None;
+    let mut lost = Lost {
+        keys: BTreeSet::new(alloc),
+        span: None,
+    };
     for row in removed {
-        if let Some(lost) = free_span(alloc, tables, table, &row.key, row.period)? {
-            keys.insert(row.key.clone()?)?;
-            span = Some(joined(span, lost));
-        }
+        let next = lost.with(alloc, tables, table, row)?;
+        lost = next;
     }
-    Ok(Lost { keys, span })
+    Ok(lost)
 }
 
 impl<'a> Search<'a> {
@@ -109,17 +137,13 @@ impl<'a> Search<'a> {
         requires { Has (rows_by self.now self.now.place) (row_of row.now) }
         ensures { IfOk result (λ now. LooksAt self.now (λ r. r ≡ row_of row.now) (option_map place_of before.entry) (option_map place_of now)) }
     {
-        let (place, key) = (self.place, &row.key);
-        let day = missing(self.alloc, self.tables, place, self.table, row)?;
-        match day {
-            Some(day) => Ok(earlier(
-                Some(Place {
-                    table: place,
-                    key,
-                    day,
-                }),
-                before,
-            )),
+        let key = &row.key;
+        let table = self.place;
+        match missing(self.alloc, self.tables, table, self.table, row)? {
+            Some(day) => {
+                let here = Some(Place { table, key, day });
+                Ok(earlier(here, before))
+            }
             None => Ok(before),
         }
     }
@@ -135,6 +159,20 @@ impl<'a> Search<'a> {
         }
     }
 
+    // Looks at a row that came, if it stands now.
+    fn came_row(
+        &self,
+        row: &'a Row,
+        before: Option<Place<'a>>,
+    ) -> Result<Option<Place<'a>>, AllocError>
+        ensures { IfOk result (λ now. LooksAt self.now (λ r. (r ≡ row_of row.now) × Has (rows_by self.now self.now.place) r) (option_map place_of before.entry) (option_map place_of now)) }
+    {
+        if !self.stands(row) {
+            return Ok(before);
+        }
+        self.row(row, before)
+    }
+
     // Looks at those rows that came and stand now.
     fn came(
         &self,
@@ -145,11 +183,28 @@ impl<'a> Search<'a> {
     {
         let mut found = before;
         for row in added {
-            if self.stands(row) {
-                found = self.row(row, found)?;
-            }
+            let next = self.came_row(row, found)?;
+            found = next;
         }
         Ok(found)
+    }
+
+    // Looks at a row, if it refers to one of the keys.
+    fn referring_row(
+        &self,
+        columns: &[usize],
+        keys: &BTreeSet<Key>,
+        row: &'a Row,
+        before: Option<Place<'a>>,
+    ) -> Result<Option<Place<'a>>, AllocError>
+        requires { Has (rows_by self.now self.now.place) (row_of row.now) }
+        ensures { IfOk result (λ now. LooksAt self.now (λ r. (r ≡ row_of row.now) × Has keys.now.keys (values_at self.now.table.now columns.now r.key r.values)) (option_map place_of before.entry) (option_map place_of now)) }
+    {
+        let key = referred_key(self.alloc, self.table, columns, row)?;
+        if !keys.contains(&key) {
+            return Ok(before);
+        }
+        self.row(row, before)
     }
 
     // Looks at those of these rows that refer to one of the keys.
@@ -165,10 +220,8 @@ impl<'a> Search<'a> {
     {
         let mut found = before;
         for row in rows {
-            let key = referred_key(self.alloc, self.table, columns, row)?;
-            if keys.contains(&key) {
-                found = self.row(row, found)?;
-            }
+            let next = self.referring_row(columns, keys, row, found)?;
+            found = next;
         }
         Ok(found)
     }
@@ -190,7 +243,8 @@ impl<'a> Search<'a> {
         let mut found = before;
         for (_, strand) in &rows.index.strands {
             let met = rows_meeting(strand.all(&mut count), span);
-            found = self.referring(columns, keys, met, found)?;
+            let next = self.referring(columns, keys, met, found)?;
+            found = next;
         }
         Ok(found)
     }
@@ -225,7 +279,8 @@ impl<'a> Search<'a> {
         let references = self.table.references();
         for reference in references {
             let removed = touched.removed(reference.parent());
-            found = self.losing(reference, removed, found)?;
+            let next = self.losing(reference, removed, found)?;
+            found = next;
         }
         Ok(found)
     }

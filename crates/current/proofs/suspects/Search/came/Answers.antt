@@ -1,32 +1,13 @@
-use Rattle.std.proofs.Common.{rules, ◌≡◌, ◌<◌, ◌≤◌, ◌⊎◌, ℕ, IsTrue, map, length, option_map, IfOk, IfSome, Some, ◌+◌, ◌-◌, ◌*◌, ◌/◌, ◌%◌, Bool, true, false, nat_eq, nat_lt, List, [], ◌∷◌, ◌++◌, slice_index_or, slice_set, bit_and, bit_or, Fits, w8, w32, w64, Bor, MutBor}
-use Rattle.model.specs.Tables.{Row as TableRow}
-use Rattle.model.specs.Transactions.{State}
-use Rattle.model.specs.Transactions as model
-use Rattle.rowlaws.specs.Rows.{Has}
-use Rattle.rowlaws.specs.Statements.{AllListed}
-use Rattle.rowlaws.specs.Losing.{lost_days}
-use Rattle.rowlaws.specs.Whole.{ComesFromWhole}
-use Rattle.rowlaws.specs.Suspects.{PickedOrphan}
-use Rattle.rowlaws.specs.Suspects.{earlier as earlier_place}
-use Rattle.rowlaws.specs.Suspects.{rows_losing}
-use Rattle.sqlread.specs.Meaning.{references_from, language_of, reference_of, values_at}
-use Rattle.current.specs.Rows.{row_of}
-use Rattle.current.specs.Table.{rows_of_table}
-use Rattle.current.specs.Places.{rows_at}
-use Rattle.current.specs.Orphans.{place_of}
-use Rattle.current.specs.Touched.{removed_in, added_in}
-use Rattle.current.specs.Suspects.{IsIn, IsLost, IsFirstPicked, rows_by, LooksAt}
-use Rattle.schema.specs.Shape.{ReferenceShape}
+use Rattle.std.proofs.Common.{inl, inr}
+use Rattle.current.proofs.Looking.{looks_first, looks_then, looks_last, next_row, none_after}
 use Rattle.current.proofs.suspects.Search.came.Goals as goal
 
--- src/suspects.rt:147:9
 pub loop-row-init : goal.loop-row-init
-loop-row-init c = ?
+loop-row-init c = looks_first c.args.self.now _ _ _ (λ r w. w.0)
 
--- src/suspects.rt:147:9
 pub loop-row-preserved : goal.loop-row-preserved
-loop-row-preserved c = ?
+loop-row-preserved c =
+    looks_then c.args.self.now _ _ _ _ _ _ _ c.loop-row.invariant c.in_ok-next.ensures (λ r w left. elim (next_row c.args.added.now c.loop-row.row-index c.row-item.result c.loop-row-test.true c.row-item.is r left) [ inl same ↦ inl (same, w.1) | inr later ↦ inr later ])
 
--- src/suspects.rt:139:5
 pub returns : goal.returns
-returns c = ?
+returns c = looks_last c.args.self.now _ _ _ _ c.loop-row.invariant (λ r w left. none_after c.args.added.now c.loop-row.row-index c.loop-row-test.false r left)
