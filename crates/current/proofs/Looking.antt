@@ -1,7 +1,8 @@
 -- A search for the first day without a parent: what it has looked at.
-use Rattle.std.proofs.Common.{leb, ltb, ◌&&◌, Result, Ok, Err, ◌≡◌, ℕ, zero, suc, ◌+◌, ◌-◌, ◌<◌, ◌≤◌, ◌⊎◌, inl, inr, Bool, true, false, ◌||◌, IsTrue, List, [], ◌∷◌, map, drop, take, length, get_or, Option, Some, None, option_map, refl, sym, ap, ◌∙◌, subst, arith, Ordering}
-use Rattle.std.proofs.lemmas.Bool.{cases_Bool, and_parts, leb-true, ltb-true}
-use Rattle.std.specs.Prelude.{IfOk}
+use Rattle.std.proofs.Common.{leb, ltb, ◌++◌, ◌&&◌, Result, Ok, Err, ◌≡◌, ℕ, zero, suc, ◌+◌, ◌-◌, ◌<◌, ◌≤◌, ◌⊎◌, inl, inr, Bool, true, false, ◌||◌, IsTrue, List, [], ◌∷◌, map, drop, take, length, get_or, Option, Some, None, option_map, refl, sym, ap, ◌∙◌, subst, arith, Ordering}
+use Rattle.std.proofs.lemmas.Bool.{cases_Bool, cases_lt, and_parts, leb-true, ltb-true}
+use Rattle.std.specs.Prelude.{find, ◌↔◌, IsOk, IfOk}
+use Rattle.std.specs.Result.{result_ok}
 use Rattle.std.specs.BTreeMap.{IsOrdered}
 use Rattle.std.specs.BTreeSet.{insert_key}
 use Rattle.std.specs.List.{list_any}
@@ -20,7 +21,10 @@ use Rattle.rowlaws.specs.Suspects.{earlier, first_among, rows_losing}
 use Rattle.rowlaws.specs.Touching.{same_row}
 use Rattle.rowlaws.proofs.Anys.{any_has, has_any}
 use Rattle.rowlaws.proofs.Keys.{key_same, key_itself, same_key-true}
-use Rattle.rowlaws.proofs.Members.{filter_has, has_cases}
+use Rattle.rowlaws.proofs.Least.{IsLeast, find_day}
+use Rattle.rowlaws.proofs.Members.{filter_has, has_cases, range_has}
+use Rattle.period.specs.declared.day.Day.{Day}
+use Rattle.period.specs.declared.period.Period.{Period as DeclaredPeriod}
 use Rattle.rowlaws.proofs.RowFacts.{both}
 use Rattle.current.specs.declared.row.Row.{Row as Declared}
 use Rattle.current.specs.declared.suspects.Lost.{Lost}
@@ -177,3 +181,32 @@ losing_parts f rows more q r h =
 
 pub in_span : (p : Period) (r : Row) (d : ℕ) → (p.start ≤ d) × (d < p.end) → r.period.start ≤ d → d < r.period.end → (r.period.start < p.end) × (p.start < r.period.end)
 in_span p r d x a b = let c = x.0 in let e = x.1 in (omega (arith, a, e), omega (arith, b, c))
+
+pub ok_map : {A E : Type 0} {P Q : A → Type 0} (r : Result A E) → ((a : A) → P a → Q a) → IfOk r P → IfOk r Q
+ok_map (Ok a) f h = f a h
+ok_map (Err e) f h = h
+
+-- ---- days of a period that pass a test
+
+day_of : (p : Period) (d : ℕ) → Has (days_of p) d → (p.start ≤ d) × (d < p.end)
+day_of p d h =
+    let r = range_has p.start (p.end - p.start) d h in
+    let a : p.start ≤ d = r.0 in
+    let b : d < p.start + (p.end - p.start) = r.1 in
+    (a, omega (arith, a, b))
+
+least_of : (f : ℕ → Bool) (p : Period) (d : ℕ) → Has (days_of p) d → IsLeast f p.start p.end (find f (days_of p))
+least_of f p d h = let x = day_of p d h in let a = x.0 in let b = x.1 in find_day f p (omega (arith, a, b))
+
+pub none_free : (f : ℕ → Bool) (p : Period) (d : ℕ) (o : Option ℕ) → o ≡ find f (days_of p) → o ≡ None → Has (days_of p) d → f d ≡ true → ⊥
+none_free f p d o e none h y = let x = day_of p d h in both y (subst (IsLeast f p.start p.end) (sym e ∙ none) (least_of f p d h) d x.0 x.1)
+
+pub from_first : (f : ℕ → Bool) (p : Period) (d start : ℕ) (o : Option ℕ) → o ≡ find f (days_of p) → o ≡ Some start → Has (days_of p) d → f d ≡ true → (start ≤ d) × (p.start ≤ d) × (d < p.end)
+from_first f p d start o e some h y =
+    let x = day_of p d h in
+    let least : IsLeast f p.start p.end (Some start) = subst (IsLeast f p.start p.end) (sym e ∙ some) (least_of f p d h) in
+    elim (cases_lt d start) [ inl l ↦ absurd (both y (least.3 d x.0 l)) | inr g ↦ (g, x.0, x.1) ]
+
+pub period_made : {E : Type 0} (r : Result DeclaredPeriod E) (o : Option DeclaredPeriod) (start end : Day) (d : ℕ) → o ≡ result_ok r → IsOk r ↔ (start.number < end.number) → IfOk r (λ p. (p.start ≡ start) × (p.end ≡ end)) → start.number ≤ d → d < end.number → IsIn o d
+period_made (Ok p) o start end d e is value a b = subst (λ x. IsIn x d) (sym e) (subst (λ (x : Day). x.number ≤ d) (sym value.0) a, subst (λ (x : Day). d < x.number) (sym value.1) b)
+period_made (Err x) o start end d e is value a b = absurd (is.1 (omega (arith, a, b)))

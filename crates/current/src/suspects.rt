@@ -249,6 +249,22 @@ impl<'a> Search<'a> {
         Ok(found)
     }
 
+    // The same of a table that may have no rows yet.
+    fn spanned(
+        &self,
+        columns: &[usize],
+        keys: &BTreeSet<Key>,
+        span: Period,
+        before: Option<Place<'a>>,
+    ) -> Result<Option<Place<'a>>, AllocError>
+        ensures { IfOk result (λ now. LooksAt self.now (λ r. Has (rows_by self.now self.now.place) r × Has keys.now.keys (values_at self.now.table.now columns.now r.key r.values) × (r.period.start < span.end.number) × (span.start.number < r.period.end)) (option_map place_of before.entry) (option_map place_of now)) }
+    {
+        match table_at(self.tables, self.place) {
+            Some(rows) => self.meeting(columns, keys, span, rows, before),
+            None => Ok(before),
+        }
+    }
+
     // Looks at the rows that have a day that a key they refer to lost.
     fn losing(
         &self,
@@ -259,11 +275,9 @@ impl<'a> Search<'a> {
         ensures { IfOk result (λ now. LooksAt self.now (λ r. (row : TableRow) × Has (map row_of removed.now) row × Has (rows_losing (reference_of self.now.place self.now.table.now reference.now) (rows_by self.now self.now.place) (rows_by self.now reference.now.parent) row) r) (option_map place_of before.entry) (option_map place_of now)) }
     {
         let lost = lost_with(self.alloc, self.tables, reference.parent(), removed)?;
-        match (lost.span, table_at(self.tables, self.place)) {
-            (Some(span), Some(rows)) => {
-                self.meeting(reference.columns(), &lost.keys, span, rows, before)
-            }
-            _ => Ok(before),
+        match lost.span {
+            Some(span) => self.spanned(reference.columns(), &lost.keys, span, before),
+            None => Ok(before),
         }
     }
 

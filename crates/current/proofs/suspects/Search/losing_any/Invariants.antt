@@ -1,4 +1,4 @@
-use Rattle.std.proofs.Common.{drop, option_map}
+use Rattle.std.proofs.Common.{List, drop, option_map}
 use Rattle.model.specs.Tables.{Row}
 use Rattle.rowlaws.specs.Rows.{Has}
 use Rattle.rowlaws.specs.Suspects.{rows_losing}

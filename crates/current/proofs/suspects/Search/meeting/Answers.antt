@@ -1,4 +1,4 @@
-use Rattle.std.proofs.Common.{◌≡◌, ◌∷◌, ◌∙◌, List, map, inl, inr, sym, subst}
+use Rattle.std.proofs.Common.{◌≡◌, ◌∷◌, ◌∙◌, List, [], map, inl, inr, refl, sym, subst, rules}
 use Rattle.std.specs.Map.Iter.{deref_pair}
 use Rattle.std.proofs.lemmas.Map.Iter.{rest_more}
 use Rattle.overlaps.specs.Index.{AreApart}
@@ -7,6 +7,7 @@ use Rattle.rowlaws.specs.Rows.{Has}
 use Rattle.rowlaws.proofs.Members.{has_flat}
 use Rattle.current.specs.declared.row.Row.{Row as Declared}
 use Rattle.current.specs.Rows.{row_of}
+use Rattle.current.specs.ByKey.{rows_in}
 use Rattle.current.proofs.Placed.{days_of_row}
 use Rattle.current.proofs.Planning.{Entry}
 use Rattle.current.proofs.Sorted.{entry_in_strand}
@@ -15,10 +16,15 @@ use Rattle.current.proofs.Looking.{looks_first, looks_then, looks_last, next_str
 use Rattle.current.proofs.suspects.Search.meeting.Goals as goal
 
 pub loop-strand-init : goal.loop-strand-init
-loop-strand-init c = record { looks = looks_first c.args.self.now _ _ _ (λ r w. w.0); entries = λ e h. h }
+loop-strand-init c =
+    let same : c.into_iter-strand-iterator.result ≡ c.args.rows.now.index.strands.entries = search rules in
+    record {
+      looks = looks_first c.args.self.now _ _ _ (λ r w. subst (λ (es : List Entry). Has (rows_in es) r) (sym same) w.0);
+      entries = λ e h. subst (λ (es : List Entry). Has es e) same h;
+    }
 
-pub rows_meeting-requires : goal.rows_meeting-requires
-rows_meeting-requires c =
+pub rows_meeting-met-requires : goal.rows_meeting-met-requires
+rows_meeting-met-requires c =
     let rows = c.args.rows.now in
     let e : Entry = (c.in-Some.field-0-0.now, c.in-Some.strand.now) in
     let rest = c.next.new.self in
@@ -50,4 +56,4 @@ loop-strand-preserved c =
     }
 
 pub returns : goal.returns
-returns c = looks_last c.args.self.now _ _ _ _ c.loop-strand.invariant.looks ?
+returns c = looks_last c.args.self.now _ _ _ _ c.loop-strand.invariant.looks (λ r w left. subst (λ (es : List Entry). Has (rows_in es) r) c.in-None.ensures.steps.0 left)
