@@ -209,4 +209,4 @@ from_first f p d start o e some h y =
 
 pub period_made : {E : Type 0} (r : Result DeclaredPeriod E) (o : Option DeclaredPeriod) (start end : Day) (d : ℕ) → o ≡ result_ok r → IsOk r ↔ (start.number < end.number) → IfOk r (λ p. (p.start ≡ start) × (p.end ≡ end)) → start.number ≤ d → d < end.number → IsIn o d
 period_made (Ok p) o start end d e is value a b = subst (λ x. IsIn x d) (sym e) (subst (λ (x : Day). x.number ≤ d) (sym value.0) a, subst (λ (x : Day). d < x.number) (sym value.1) b)
-period_made (Err x) o start end d e is value a b = absurd (is.1 (omega (arith, a, b)))
+period_made (Err x) o start end d e is value a b = absurd (both (is.1 (omega (arith, a, b))) refl)

@@ -18,10 +18,11 @@ returns-in-Some c =
         let lost = c.in_ok-lost.ensures w.0 p.2 w.1 (subst (λ (n : ℕ). Has (lost_days (rows_by s n) w.0) p.2) (sym c.parent.ensures) p.3) in
         let day = subst (λ o. IsIn o p.2) c.in-Some.is lost.1 in
         let refers = ap (λ (columns : List ℕ). values_at s.table.now columns r.key r.values) c.columns.ensures ∙ p.1 in
-        (p.0, subst (Has c.in_ok-lost.lost.keys.keys) (sym refers) lost.0, in_span (period_of c.in-Some.span) r p.2 day p.4 p.5))
+        let span = in_span (period_of c.in-Some.span) r p.2 day p.4 p.5 in
+        (p.0, subst (Has c.in_ok-lost.lost.keys.keys) (sym refers) lost.0, span.0, span.1))
 
-pub returns-in-None : goal.returns-in-None
-returns-in-None c =
+pub returns : goal.returns
+returns c =
     let s = c.args.self.now in
     let f = c.args.reference.now in
     looks_none s _ _ (λ r w.
