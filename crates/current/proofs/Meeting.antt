@@ -185,10 +185,10 @@ module _ (rows : List Declared) (p : Period) (some : p.start < p.end) (from to :
       let rest = in_rest from rows r h (λ k d l m e. let end = ended k d l in let same : r.period.end ≡ (get_or rows k d).period.end.number = ap (λ (x : Row). x.period.end) e in omega (arith, end, same, b)) in
       in_front (to - from) (drop from rows) r rest
       (λ k d l m e.
-          let long = length-drop from rows in
-          let start = later (from + k) d (omega arith) (omega (arith, long)) in
-          let same : r.period.start ≡ (get_or rows (from + k) d).period.start.number = ap (λ (x : Row). x.period.start) e ∙ ap (λ (x : Declared). x.period.start.number) (get_or-drop from rows k d) in
-          omega (arith, start, same, a))
+      let long = length-drop from rows in
+      let start = later (from + k) d (omega arith) (omega (arith, long)) in
+      let same : r.period.start ≡ (get_or rows (from + k) d).period.start.number = ap (λ (x : Row). x.period.start) e ∙ ap (λ (x : Declared). x.period.start.number) (get_or-drop from rows k d) in
+      omega (arith, start, same, a))
 
 -- ---- the first day that is free
 

@@ -20,7 +20,7 @@ returns c =
     let all = rows_at rows_of_table c.args.tables.now in
     let a = c.in_ok-found.ensures [] ((λ r h. absurd h), refl) in
     ok_map c.losing_any.result (λ found look.
-        let b = look a.0 a.1 in
-        all_picked c.args.schema.now c.args.place _ _ all (removed_in c.args.touched.now) (added_in c.args.touched.now) c.table.ensures.table b.0 (option_map place_of found) b.1
-        (λ r h. b.2 r (a.3 r (subst (λ (rows : List Row). Has rows r) (sym c.added.ensures) h.0, h.1)))
-        (λ r l. b.3 r l)) c.losing_any.ensures
+    let b = look a.0 a.1 in
+    all_picked c.args.schema.now c.args.place _ _ all (removed_in c.args.touched.now) (added_in c.args.touched.now) c.table.ensures.table b.0 (option_map place_of found) b.1
+    (λ r h. b.2 r (a.3 r (subst (λ (rows : List Row). Has rows r) (sym c.added.ensures) h.0, h.1)))
+    (λ r l. b.3 r l)) c.losing_any.ensures

@@ -13,8 +13,8 @@ returns-then-not-contains c =
     let s = c.args.self.now in
     let key = λ (r : Row). values_at s.table.now c.args.columns.now r.key r.values in
     looks_none s _ _ (λ r w.
-        let there : Has c.args.keys.now.keys c.in_ok-key.key = subst (Has c.args.keys.now.keys) (ap key w.0 ∙ sym c.in_ok-key.ensures) w.1 in
-        both (c.contains.ensures ∙ key_found c.in_ok-key.key c.args.keys.now.keys there) c.if-not-contains.true)
+    let there : Has c.args.keys.now.keys c.in_ok-key.key = subst (Has c.args.keys.now.keys) (ap key w.0 ∙ sym c.in_ok-key.ensures) w.1 in
+    both (c.contains.ensures ∙ key_found c.in_ok-key.key c.args.keys.now.keys there) c.if-not-contains.true)
 
 pub returns : goal.returns
 returns c = ok_looks c.args.self.now _ _ _ c.row.result c.row.ensures (λ r w. w.0)
