@@ -1,4 +1,5 @@
 pub mod Heard
 pub mod Links
 pub mod Ranges
+pub mod Stepping
 pub mod Written

@@ -1,0 +1,80 @@
+-- What came of a step of a node, and of a keeper that lost the voice.
+use Rattle.std.proofs.Common.{◌≡◌, ◌∙◌, ℕ, Bool, true, false, Result, Ok, Err, IfOk, IfErr, OnOk, MatchBool, refl, sym, ap, subst, ⊎_elim, inl, inr}
+use Rattle.model.specs.Members as model
+use Rattle.model.specs.Kept.{node_after}
+use Rattle.model.specs.Steps.{Effect, Moves, Refuses, Nothing}
+use Rattle.model.specs.Worlds.{node_left, stopped}
+use Rattle.model.specs.declared.event.Left.TheVariants.{Old, New}
+use Rattle.fault.specs.declared.refusal.Refusal.{Refusal}
+use Rattle.fault.specs.declared.refusal.Refusal.TheVariants.{NodeDown}
+use Rattle.keep.specs.Durable.{Durable, IsBeforeOrAfter}
+use Rattle.keep.specs.declared.error.StoreError.{StoreError}
+use Rattle.sqlchecks.specs.Columns.{Tables}
+use Rattle.sqlread.specs.Meaning.{language_of}
+use Rattle.node.specs.declared.node.Node.{Node}
+use Rattle.node.specs.declared.node.Out.{Out}
+use Rattle.node.specs.declared.node.Fault.{Fault}
+use Rattle.node.specs.declared.node.Fault.TheVariants.{Kept, Down}
+use Rattle.node.specs.Member.{member_of}
+use Rattle.node.specs.View.{durable_of, told_between, works, Gave, IsGiven, IsEmpty, IsSame, IsTorn, LeavesUp}
+use Rattle.node.specs.Work.{Work}
+use Rattle.runlaws.specs.Going.{after_stop}
+use Rattle.store.specs.Nodes.{rested, IsMember, Rests, StepsTo}
+
+left_old : (x : model.Node) (o : Effect) → node_left Old x o ≡ x
+left_old x (Moves a) = refl
+left_old x (Refuses refusal) = refl
+left_old x Nothing = refl
+
+left_new : (x : model.Node) (o : Effect) → node_left New x o ≡ node_after x o
+left_new x (Moves a) = refl
+left_new x (Refuses refusal) = refl
+left_new x Nothing = refl
+
+given_after : (x y : model.Node) (o : Effect) (out : Out) → IsGiven x y o out → y ≡ node_after x o
+given_after x y o out came =
+    ⊎_elim (λ (moved : Moves (record { node = y; sent = out.messages.items }) ≡ o). ap (node_after x) moved)
+    (λ (none : (Nothing ≡ o) × (y ≡ x) × IsEmpty out). none.1 ∙ ap (node_after x) none.0) came
+
+module _ (tables : Tables) (n m : ℕ) (work : Work) (x : model.Node) (up : x.up ≡ true) where
+  abbrev comes : Effect
+  comes = works tables n m work x
+
+  -- what is left, where what is held is from before the step or after it
+  pub went_down : (held : Durable → Type 0) (stored : Durable) (error : StoreError) → ((d : Durable) → held d → d ≡ stored) → IsBeforeOrAfter (durable_of x) (durable_of (node_after x comes)) stored →
+      (y : model.Node) × (Rests held y × StepsTo tables n m work x y (Err (Down error)))
+  went_down held stored error only left =
+      ⊎_elim
+      (λ (old : stored ≡ durable_of x). (stopped x, ((refl, λ d h. sym (ap rested (only d h ∙ old))), (up, (Old, ap stopped (sym (left_old x comes)))))))
+      (λ (new : stored ≡ durable_of (node_after x comes)). (stopped (node_after x comes), ((refl, λ d h. sym (ap rested (only d h ∙ new))), (up, (New, ap stopped (sym (left_new x comes)))))))
+      left
+
+  module _ {K I : Type 0} {g : _} {s : _} (held : K → Durable → Type 0) (node : Node K I g s) where
+    is_up : (y : model.Node) → node.is_up ≡ true → y ≡ member_of node → IsMember held node y
+    is_up y u is = subst (λ (b : Bool). MatchBool b (y ≡ member_of node) (Rests (held node.keeper) y)) (sym u) is
+
+    is_down : (y : model.Node) → node.is_up ≡ false → Rests (held node.keeper) y → IsMember held node y
+    is_down y u is = subst (λ (b : Bool). MatchBool b (y ≡ member_of node) (Rests (held node.keeper) y)) (sym u) is
+
+    -- what a step of a node comes to
+    pub came : (stored : Durable) (result : Result Out Fault) → held node.keeper stored → ((d : Durable) → held node.keeper d → d ≡ stored) →
+        Gave x (member_of node) comes result →
+        IfOk result (λ out. out.told.items ≡ told_between (language_of tables) (member_of node).log x.commit (member_of node).commit) →
+        IfErr result (IsSame x (member_of node)) →
+        IsTorn (durable_of x) (durable_of (node_after x comes)) (held node.keeper) result →
+        OnOk result (node.is_up ≡ true) →
+        IfErr result (LeavesUp true node.is_up) →
+        (y : model.Node) × (IsMember held node y × StepsTo tables n m work x y result)
+    came stored (Ok out) holds only gave told same torn u leaves = (member_of node, (is_up (member_of node) u refl, (up, gave, told)))
+    came stored (Err (Kept refusal)) holds only gave told same torn u leaves =
+        (member_of node, (is_up (member_of node) leaves refl, (same, subst (λ (b : Bool). MatchBool b (Refuses refusal ≡ comes) (refusal ≡ NodeDown)) (sym up) gave)))
+    came stored (Err (Down error)) holds only gave told same torn u leaves =
+        let w = went_down (held node.keeper) stored error only (torn stored holds) in
+        (w.0, (is_down w.0 leaves w.1, w.2))
+
+  -- a node that was taken down after the step
+  pub lost : (held : Durable → Type 0) (error : StoreError) (y : model.Node) (result : Result Out Fault) → StepsTo tables n m work x y result → ((d : Durable) → held d → d ≡ durable_of y) → 
+      Rests held (stopped y) × StepsTo tables n m work x (stopped y) (Err (Down error))
+  lost held error y (Ok out) steps only = ((refl, λ d h. sym (ap rested (only d h))), (up, (New, ap stopped (given_after x y comes out steps.1 ∙ sym (left_new x comes)))))
+  lost held error y (Err (Kept refusal)) steps only = ((refl, λ d h. sym (ap rested (only d h))), (up, (Old, ap stopped (steps.0 ∙ sym (left_old x comes)))))
+  lost held error y (Err (Down other)) steps only = ((refl, λ d h. sym (ap rested (only d h))), (up, (steps.1.0, ap stopped steps.1.1)))
