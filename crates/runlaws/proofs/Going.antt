@@ -177,3 +177,23 @@ module _ (language : Language) (n : ℕ) (w : World) (m : ℕ) (x : Node) (at : 
   pub start : (y : Node) → MayStart x y → Goes language n w (with_node w m y [])
   start y may = ⊎_elim (λ same. stays y same) (λ (down, is). goes_by language n w (with_node w m y []) (Start m) []
       (ap (λ z. with_node w m z []) is ∙ sym (ap (λ b. cond b w (with_node w m (started x) [])) down) ∙ sym (ap (starts w m) at)) refl) may
+
+-- ---- a run that went on goes on, where language and number are said in other words
+
+pub record Both (language : Language) (n : ℕ) (w u : World) (gave more : List (List Output)) : Type 0 where
+  pub goes : Goes language n w u
+  pub gave_is : goes.gave ≡ gave ++ more
+
+pub goes_both : (language other : Language) (n k : ℕ) (w v u : World) → other ≡ language → k ≡ n → (a : Goes language n w v) (b : Goes other k v u) → Both language n w u a.gave b.gave
+goes_both language other n k w v u p q a b =
+    let more : GivesAll language n v b.events b.gave = subst (λ j. GivesAll language j v b.events b.gave) q (subst (λ l. GivesAll l k v b.events b.gave) p b.gives) in
+    let there : u ≡ run language n v b.events = b.leads ∙ ap (λ l. run l k v b.events) p ∙ ap (λ j. run language j v b.events) q in
+    record {
+      goes = record {
+        events = a.events ++ b.events;
+        gave = a.gave ++ b.gave;
+        leads = there ∙ ap (λ z. run language n z b.events) a.leads ∙ sym (run_append language n a.events b.events w);
+        gives = gives_append language n a.events b.events w a.gave b.gave a.gives (subst (λ z. GivesAll language n z b.events b.gave) a.leads more);
+      };
+      gave_is = refl;
+    }

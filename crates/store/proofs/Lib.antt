@@ -1,3 +1,4 @@
+pub mod Going
 pub mod Heard
 pub mod Links
 pub mod Ranges

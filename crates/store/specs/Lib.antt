@@ -2,6 +2,7 @@ pub mod Announcing
 pub mod Applied
 pub mod Asking
 pub mod Chains
+pub mod Going
 pub mod Journals
 pub mod Nodes
 pub mod Pasts
