@@ -47,15 +47,20 @@ hears_nothing old new gave same =
 
 pub hears_both : (old mid new : Option Watched) (one two gave : List (List Output)) → gave ≡ one ++ two → Hears old mid one → Hears mid new two → Hears old new gave
 hears_both old mid new one two gave is a b =
-    (b.0 ∙ a.0, some_weaker (outcome_of new) _ _ (λ o e h. ⊎_elim
+    let Told : Option (ℕ × ℕ) → List (List Output) → Result ℕ Reason → Type 0 = λ q outs o. MatchOption q ⊥ (λ (r : ℕ × ℕ). WasTold outs r.0 r.1 o) in
+    let First : Result ℕ Reason → Type 0 = λ o. (outcome_of old ≡ Some o) ⊎ Told (request_of mid) one o in
+    let Then : Result ℕ Reason → Type 0 = λ o. (outcome_of mid ≡ Some o) ⊎ Told (request_of new) two o in
+    let Both : Result ℕ Reason → Type 0 = λ o. (outcome_of old ≡ Some o) ⊎ Told (request_of new) gave o in
+    let further : (q : Option (ℕ × ℕ)) (outs : List (List Output)) (o : Result ℕ Reason) → ((r : ℕ × ℕ) → WasTold outs r.0 r.1 o → WasTold (one ++ two) r.0 r.1 o) → Told q outs o → Told q gave o =
+        λ q outs o f t. match_weaker q (λ r. WasTold outs r.0 r.1 o) (λ r. WasTold gave r.0 r.1 o) (λ r k. subst (λ (x : List (List Output)). WasTold x r.0 r.1 o) (sym is) (f r k)) t in
+    (b.0 ∙ a.0, some_weaker (outcome_of new) Then Both (λ o e h. ⊎_elim
         (λ (was : outcome_of mid ≡ Some o). ⊎_elim
-          (λ (early : outcome_of old ≡ Some o). inl early)
-          (λ told. inr (match_weaker (request_of new) (λ r. WasTold one r.0 r.1 o) (λ r. WasTold gave r.0 r.1 o)
-              (λ r t. subst (λ (x : List (List Output)). WasTold x r.0 r.1 o) (sym is) (told_before one two r.0 r.1 o t))
-              (subst (λ (q : Option (ℕ × ℕ)). MatchOption q ⊥ (λ r. WasTold one r.0 r.1 o)) (sym b.0) told)))
-          (some_at (outcome_of mid) _ o was a.1))
-        (λ told. inr (match_weaker (request_of new) (λ r. WasTold two r.0 r.1 o) (λ r. WasTold gave r.0 r.1 o)
-            (λ r t. subst (λ (x : List (List Output)). WasTold x r.0 r.1 o) (sym is) (told_then one two r.0 r.1 o t)) told))
+          (λ (early : outcome_of old ≡ Some o). let r : Both o = inl early in r)
+          (λ (told : Told (request_of mid) one o).
+            let moved : Told (request_of new) one o = subst (λ (q : Option (ℕ × ℕ)). Told q one o) (sym b.0) told in
+            let r : Both o = inr (further (request_of new) one o (λ r k. told_before one two r.0 r.1 o k) moved) in r)
+          (some_at (outcome_of mid) First o was a.1))
+        (λ (told : Told (request_of new) two o). let r : Both o = inr (further (request_of new) two o (λ r k. told_then one two r.0 r.1 o k) told) in r)
         h) b.1)
 
 -- ---- one seat

@@ -50,11 +50,11 @@ module _ (tables : Tables) (n m : ℕ) (work : Work) (x : model.Node) (up : x.up
       left
 
   module _ {K I : Type 0} {g : _} {s : _} (held : K → Durable → Type 0) (node : Node K I g s) where
-    is_up : (y : model.Node) → node.is_up ≡ true → y ≡ member_of node → IsMember held node y
-    is_up y u is = subst (λ (b : Bool). MatchBool b (y ≡ member_of node) (Rests (held node.keeper) y)) (sym u) is
+    seen_up : (y : model.Node) → node.is_up ≡ true → y ≡ member_of node → IsMember held node y
+    seen_up y u is = subst (λ (b : Bool). MatchBool b (y ≡ member_of node) (Rests (held node.keeper) y)) (sym u) is
 
-    is_down : (y : model.Node) → node.is_up ≡ false → Rests (held node.keeper) y → IsMember held node y
-    is_down y u is = subst (λ (b : Bool). MatchBool b (y ≡ member_of node) (Rests (held node.keeper) y)) (sym u) is
+    seen_down : (y : model.Node) → node.is_up ≡ false → Rests (held node.keeper) y → IsMember held node y
+    seen_down y u is = subst (λ (b : Bool). MatchBool b (y ≡ member_of node) (Rests (held node.keeper) y)) (sym u) is
 
     -- what a step of a node comes to
     pub came : (stored : Durable) (result : Result Out Fault) → held node.keeper stored → ((d : Durable) → held node.keeper d → d ≡ stored) →
@@ -65,12 +65,12 @@ module _ (tables : Tables) (n m : ℕ) (work : Work) (x : model.Node) (up : x.up
         OnOk result (node.is_up ≡ true) →
         IfErr result (LeavesUp true node.is_up) →
         (y : model.Node) × (IsMember held node y × StepsTo tables n m work x y result)
-    came stored (Ok out) holds only gave told same torn u leaves = (member_of node, (is_up (member_of node) u refl, (up, gave, told)))
+    came stored (Ok out) holds only gave told same torn u leaves = (member_of node, (seen_up (member_of node) u refl, (up, gave, told)))
     came stored (Err (Kept refusal)) holds only gave told same torn u leaves =
-        (member_of node, (is_up (member_of node) leaves refl, (same, subst (λ (b : Bool). MatchBool b (Refuses refusal ≡ comes) (refusal ≡ NodeDown)) (sym up) gave)))
+        (member_of node, (seen_up (member_of node) leaves refl, (same, subst (λ (b : Bool). MatchBool b (Refuses refusal ≡ comes) (refusal ≡ NodeDown)) (sym up) gave)))
     came stored (Err (Down error)) holds only gave told same torn u leaves =
         let w = went_down (held node.keeper) stored error only (torn stored holds) in
-        (w.0, (is_down w.0 leaves w.1, w.2))
+        (w.0, (seen_down w.0 leaves w.1.0, w.1.1))
 
   -- a node that was taken down after the step
   pub lost : (held : Durable → Type 0) (error : StoreError) (y : model.Node) (result : Result Out Fault) → StepsTo tables n m work x y result → ((d : Durable) → held d → d ≡ durable_of y) → 
