@@ -56,19 +56,20 @@ module _ (tables : Tables) (n m : ℕ) (work : Work) (x : model.Node) (up : x.up
     seen_down : (y : model.Node) → node.is_up ≡ false → Rests (held node.keeper) y → IsMember held node y
     seen_down y u is = subst (λ (b : Bool). MatchBool b (y ≡ member_of node) (Rests (held node.keeper) y)) (sym u) is
 
-    -- what a step of a node comes to
-    pub came : (stored : Durable) (result : Result Out Fault) → held node.keeper stored → ((d : Durable) → held node.keeper d → d ≡ stored) →
-        Gave x (member_of node) comes result →
-        IfOk result (λ out. out.told.items ≡ told_between (language_of tables) (member_of node).log x.commit (member_of node).commit) →
-        IfErr result (IsSame x (member_of node)) →
+    -- What a step of a node comes to, by what its clauses say where its keeper is honest (H). It was up before.
+    pub came : (H : Type 0) (h : H) (was : Bool) (u : was ≡ true) (stored : Durable) (result : Result Out Fault) → held node.keeper stored →
+        (was ≡ true → H → Gave x (member_of node) comes result) →
+        IfOk result (λ out. H → out.told.items ≡ told_between (language_of tables) (member_of node).log x.commit (member_of node).commit) →
+        IfErr result (λ fault. H → IsSame x (member_of node) fault) →
         IsTorn (durable_of x) (durable_of (node_after x comes)) (held node.keeper) result →
-        OnOk result (node.is_up ≡ true) →
-        IfErr result (LeavesUp true node.is_up) →
+        OnOk result ((was ≡ true) × (node.is_up ≡ true)) →
+        IfErr result (LeavesUp was node.is_up) →
+        ((d : Durable) → held node.keeper d → d ≡ stored) →
         (y : model.Node) × (IsMember held node y × StepsTo tables n m work x y result)
-    came stored (Ok out) holds only gave told same torn u leaves = (member_of node, (seen_up (member_of node) u refl, (up, gave, told)))
-    came stored (Err (Kept refusal)) holds only gave told same torn u leaves =
-        (member_of node, (seen_up (member_of node) leaves refl, (same, subst (λ (b : Bool). MatchBool b (Refuses refusal ≡ comes) (refusal ≡ NodeDown)) (sym up) gave)))
-    came stored (Err (Down error)) holds only gave told same torn u leaves =
+    came H h was u stored (Ok out) holds gave told same torn ups leaves only = (member_of node, (seen_up (member_of node) ups.1 refl, (up, gave u h, told h)))
+    came H h was u stored (Err (Kept refusal)) holds gave told same torn ups leaves only =
+        (member_of node, (seen_up (member_of node) (leaves ∙ u) refl, (same h, subst (λ (b : Bool). MatchBool b (Refuses refusal ≡ comes) (refusal ≡ NodeDown)) (sym up) (gave u h))))
+    came H h was u stored (Err (Down error)) holds gave told same torn ups leaves only =
         let w = went_down (held node.keeper) stored error only (torn stored holds) in
         (w.0, (seen_down w.0 leaves w.1.0, w.1.1))
 
@@ -118,3 +119,12 @@ refuses_down tables n m work x down = (refl, subst (λ (b : Bool). MatchBool b (
 -- a member that is started with what its database holds
 pub may_start : (x y : model.Node) (stored : Durable) → x ≡ rested stored → y ≡ started_from stored → MayStart x y
 may_start x y stored was is = inr (ap (λ (z : model.Node). z.up) was, is ∙ sym (ap started was))
+
+-- a node whose keeper was lent something, or gave it back
+pub given_back : {K I : Type 0} {g : _} {s : _} (held : K → Durable → Type 0) (old new : Node K I g s) (y : model.Node) → member_of new ≡ member_of old → new.is_up ≡ old.is_up → ((d : Durable) → held new.keeper d → held old.keeper d) → IsMember held old y → IsMember held new y
+given_back held old new y same up less is =
+    subst (λ (b : Bool). MatchBool b (y ≡ member_of new) (Rests (held new.keeper) y)) (sym up) (go old.is_up is)
+  where
+    go : (b : Bool) → MatchBool b (y ≡ member_of old) (Rests (held old.keeper) y) → MatchBool b (y ≡ member_of new) (Rests (held new.keeper) y)
+    go true e = e ∙ sym same
+    go false rests = (rests.0, λ d h. rests.1 d (less d h))
