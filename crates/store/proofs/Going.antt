@@ -125,8 +125,8 @@ module _ {K J I : Type 0} {g : _} {s : _} {d : _} (honest : K → Type 0) (held 
     abbrev Has : ℕ → Seat K J I g s d → model.Node → Type 0
     Has m seat x = HasMember held holds old.schema (length old.seats.items) m seat x
 
-    count : length new.seats.items ≡ length old.seats.items
-    count = ap length (C.seats ∙ set_next old.seats.items (at + 1) at after refl) ∙ with_length old.seats.items (at + 1) after
+    same_count : length new.seats.items ≡ length old.seats.items
+    same_count = ap length (C.seats ∙ set_next old.seats.items (at + 1) at after refl) ∙ with_length old.seats.items (at + 1) after
 
     tidy : AreClean honest holds new → IsClean honest holds after
     tidy k = all_at (IsClean honest holds) old.seats.items at before after C.there (subst (All (IsClean honest holds)) C.seats k)
@@ -147,7 +147,7 @@ module _ {K J I : Type 0} {g : _} {s : _} {d : _} (honest : K → Type 0) (held 
         let named : AreSeated (λ m seat x. HasMember held holds new.schema (length old.seats.items) m seat x) new.seats.items nodes =
         subst (λ (t : Tables). AreSeated (λ m seat x. HasMember held holds t (length old.seats.items) m seat x) new.seats.items nodes) (sym C.schema) there in
         record {
-          seated = subst (λ (n : ℕ). AreSeated (λ m seat x. HasMember held holds new.schema n m seat x) new.seats.items nodes) (sym count) named;
+          seated = subst (λ (n : ℕ). AreSeated (λ m seat x. HasMember held holds new.schema n m seat x) new.seats.items nodes) (sym same_count) named;
           under_way = λ live.
               let u = i.under_way (λ was. live (C.spent was)) in
               subst (λ (c : ℕ). AreUnderWay new.queue.items c w.sent) (sym C.sent) (subst (λ (l : List Letter). AreUnderWay l old.sent w.sent) (sym C.queue) u);
@@ -158,7 +158,7 @@ module _ {K J I : Type 0} {g : _} {s : _} {d : _} (honest : K → Type 0) (held 
           (y : model.Node) × (Has (at + 1) after y × ((w : World) → nth w.nodes (at + 1) ≡ Some x → Goes (language_of old.schema) (length old.seats.items) w (with_node w (at + 1) y [])))) → On old new
     one_seat turn = record {
       schema = C.schema;
-      count = count;
+      count = same_count;
       clean = was_tidy;
       went = λ k w i.
           let sits = seated Has old.seats.items w.nodes i.seated (at + 1) before is_there in
