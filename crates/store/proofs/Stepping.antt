@@ -1,5 +1,5 @@
 -- What came of a step of a node, and of a keeper that lost the voice.
-use Rattle.std.proofs.Common.{◌≡◌, ◌∙◌, ℕ, Bool, true, false, Result, Ok, Err, IfOk, IfErr, OnOk, MatchBool, refl, sym, ap, subst, ⊎_elim, inl, inr, if◌then◌else◌}
+use Rattle.std.proofs.Common.{◌≡◌, ◌∙◌, ℕ, Bool, true, false, Option, Some, None, MatchOption, Result, Ok, Err, IfOk, IfErr, OnOk, MatchBool, refl, sym, ap, subst, ⊎_elim, inl, inr, if◌then◌else◌}
 use Rattle.model.specs.Members as model
 use Rattle.model.specs.Kept.{node_after}
 use Rattle.model.specs.Steps.{Effect, Moves, Refuses, Nothing}
@@ -50,10 +50,10 @@ module _ (tables : Tables) (n m : ℕ) (work : Work) (x : model.Node) (up : x.up
       left
 
   module _ {K I : Type 0} {g : _} {s : _} (held : K → Durable → Type 0) (node : Node K I g s) where
-    seen_up : (y : model.Node) → node.is_up ≡ true → y ≡ member_of node → IsMember held node y
+    pub seen_up : (y : model.Node) → node.is_up ≡ true → y ≡ member_of node → IsMember held node y
     seen_up y u is = subst (λ (b : Bool). MatchBool b (y ≡ member_of node) (Rests (held node.keeper) y)) (sym u) is
 
-    seen_down : (y : model.Node) → node.is_up ≡ false → Rests (held node.keeper) y → IsMember held node y
+    pub seen_down : (y : model.Node) → node.is_up ≡ false → Rests (held node.keeper) y → IsMember held node y
     seen_down y u is = subst (λ (b : Bool). MatchBool b (y ≡ member_of node) (Rests (held node.keeper) y)) (sym u) is
 
     -- What a step of a node comes to, by what its clauses say where its keeper is honest (H). It was up before.
@@ -128,3 +128,25 @@ given_back held old new y same up less is =
     go : (b : Bool) → MatchBool b (y ≡ member_of old) (Rests (held old.keeper) y) → MatchBool b (y ≡ member_of new) (Rests (held new.keeper) y)
     go true e = e ∙ sym same
     go false rests = (rests.0, λ d h. rests.1 d (less d h))
+
+-- what a keeper holds of a node is what its member has stored
+pub what_stays : {K I : Type 0} {g : _} {s : _} (held : K → Durable → Type 0) (node : Node K I g s) (y : model.Node) (d : Durable) → IsMember held node y → held node.keeper d → (node.is_up ≡ true → d ≡ durable_of (member_of node)) → d ≡ durable_of y
+what_stays held node y d is holds ups = go node.is_up refl is
+  where
+    go : (b : Bool) → node.is_up ≡ b → MatchBool b (y ≡ member_of node) (Rests (held node.keeper) y) → d ≡ durable_of y
+    go true u e = ups u ∙ sym (ap durable_of e)
+    go false u rests = sym (ap durable_of (rests.1 d holds))
+
+-- the database of a seat without a node
+pub at_rest_there : {N I : Type 0} (o : Option N) (i : Option I) (image : I) (P : N → Type 0) (R : I → Type 0) (Q : Type 0) → o ≡ None → i ≡ Some image → MatchOption o (MatchOption i Q R) P → R image
+at_rest_there {N} {I} o i image P R Q none some there =
+    let a : MatchOption i Q R = subst (λ (x : Option N). MatchOption x (MatchOption i Q R) P) none there in
+    subst (λ (x : Option I). MatchOption x Q R) some a
+
+-- a node that was started with what its database holds
+pub started_there : {K I : Type 0} {g : _} {s : _} (held : K → Durable → Type 0) (holds : Durable → Type 0) (tables : Tables) (n m : ℕ) (node : Node K I g s) (x : model.Node) → Rests holds x → holds (durable_of (member_of node)) → member_of node ≡ started_from (durable_of (member_of node)) → node.is_up ≡ true →
+    tables_of node ≡ tables → members_of node ≡ n → me_of node ≡ m → (y : model.Node) × (IsNodeOf held tables n m node y × MayStart x y)
+started_there held holds tables n m node x rests found opened up a b c =
+    (member_of node, (
+      record { tables_are = a; members_are = b; me_is = c; is = subst (λ (z : Bool). MatchBool z (member_of node ≡ member_of node) (Rests (held node.keeper) (member_of node))) (sym up) refl },
+      may_start x (member_of node) (durable_of (member_of node)) (rests.1 (durable_of (member_of node)) found) opened))
