@@ -1,6 +1,7 @@
 -- What came of a step of a node, and of a keeper that lost the voice.
-use Rattle.std.proofs.Common.{◌≡◌, ◌∙◌, ℕ, Bool, true, false, Option, Some, None, MatchOption, Result, Ok, Err, IfOk, IfErr, OnOk, MatchBool, refl, sym, ap, subst, ⊎_elim, inl, inr, if◌then◌else◌}
+use Rattle.std.proofs.Common.{◌≡◌, ◌∙◌, ℕ, Bool, true, false, Option, Some, None, List, ◌++◌, take, MatchOption, Result, Ok, Err, IfOk, IfErr, OnOk, MatchBool, refl, sym, ap, subst, ⊎_elim, inl, inr, if◌then◌else◌}
 use Rattle.model.specs.Members as model
+use Rattle.model.specs.declared.entry.Entry.{Entry}
 use Rattle.model.specs.Kept.{node_after}
 use Rattle.model.specs.Steps.{Effect, Moves, Refuses, Nothing}
 use Rattle.model.specs.Worlds.{node_left, started, stopped}
@@ -120,14 +121,17 @@ refuses_down tables n m work x down = (refl, subst (λ (b : Bool). MatchBool b (
 pub may_start : (x y : model.Node) (stored : Durable) → x ≡ rested stored → y ≡ started_from stored → MayStart x y
 may_start x y stored was is = inr (ap (λ (z : model.Node). z.up) was, is ∙ sym (ap started was))
 
--- a node whose keeper was lent something, or gave it back
-pub given_back : {K I : Type 0} {g : _} {s : _} (held : K → Durable → Type 0) (old new : Node K I g s) (y : model.Node) → member_of new ≡ member_of old → new.is_up ≡ old.is_up → ((d : Durable) → held new.keeper d → held old.keeper d) → IsMember held old y → IsMember held new y
-given_back held old new y same up less is =
-    subst (λ (b : Bool). MatchBool b (y ≡ member_of new) (Rests (held new.keeper) y)) (sym up) (go old.is_up is)
+-- a node whose keeper gave something back: what it holds is no more
+pub given_back : {K I : Type 0} {g : _} {s : _} (held : K → Durable → Type 0) (node : Node K I g s) (holds : Durable → Type 0) (other y : model.Node) → other ≡ member_of node → ((d : Durable) → holds d → held node.keeper d) → IsMember held node y → MatchBool node.is_up (y ≡ other) (Rests holds y)
+given_back held node holds other y same less is = go node.is_up is
   where
-    go : (b : Bool) → MatchBool b (y ≡ member_of old) (Rests (held old.keeper) y) → MatchBool b (y ≡ member_of new) (Rests (held new.keeper) y)
+    go : (b : Bool) → MatchBool b (y ≡ member_of node) (Rests (held node.keeper) y) → MatchBool b (y ≡ other) (Rests holds y)
     go true e = e ∙ sym same
     go false rests = (rests.0, λ d h. rests.1 d (less d h))
+
+-- the member that a node is, where its keeper has these entries
+abbrev pub member_with : {K I : Type 0} {g : _} {s : _} → Node K I g s → List Entry → model.Node
+member_with node stored = record (member_of node) { log = take node.core.log.elsewhere stored ++ node.core.log.tail.items }
 
 -- what a keeper holds of a node is what its member has stored
 pub what_stays : {K I : Type 0} {g : _} {s : _} (held : K → Durable → Type 0) (node : Node K I g s) (y : model.Node) (d : Durable) → IsMember held node y → held node.keeper d → (node.is_up ≡ true → d ≡ durable_of (member_of node)) → d ≡ durable_of y
