@@ -2,16 +2,16 @@
 import collections
 import re
 
+import groups
 import language
 import scripts
 import tables as tabled
 from language import Refused
-from scripts import second_group
 
 BAD, YES = "50 bad flight file", "audit: yes"
 NUMBER = re.compile("0|[1-9][0-9]*")
-MOST_MARK, LAST = 2**63 - 1, second_group.LAST
-Entry, Message = second_group.Entry, second_group.Message
+MOST_MARK, LAST = 2**63 - 1, groups.LAST
+Entry, Message = groups.Entry, groups.Message
 Life = collections.namedtuple("Life", "mark stored steps ending")
 # A step: the input or the message that it takes, with its sender and that one's mark; what it told, or none in version 1.
 Step = collections.namedtuple("Step", "mark reading kind request source message told")

@@ -1,10 +1,10 @@
 """Schemas, requests, questions and scripts that chance draws, and changes of texts."""
-
+import groups
 import language
 import scripts
 import tables as tabled
-LAST = scripts.second_group.LAST
 
+LAST = groups.LAST
 # Days that follow each other over a leap day, the ends of the calendar, and some between.
 DAYS = ["2024-02-27", "2024-02-28", "2024-02-29", "2024-03-01", "2024-03-02", "2024-03-03", "0001-01-01", "0001-01-02", "1969-12-31",
         "1970-01-01", "2000-02-29", "2100-02-28", "9999-12-29", "9999-12-30", "9999-12-31"]

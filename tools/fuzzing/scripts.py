@@ -1,19 +1,11 @@
-"""What a script prints: the group of tools/second_group with tables, and the lines of docs/FORMATS.md ("Script")."""
+"""What a script prints: a group with tables, and the lines of docs/FORMATS.md ("Script")."""
 import re
 
-from importlib.machinery import SourceFileLoader
-from importlib.util import module_from_spec, spec_from_loader
-from pathlib import Path
-
+import groups
 import language
 import tables as tabled
 from language import Refused
 from tables import instant
-
-PATH = Path(__file__).resolve().parent.parent / "second_group"
-LOADER = SourceFileLoader("second_group", str(PATH))
-second_group = module_from_spec(spec_from_loader("second_group", LOADER))
-LOADER.exec_module(second_group)
 
 NUMBER = "(0|[1-9][0-9]*)"
 SIGNED = "(0|-?[1-9][0-9]*)"
@@ -27,7 +19,7 @@ FORMS = [re.compile(form, re.S) for form in (
 )]
 
 
-class Node(second_group.Node):
+class Node(groups.Node):
     def __init__(self, number, count, make_tables):
         self.make_tables = make_tables
         super().__init__(number, count)
@@ -40,7 +32,7 @@ class Node(second_group.Node):
         return self.term, self.vote, self.floor, list(self.log)
 
 
-class Group(second_group.Group):
+class Group(groups.Group):
     """A group over these tables. A request is a client, a number and a text."""
 
     def __init__(self, count, schema, axis):
@@ -72,7 +64,7 @@ class Group(second_group.Group):
         if number == node.executed[client] + 1:
             node.executed[client] = number
             node.outcomes[client, number] = node.tables.run(self.transaction(text), entry.stamp)
-        if number <= node.executed[client] - second_group.KEPT:
+        if number <= node.executed[client] - groups.KEPT:
             return "refused 30 old request"
         return node.outcomes[client, number]
 

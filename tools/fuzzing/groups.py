@@ -1,44 +1,15 @@
-#!/usr/bin/env python3
-"""Plays scripts that chance writes, and compares each line with what a second group says, which is written here.
+"""A group of members and the messages between them: the tables of docs/FORMATS.md ("Script", "What a node does", "Requests"), and no code.
 
-usage: tools/second_group [SCRIPTS [SEED [PROGRAM]]]      at the top of the repository; 60 scripts, from seed 1 on
-
-The group of this file follows the tables of docs/FORMATS.md ("Script", "What a node does", "Requests") and no code. It has members
-with logs, votes, floors and seals, and clients whose requests all read `DELETE FROM T;`, so that an outcome is an instant, 30 or 31.
-A script has three to seven members; most of its lines go to a member that leads, or deliver one of the last messages, some an old
-one or one again; members stop, start and have steps cut short, and clocks show anything. What `sim` prints has to be the same to
-the last line. It prints how many lines were compared, and the first that differs of each script that has one, with the seed that
-writes it; the status is then 1.
+What a request or a question comes to says a group over this one (`scripts`).
 """
 import collections
-import copy
-import datetime
-import os
-import random
-import subprocess
-import sys
-import tempfile
 
-PATIENCE = 60
-STEPS = 250
 LAST = 253402214399999999
 SENT_AT_ONCE = 64
 KEPT = 8
-TEXT = "DELETE FROM T;"
-QUESTION = "SELECT * FROM T;"
-HEAD = """schema
-CREATE TABLE T (K INTEGER, A DATE, B DATE,
- S TIMESTAMP(6) GENERATED ALWAYS AS ROW START, E TIMESTAMP(6) GENERATED ALWAYS AS ROW END,
- PERIOD FOR P (A, B), PERIOD FOR SYSTEM_TIME (S, E), PRIMARY KEY (K, P WITHOUT OVERLAPS)) WITH SYSTEM VERSIONING;
-end
-"""
 Entry = collections.namedtuple("Entry", "term stamp request")
 Message = collections.namedtuple("Message", "sender to term kind body")
 Seal = collections.namedtuple("Seal", "term index floor")
-
-
-def instant(stamp):
-    return (datetime.datetime(1970, 1, 1) + datetime.timedelta(microseconds=stamp)).strftime("%Y-%m-%d %H:%M:%S.%f")
 
 
 def shown(value):
@@ -134,17 +105,6 @@ class Group:
         if node.waiting and self.is_settled(node, node.waiting):
             node.sealed, node.waiting = greatest(node.sealed, node.waiting.floor), None
         return told
-
-    def outcome(self, node, entry):
-        client, number = entry.request
-        if number > node.executed[client] + 1:
-            return "refused 31 gap in requests"
-        if number == node.executed[client] + 1:
-            node.executed[client] = number
-            node.outcomes[entry.request] = f"accepted {instant(entry.stamp)}"
-        if number <= node.executed[client] - KEPT:
-            return "refused 30 old request"
-        return node.outcomes[entry.request]
 
     # Inputs.
 
@@ -297,157 +257,3 @@ class Group:
         if not self.nodes[number].is_up:
             self.nodes[number].is_up = True
             self.nodes[number].forget()
-
-    def torn(self, number, kind, is_stored):
-        """A step with an input is cut short, before its save or after it."""
-        before, sent, printed = copy.deepcopy(self.nodes[number]), len(self.messages), len(self.printed)
-        self.input(number, kind)
-        del self.messages[sent:], self.printed[printed:]
-        if not is_stored:
-            self.nodes[number] = before
-        self.stop(number)
-
-    def ask(self, number):
-        node = self.nodes[number]
-        if not node.is_up:
-            self.refuse(number, "41 node down")
-        elif node.closed() is None:
-            self.refuse(number, "33 not closed, nothing closed")
-        else:
-            self.printed += [f"node {number} answer", f"last {instant(node.closed())}", "columns K,A,B,S,E", "rows 0"]
-
-
-class Script:
-    """Lines that chance writes, each of which the group plays as it is written."""
-
-    def __init__(self, seed):
-        self.chance = random.Random(seed)
-        self.group = Group(self.chance.choice([3, 3, 4, 5, 7]))
-        self.lines = []
-        has_floors = self.chance.random() < 0.6
-        kinds = {
-            self.timeout: 5, self.beat: 8, self.close: 4, self.floor: 8 * has_floors, self.submit: 26, self.deliver: 28, self.lose: 2,
-            self.lose_all: 1, self.stop: 2, self.torn: 1, self.start: 8, self.settle: 16, self.clock: 3, self.ask: 4,
-        }
-        for kind in self.chance.choices(list(kinds), kinds.values(), k=STEPS):
-            kind()
-
-    def text(self):
-        return f"members {len(self.group.nodes)}\n{HEAD}" + "".join(f"{line}\n" for line in self.lines)
-
-    def any(self):
-        return self.chance.choice(list(self.group.nodes))
-
-    def leader(self):
-        leaders = [it.number for it in self.group.nodes.values() if it.is_up and it.role == "leader"]
-        return self.chance.choice(leaders) if leaders and self.chance.random() < 0.7 else self.any()
-
-    def message(self):
-        """One of the last twelve messages, or of all, counted from 1."""
-        sent = len(self.group.messages)
-        return self.chance.randint(1 if self.chance.random() < 0.25 else max(1, sent - 11), sent)
-
-    def input(self, kind, number):
-        self.lines.append(f"{kind} {number}")
-        self.group.input(number, kind)
-
-    def timeout(self):
-        self.input("timeout", self.any())
-
-    def beat(self):
-        self.input("beat", self.leader())
-
-    def close(self):
-        self.input("close", self.leader())
-
-    def floor(self):
-        self.input("floor", self.leader())
-
-    def submit(self):
-        """Mostly the next number of a client, or the one after it, else one again, an old one or one too far."""
-        number, client = self.leader(), self.chance.choice([1, 1, 1, 2])
-        executed = max(it.executed[client] for it in self.group.nodes.values())
-        request = max(1, executed + self.chance.choice([1, 1, 1, 1, 2, 2, 3, 0, -7, -8]))
-        self.lines.append(f"submit {number} {client} {request} {TEXT}")
-        self.group.input(number, "submit", (client, request))
-
-    def deliver(self):
-        if self.group.messages:
-            number = self.message()
-            self.lines.append(f"deliver {number}")
-            self.group.deliver(number)
-
-    def lose(self):
-        if self.group.messages:
-            number = self.message()
-            self.lines.append(f"lose {number}")
-            self.group.passed.add(number)
-
-    def lose_all(self):
-        self.lines.append("lose all")
-        self.group.passed.update(range(1, len(self.group.messages) + 1))
-
-    def stop(self):
-        number = self.any()
-        self.lines.append(f"stop {number}")
-        self.group.stop(number)
-
-    def start(self):
-        number = self.any()
-        self.lines.append(f"start {number}")
-        self.group.start(number)
-
-    def torn(self):
-        number, kind, when = self.any(), self.chance.choice(["timeout", "beat", "close", "floor"]), self.chance.choice(["old", "new"])
-        if self.group.nodes[number].is_up:
-            self.lines.append(f"torn {number} {when} {kind}")
-            self.group.torn(number, kind, when == "new")
-
-    def settle(self):
-        rounds = self.chance.choice([1, 1, 1, 5, 100])
-        self.lines.append(f"settle {rounds}")
-        self.group.settle(rounds)
-
-    def clock(self):
-        number, reading = self.any(), self.chance.choice([self.chance.randint(0, 60), self.chance.randint(0, 60), -5, LAST + 1])
-        self.lines.append(f"clock {number} {reading}")
-        self.group.clocks[number] = reading
-
-    def ask(self):
-        number = self.any()
-        self.lines.append(f"ask {number} {QUESTION}")
-        self.group.ask(number)
-
-
-def first_difference(program, script):
-    """Where what is printed is not what the group of this file says, or nothing."""
-    with tempfile.NamedTemporaryFile("w", suffix=".script") as file:
-        file.write(script.text())
-        file.flush()
-        ended = subprocess.run([program, "sim", file.name], capture_output=True, text=True, timeout=PATIENCE)
-    printed = ended.stdout.splitlines() + ended.stderr.splitlines()
-    wanted = script.group.printed
-    for number, (one, other) in enumerate(zip([*printed, None], [*wanted, None]), 1):
-        if one != other:
-            return f"line {number} is {one!r}, and not {other!r}"
-    return None if ended.returncode == 0 else f"status {ended.returncode}"
-
-
-def main():
-    os.chdir(os.path.dirname(os.path.dirname(os.path.abspath(__file__))))
-    words = [*sys.argv[1:], *["60", "1", "crates/bitable/out/bitable"][len(sys.argv) - 1:]]
-    count, seed, program = int(words[0]), int(words[1]), words[2]
-    lines = wrong = 0
-    for at in range(seed, seed + count):
-        script = Script(at)
-        lines += len(script.group.printed)
-        differs = first_difference(program, script)
-        if differs:
-            wrong += 1
-            print(f"seed {at}: {differs}")
-    print(f"{count - wrong} of {count} scripts, {lines} lines")
-    sys.exit(1 if wrong else 0)
-
-
-if __name__ == "__main__":
-    main()
