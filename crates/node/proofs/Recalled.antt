@@ -55,11 +55,15 @@ range_first log n = let e : n - 0 ≡ n = omega arith in rw e refl
 range_after : (xs es : List Entry) (before : ℕ) → before ≡ length xs → es ≡ slice_range (xs ++ es) before (before + length es)
 range_after xs es before is =
     let n : (length xs + length es) - length xs ≡ length es = omega arith in
-    rw is (rw n (rw drop-append_seam xs es (sym (take_all (length es) es (omega arith)))))
+    rw is (rw n (rw (drop-append_seam xs es) (sym (take_all (length es) es (omega arith)))))
+
+pub all_none : {A : Type 0} (xs : List A) → length xs ≡ 0 → xs ≡ []
+all_none [] none = refl
+all_none (x ∷ xs) none = absurd (omega (arith, none))
 
 -- ---- what is told of a beginning
 
-told_by : Language → ℕ → List Entry → Option Entry → Option Told
+abbrev told_by : Language → ℕ → List Entry → Option Entry → Option Told
 told_by language i earlier o = option_and_then (λ (e : Entry). option_map (λ r. record { index = i; client = r.client; number = r.number; outcome = outcome language e.stamp r earlier }) e.request) o
 
 told_first_at : (language : Language) (xs ys : List Entry) (i : ℕ) → i < length xs → told_at language (xs ++ ys) (i + 1) ≡ told_at language xs (i + 1)
@@ -75,8 +79,8 @@ told_first_to language xs ys zero h = told_none language (xs ++ ys) 0 0 (omega a
 told_first_to language xs ys (suc n) h =
     let next : n + 1 ≡ suc n = omega arith in
     let step : told_between language (xs ++ ys) 0 (n + 1) ≡ told_between language xs 0 (n + 1) =
-      between language (xs ++ ys) 0 n (omega arith) ∙ ap (λ ts. ts ++ cons_option (told_at language (xs ++ ys) (n + 1)) []) (told_first_to language xs ys n (omega (arith, h)))
-      ∙ ap (λ o. told_between language xs 0 n ++ cons_option o []) (told_first_at language xs ys n (omega (arith, h))) ∙ sym (between language xs 0 n (omega arith)) in
+    between language (xs ++ ys) 0 n (omega arith) ∙ ap (λ ts. ts ++ cons_option (told_at language (xs ++ ys) (n + 1)) []) (told_first_to language xs ys n (omega (arith, h)))
+    ∙ ap (λ o. told_between language xs 0 n ++ cons_option o []) (told_first_at language xs ys n (omega (arith, h))) ∙ sym (between language xs 0 n (omega arith)) in
     subst (λ k. told_between language (xs ++ ys) 0 k ≡ told_between language xs 0 k) next step
 
 -- up to an index, and from there on
@@ -87,9 +91,9 @@ told_both language log a zero =
 told_both language log a (suc k) =
     let next : (a + k) + 1 ≡ a + suc k = omega arith in
     let step : told_between language log 0 ((a + k) + 1) ≡ told_between language log 0 a ++ told_between language log a ((a + k) + 1) =
-      between language log 0 (a + k) (omega arith) ∙ ap (λ ts. ts ++ cons_option (told_at language log ((a + k) + 1)) []) (told_both language log a k)
-      ∙ append_assoc (told_between language log 0 a) (told_between language log a (a + k)) _
-      ∙ ap (λ ts. told_between language log 0 a ++ ts) (sym (between language log a (a + k) (omega arith))) in
+    between language log 0 (a + k) (omega arith) ∙ ap (λ ts. ts ++ cons_option (told_at language log ((a + k) + 1)) []) (told_both language log a k)
+    ∙ append_assoc (told_between language log 0 a) (told_between language log a (a + k)) _
+    ∙ ap (λ ts. told_between language log 0 a ++ ts) (sym (between language log a (a + k) (omega arith))) in
     subst (λ n. told_between language log 0 n ≡ told_between language log 0 a ++ told_between language log a n) next step
 
 -- ---- what is recalled, and what is noted
@@ -112,9 +116,9 @@ begun_none schema log es before ts tables silent are =
 -- those that a member had applied before are the first of the log
 pub recalled : (schema : columns.Tables) (log es first : List Entry) (before : ℕ) (ts : List Told) (tables : Tables) → before ≡ 0 → es ≡ slice_range log before (before + length es)
     → length first ≤ length es → take (length first) es ≡ first → IsPast schema first ts tables → AreApplied schema log before (before + length first) (take (length first) es) ts tables
-recalled schema log es first before ts tables zero is within same past =
+recalled schema log es first before ts tables start_is is within same past =
     let k = length first in
-    let all : es ≡ take (length es) log = subst (λ b. es ≡ slice_range log b (b + length es)) zero is ∙ range_first log (length es) in
+    let all : es ≡ take (length es) log = subst (λ b. es ≡ slice_range log b (b + length es)) start_is is ∙ range_first log (length es) in
     let start : first ≡ take k log = sym same ∙ ap (take k) all ∙ take_of_take k (length es) log within in
     let whole : log ≡ first ++ drop k log = sym (take-append-drop k log) ∙ ap (λ xs. xs ++ drop k log) (sym start) in
     let told : told_between (language_of schema) log 0 k ≡ told_between (language_of schema) first 0 k = ap (λ (xs : List Entry). told_between (language_of schema) xs 0 k) whole ∙ told_first_to (language_of schema) first (drop k log) k (omega arith) in
@@ -123,7 +127,7 @@ recalled schema log es first before ts tables zero is within same past =
       told = past.told ∙ sym told;
       current = subst (λ (xs : List Entry). AreTables schema xs tables) start past.current;
     } in
-    subst (λ b. AreApplied schema log b (b + k) (take k es) ts tables) (sym zero) from_none
+    subst (λ b. AreApplied schema log b (b + k) (take k es) ts tables) (sym start_is) from_none
 
 pub made_past : (schema : columns.Tables) (es : List Entry) (ts : List Told) (tables : Tables) → IsPast schema es ts tables → AreMade schema tables
 made_past schema es ts tables past = merely (es, past.current)
@@ -143,3 +147,8 @@ past_more schema xs es us ts before old new is past applied =
       told = ap (λ ts'. us ++ ts') more.told ∙ ap (λ us'. us' ++ told_between language log before (before + length es)) first ∙ sym (told_both language log before (length es)) ∙ ap (told_between language log 0) (sym long);
       current = subst (λ (l : List Entry). AreTables schema l new) (take_all (before + length es) log (omega (arith, long))) more.current;
     }
+
+pub past_noted : (schema : columns.Tables) (xs es xs' : List Entry) (us ts us' : List Told) (before : ℕ) (old new : Tables) → xs' ≡ xs ++ es → us' ≡ us ++ ts → before ≡ length xs → IsPast schema xs us old
+    → ((log : List Entry) → es ≡ slice_range log before (before + length es) → AreTables schema (take before log) old → AreApplied schema log before (before + length es) es ts new)
+    → IsPast schema xs' us' new
+past_noted schema xs es xs' us ts us' before old new more told is past applied = rw (more, told) (past_more schema xs es us ts before old new is past applied)

@@ -481,7 +481,8 @@ impl<K: Keeper> Node<K> {
         ensures suits { K.suits result (members_of self) (language_of (tables_of self)) }
         ensures last { self.is_up ≡ true → (d : Durable) → K.holds result d → d ≡ durable_of (member_of self) }
     {
-        self.keeper.close()
+        let (image, _) = self.rest();
+        image
     }
 
     /// Stops it as `stop` does, and gives besides what it has noted for when it starts again: none where it is down, was
@@ -497,11 +498,7 @@ impl<K: Keeper> Node<K> {
         ensures suits { K.suits result.0 (members_of self) (language_of (tables_of self)) }
         ensures last { self.is_up ≡ true → (d : Durable) → K.holds result.0 d → d ≡ durable_of (member_of self) }
     {
-        let recall = if self.is_up {
-            self.notes.recall(self.tables)
-        } else {
-            None
-        };
+        let recall = self.notes.recall(self.tables, self.is_up);
         (self.keeper.close(), recall)
     }
 }

@@ -1,5 +1,5 @@
 //! What a member had applied when it went down, so that it need not execute the same again.
-ghost use Rattle.std.specs.Prelude.{◌≡◌, ◌↔◌, ◌+◌, ◌≤◌, ◌++◌, [], List, IsTrue, length, take, slice_range, IfOk, IfSome, OnOk};
+ghost use Rattle.std.specs.Prelude.{◌≡◌, ◌↔◌, ◌+◌, ◌≤◌, ◌++◌, [], List, true, IsTrue, length, take, slice_range, IfOk, IfSome, OnOk};
 ghost use Rattle.sqlchecks.specs.Columns as columns;
 ghost use Rattle.model.specs.declared.entry.Entry as entry_of;
 ghost use Rattle.apply.specs.View.{AreTables};
@@ -47,10 +47,13 @@ impl Notes {
         }
     }
 
-    /// What it takes with it when it goes down, with the tables that it has then.
-    pub(crate) fn recall(self, tables: Tables) -> Option<Recall>
-        ensures { (schema : columns.Tables) → AreNoted schema tables self → IfSome result (IsRecall schema) }
+    /// What is recalled of a member that stops with these tables; none of one that is down.
+    pub(crate) fn recall(self, tables: Tables, is_up: bool) -> Option<Recall>
+        ensures { (schema : columns.Tables) → (is_up ≡ true → AreNoted schema tables self) → IfSome result (IsRecall schema) }
     {
+        if !is_up {
+            return None;
+        }
         match self {
             Notes::Off => None,
             Notes::Before(recall) => Some(recall),
@@ -151,6 +154,17 @@ impl Applied {
         }
         Ok(())
     }
+
+    /// This, and copies of these entries and of what is told of them.
+    fn with(self, entries: &[Entry], told: &[Told]) -> Result<Applied, AllocError>
+        ensures entries { IfOk result (λ all. all.entries.items ≡ self.entries.items ++ entries.now) }
+        ensures told { IfOk result (λ all. all.told.items ≡ self.told.items ++ told.now) }
+    {
+        let mut all = self;
+        all.add_entries(entries)?;
+        all.add_told(told)?;
+        Ok(all)
+    }
 }
 
 /// What is to be noted before the entries that have so many others before them, and how many of these are applied already,
@@ -211,14 +225,14 @@ pub(crate) fn note(noted: Option<Applied>, entries: &[Entry], told: &[Told], bef
         → ((log : List entry_of.Entry) → entries.now ≡ slice_range log before (before + length entries.now) → AreTables schema (take before log) old → AreApplied schema log before (before + length entries.now) entries.now told.now new)
         → AreNoted schema new result }
 {
-    let Some(mut applied) = noted else {
+    let Some(applied) = noted else {
         return Notes::Off;
     };
     if before != applied.entries.len() {
         return Notes::Off;
     }
-    if applied.add_entries(entries).is_err() || applied.add_told(told).is_err() {
-        return Notes::Off;
+    match applied.with(entries, told) {
+        Ok(all) => Notes::All(all),
+        Err(_) => Notes::Off,
     }
-    Notes::All(applied)
 }

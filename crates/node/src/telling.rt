@@ -1,5 +1,5 @@
 //! What a member applies, and what it tells of the requests among that.
-ghost use Rattle.std.specs.Prelude.{◌≡◌, ◌+◌, ◌-◌, ◌≤◌, ◌<◌, ◌++◌, ◌∷◌, [], ℕ, List, true, Some, length, take, slice_get, slice_range, IfOk, IfErr, OnOk};
+ghost use Rattle.std.specs.Prelude.{◌≡◌, ◌+◌, ◌≤◌, ◌<◌, ◌++◌, ◌∷◌, [], ℕ, List, true, Some, length, take, slice_get, slice_range, IfOk, IfErr, OnOk};
 ghost use Rattle.std.specs.List.{cons_option};
 ghost use Rattle.sqlchecks.specs.Columns as columns;
 ghost use Rattle.sqlread.specs.Meaning.{language_of};
@@ -91,11 +91,12 @@ fn apply_all(
     ensures made { OnOk result ((schema : columns.Tables) → AreNoted schema tables.old notes.old → AreMade schema tables.old → AreMade schema tables.new) }
 {
     let was = mem::replace(notes, Notes::Off);
+    let begun = begin(alloc, tables, was, entries, before);
     let Begun {
         count,
         mut told,
         noted,
-    } = begin(alloc, tables, was, entries, before);
+    } = begun;
     execute(tables, entries, count, before, &mut told)?;
     *notes = note(noted, entries, told.as_slice(), before);
     Ok(told)
@@ -113,7 +114,8 @@ fn fetch_after<S: LogReader>(
     requires up { S.is_up reader.old ≡ true }
     requires stored { S.is_honest reader.old → IsInStep core.now (S.stored reader.old) }
     ensures entries { IfOk result (λ es. S.is_honest reader.new → es.items ≡ slice_range (S.stored reader.old).log before core.now.commit) }
-    ensures count { IfOk result (λ es. length es.items ≡ core.now.commit - before) }
+    ensures count { IfOk result (λ es. before ≤ core.now.commit → before + length es.items ≡ core.now.commit) }
+    ensures room { IfOk result (λ es. before + length es.items ≤ 18446744073709551615) }
     ensures reader { IsRead (S.is_honest reader.old) (S.is_honest reader.new) (S.stored reader.old) (S.stored reader.new) (S.may_hold reader.old) (S.may_hold reader.new) (S.serves reader.old) (S.serves reader.new) (S.failed reader.old) (S.failed reader.new) (S.saves reader.old) (S.saves reader.new) }
     ensures up { OnOk result (S.is_up reader.new ≡ true) }
     ensures cause { IfErr result (IsCauseOr (S.is_honest reader.new) (S.failed reader.old) (S.failed reader.new)) }

@@ -9,8 +9,9 @@ use Rattle.node.proofs.telling.fetch_after.Goals as goal
 
 pub loop-place-init : goal.loop-place-init
 loop-place-init g c = record {
-  entries = λ honest. c.new.ensures.items ∙ sym (range_none (g.S.LogReader.stored c.args.reader.now).log c.args.before c.args.before (omega arith));
-  count = ap length c.new.ensures.items ∙ omega arith;
+  entries = λ honest. c.new-entries.ensures.items ∙ sym (range_none (g.S.LogReader.stored c.args.reader.now).log c.args.before c.args.before (omega arith));
+  count = let none : length c.new-entries.result.items ≡ 0 = ap length c.new-entries.ensures.items in omega (arith, none);
+  room = let none : length c.new-entries.result.items ≡ 0 = ap length c.new-entries.ensures.items in omega (arith, none, c.ranges.before.fits);
   reader = read_none _ _ _ _ _ _;
   up = c.requires.up;
   asks = omega arith;
@@ -33,8 +34,12 @@ loop-place-preserved g c =
           let got = fetched core here i e c.in_ok-entry.field-0 step (c.in_ok-entry.ensures.ok honest (reached core here step)) c.in-Some.is in
           let found = subst (λ (d : Durable). slice_get d.log i ≡ Some e) same got in
           c.in_ok-push.ensures.items ∙ ap (λ xs. xs ++ e ∷ []) (inv.entries was) ∙ sym (range_next first.log c.args.before i e (omega arith) found);
-      count = longer ∙ omega (arith, inv.count);
+      count = omega (arith, longer, inv.count);
+      room = omega (arith, longer, inv.count);
       reader = read_both _ _ _ _ _ _ _ _ _ _ _ _ _ _ _ _ _ _ inv.reader c.entry.ensures.reader;
       up = c.in_ok-entry.ensures.up;
       asks = omega (arith, c.entry.ensures.asks, inv.asks, longer);
     }
+
+pub returns-clause-count : goal.returns-clause-count
+returns-clause-count g c = λ low. omega (arith, c.loop-place.invariant.count, low)

@@ -3,7 +3,7 @@ use Rattle.keep.specs.Durable.{Durable}
 use Rattle.sqlread.specs.Meaning.{language_of}
 use Rattle.node.proofs.Starting.{stored_is}
 use Rattle.node.proofs.Tests.{known}
-use Rattle.node.proofs.node.Node.stop.Goals as goal
+use Rattle.node.proofs.node.Node.rest.Goals as goal
 
 pub returns-clause-last : goal.returns-clause-last
 returns-clause-last g c = λ up d held.
@@ -26,3 +26,6 @@ pub returns-clause-good : goal.returns-clause-good
 returns-clause-good g c = λ honest bad.
     let core = c.args.self.core in
     c.close.ensures.good core.members (language_of core.schema) (known (g.met.K.LogReader.served_once c.args.self.keeper core.members (language_of core.schema)) c.args.self.serves) honest bad
+
+pub returns-clause-recall : goal.returns-clause-recall
+returns-clause-recall g c = c.recall.ensures c.args.self.core.schema (λ up. c.args.self.noted up)
