@@ -103,22 +103,26 @@ past_none schema es ts tables none silent are =
     let told : ts ≡ told_between (language_of schema) [] 0 0 = silent ∙ sym (told_none (language_of schema) [] 0 0 (omega arith)) in
     rw none (record { told = told; current = are })
 
+-- where there is no entry nothing is applied
+pub applied_none : (schema : columns.Tables) (log : List Entry) (before : ℕ) (es : List Entry) (ts : List Told) (tables : Tables) → es ≡ [] → ts ≡ [] → AreTables schema (take before log) tables → AreApplied schema log before before es ts tables
+applied_none schema log before es ts tables none silent are = record {
+  entries = none ∙ sym (range_none log before before (omega arith));
+  told = silent ∙ sym (told_none (language_of schema) log before before (omega arith));
+  current = are;
+}
+
 -- none of the entries is applied already
 pub begun_none : (schema : columns.Tables) (log es : List Entry) (before : ℕ) (ts : List Told) (tables : Tables) → ts ≡ [] → AreTables schema (take before log) tables → AreApplied schema log before (before + 0) (take 0 es) ts tables
 begun_none schema log es before ts tables silent are =
-    let same : before + 0 ≡ before = omega arith in
-    rw same (record {
-      entries = sym (range_none log before before (omega arith));
-      told = silent ∙ sym (told_none (language_of schema) log before before (omega arith));
-      current = are;
-    })
+    let same : before ≡ before + 0 = omega arith in
+    subst (λ n. AreApplied schema log before n (take 0 es) ts tables) same (applied_none schema log before [] ts tables refl silent are)
 
 -- those that a member had applied before are the first of the log
 pub recalled : (schema : columns.Tables) (log es first : List Entry) (before : ℕ) (ts : List Told) (tables : Tables) → before ≡ 0 → es ≡ slice_range log before (before + length es)
     → length first ≤ length es → take (length first) es ≡ first → IsPast schema first ts tables → AreApplied schema log before (before + length first) (take (length first) es) ts tables
 recalled schema log es first before ts tables start_is is within same past =
     let k = length first in
-    let all : es ≡ take (length es) log = subst (λ b. es ≡ slice_range log b (b + length es)) start_is is ∙ range_first log (length es) in
+    let all : es ≡ take (length es) log = subst (λ b. es ≡ slice_range log b (b + length es)) start_is is ∙ range_first log (0 + length es) ∙ (let n : 0 + length es ≡ length es = omega arith in ap (λ m. take m log) n) in
     let start : first ≡ take k log = sym same ∙ ap (take k) all ∙ take_of_take k (length es) log within in
     let whole : log ≡ first ++ drop k log = sym (take-append-drop k log) ∙ ap (λ xs. xs ++ drop k log) (sym start) in
     let told : told_between (language_of schema) log 0 k ≡ told_between (language_of schema) first 0 k = ap (λ (xs : List Entry). told_between (language_of schema) xs 0 k) whole ∙ told_first_to (language_of schema) first (drop k log) k (omega arith) in
@@ -127,7 +131,8 @@ recalled schema log es first before ts tables start_is is within same past =
       told = past.told ∙ sym told;
       current = subst (λ (xs : List Entry). AreTables schema xs tables) start past.current;
     } in
-    subst (λ b. AreApplied schema log b (b + k) (take k es) ts tables) (sym start_is) from_none
+    let on : k ≡ 0 + k = omega arith in
+    subst (λ b. AreApplied schema log b (b + k) (take k es) ts tables) (sym start_is) (subst (λ n. AreApplied schema log 0 n (take k es) ts tables) on from_none)
 
 pub made_past : (schema : columns.Tables) (es : List Entry) (ts : List Told) (tables : Tables) → IsPast schema es ts tables → AreMade schema tables
 made_past schema es ts tables past = merely (es, past.current)

@@ -201,6 +201,7 @@ pub(crate) fn begin(
                 },
                 tables: recalled,
             } = recall;
+            let count = first.len();
             if before > 0 || !is_beginning(entries, first.as_slice()) {
                 return Begun {
                     count: 0,
@@ -210,7 +211,7 @@ pub(crate) fn begin(
             }
             *tables = recalled;
             Begun {
-                count: first.len(),
+                count,
                 told,
                 noted: Some(Applied::new(alloc)),
             }

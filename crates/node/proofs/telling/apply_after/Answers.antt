@@ -1,7 +1,6 @@
 use Rattle.std.proofs.Common.{◌≡◌, ℕ, ◌+◌, List, length, slice_range, rules, subst, sym, arith}
 use Rattle.node.specs.Applying.{AreApplied}
-use Rattle.node.proofs.Applying.{applied_none}
-use Rattle.node.proofs.Recalled.{all_none}
+use Rattle.node.proofs.Recalled.{all_none, applied_none}
 use Rattle.node.proofs.telling.apply_after.Goals as goal
 
 pub returns-then-is_empty-clause-applied : goal.returns-then-is_empty-clause-applied
