@@ -28,4 +28,4 @@ returns-clause-good g c = λ honest bad.
     c.close.ensures.good core.members (language_of core.schema) (known (g.met.K.LogReader.served_once c.args.self.keeper core.members (language_of core.schema)) c.args.self.serves) honest bad
 
 pub returns-clause-recall : goal.returns-clause-recall
-returns-clause-recall g c = c.recall.ensures c.args.self.core.schema (λ up. c.args.self.noted up)
+returns-clause-recall g c = c.recall-recall.ensures c.args.self.core.schema (λ up. c.args.self.noted up)
