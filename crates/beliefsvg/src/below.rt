@@ -66,13 +66,14 @@ impl Plan<'_> {
             return Ok(());
         };
         let scale = (*right - *left) / f64::from(last.saturating_sub(*first));
-        let place = |day: u32| *left + f64::from(day.saturating_sub(*first)) * scale;
         for (day, x) in days.iter().zip(xs) {
-            parts.line((*x, top), (place(*day), y), "join")?;
+            let place = *left + f64::from(day.saturating_sub(*first)) * scale;
+            parts.line((*x, top), (place, y), "join")?;
         }
         parts.line((*left, y), (*right, y), "rule")?;
         for tick in &day_ticks(self.alloc, *first, *last, scale)? {
-            put_tick(tick, place(tick.at), y, parts)?;
+            let place = *left + f64::from(tick.at.saturating_sub(*first)) * scale;
+            put_tick(tick, place, y, parts)?;
         }
         parts.words(*left - 14.0, y + 4.0, "days to scale", "e soft small")
     }

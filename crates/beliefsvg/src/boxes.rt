@@ -3,10 +3,10 @@ use crate::colours::Kind;
 use crate::places::{greater, lesser, whole};
 use crate::plan::{LINE, Plan, labels_of};
 use beliefs::calendar::{LAST_DAY, day_or_no_end};
-use beliefs::picture::Version;
+use beliefs::picture::{Picture, Version};
 use model::stamp::{LAST_MICROS, Stamp};
 use std::alloc::{AllocError, Global};
-use svgparts::{Parts, fitted, words_wide};
+use svgparts::{Parts, Piece, fitted, words_wide};
 
 // So many versions of a key have a tip each.
 const TIPS: usize = 120;
@@ -27,6 +27,20 @@ pub(crate) fn instant_text(alloc: Global, instant: u64) -> Result<String, AllocE
     }
     let instant = Stamp::new(instant).instant();
     instant.to_string(alloc)
+}
+
+/// Until when a version was believed, behind these words; of one that still is, how an open end is called.
+pub(crate) fn until_text(
+    alloc: Global,
+    version: &Version,
+    words: &str,
+    top: &str,
+) -> Result<String, AllocError> {
+    if version.is_believed() {
+        return String::from_str(alloc, top);
+    }
+    let until = instant_text(alloc, version.until)?;
+    [words, until.as_str()].concat(alloc)
 }
 
 impl Plan<'_> {
@@ -75,26 +89,29 @@ impl Plan<'_> {
         parts.rect((area.x + 0.8, area.y + down), size, class.as_str())
     }
 
-    fn put_tip(&self, version: &Version, parts: &mut Parts) -> Result<(), AllocError> {
-        for (at, (name, value)) in self.picture.names.iter().zip(&version.values).enumerate() {
-            if at > 0 {
-                parts.raw(", ")?;
-            }
-            parts.escaped(name.as_str())?;
-            parts.raw(" ")?;
-            parts.escaped(value.as_str())?;
+    fn put_values<'x>(&'x self, version: &'x Version, parts: &mut Parts) -> Result<(), AllocError> {
+        let mut sign = "";
+        for (name, value) in self.picture.names.iter().zip(&version.values) {
+            parts.all(&[
+                Piece::Raw(sign),
+                Piece::Escaped(name.as_str()),
+                Piece::Raw(" "),
+                Piece::Escaped(value.as_str()),
+            ])?;
+            sign = ", ";
         }
+        Ok(())
+    }
+
+    fn put_tip(&self, version: &Version, parts: &mut Parts) -> Result<(), AllocError> {
+        self.put_values(version, parts)?;
         let start = day_or_no_end(self.alloc, version.start)?;
         let end = day_or_no_end(self.alloc, version.end)?;
         let since = instant_text(self.alloc, version.since)?;
+        let until = until_text(self.alloc, version, "believed until ", self.top)?;
         parts.raw(format!(in self.alloc;
-            ": {start} to {end}, believed since {since}, "
-        )?.as_str())?;
-        if version.is_believed() {
-            return parts.raw(self.top);
-        }
-        parts.raw("believed until ")?;
-        parts.raw(instant_text(self.alloc, version.until)?.as_str())
+            ": {start} to {end}, believed since {since}, {until}"
+        )?.as_str())
     }
 
     // The values where they fit: level, cut at the end where six letters of them fit, or a single one turned; else the tip alone
@@ -109,9 +126,7 @@ impl Plan<'_> {
         let is_believed = version.is_believed();
         let tail = if version.end >= LAST_DAY { 18.0 } else { 0.0 };
         let room = area.wide - 18.0 - tail;
-        let all_fit = labels.iter().all(|words| words_wide(words.as_str(), 13.0, is_believed)
-            <= room);
-        if room >= 66.0 || all_fit {
+        if room >= 66.0 || all_fit(labels.as_slice(), is_believed, room) {
             return self.put_level(labels.as_slice(), is_believed, area, room, parts);
         }
         match labels.as_slice() {
@@ -151,7 +166,7 @@ impl Plan<'_> {
 
     /// Boxes with an open end go over into the page, with a tip that says where to.
     pub(crate) fn put_open_ends(&self, parts: &mut Parts) -> Result<(), AllocError> {
-        if self.picture.versions.iter().any(Version::is_believed) {
+        if has_believed(self.picture, true) {
             self.put_tops(parts)?;
         }
         if self.is_endless {
@@ -169,11 +184,8 @@ impl Plan<'_> {
             let start = self.x_of(version.start);
             let end = self.x_of(version.end);
             if version.is_believed() && end - start >= 14.0 {
-                parts.raw("<path class=\"tip\" d=\"M")?;
-                parts.number((start + end) / 2.0 - 4.0)?;
-                parts.raw(" ")?;
-                parts.number(top + 1.0)?;
-                parts.raw("h8l-4 -6z\"/>\n")?;
+                parts.shape("tip", ((start + end) / 2.0 - 4.0, top + 1.0), "h8l-4 -6z")?;
+                parts.raw("\n")?;
             }
         }
         Ok(())
@@ -198,15 +210,35 @@ impl Plan<'_> {
         for version in &self.picture.versions {
             let area = self.area(version);
             if version.end >= LAST_DAY && area.high >= 24.0 {
-                parts.raw("<path class=\"tip\" d=\"M")?;
-                parts.number(end - 1.0)?;
-                parts.raw(" ")?;
-                parts.number(area.y + area.high / 2.0 - 4.0)?;
-                parts.raw("v8l6 -4z\"/>\n")?;
+                parts.shape(
+                    "tip",
+                    (end - 1.0, area.y + area.high / 2.0 - 4.0),
+                    "v8l6 -4z",
+                )?;
+                parts.raw("\n")?;
             }
         }
         Ok(())
     }
+}
+
+fn all_fit(labels: &[String], is_believed: bool, room: f64) -> bool {
+    for words in labels {
+        if !(words_wide(words.as_str(), 13.0, is_believed) <= room) {
+            return false;
+        }
+    }
+    true
+}
+
+/// Whether a picture has a version that is still believed, or one that is not.
+pub(crate) fn has_believed(picture: &Picture, is_believed: bool) -> bool {
+    for version in &picture.versions {
+        if version.is_believed() == is_believed {
+            return true;
+        }
+    }
+    false
 }
 
 fn class_of(is_believed: bool, is_small: bool) -> &'static str {
@@ -230,13 +262,15 @@ fn put_turned(
     if area.wide < 12.0 || area.high - below < needed {
         return Ok(());
     }
-    parts.raw("<text class=\"")?;
-    parts.raw(class_of(is_believed, true))?;
-    parts.raw("\" transform=\"translate(")?;
-    parts.number(area.x + area.wide / 2.0 + 4.0)?;
-    parts.raw(" ")?;
-    parts.number(area.y + area.high - 6.0)?;
-    parts.raw(")rotate(-90)\">")?;
-    parts.escaped(words)?;
-    parts.raw("</text>")
+    parts.all(&[
+        Piece::Raw("<text class=\""),
+        Piece::Raw(class_of(is_believed, true)),
+        Piece::Raw("\" transform=\"translate("),
+        Piece::Number(area.x + area.wide / 2.0 + 4.0),
+        Piece::Raw(" "),
+        Piece::Number(area.y + area.high - 6.0),
+        Piece::Raw(")rotate(-90)\">"),
+        Piece::Escaped(words),
+        Piece::Raw("</text>"),
+    ])
 }

@@ -1,16 +1,16 @@
 //! A page with the pictures of an answer.
-use crate::boxes::instant_text;
+use crate::boxes::{has_believed, instant_text, until_text};
 use crate::colours::{Colours, Kind, STEPS, colours_of, in_order};
 use crate::places::whole;
 use crate::plan::{Plan, labels_of};
 use answer::Answer;
 use beliefs::calendar::day_or_no_end;
 use beliefs::lines::put_wrapped;
-use beliefs::picture::{Asking, Picture, pictures_of};
+use beliefs::picture::{Asking, Picture, Version, pictures_of};
 use model::member::Member;
 use std::alloc::{AllocError, Global};
 use std::num::saturating_f64_to_usize;
-use svgparts::{Parts, words_wide};
+use svgparts::{Parts, Piece, STYLE, open_page, words_wide};
 
 /// How many versions are drawn at most.
 pub const MOST: usize = 200;
@@ -23,8 +23,11 @@ const WIDEST: f64 = 1280.0;
 // How many letters the description has at most.
 const TOLD: usize = 2_000;
 
-const STYLE: &str =
-    "svg{--page:#ffffff;--ink:#16191d;--soft:#4d545c;--line:#8a929b;--faint:#dfe3e7;--stop:#b3261e;}@media (prefers-color-scheme:dark){svg{--page:#14171c;--ink:#eef1f4;--soft:#b4bcc6;--line:#78828e;--faint:#2b3139;--stop:#ff8a80;}}text{font-family:system-ui, -apple-system, 'Segoe UI', Roboto, 'Helvetica Neue', Arial, sans-serif;font-size:13px;fill:var(--ink);font-variant-numeric:tabular-nums}.mono{font-family:ui-monospace, SFMono-Regular, Menlo, Consolas, 'DejaVu Sans Mono', monospace;font-size:12px}.soft{fill:var(--soft)}.small{font-size:11.5px}.bold{font-weight:650}.h{font-size:20px;font-weight:650}.m{text-anchor:middle}.e{text-anchor:end}.t{font-size:10.5px}.page{fill:var(--page)}.box{stroke:var(--page);stroke-width:1.5}.axis{stroke:var(--line);stroke-width:1;fill:none}.grid{stroke:var(--faint);stroke-width:1;fill:none}.join{stroke:var(--line);stroke-width:.8;fill:none}.rule{stroke:var(--soft);stroke-width:1.4;fill:none}.tip{fill:var(--soft)}.not{fill:url(#dots)}.dot{fill:var(--line)}.f0{stop-color:var(--page);stop-opacity:1}.f1{stop-color:var(--page);stop-opacity:0}";
+const COLOURS: &str =
+    "svg{--page:#ffffff;--ink:#16191d;--soft:#4d545c;--line:#8a929b;--faint:#dfe3e7;--stop:#b3261e;}@media (prefers-color-scheme:dark){svg{--page:#14171c;--ink:#eef1f4;--soft:#b4bcc6;--line:#78828e;--faint:#2b3139;--stop:#ff8a80;}}";
+
+const SHAPES: &str =
+    ".page{fill:var(--page)}.box{stroke:var(--page);stroke-width:1.5}.axis{stroke:var(--line);stroke-width:1;fill:none}.grid{stroke:var(--faint);stroke-width:1;fill:none}.join{stroke:var(--line);stroke-width:.8;fill:none}.rule{stroke:var(--soft);stroke-width:1.4;fill:none}.tip{fill:var(--soft)}.not{fill:url(#dots)}.dot{fill:var(--line)}.f0{stop-color:var(--page);stop-opacity:1}.f1{stop-color:var(--page);stop-opacity:0}";
 
 const DEFINITIONS: &str =
     "<defs><linearGradient id=\"up\" x1=\"0\" y1=\"0\" x2=\"0\" y2=\"1\"><stop class=\"f0\"/><stop class=\"f1\" offset=\"1\"/></linearGradient><linearGradient id=\"on\" x1=\"1\" y1=\"0\" x2=\"0\" y2=\"0\"><stop class=\"f0\"/><stop class=\"f1\" offset=\"1\"/></linearGradient><pattern id=\"dots\" width=\"9\" height=\"9\" patternUnits=\"userSpaceOnUse\"><circle class=\"dot\" cx=\"2\" cy=\"2\" r=\".9\"/></pattern></defs>\n";
@@ -59,18 +62,28 @@ pub fn beliefs_as_svg(
     let y = put_pictures(&pictures, &colours, asking.top(), wide, y, &mut body)?;
     let high = put_foot(&pictures, &colours, asking.top(), y, &mut body)?;
     let mut page = Parts::new(alloc);
-    open_page(title.as_str(), wide, high, &mut page)?;
+    open_page(title.as_str(), (wide, high), &mut page)?;
     put_told(node, answer, asking, &pictures, &mut page)?;
-    page.raw("</desc>\n<style>")?;
-    page.raw(STYLE)?;
-    colours.put_style(&mut page)?;
-    page.raw("</style>\n")?;
+    put_styles(&colours, &mut page)?;
     page.rect((0.0, 0.0), (wide, high), "class=\"page\"")?;
-    page.raw("\n")?;
-    page.raw(body.text.as_str())?;
-    page.raw("</svg>\n")?;
+    page.all(&[
+        Piece::Raw("\n"),
+        Piece::Raw(body.text.as_str()),
+        Piece::Raw("</svg>\n"),
+    ])?;
     let Parts { alloc: _, text } = page;
     Ok(Some(text))
+}
+
+fn put_styles(colours: &Colours, page: &mut Parts) -> Result<(), AllocError> {
+    page.all(&[
+        Piece::Raw("</desc>\n<style>"),
+        Piece::Raw(COLOURS),
+        Piece::Raw(STYLE),
+        Piece::Raw(SHAPES),
+    ])?;
+    colours.put_style(page)?;
+    page.raw("</style>\n")
 }
 
 fn page_wide(pictures: &[Picture]) -> f64 {
@@ -80,21 +93,6 @@ fn page_wide(pictures: &[Picture]) -> f64 {
     }
     let wide = WIDE + whole(most.saturating_sub(24)) * 16.0;
     if wide > WIDEST { WIDEST } else { wide }
-}
-
-fn open_page(title: &str, wide: f64, high: f64, page: &mut Parts) -> Result<(), AllocError> {
-    page.raw("<svg xmlns=\"http://www.w3.org/2000/svg\" viewBox=\"0 0 ")?;
-    page.number(wide)?;
-    page.raw(" ")?;
-    page.number(high)?;
-    page.raw("\" width=\"")?;
-    page.number(wide)?;
-    page.raw("\" height=\"")?;
-    page.number(high)?;
-    page.raw("\" role=\"img\" aria-labelledby=\"t d\" style=\"max-width:100%;height:auto\">\n")?;
-    page.raw("<title id=\"t\">")?;
-    page.escaped(title)?;
-    page.raw("</title>\n<desc id=\"d\">")
 }
 
 // The table and the key of a title.
@@ -209,17 +207,15 @@ fn put_foot(
         put_legend(colours, name_of(first), y, body)?;
         y += 19.0;
     }
-    let has_past = pictures.iter().any(|picture| picture
-        .versions
-        .iter()
-        .any(|version| !version.is_believed()));
-    let past = if has_past {
-        " Faint: believed no more."
-    } else {
-        ""
-    };
-    let has_dots = pictures.iter().any(Picture::has_unasked);
-    let dots = if has_dots { " Dotted: not asked." } else { "" };
+    let (mut past, mut dots) = ("", "");
+    for picture in pictures {
+        if has_believed(picture, false) {
+            past = " Faint: believed no more.";
+        }
+        if picture.has_unasked() {
+            dots = " Dotted: not asked.";
+        }
+    }
     let axes =
         "Days run rightwards, system time upwards: a level is what was believed at that time, a column what was ever believed of a day.";
     body.words(24.0, y, axes, "soft small")?;
@@ -276,42 +272,31 @@ fn put_told(
     for picture in pictures.iter().take(4) {
         tell(alloc, picture, asking.top(), &mut told)?;
     }
-    for (at, letter) in told.as_str().chars().enumerate() {
-        if at >= TOLD {
-            break;
-        }
-        match letter {
-            '&' => page.raw("&amp;")?,
-            '<' => page.raw("&lt;")?,
-            '>' => page.raw("&gt;")?,
-            letter => page.text.push(letter)?,
-        }
-    }
-    Ok(())
+    page.escaped_most(told.as_str(), TOLD)
 }
 
 fn tell(alloc: Global, picture: &Picture, top: &str, told: &mut String) -> Result<(), AllocError> {
     for version in picture.versions.iter().take(12) {
-        told.push_str(" ")?;
-        told.push_str(picture.title.as_str())?;
-        told.push_str(":")?;
+        told.push_str([" ", picture.title.as_str(), ":"].concat(alloc)?.as_str())?;
         for label in labels_of(alloc, picture, version)? {
-            told.push_str(" ")?;
-            told.push_str(label.as_str())?;
+            told.push_str([" ", label.as_str()].concat(alloc)?.as_str())?;
         }
-        let start = day_or_no_end(alloc, version.start)?;
-        let end = day_or_no_end(alloc, version.end)?;
-        let since = instant_text(alloc, version.since)?;
-        told.push_str(format!(in alloc;
-            " from {start} to {end}, believed from {since}, "
-        )?.as_str())?;
-        if version.is_believed() {
-            told.push_str(top)?;
-        } else {
-            told.push_str("until ")?;
-            told.push_str(instant_text(alloc, version.until)?.as_str())?;
-        }
-        told.push_str(".")?;
+        tell_times(alloc, version, top, told)?;
     }
     Ok(())
+}
+
+fn tell_times(
+    alloc: Global,
+    version: &Version,
+    top: &str,
+    told: &mut String,
+) -> Result<(), AllocError> {
+    let start = day_or_no_end(alloc, version.start)?;
+    let end = day_or_no_end(alloc, version.end)?;
+    let since = instant_text(alloc, version.since)?;
+    let until = until_text(alloc, version, "until ", top)?;
+    told.push_str(format!(in alloc;
+        " from {start} to {end}, believed from {since}, {until}."
+    )?.as_str())
 }

@@ -62,24 +62,25 @@ impl Plan<'_> {
         }
         let x = self.right() + 52.0;
         let scale = (*low - *high) / (seconds(*end) - seconds(*start));
-        let height = |instant: u64| *low - (seconds(instant) - seconds(*start)) * scale;
         let from = self.right() + if self.is_endless { 16.0 } else { 10.0 };
         for (instant, y) in instants.iter().zip(ys) {
-            parts.line((from, *y), (x, height(*instant)), "join")?;
+            let height = *low - (seconds(*instant) - seconds(*start)) * scale;
+            parts.line((from, *y), (x, height), "join")?;
         }
         parts.line((x, *low), (x, *high), "rule")?;
         for tick in &instant_ticks(self.alloc, *start, *end, scale)? {
-            let y = height(tick.at);
-            let wide = if tick.words.as_str().is_empty() {
-                3.0
-            } else {
-                6.0
-            };
-            parts.line((x, y), (x + wide, y), "rule")?;
-            if !tick.words.as_str().is_empty() {
-                parts.words(x + 10.0, y + 4.0, tick.words.as_str(), "soft small")?;
-            }
+            let y = *low - (seconds(tick.at) - seconds(*start)) * scale;
+            put_tick(x, y, tick.words.as_str(), parts)?;
         }
         parts.words(x + 6.0, *high - 12.0, "to scale", "m soft small")
     }
+}
+
+fn put_tick(x: f64, y: f64, words: &str, parts: &mut Parts) -> Result<(), AllocError> {
+    let wide = if words.is_empty() { 3.0 } else { 6.0 };
+    parts.line((x, y), (x + wide, y), "rule")?;
+    if words.is_empty() {
+        return Ok(());
+    }
+    parts.words(x + 10.0, y + 4.0, words, "soft small")
 }

@@ -97,7 +97,10 @@ fn month_ticks(
     let mut is_first = true;
     for year in date_of(day_of(first)).year..=date_of(day_of(last)).year {
         for month in 1..=12 {
-            let when = first_of(year, month).map_or(0, instant_of);
+            let when = match first_of(year, month) {
+                Some(day) => instant_of(day),
+                None => 0,
+            };
             if when < first || when > last {
                 continue;
             }

@@ -66,9 +66,12 @@ fn closed_at<K: Announces>(store: &Store<K>, member: Member) -> Result<Option<St
 where
     K::Image: Drop,
 {
-    let all = store.status()?;
-    let found = all.iter().find(|status| status.member == member);
-    Ok(found.and_then(|status| status.closed))
+    for status in &store.status()? {
+        if status.member == member {
+            return Ok(status.closed);
+        }
+    }
+    Ok(None)
 }
 
 // Asks a member, and draws what was ever believed of the rows that the question asks for, up to what the member has closed.

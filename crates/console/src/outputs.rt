@@ -17,7 +17,7 @@ use storecommands::dot::Form;
 use world::output::Output;
 
 /// How answers and outcomes are shown.
-#[derive(Clone, Copy, PartialEq, Eq, Debug)]
+#[derive(Clone, Copy)]
 pub(crate) struct Manner {
     pub form: Form,
     /// Whether somebody sits at a terminal, to whom outcomes are shown without client and number.

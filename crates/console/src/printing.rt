@@ -91,7 +91,10 @@ where
 // An instant behind a line or, where it would pass so many columns, below it.
 fn put_instant(stamp: Stamp, width: Option<usize>, text: &mut String) -> Result<(), AllocError> {
     let instant = stamp.instant();
-    let fits = width.is_none_or(|columns| text.len().saturating_add(INSTANT) < columns);
+    let fits = match width {
+        Some(columns) => text.len().saturating_add(INSTANT) < columns,
+        None => true,
+    };
     text.push(if fits { ' ' } else { '\n' })?;
     write!(text, "{instant}\n")
 }

@@ -16,7 +16,7 @@ use storecommands::dot::Form;
 use storefolder::{Found, reading_of};
 
 /// What is known of the place that lines come from and outcomes go to.
-#[derive(Clone, Copy, Debug)]
+#[derive(Clone, Copy)]
 pub(crate) struct Place<'a> {
     /// The folder.
     pub dir: &'a str,

@@ -57,7 +57,7 @@ impl<T: Drop> From<AllocFailed<T>> for Fault {
 }
 
 /// Why a command ended before its end, and the file or the folder that this came of, where one is known.
-#[derive(Debug, Drop)]
+#[derive(Drop)]
 pub struct Stop<'a> {
     pub fault: Fault,
     pub cause: Option<Cause<'a>>,

@@ -273,18 +273,25 @@ fn look_at_statements(
     Ok(())
 }
 
+fn found_in_form(
+    alloc: Global,
+    schema: &Schema,
+    text: &str,
+    statements: &[Statement],
+) -> Result<Option<Found>, AllocError> {
+    let tokens = tokens(alloc, text)?;
+    let walk = Walk::new(&tokens, text.len());
+    found_by(look_at_statements(alloc, schema, walk, statements))
+}
+
 /// What is wrong first in a transaction whose text is in the grammar, where something is.
 pub(crate) fn found_in_changes(
     alloc: Global,
     schema: &Schema,
     text: &str,
 ) -> Result<Option<Found>, AllocError> {
-    let tokens = tokens(alloc, text)?;
     match read_transaction_form(alloc, text) {
-        Ok(statements) => {
-            let walk = Walk::new(&tokens, text.len());
-            found_by(look_at_statements(alloc, schema, walk, &statements))
-        }
+        Ok(statements) => found_in_form(alloc, schema, text, &statements),
         Err(Refusal::NoMemory) => Err(AllocError),
         Err(_) => Ok(None),
     }

@@ -20,6 +20,17 @@ fn hint_of_length(alloc: Global, refusal: &Refusal) -> Result<String, AllocError
     }
 }
 
+// That the whole text is refused.
+fn whole(alloc: Global, text: &str, refusal: Refusal) -> Result<Found, AllocError> {
+    let hint = hint_of_length(alloc, &refusal)?;
+    let len = text.len();
+    Ok(Found {
+        spot: Spot { at: 0, len },
+        refusal,
+        hint,
+    })
+}
+
 // What was found with its place, where it is what the reader refuses; else that the whole text is refused.
 fn placed(
     alloc: Global,
@@ -29,14 +40,7 @@ fn placed(
 ) -> Result<Found, AllocError> {
     match looked {
         Some(found) if found.refusal == refusal => Ok(found),
-        _ => Ok(Found {
-            spot: Spot {
-                at: 0,
-                len: text.len(),
-            },
-            hint: hint_of_length(alloc, &refusal)?,
-            refusal,
-        }),
+        _ => whole(alloc, text, refusal),
     }
 }
 

@@ -102,18 +102,25 @@ fn look_at_question(alloc: Global, schema: &Schema, walk: Walk, query: &Query) -
     Ok(())
 }
 
+fn found_in_form(
+    alloc: Global,
+    schema: &Schema,
+    text: &str,
+    query: &Query,
+) -> Result<Option<Found>, AllocError> {
+    let tokens = tokens(alloc, text)?;
+    let walk = Walk::new(&tokens, text.len());
+    found_by(look_at_question(alloc, schema, walk, query))
+}
+
 /// What is wrong first in a question whose text is in the grammar, where something is.
 pub(crate) fn found_in_question(
     alloc: Global,
     schema: &Schema,
     text: &str,
 ) -> Result<Option<Found>, AllocError> {
-    let tokens = tokens(alloc, text)?;
     match read_query_form(alloc, text) {
-        Ok(query) => {
-            let walk = Walk::new(&tokens, text.len());
-            found_by(look_at_question(alloc, schema, walk, &query))
-        }
+        Ok(query) => found_in_form(alloc, schema, text, &query),
         Err(Refusal::NoMemory) => Err(AllocError),
         Err(_) => Ok(None),
     }

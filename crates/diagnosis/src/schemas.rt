@@ -183,14 +183,16 @@ fn look_at_schema(alloc: Global, walk: Walk, tables: &[Table]) -> Result<(), Sto
     Ok(())
 }
 
+fn found_in_form(alloc: Global, text: &str, tables: &[Table]) -> Result<Option<Found>, AllocError> {
+    let tokens = tokens(alloc, text)?;
+    let walk = Walk::new(&tokens, text.len());
+    found_by(look_at_schema(alloc, walk, tables))
+}
+
 /// What is wrong first in a schema whose text is in the grammar, where something is.
 pub(crate) fn found_in_schema(alloc: Global, text: &str) -> Result<Option<Found>, AllocError> {
-    let tokens = tokens(alloc, text)?;
     match read_schema_form(alloc, text) {
-        Ok(tables) => {
-            let walk = Walk::new(&tokens, text.len());
-            found_by(look_at_schema(alloc, walk, &tables))
-        }
+        Ok(tables) => found_in_form(alloc, text, &tables),
         Err(Refusal::NoMemory) => Err(AllocError),
         Err(_) => Ok(None),
     }

@@ -216,9 +216,7 @@ impl<'f> Look<'f> {
 
     fn take_line(&mut self, alloc: Global, line: Line) -> Result<(), AllocError> {
         let Some(read) = read_line(alloc, self.members, line.text)? else {
-            let mut found = found_in_line(alloc, self.members, line.text)?;
-            found.refusal = Refusal::BadScript(line.number);
-            return self.page.tell(alloc, line, &found);
+            return self.tell_line(alloc, line);
         };
         match read {
             ScriptLine::Submit { text, .. } => self.take_request(alloc, line, text.as_str()),
@@ -229,6 +227,13 @@ impl<'f> Look<'f> {
             ScriptLine::Ask { text, .. } => self.take_question(alloc, line, text.as_str()),
             _ => Ok(()),
         }
+    }
+
+    // Shows what is wrong in a line that is none of a script.
+    fn tell_line(&mut self, alloc: Global, line: Line) -> Result<(), AllocError> {
+        let mut found = found_in_line(alloc, self.members, line.text)?;
+        found.refusal = Refusal::BadScript(line.number);
+        self.page.tell(alloc, line, &found)
     }
 
     fn take_request(&mut self, alloc: Global, line: Line, text: &str) -> Result<(), AllocError> {

@@ -1,11 +1,12 @@
 //! The arrows of messages.
 use crate::angles::{degrees_of, length_of};
 use crate::drawing::{Drawing, TOP, x_of, y_of};
+use crate::legend::put_title;
 use crate::placing::whole;
 use lanes::fates::Fate;
 use lanes::run::{Event, Kind, Run, Sent, What};
 use std::alloc::AllocError;
-use svgparts::Parts;
+use svgparts::{Parts, Piece};
 
 // How far messages that leave at once stand from one another at most, and all of them together.
 const FAN: f64 = 9.0;
@@ -158,29 +159,38 @@ fn put_tip(sent: &Sent, number: usize, end: &str, arrows: &mut Parts) -> Result<
     let addressee = sent.addressee;
     let full = sent.full.as_str();
     let tip = format!(in arrows.alloc; "{number} from {sender} to {addressee}: {full}{end}")?;
-    arrows.raw("<g><title>")?;
-    arrows.escaped(tip.as_str())?;
-    arrows.raw("</title>")
+    put_title(tip.as_str(), arrows)
 }
 
 fn put_taken(arrow: Arrow, class: &str, arrows: &mut Parts) -> Result<(), AllocError> {
     arrows.bare_line(arrow.from, arrow.before_end(7.0, 0.0), class)?;
-    arrows.raw("<polygon class=\"t")?;
-    arrows.raw(class)?;
-    arrows.raw("\" points=\"")?;
-    arrows.pair(arrow.to, ",")?;
-    arrows.raw(" ")?;
-    arrows.pair(arrow.before_end(9.0, 4.0), ",")?;
-    arrows.raw(" ")?;
-    arrows.pair(arrow.before_end(9.0, -4.0), ",")?;
-    arrows.raw("\"/>")
+    let (one, other) = (arrow.before_end(9.0, 4.0), arrow.before_end(9.0, -4.0));
+    arrows.all(&[
+        Piece::Raw("<polygon class=\"t"),
+        Piece::Raw(class),
+        Piece::Raw("\" points=\""),
+        Piece::Number(arrow.to.0),
+        Piece::Raw(","),
+        Piece::Number(arrow.to.1),
+        Piece::Raw(" "),
+        Piece::Number(one.0),
+        Piece::Raw(","),
+        Piece::Number(one.1),
+        Piece::Raw(" "),
+        Piece::Number(other.0),
+        Piece::Raw(","),
+        Piece::Number(other.1),
+        Piece::Raw("\"/>"),
+    ])
 }
 
 fn put_crossed(arrow: Arrow, class: &str, arrows: &mut Parts) -> Result<(), AllocError> {
     arrows.bare_line(arrow.from, arrow.to, class)?;
-    arrows.raw("<path class=\"cross\" d=\"M")?;
-    arrows.pair((arrow.to.0 - 4.5, arrow.to.1 - 4.5), " ")?;
-    arrows.raw("l9 9m0 -9l-9 9\"/>")
+    arrows.shape(
+        "cross",
+        (arrow.to.0 - 4.5, arrow.to.1 - 4.5),
+        "l9 9m0 -9l-9 9",
+    )
 }
 
 // The words stand on the line, near its end, and lean with it.
@@ -189,12 +199,17 @@ fn put_words(arrow: Arrow, words: &str, class: &str, parts: &mut Parts) -> Resul
     let y = y - 4.5;
     let end = if arrow.across > 0.0 { " e" } else { "" };
     let class = format!(in parts.alloc; "small halo t{class}{end}")?;
+    let degrees = degrees_of(arrow.down / arrow.across);
     let mut turn = Parts::new(parts.alloc);
-    turn.raw(" transform=\"rotate(")?;
-    turn.number(degrees_of(arrow.down / arrow.across))?;
-    turn.raw(" ")?;
-    turn.pair((x, y), " ")?;
-    turn.raw(")\"")?;
+    turn.all(&[
+        Piece::Raw(" transform=\"rotate("),
+        Piece::Number(degrees),
+        Piece::Raw(" "),
+        Piece::Number(x),
+        Piece::Raw(" "),
+        Piece::Number(y),
+        Piece::Raw(")\""),
+    ])?;
     parts.bare_words(x, y, words, class.as_str(), turn.text.as_str())?;
     parts.raw("\n")
 }

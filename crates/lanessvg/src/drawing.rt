@@ -240,14 +240,12 @@ fn put_mark(event: &Event, y: f64, words: &mut Parts) -> Result<(), AllocError> 
         What::Asked | What::Takes(_) | What::Misses(_) | What::Loses(_) => Ok(()),
         What::Stops => put_bar((x - 7.0, y - 7.0), (14.0, 14.0), "off", words),
         What::Starts => {
-            words.raw("<path class=\"on\" d=\"M")?;
-            words.pair((x - 6.0, y - 7.5), " ")?;
-            words.raw("v15l13 -7.5z\"/>\n")
+            words.shape("on", (x - 6.0, y - 7.5), "v15l13 -7.5z")?;
+            words.raw("\n")
         }
         What::Does(_) => {
-            words.raw("<path class=\"ask\" d=\"M")?;
-            words.pair((x, y - 7.0), " ")?;
-            words.raw("l7 7l-7 7l-7 -7z\"/>\n")
+            words.shape("ask", (x, y - 7.0), "l7 7l-7 7l-7 -7z")?;
+            words.raw("\n")
         }
     }
 }

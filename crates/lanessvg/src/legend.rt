@@ -1,7 +1,7 @@
 //! What signs and colours mean.
 use std::alloc::AllocError;
 use std::num::{nearest_usize_to_f64, saturating_f64_to_usize};
-use svgparts::{Parts, words_wide};
+use svgparts::{Parts, Piece, words_wide};
 
 const KINDS: [(&str, &str); 5] = [
     ("v", "election"),
@@ -30,9 +30,8 @@ pub(crate) fn put_legend(y: f64, page: &mut Parts) -> Result<(), AllocError> {
         page.line((x, y - 4.0), (x + 30.0, y - 4.0), kind)?;
         page.words(x + 37.0, y, words, "small soft")?;
         if *kind == "x" {
-            page.raw("<path class=\"cross\" d=\"M")?;
-            page.pair((x + 25.0, y - 9.0), " ")?;
-            page.raw("l9 9m0 -9l-9 9\"/>\n")?;
+            page.shape("cross", (x + 25.0, y - 9.0), "l9 9m0 -9l-9 9")?;
+            page.raw("\n")?;
         }
         x += rounded(37.0 + words_wide(words, 11.5, false) + 18.0);
     }
@@ -68,9 +67,22 @@ pub(crate) fn put_bar(
 
 /// A dot around a point.
 pub(crate) fn put_dot(class: &str, at: (f64, f64), page: &mut Parts) -> Result<(), AllocError> {
-    page.raw("<circle class=\"")?;
-    page.raw(class)?;
-    page.raw("\" cx=\"")?;
-    page.pair(at, "\" cy=\"")?;
-    page.raw("\" r=\"6\"/>")
+    page.all(&[
+        Piece::Raw("<circle class=\""),
+        Piece::Raw(class),
+        Piece::Raw("\" cx=\""),
+        Piece::Number(at.0),
+        Piece::Raw("\" cy=\""),
+        Piece::Number(at.1),
+        Piece::Raw("\" r=\"6\"/>"),
+    ])
+}
+
+/// Opens a group that has this as a tip.
+pub(crate) fn put_title(words: &str, page: &mut Parts) -> Result<(), AllocError> {
+    page.all(&[
+        Piece::Raw("<g><title>"),
+        Piece::Escaped(words),
+        Piece::Raw("</title>"),
+    ])
 }

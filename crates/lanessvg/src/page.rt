@@ -4,7 +4,7 @@ use crate::drawing::Drawing;
 use crate::legend::put_legend;
 use lanes::run::{Run, What};
 use std::alloc::{AllocError, Global};
-use svgparts::{Parts, STYLE, open_page};
+use svgparts::{Parts, Piece, STYLE, open_page};
 
 // How many letters the description has at most.
 const TOLD: usize = 2_000;
@@ -31,16 +31,13 @@ pub fn run_as_svg(alloc: Global, run: &Run, name: &str) -> Result<String, AllocE
         &mut page,
     )?;
     put_spoken(run, name, &mut page)?;
-    page.raw("</desc>\n<style>")?;
-    page.raw(COLOURS)?;
-    page.raw(STYLE)?;
-    page.raw(SHAPES)?;
-    page.raw("</style>\n")?;
     put_head(run, title.as_str(), &drawing, &mut page)?;
-    page.raw(drawing.back.text.as_str())?;
-    page.raw(drawing.arrows.text.as_str())?;
-    page.raw(drawing.words.text.as_str())?;
-    page.raw("</svg>\n")?;
+    page.all(&[
+        Piece::Raw(drawing.back.text.as_str()),
+        Piece::Raw(drawing.arrows.text.as_str()),
+        Piece::Raw(drawing.words.text.as_str()),
+        Piece::Raw("</svg>\n"),
+    ])?;
     let Parts { alloc: _, text } = page;
     Ok(text)
 }
@@ -56,13 +53,16 @@ fn drawing_of<'a>(alloc: Global, run: &'a Run) -> Result<Drawing<'a>, AllocError
 }
 
 fn put_head(run: &Run, title: &str, drawing: &Drawing, page: &mut Parts) -> Result<(), AllocError> {
-    page.rect(
-        (0.0, 0.0),
-        (drawing.wide, drawing.high() + 24.0),
-        "class=\"page\"",
-    )?;
-    page.raw("\n")?;
-    page.raw(DEFINITIONS)?;
+    page.all(&[
+        Piece::Raw("</desc>\n<style>"),
+        Piece::Raw(COLOURS),
+        Piece::Raw(STYLE),
+        Piece::Raw(SHAPES),
+        Piece::Raw("</style>\n"),
+    ])?;
+    let size = (drawing.wide, drawing.high() + 24.0);
+    page.rect((0.0, 0.0), size, "class=\"page\"")?;
+    page.all(&[Piece::Raw("\n"), Piece::Raw(DEFINITIONS)])?;
     page.words(24.0, 38.0, title, "h")?;
     let members = run.members;
     let count = run.drawn;
@@ -76,18 +76,7 @@ fn put_head(run: &Run, title: &str, drawing: &Drawing, page: &mut Parts) -> Resu
 // The picture in sentences, for who does not see it: what was told, who led, what was lost.
 fn put_spoken(run: &Run, name: &str, page: &mut Parts) -> Result<(), AllocError> {
     let told = spoken(page.alloc, run, name)?;
-    for (at, letter) in told.as_str().chars().enumerate() {
-        if at >= TOLD {
-            break;
-        }
-        match letter {
-            '&' => page.raw("&amp;")?,
-            '<' => page.raw("&lt;")?,
-            '>' => page.raw("&gt;")?,
-            letter => page.text.push(letter)?,
-        }
-    }
-    Ok(())
+    page.escaped_most(told.as_str(), TOLD)
 }
 
 fn spoken(alloc: Global, run: &Run, name: &str) -> Result<String, AllocError> {

@@ -1,12 +1,12 @@
 //! The script on the left, and what came of it on the right.
 use crate::dates::without_date;
 use crate::drawing::{Drawing, LEFT, TOP, x_of, y_of};
-use crate::legend::put_dot;
+use crate::legend::{put_dot, put_title};
 use crate::placing::{Placing, ROW, whole};
 use lanes::role::Role;
 use lanes::run::{Act, Event, News, Note, Run};
 use std::alloc::{AllocError, Global};
-use svgparts::{Parts, words_wide};
+use svgparts::{Parts, Piece, words_wide};
 
 // How many letters of a line of the script are shown.
 const SCRIPT: usize = 24;
@@ -38,15 +38,27 @@ pub(crate) fn put_line_of(
     back.line((LEFT - 8.0, y), (wide - 16.0, y), "round")?;
     back.line((16.0, y), (LEFT - 8.0, y), "act")?;
     let line = act.line;
-    let text = act.text.as_str();
-    let tip = format!(in back.alloc; "line {line}: {text}")?;
-    let shown = shortened(back.alloc, text, SCRIPT)?;
     let number = format!(in back.alloc; "{line}")?;
-    back.raw("<g><title>")?;
-    back.escaped(tip.as_str())?;
-    back.raw("</title>")?;
-    back.bare_words(42.0, y + 17.0, number.as_str(), "k soft e", "")?;
-    back.bare_words(52.0, y + 17.0, shown.as_str(), "k", "")?;
+    put_text_of(number.as_str(), act.text.as_str(), y + 17.0, back)
+}
+
+// The number and the text of a line of the script, at this height.
+fn put_text_of<'x>(
+    number: &'x str,
+    text: &'x str,
+    y: f64,
+    back: &mut Parts,
+) -> Result<(), AllocError> {
+    back.all(&[
+        Piece::Raw("<g><title>line "),
+        Piece::Raw(number),
+        Piece::Raw(": "),
+        Piece::Escaped(text),
+        Piece::Raw("</title>"),
+    ])?;
+    back.bare_words(42.0, y, number, "k soft e", "")?;
+    let shown = shortened(back.alloc, text, SCRIPT)?;
+    back.bare_words(52.0, y, shown.as_str(), "k", "")?;
     back.raw("</g>\n")
 }
 
@@ -132,11 +144,10 @@ fn put_note(
     let node = event.node;
     let name = format!(in words.alloc; "node {node}")?;
     words.bare_words(x, y + 4.5, name.as_str(), "small", "")?;
-    words.raw("<g>")?;
     if shown.ends_with("..") {
-        words.raw("<title>")?;
-        words.escaped(note.long.as_str())?;
-        words.raw("</title>")?;
+        put_title(note.long.as_str(), words)?;
+    } else {
+        words.raw("<g>")?;
     }
     words.bare_words(x + 50.0, y + 4.5, shown, class_of(note.news), "")?;
     words.raw("</g>\n")

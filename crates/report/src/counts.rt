@@ -9,7 +9,7 @@ use std::alloc::AllocError;
 
 /// How much a flight has: lives, steps that were made, steps that were cut short, messages among what the steps took, outcomes
 /// that they told, and answers.
-#[derive(Clone, Copy, PartialEq, Eq, Debug)]
+#[derive(Clone, Copy)]
 pub struct Counts {
     pub lives: usize,
     pub steps: usize,

@@ -59,14 +59,19 @@ pub(crate) fn life_at(evidence: &Evidence<'_>, moment: &Moment) -> usize {
         Deed::Takes { life, .. } => life.saturating_add(1),
         Deed::Tears { life } => life.saturating_add(1),
         Deed::Stops { life } => life.saturating_add(1),
-        Deed::Answers { .. } => {
-            let lives = lives_of(evidence, moment.node).iter();
-            let mark = moment.mark.number();
-            lives
-                .filter(|life| life.opening.mark.number() <= mark)
-                .count()
+        Deed::Answers { .. } => begun_at(lives_of(evidence, moment.node), moment.mark.number()),
+    }
+}
+
+// How many lives began at this mark or before.
+fn begun_at(lives: &[Life], mark: u64) -> usize {
+    let mut count = 0usize;
+    for life in lives {
+        if life.opening.mark.number() <= mark {
+            count = count.saturating_add(1);
         }
     }
+    count
 }
 
 // What a node does, in the order of its lives.

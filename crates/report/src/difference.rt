@@ -16,7 +16,7 @@ use std::alloc::{AllocError, Global};
 use world::event::Event;
 
 /// What differs.
-#[derive(Clone, Copy, PartialEq, Eq, Debug)]
+#[derive(Clone, Copy)]
 pub enum Differs {
     /// A mark does not rise.
     Order,
@@ -35,7 +35,7 @@ pub enum Differs {
 }
 
 /// Where a record differs from its run.
-#[derive(Debug, Drop)]
+#[derive(Drop)]
 pub struct Difference {
     /// The name of the file.
     pub file: String,
@@ -157,7 +157,10 @@ fn bytes_between(text: &str, start: usize, end: usize) -> &str {
 // From where to where in a file that is recorded which differs, at this line.
 fn span_of(text: &str, lines: &[Line], at: usize, line: &Line, differs: Differs) -> (usize, usize) {
     let end = end_of(lines, at);
-    let told = part_of(lines, at, Kind::Outcome).map_or(end, |told| told.start);
+    let told = match part_of(lines, at, Kind::Outcome) {
+        Some(told) => told.start,
+        None => end,
+    };
     match differs {
         Differs::Order | Differs::Unmarked | Differs::Up => (line.start, line.block),
         Differs::Opening => (line.start, end),
@@ -202,13 +205,10 @@ fn question_at(
     let Deed::Answers { answer } = moment.deed else {
         return Ok(None);
     };
-    owned(
-        alloc,
-        evidence
-            .answers
-            .get(answer)
-            .map(|answer| answer.query.as_str()),
-    )
+    match evidence.answers.get(answer) {
+        Some(answer) => owned(alloc, Some(answer.query.as_str())),
+        None => Ok(None),
+    }
 }
 
 // What differs at a moment from what the run has.
@@ -223,7 +223,10 @@ fn difference_at(
     let deed = own_deed(evidence, moment);
     let (start, end) = span_at(file.text, lines.as_slice(), deed, given.differs);
     let recorded = bytes_between(file.text, start, end);
-    let text = given.text.as_ref().map_or("", |text| text.as_str());
+    let text = match &given.text {
+        Some(text) => text.as_str(),
+        None => "",
+    };
     let found = compared(recorded, text);
     let before = start.saturating_add(found.before);
     Ok(Difference {

@@ -15,7 +15,7 @@ use sha2::{Digest, Sha256};
 use std::alloc::{AllocError, Global};
 
 /// How many bytes a text has, and its digest.
-#[derive(Clone, Copy, PartialEq, Eq, Debug)]
+#[derive(Clone, Copy)]
 pub struct Digested {
     pub bytes: usize,
     pub digest: [u8; 32],

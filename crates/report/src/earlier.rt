@@ -1,6 +1,6 @@
 //! What came before a moment.
 use crate::deeds::own_deed;
-use crate::files::File;
+use crate::files::{File, ends_in};
 use crate::scan::{Line, line_of, lines_of};
 use crate::stuck::Evidence;
 use crate::words::deed_words;
@@ -13,7 +13,7 @@ use std::alloc::{AllocError, Global};
 pub const EARLIER_MOST: usize = 20;
 
 /// A moment that came before.
-#[derive(Debug, Drop)]
+#[derive(Drop)]
 pub struct Earlier {
     pub mark: Mark,
     pub node: Member,
@@ -35,13 +35,7 @@ fn all_lines(alloc: Global, files: &[File<'_>]) -> Result<Vec<Vec<Line>>, AllocE
 // The number of the line before which so many bytes come.
 fn number_of(text: &str, before: usize) -> usize {
     match text.split_at_checked(before) {
-        Some((front, _)) => {
-            let bytes = front.as_bytes().iter();
-            bytes
-                .filter(|byte| **byte == b'\n')
-                .count()
-                .saturating_add(1)
-        }
+        Some((front, _)) => ends_in(front).saturating_add(1),
         None => 0,
     }
 }
@@ -91,6 +85,17 @@ fn is_step(deed: Deed) -> bool {
     }
 }
 
+// How many of so many moments are such.
+fn step_count(moments: &[Moment], before: usize) -> usize {
+    let mut count = 0usize;
+    for moment in moments.iter().take(before) {
+        if is_step(moment.deed) {
+            count = count.saturating_add(1);
+        }
+    }
+    count
+}
+
 /// The last twenty of so many moments at which a life begins, or a step is taken or cut short; all of them where they are fewer. The
 /// error is want of memory.
 pub(crate) fn earlier_of(
@@ -102,17 +107,15 @@ pub(crate) fn earlier_of(
 ) -> Result<Vec<Earlier>, AllocError> {
     let lines = all_lines(alloc, files)?;
     let mut rows = Vec::new(alloc);
-    let steps = moments
-        .iter()
-        .take(before)
-        .filter(|moment| is_step(moment.deed));
-    let skipped = steps.count().saturating_sub(EARLIER_MOST);
-    let steps = moments
-        .iter()
-        .take(before)
-        .filter(|moment| is_step(moment.deed));
-    for moment in steps.skip(skipped) {
-        rows.push(earlier_at(alloc, evidence, files, lines.as_slice(), moment)?)?;
+    let mut skipped = step_count(moments, before).saturating_sub(EARLIER_MOST);
+    for moment in moments.iter().take(before) {
+        if !is_step(moment.deed) {
+            continue;
+        }
+        if skipped == 0 {
+            rows.push(earlier_at(alloc, evidence, files, lines.as_slice(), moment)?)?;
+        }
+        skipped = skipped.saturating_sub(1);
     }
     Ok(rows)
 }

@@ -7,14 +7,14 @@ use model::member::Member;
 use std::alloc::{AllocError, Global};
 
 /// The file of a node: its name, and its text.
-#[derive(Clone, Copy, Debug)]
+#[derive(Clone, Copy)]
 pub struct File<'a> {
     pub name: &'a str,
     pub text: &'a str,
 }
 
 /// A place in a file: the number of its line and of its byte, from 1 on.
-#[derive(Clone, Copy, PartialEq, Eq, Debug)]
+#[derive(Clone, Copy)]
 pub struct Place {
     pub line: usize,
     pub byte: usize,
@@ -77,8 +77,8 @@ pub fn files_of<'a>(
     Ok(files)
 }
 
-// How many lines end in a text.
-fn ends_in(text: &str) -> usize
+/// How many lines end in a text.
+pub(crate) fn ends_in(text: &str) -> usize
     ensures { result ≡ count_by (λ b. b == 10) text.now }
 {
     text.as_bytes()

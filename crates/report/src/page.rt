@@ -155,11 +155,19 @@ fn cells_of(alloc: Global, held: &Held) -> Result<Vec<String>, AllocError> {
     Ok(cells)
 }
 
+// What stands in a row at this place.
+fn cell_of(row: &[String], column: usize) -> &str {
+    match row.get(column) {
+        Some(cell) => cell.as_str(),
+        None => "",
+    }
+}
+
 // How wide the column at this place is.
 fn width_of(rows: &[Vec<String>], column: usize, head: &str) -> usize {
     let mut wide = head.len();
     for row in rows {
-        wide = row.get(column).map_or(0, |cell| cell.len()).max(wide);
+        wide = cell_of(row, column).len().max(wide);
     }
     wide
 }
@@ -189,8 +197,7 @@ fn put_row(
 ) -> Result<(), AllocError> {
     write!(text, "  node {node}")?;
     for (column, head) in HEADS.iter().enumerate() {
-        let word = row.get(column).map_or("", |cell| cell.as_str());
-        put_right(word, width_of(rows, column, head), text)?;
+        put_right(cell_of(row, column), width_of(rows, column, head), text)?;
     }
     text.push_str("\n")
 }
@@ -380,8 +387,7 @@ fn put_places(
     text: &mut String,
 ) -> Result<(), AllocError> {
     for (column, head) in PLACES.iter().enumerate() {
-        let word = row.get(column).map_or("", |cell| cell.as_str());
-        put_right(word, width_of(rows, column, head), text)?;
+        put_right(cell_of(row, column), width_of(rows, column, head), text)?;
     }
     write!(text, "  {words}\n")
 }

@@ -3,7 +3,7 @@ use moments::Deed;
 use std::alloc::{AllocError, Global};
 
 /// What begins with a line.
-#[derive(Clone, Copy, PartialEq, Eq, Debug)]
+#[derive(Clone, Copy, PartialEq, Eq)]
 pub(crate) enum Kind {
     Life,
     Step,
@@ -17,7 +17,7 @@ pub(crate) enum Kind {
 
 /// A line, and the block behind it, if it has one: so many bytes come before it, before what stands behind the line, and before what
 /// stands behind both.
-#[derive(Clone, Copy, Debug)]
+#[derive(Clone, Copy)]
 pub(crate) struct Line {
     pub kind: Kind,
     pub start: usize,

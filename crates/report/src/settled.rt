@@ -20,7 +20,7 @@ use world::history::World;
 
 /// What a run decides: how many entries and requests, how many of these are accepted and refused, the stamps of the first and
 /// the last that is accepted, if any is, and the digest of the log.
-#[derive(Clone, Copy, PartialEq, Eq, Debug)]
+#[derive(Clone, Copy)]
 pub struct Settled {
     pub entries: usize,
     pub requests: usize,

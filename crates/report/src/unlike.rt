@@ -1,7 +1,7 @@
 //! Where two texts differ, line by line.
 
 /// The first line in which two texts differ, and how much of them does.
-#[derive(Clone, Copy, PartialEq, Eq, Debug)]
+#[derive(Clone, Copy)]
 pub(crate) struct Unlike<'a> {
     /// How many lines the longer one has.
     pub lines: usize,
@@ -32,7 +32,9 @@ pub(crate) fn compared<'a>(one: &'a str, other: &'a str) -> Unlike<'a> {
             break;
         }
         found = with_line(found, passed, line, twin);
-        passed = passed.saturating_add(line.map_or(0, |line| line.len().saturating_add(1)));
+        if let Some(line) = line {
+            passed = passed.saturating_add(line.len()).saturating_add(1);
+        }
     }
     found
 }

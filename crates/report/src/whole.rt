@@ -22,7 +22,7 @@ use sha2::{Digest, Sha256};
 use std::alloc::{AllocError, Global};
 
 /// What a node's flight has.
-#[derive(Clone, Copy, PartialEq, Eq, Debug)]
+#[derive(Clone, Copy)]
 pub struct Held {
     /// Its file.
     pub file: Digested,
@@ -30,7 +30,7 @@ pub struct Held {
 }
 
 /// What the flights of a group have.
-#[derive(Debug, Drop)]
+#[derive(Drop)]
 pub struct Contents {
     pub version: Version,
     /// The text of the schema.
@@ -98,7 +98,7 @@ impl Contents {
 }
 
 /// What an audit tells about flights.
-#[derive(Debug, Drop)]
+#[derive(Drop)]
 pub struct Report {
     /// The names of the files, in the order of the nodes.
     pub files: Vec<String>,

@@ -218,9 +218,12 @@ where
 }
 
 fn has_fallen(lives: &[Life]) -> bool {
-    lives
-        .iter()
-        .any(|life| matches!(&life.ending, Ending::Torn(_)))
+    for life in lives {
+        if let Ending::Torn(_) = &life.ending {
+            return true;
+        }
+    }
+    false
 }
 
 // Tells of each node that went down in a step, in a line of its own.

@@ -10,7 +10,7 @@ use std::alloc::{AllocError, AllocFailed, Global};
 use std::io;
 
 /// Why a command ended before its end, and of which file that came, where that is known.
-#[derive(Debug, Drop)]
+#[derive(Drop)]
 pub struct Stop<'a> {
     pub fault: RunFault,
     pub cause: Option<Cause<'a>>,
@@ -106,11 +106,14 @@ impl<'a> Stop<'a> {
     ) -> Stop<'a> {
         let cause = match &fault {
             RunFault::Refused(Refusal::BadFlight) => why_no_group(alloc, names, texts),
-            RunFault::Refused(_) => names.first().map(|name| Cause {
-                file: Name::Given(*name),
-                tried: "judging it and the others",
-                found: Found::Words("memory was refused"),
-            }),
+            RunFault::Refused(_) => match names {
+                [name, ..] => Some(Cause {
+                    file: Name::Given(*name),
+                    tried: "judging it and the others",
+                    found: Found::Words("memory was refused"),
+                }),
+                [] => None,
+            },
             RunFault::Output(_) => None,
         };
         Stop { fault, cause }

@@ -1,5 +1,5 @@
 //! The frame of a page.
-use crate::parts::Parts;
+use crate::parts::{Parts, Piece};
 use std::alloc::AllocError;
 
 // A page that is wider does not shrink with the window: its words would be too small.
@@ -12,19 +12,24 @@ pub const STYLE: &str =
 /// Opens a page of this size, as far as its title and the beginning of its description.
 pub fn open_page(title: &str, size: (f64, f64), page: &mut Parts) -> Result<(), AllocError> {
     let (wide, high) = size;
-    page.raw("<svg xmlns=\"http://www.w3.org/2000/svg\" viewBox=\"0 0 ")?;
-    page.number(wide)?;
-    page.raw(" ")?;
-    page.number(high)?;
-    page.raw("\" width=\"")?;
-    page.number(wide)?;
-    page.raw("\" height=\"")?;
-    page.number(high)?;
-    page.raw("\" role=\"img\" aria-labelledby=\"t d\"")?;
-    if wide <= SHRINKS {
-        page.raw(" style=\"max-width:100%;height:auto\"")?;
-    }
-    page.raw(">\n<title id=\"t\">")?;
-    page.escaped(title)?;
-    page.raw("</title>\n<desc id=\"d\">")
+    let style = if wide <= SHRINKS {
+        " style=\"max-width:100%;height:auto\""
+    } else {
+        ""
+    };
+    page.all(&[
+        Piece::Raw("<svg xmlns=\"http://www.w3.org/2000/svg\" viewBox=\"0 0 "),
+        Piece::Number(wide),
+        Piece::Raw(" "),
+        Piece::Number(high),
+        Piece::Raw("\" width=\""),
+        Piece::Number(wide),
+        Piece::Raw("\" height=\""),
+        Piece::Number(high),
+        Piece::Raw("\" role=\"img\" aria-labelledby=\"t d\""),
+        Piece::Raw(style),
+        Piece::Raw(">\n<title id=\"t\">"),
+        Piece::Escaped(title),
+        Piece::Raw("</title>\n<desc id=\"d\">"),
+    ])
 }

@@ -6,5 +6,5 @@ mod parts;
 mod widths;
 
 pub use frame::{STYLE, open_page};
-pub use parts::Parts;
+pub use parts::{Parts, Piece};
 pub use widths::{fitted, words_wide};

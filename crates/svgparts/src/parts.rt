@@ -1,6 +1,17 @@
 //! Words and shapes of a page.
 use std::alloc::{AllocError, Global};
 
+/// A piece of a page.
+#[derive(Clone, Copy)]
+pub enum Piece<'a> {
+    /// A text as it stands.
+    Raw(&'a str),
+    /// A number with one digit behind the point, or none where it is whole.
+    Number(f64),
+    /// A text between tags.
+    Escaped(&'a str),
+}
+
 /// What stands on a page so far.
 #[derive(Drop)]
 pub struct Parts {
@@ -37,12 +48,29 @@ impl Parts {
 
     /// A text between tags.
     pub fn escaped(&mut self, words: &str) -> Result<(), AllocError> {
-        for letter in words.chars() {
+        self.escaped_most(words, usize::MAX)
+    }
+
+    /// The same, cut behind so many letters.
+    pub fn escaped_most(&mut self, words: &str, most: usize) -> Result<(), AllocError> {
+        for letter in words.chars().take(most) {
             match letter {
                 '&' => self.text.push_str("&amp;")?,
                 '<' => self.text.push_str("&lt;")?,
                 '>' => self.text.push_str("&gt;")?,
                 letter => self.text.push(letter)?,
+            }
+        }
+        Ok(())
+    }
+
+    /// Pieces, one behind the other.
+    pub fn all(&mut self, pieces: &[Piece]) -> Result<(), AllocError> {
+        for piece in pieces {
+            match piece {
+                Piece::Raw(text) => self.raw(text)?,
+                Piece::Number(value) => self.number(*value)?,
+                Piece::Escaped(words) => self.escaped(words)?,
             }
         }
         Ok(())
@@ -55,33 +83,33 @@ impl Parts {
     }
 
     /// The same with more attributes, and without a line's end.
-    pub fn bare_words(
+    pub fn bare_words<'x>(
         &mut self,
         x: f64,
         y: f64,
-        words: &str,
-        class: &str,
-        more: &str,
+        words: &'x str,
+        class: &'x str,
+        more: &'x str,
     ) -> Result<(), AllocError> {
-        self.raw("<text x=\"")?;
-        self.number(x)?;
-        self.raw("\" y=\"")?;
-        self.number(y)?;
-        self.raw("\"")?;
-        self.class(class)?;
-        self.raw(more)?;
-        self.raw(">")?;
-        self.escaped(words)?;
-        self.raw("</text>")
-    }
-
-    fn class(&mut self, class: &str) -> Result<(), AllocError> {
-        if class.is_empty() {
-            return Ok(());
-        }
-        self.raw(" class=\"")?;
-        self.raw(class)?;
-        self.raw("\"")
+        let (before, behind) = if class.is_empty() {
+            ("", "")
+        } else {
+            (" class=\"", "\"")
+        };
+        self.all(&[
+            Piece::Raw("<text x=\""),
+            Piece::Number(x),
+            Piece::Raw("\" y=\""),
+            Piece::Number(y),
+            Piece::Raw("\""),
+            Piece::Raw(before),
+            Piece::Raw(class),
+            Piece::Raw(behind),
+            Piece::Raw(more),
+            Piece::Raw(">"),
+            Piece::Escaped(words),
+            Piece::Raw("</text>"),
+        ])
     }
 
     /// A straight line, and a line's end.
@@ -102,34 +130,54 @@ impl Parts {
         to: (f64, f64),
         class: &str,
     ) -> Result<(), AllocError> {
-        self.raw("<path class=\"")?;
-        self.raw(class)?;
-        self.raw("\" d=\"M")?;
-        self.pair(from, " ")?;
-        self.raw("L")?;
-        self.pair(to, " ")?;
-        self.raw("\"/>")
+        self.all(&[
+            Piece::Raw("<path class=\""),
+            Piece::Raw(class),
+            Piece::Raw("\" d=\"M"),
+            Piece::Number(from.0),
+            Piece::Raw(" "),
+            Piece::Number(from.1),
+            Piece::Raw("L"),
+            Piece::Number(to.0),
+            Piece::Raw(" "),
+            Piece::Number(to.1),
+            Piece::Raw("\"/>"),
+        ])
     }
 
-    /// Two numbers, with a sign between them.
-    pub fn pair(&mut self, pair: (f64, f64), sign: &str) -> Result<(), AllocError> {
-        self.number(pair.0)?;
-        self.raw(sign)?;
-        self.number(pair.1)
+    /// A path of this class from a point on, by these steps.
+    pub fn shape<'x>(
+        &mut self,
+        class: &'x str,
+        at: (f64, f64),
+        steps: &'x str,
+    ) -> Result<(), AllocError> {
+        self.all(&[
+            Piece::Raw("<path class=\""),
+            Piece::Raw(class),
+            Piece::Raw("\" d=\"M"),
+            Piece::Number(at.0),
+            Piece::Raw(" "),
+            Piece::Number(at.1),
+            Piece::Raw(steps),
+            Piece::Raw("\"/>"),
+        ])
     }
 
     /// A rectangle by its corner and its size.
     pub fn rect(&mut self, at: (f64, f64), size: (f64, f64), more: &str) -> Result<(), AllocError> {
-        self.raw("<rect x=\"")?;
-        self.number(at.0)?;
-        self.raw("\" y=\"")?;
-        self.number(at.1)?;
-        self.raw("\" width=\"")?;
-        self.number(size.0)?;
-        self.raw("\" height=\"")?;
-        self.number(size.1)?;
-        self.raw("\" ")?;
-        self.raw(more)?;
-        self.raw("/>")
+        self.all(&[
+            Piece::Raw("<rect x=\""),
+            Piece::Number(at.0),
+            Piece::Raw("\" y=\""),
+            Piece::Number(at.1),
+            Piece::Raw("\" width=\""),
+            Piece::Number(size.0),
+            Piece::Raw("\" height=\""),
+            Piece::Number(size.1),
+            Piece::Raw("\" "),
+            Piece::Raw(more),
+            Piece::Raw("/>"),
+        ])
     }
 }
