@@ -1,5 +1,6 @@
 //! The open store.
-ghost use Rattle.std.specs.Prelude.{◌≡◌, ◌↔◌, ◌⊎◌, ◌<◌, ◌+◌, ◌-◌, Some, IsTrue, IfSome, IfNone, IfErr, OnOk, OnErr, length, slice_get};
+ghost use Rattle.std.specs.Prelude.{◌≡◌, ◌↔◌, ◌⊎◌, ◌<◌, ◌+◌, ◌-◌, [], Some, IsTrue, IfSome, IfNone, IfErr, OnOk, OnErr, length, slice_get};
+ghost use Rattle.store.specs.Going.{GoesOn, Publishes};
 ghost use Rattle.store.specs.Journals.{IsSpent, IsAdded, IsLonger, IsFlushed, IsOpened};
 ghost use Rattle.store.specs.Refusals.{IsOfJournal};
 
@@ -139,7 +140,10 @@ where
         ensures ok { OnOk result (IsAdded self.old.scribe self.new.scribe line.now) }
         ensures why { IfErr result IsOfJournal }
         ensures fails { OnErr result (IsSpent self.new.scribe) }
+        ensures live { OnOk result (IsSpent self.old.scribe → ⊥) }
         ensures same { self.new ≡ record self.old { scribe = self.new.scribe } }
+        ensures passes { Publishes self.old self.new [] [] }
+        ensures goes { GoesOn K.is_honest K.may_hold K.holds self.old self.new }
     {
         match &mut self.scribe {
             Some(scribe) => Ok(scribe.add(line)?),
@@ -152,7 +156,9 @@ where
         ensures ok { OnOk result (IsFlushed K.Journal.contents self.old.scribe self.new.scribe) }
         ensures why { IfErr result IsOfJournal }
         ensures fails { OnErr result (IsSpent self.new.scribe) }
+        ensures live { OnOk result (IsSpent self.old.scribe → ⊥) }
         ensures same { self.new ≡ record self.old { scribe = self.new.scribe } }
+        ensures goes { GoesOn K.is_honest K.may_hold K.holds self.old self.new }
     {
         match &mut self.scribe {
             Some(scribe) => Ok(scribe.flush()?),
@@ -180,6 +186,8 @@ where
         ensures why { IsOfJournal result }
         ensures fails { IsSpent self.new.scribe }
         ensures same { self.new ≡ record self.old { scribe = self.new.scribe } }
+        ensures passes { Publishes self.old self.new [] [] }
+        ensures goes { GoesOn K.is_honest K.may_hold K.holds self.old self.new }
     {
         if let Some(scribe) = &mut self.scribe {
             scribe.spend(DeviceError::NoMemory);
