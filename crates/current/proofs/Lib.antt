@@ -21,6 +21,7 @@ pub mod Naming
 pub mod KeyCorrection
 pub mod Orphans
 pub mod Checked
+pub mod Looking
 pub mod Suspected
 pub mod Among
 pub mod States

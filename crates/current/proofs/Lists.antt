@@ -1,6 +1,7 @@
 -- Lists whose elements are seen as others, and walks over them.
-use Rattle.std.proofs.Common.{◌≡◌, ℕ, zero, suc, ◌+◌, ◌<◌, ◌≤◌, true, false, cond, List, [], ◌∷◌, ◌++◌, map, drop, length, get_or, refl, sym, ap, ◌∙◌, append_assoc, arith, add-one, drop-cons, flat_map, inl, inr}
+use Rattle.std.proofs.Common.{Bool, Result, Ok, Err, ◌≡◌, ℕ, zero, suc, ◌+◌, ◌<◌, ◌≤◌, true, false, cond, List, [], ◌∷◌, ◌++◌, map, drop, length, get_or, refl, sym, ap, ◌∙◌, append_assoc, arith, add-one, drop-cons, flat_map, inl, inr}
 use Rattle.std.proofs.lemmas.Bool.{cases_Bool}
+use Rattle.std.specs.Prelude.{IfOk}
 use Rattle.std.specs.List.{list_any}
 use Rattle.model.specs.Tables.{Row}
 use Rattle.rowlaws.specs.Touching.{same_row, rows_without}
@@ -54,3 +55,19 @@ drop_none (x ∷ xs) (suc i) h = drop_none xs i (omega arith)
 pub no_items : {A : Type 0} (xs : List A) → length xs ≡ 0 → xs ≡ []
 no_items [] h = refl
 no_items (x ∷ xs) h = absurd (omega arith)
+
+-- one row against others, and rows against one
+pub one_absent : (others : List Declared) (r : Declared) → list_any (λ o. same_row (row_of r) (row_of o)) others ≡ false → rows_without (row_of r ∷ []) (map row_of others) ≡ row_of r ∷ []
+one_absent others r h = sym (without_is (r ∷ []) others) ∙ ap (λ rows. rows ++ []) (absent-in others r h)
+
+pub one_present : (others : List Declared) (r : Declared) → list_any (λ o. same_row (row_of r) (row_of o)) others ≡ true → rows_without (row_of r ∷ []) (map row_of others) ≡ []
+one_present others r h = sym (without_is (r ∷ []) others) ∙ ap (λ rows. rows ++ []) (present-in others r h)
+
+pub same_one : (r other : Declared) (b : Bool) → same_row (row_of r) (row_of other) ≡ b → list_any (λ o. same_row (row_of r) (row_of o)) (other ∷ []) ≡ b
+same_one r other true h = rw h refl
+same_one r other false h = rw h refl
+
+-- a list that a call leaves, said otherwise
+pub ok_list : {A E : Type 0} {P : Type 0} (r : Result A E) (xs ys zs : List P) → IfOk r (λ u. zs ≡ xs) → xs ≡ ys → IfOk r (λ u. zs ≡ ys)
+ok_list (Ok a) xs ys zs h e = h ∙ e
+ok_list (Err x) xs ys zs h e = h

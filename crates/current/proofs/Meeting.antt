@@ -6,13 +6,17 @@ use Rattle.std.specs.List.Sorted.{IsNonDecreasingBy, IsPartitionPoint}
 use Rattle.std.proofs.lemmas.Bool.{cases_Bool, cases_lt, and_left, and_right, ltb-false, lt-leb, le-ltb}
 use Rattle.std.proofs.lemmas.List.{length-drop, get_or-drop}
 use Rattle.std.proofs.lemmas.List.Kept.{AllPairs-cons}
-use Rattle.model.specs.Tables.{Period, inside}
+use Rattle.model.specs.declared.value.Value.{Value}
+use Rattle.model.specs.Tables.{Period, Row, inside}
 use Rattle.model.specs.Periods.{StartInOrder, is_free}
 use Rattle.model.specs.Statements.{days_of}
 use Rattle.overlaps.specs.Index.{AreApart}
+use Rattle.rowlaws.specs.Rows.{Has}
 use Rattle.overlaps.proofs.Sharing.{apart_at, tail_apart}
 use Rattle.current.specs.declared.row.Row.{Row as Declared}
 use Rattle.current.specs.Rows.{row_of}
+use Rattle.current.specs.ByKey.{in_strand}
+use Rattle.current.proofs.InStrand.{begins_strand}
 use Rattle.current.proofs.Placed.{days_of_row}
 
 pub twice : (rows : List Declared) → map (λ r. r.period) (map row_of rows) ≡ map days_of_row rows
@@ -85,6 +89,55 @@ any_of_days : (test : Period → Bool) (rows : List Declared) → list_any test 
 any_of_days test [] = refl
 any_of_days test (r ∷ rows) = ap (λ b. test (days_of_row r) || b) (any_of_days test rows)
 
+-- ---- rows in a part
+
+row_of_rest : (n : ℕ) (rows : List Declared) (r : Row) → Has (map row_of (drop n rows)) r → Has (map row_of rows) r
+row_of_rest zero [] r h = h
+row_of_rest zero (x ∷ rows) r h = h
+row_of_rest (suc n) [] r h = h
+row_of_rest (suc n) (x ∷ rows) r h = inr (row_of_rest n rows r h)
+
+row_of_front : (n : ℕ) (rows : List Declared) (r : Row) → Has (map row_of (take n rows)) r → Has (map row_of rows) r
+row_of_front zero rows r h = absurd h
+row_of_front (suc n) [] r h = h
+row_of_front (suc n) (x ∷ rows) r (inl e) = inl e
+row_of_front (suc n) (x ∷ rows) r (inr h) = inr (row_of_front n rows r h)
+
+-- a row that stands nowhere else
+in_rest : (n : ℕ) (rows : List Declared) (r : Row) → Has (map row_of rows) r → ((k : ℕ) (d : Declared) → k < n → k < length rows → r ≡ row_of (get_or rows k d) → ⊥) → Has (map row_of (drop n rows)) r
+in_rest zero [] r h f = h
+in_rest zero (x ∷ rows) r h f = h
+in_rest (suc n) [] r h f = h
+in_rest (suc n) (x ∷ rows) r (inl e) f = absurd (f 0 x (omega arith) (omega arith) e)
+in_rest (suc n) (x ∷ rows) r (inr h) f = in_rest n rows r h (λ k d l m. f (suc k) d (omega arith) (omega arith))
+
+in_front : (n : ℕ) (rows : List Declared) (r : Row) → Has (map row_of rows) r → ((k : ℕ) (d : Declared) → n ≤ k → k < length rows → r ≡ row_of (get_or rows k d) → ⊥) → Has (map row_of (take n rows)) r
+in_front zero [] r h f = h
+in_front zero (x ∷ rows) r (inl e) f = absurd (f 0 x (omega arith) (omega arith) e)
+in_front zero (x ∷ rows) r (inr h) f = in_front zero rows r h (λ k d l m. f (suc k) d (omega arith) (omega arith))
+in_front (suc n) [] r h f = h
+in_front (suc n) (x ∷ rows) r (inl e) f = inl e
+in_front (suc n) (x ∷ rows) r (inr h) f = inr (in_front n rows r h (λ k d l m. f (suc k) d (omega arith) (omega arith)))
+
+-- rows of a strand are apart
+later_in_strand : (k : List Value) (d : ℕ) (rows : List Declared) → in_strand k d (map row_of rows) ≡ true → All (λ q. d ≤ q.start) (map days_of_row rows)
+later_in_strand k d [] h = λ i e l. absurd (omega arith)
+later_in_strand k d (r ∷ rows) h =
+    let b = begins_strand k d (row_of r) (map row_of rows) h in
+    let from : d ≤ r.period.start.number = b.from in
+    let some = r.period.ordered in
+    let rest = later_in_strand k r.period.end.number rows b.later in
+    λ i e l. elim i as (λ m. m < length (map days_of_row (r ∷ rows)) → d ≤ (get_or (map days_of_row (r ∷ rows)) m e).start) [
+      | zero ↦ λ less. from
+      | suc m ↦ λ less. let after = rest m e (omega arith) in omega (arith, from, some, after)
+    ] l
+
+pub strand_apart : (k : List Value) (d : ℕ) (rows : List Declared) → in_strand k d (map row_of rows) ≡ true → AreApart (map days_of_row rows)
+strand_apart k d [] h = λ i j e l m. absurd (omega arith)
+strand_apart k d (r ∷ rows) h =
+    let b = begins_strand k d (row_of r) (map row_of rows) h in
+    AllPairs-cons (λ p q. p.end ≤ q.start) (days_of_row r) (map days_of_row rows) (later_in_strand k r.period.end.number rows b.later) (strand_apart k r.period.end.number rows b.later)
+
 -- ---- the part that meets a period
 
 module _ (rows : List Declared) (p : Period) (some : p.start < p.end) (from to : ℕ) (apart : AreApart (map days_of_row rows))
@@ -123,6 +176,19 @@ module _ (rows : List Declared) (p : Period) (some : p.start < p.end) (from to :
       let start = later (from + k) d (omega arith) (omega (arith, long)) in
       subst (λ r. test r ≡ false) (sym (get_or-drop from rows k d)) (and_left _ _ (lt-leb (get_or rows (from + k) d).period.start.number day (omega (arith, start)))) in
       ap not (any_of_days (λ q. inside q day) (slice_range rows from to) ∙ any_taken test (to - from) (drop from rows) back ∙ any_dropped test from rows front ∙ sym (any_of_days (λ q. inside q day) rows))
+
+  pub among_part : (r : Row) → Has (map row_of (slice_range rows from to)) r → Has (map row_of rows) r
+  among_part r h = row_of_rest from rows r (row_of_front (to - from) (drop from rows) r h)
+
+  pub each_in_part : (r : Row) → Has (map row_of rows) r → r.period.start < p.end → p.start < r.period.end → Has (map row_of (slice_range rows from to)) r
+  each_in_part r h a b =
+      let rest = in_rest from rows r h (λ k d l m e. let end = ended k d l in let same : r.period.end ≡ (get_or rows k d).period.end.number = ap (λ (x : Row). x.period.end) e in omega (arith, end, same, b)) in
+      in_front (to - from) (drop from rows) r rest
+      (λ k d l m e.
+      let long = length-drop from rows in
+      let start = later (from + k) d (omega arith) (omega (arith, long)) in
+      let same : r.period.start ≡ (get_or rows (from + k) d).period.start.number = ap (λ (x : Row). x.period.start) e ∙ ap (λ (x : Declared). x.period.start.number) (get_or-drop from rows k d) in
+      omega (arith, start, same, a))
 
 -- ---- the first day that is free
 

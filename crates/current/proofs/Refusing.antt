@@ -5,6 +5,7 @@ use Rattle.std.specs.Prelude.{find}
 use Rattle.std.proofs.lemmas.Bool.{lt-ltb}
 use denote.Ref.{Bor}
 use Rattle.period.specs.declared.day.Day.{Day}
+use Rattle.period.specs.declared.period.Period.{Period as DeclaredPeriod}
 use Rattle.model.specs.Tables.{Period, Row}
 use Rattle.model.specs.Statements.{days_of}
 use Rattle.rowlaws.specs.Rows.{Has}
@@ -16,6 +17,7 @@ use Rattle.sqlread.specs.declared.statement.Assignment.{Assignment}
 use Rattle.sqlread.specs.Meaning.{set_of}
 use Rattle.current.specs.declared.correction.Correction.{Correction}
 use Rattle.current.specs.Corrections.{action_of_correction, correction_action, made}
+use Rattle.current.specs.Suspects.{IsIn}
 
 -- ---- what comes of a call
 
@@ -62,5 +64,6 @@ same_some (Some day) o e h = refl
 pub hole_told : (day : Option Day) (f : ℕ → Bool) (p : Period) (d : ℕ) → option_map (λ d. d.number) day ≡ find f (days_of p) → p.start ≤ d → d < p.end → f d ≡ true → is_some day ≡ true
 hole_told day f p d e a b h = same_some day (find f (days_of p)) e (found f p d a b h)
 
-pub loss_told : (lost : Bool) (f : ℕ → Bool) (p : Period) (d : ℕ) → lost ≡ is_some (find f (days_of p)) → p.start ≤ d → d < p.end → f d ≡ true → lost ≡ true
-loss_told lost f p d e a b h = e ∙ found f p d a b h
+pub span_told : (span : Option DeclaredPeriod) (d : ℕ) → IsIn span d → is_some span ≡ true
+span_told None d h = absurd h
+span_told (Some p) d h = refl

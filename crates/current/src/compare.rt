@@ -1,5 +1,5 @@
 //! Lists of rows against each other.
-ghost use Rattle.std.specs.Prelude.{◌≡◌, ◌<◌, ◌++◌, map, filter, not, length, IfOk, OnOk, IfSome};
+ghost use Rattle.std.specs.Prelude.{◌≡◌, ◌<◌, ◌++◌, ◌∷◌, [], map, filter, not, length, IfOk, OnOk, IfSome};
 ghost use Rattle.std.specs.Option.{is_some};
 ghost use Rattle.std.specs.List.{list_any};
 ghost use Rattle.rowlaws.specs.Touching.{same_row, rows_without, removed_both, added_both};
@@ -19,22 +19,27 @@ pub(crate) fn has_row(rows: &[Row], row: &Row) -> bool
     rows.iter().any(|other| row.is_same(other))
 }
 
-/// The rows of the first list that are not in the second. Fails only for want of memory.
-#[tactic(auto, unfolding(rowlaws::specs::Touching::rows_without))]
-pub(crate) fn rows_without(
-    alloc: Global,
-    rows: &[Row],
-    others: &[Row],
-) -> Result<Vec<Row>, AllocError>
-    ensures { IfOk result (λ left. map row_of left.items ≡ rows_without (map row_of rows.now) (map row_of others.now)) }
+/// Adds a copy of a row, if it is not among the others.
+pub(crate) fn add_unless(more: &mut Vec<Row>, row: &Row, others: &[Row]) -> Result<(), AllocError>
+    ensures { IfOk result (λ u. map row_of more.new.items ≡ map row_of more.old.items ++ rows_without (row_of row.now ∷ []) (map row_of others.now)) }
 {
-    let mut left = Vec::new(alloc);
+    if has_row(others, row) {
+        return Ok(());
+    }
+    more.push(row.clone()?)?;
+    Ok(())
+}
+
+/// Adds copies of the rows that are not the other one.
+pub(crate) fn add_others(more: &mut Vec<Row>, rows: &[Row], other: &Row) -> Result<(), AllocError>
+    ensures { IfOk result (λ u. map row_of more.new.items ≡ map row_of more.old.items ++ rows_without (map row_of rows.now) (row_of other.now ∷ [])) }
+{
     for row in rows {
-        if !has_row(others, row) {
-            left.push(row.clone()?)?;
+        if !row.is_same(other) {
+            more.push(row.clone()?)?;
         }
     }
-    Ok(left)
+    Ok(())
 }
 
 /// A copy of the rows.

@@ -47,6 +47,21 @@ fn push_part(
     Ok(())
 }
 
+// The same with the row's own values, which are copied where there is a part alone.
+fn push_old_part(
+    parts: &mut Vec<Row>,
+    row: &Row,
+    part: Option<Period>,
+    system_start: Stamp,
+) -> Result<(), AllocError>
+    ensures { IfOk result (λ u. map row_of parts.new.items ≡ map row_of parts.old.items ++ row_of_part (row_of row.now) part row.now.values.items system_start) }
+{
+    match part {
+        Some(_) => push_part(parts, row, part, row.clone_values()?, system_start),
+        None => Ok(()),
+    }
+}
+
 // The same with new values, if there are any.
 fn push_new_part(
     parts: &mut Vec<Row>,
@@ -106,9 +121,9 @@ impl Correction<'_> {
         let (before, within, after) = pieces(row.period, self.portion);
         let at = self.system_start;
         let mut parts = Vec::new(alloc);
-        push_part(&mut parts, row, before, row.clone_values()?, at)?;
+        push_old_part(&mut parts, row, before, at)?;
         push_new_part(&mut parts, row, within, new, at)?;
-        push_part(&mut parts, row, after, row.clone_values()?, at)?;
+        push_old_part(&mut parts, row, after, at)?;
         Ok(parts)
     }
 }

@@ -242,8 +242,9 @@ impl Current {
     }
 
     /// What `check` says, of tables in which no day was without a parent before these rows went and came. Rows that came and
-    /// went again may be among them. It looks at rows of keys that came, and where a key lost a day at all rows of each
-    /// table that may refer to it; tables without foreign keys cost nothing.
+    /// went again may be among them. It looks at the rows that came, and where a key lost days at those rows of each table
+    /// that refer to it between the first and the last of these days, found by halves key by key; tables without foreign
+    /// keys cost nothing.
     ///
     /// `NoParent` with the first table in declared order, then its least key, then its least day without a parent;
     /// `NoMemory`, always once it has failed.

@@ -1,8 +1,10 @@
 //! Foreign keys: the first day of a row that has no parent.
-ghost use Rattle.std.specs.Prelude.{◌≡◌, ◌<◌, ◌≤◌, ℕ, map, find, length, slice_get, slice_range, IfOk, IfSome};
+ghost use Rattle.std.specs.Prelude.{◌≡◌, ◌<◌, ◌≤◌, ℕ, map, find, length, slice_get, slice_range, true, IfOk, IfSome};
 ghost use Rattle.std.specs.Option.{option_map, option_and_then, option_copied};
 ghost use Rattle.model.specs.Periods.{period_of, is_free};
 ghost use Rattle.model.specs.Statements.{days_of};
+ghost use Rattle.model.specs.Tables.{Row as TableRow};
+ghost use Rattle.rowlaws.specs.Rows.{Has};
 ghost use Rattle.rowlaws.specs.Covering as covering;
 ghost use Rattle.rowlaws.specs.Covering.{periods_of, rows_orphan};
 ghost use Rattle.overlaps.specs.Index.{AreApart};
@@ -13,6 +15,7 @@ ghost use Rattle.current.specs.ByKey.{rows_in};
 ghost use Rattle.current.specs.Table.{rows_of_table};
 ghost use Rattle.current.specs.Places.{rows_at};
 ghost use Rattle.current.specs.Orphans.{place_of};
+ghost use Rattle.current.specs.Suspects.{IsIn};
 
 use crate::row::Row;
 use crate::strands::Strands;
@@ -46,8 +49,8 @@ fn column_value<'a>(table: &Table, column: usize, row: &'a Row) -> Option<&'a Va
     }
 }
 
-// The key of the parent that a row refers to by these columns.
-fn referred_key(
+/// The key of the parent that a row refers to by these columns.
+pub(crate) fn referred_key(
     alloc: Global,
     table: &Table,
     columns: &[usize],
@@ -75,7 +78,7 @@ fn periods(alloc: Global, rows: &[Row]) -> Result<Vec<Period>, AllocError>
     Ok(periods)
 }
 
-// The rows of a table, which may not be there.
+/// The rows of a table, which may not be there.
 pub(crate) fn table_at(tables: &[TableRows], place: usize) -> Option<&TableRows>
     ensures { option_copied result ≡ slice_get tables.now place }
 {
@@ -102,9 +105,11 @@ fn part(rows: &[Row], from: usize, to: usize) -> &[Row]
     &rows[from..to]
 }
 
-// Those of a key's rows that have a day of the period. They stand together, and are found by halves.
-fn rows_meeting(rows: &[Row], period: Period) -> &[Row]
+/// Those of a key's rows that have a day of the period. They stand together, and are found by halves.
+pub(crate) fn rows_meeting(rows: &[Row], period: Period) -> &[Row]
     requires { AreApart (map (λ r. period_of r.period) rows.now) }
+    ensures among { (r : TableRow) → Has (map row_of result.now) r → Has (map row_of rows.now) r }
+    ensures each { (r : TableRow) → Has (map row_of rows.now) r → r.period.start < period.end.number → period.start.number < r.period.end → Has (map row_of result.now) r }
     ensures free { (d : ℕ) → period.start.number ≤ d → d < period.end.number → is_free (map (λ r. period_of r.period) result.now) d ≡ is_free (map (λ r. period_of r.period) rows.now) d }
     ensures apart { AreApart (map (λ r. period_of r.period) result.now) }
 {
@@ -127,6 +132,40 @@ pub(crate) fn first_free_day(
     let rows = rows_of_key(tables, table, key);
     let periods = periods(alloc, rows_meeting(rows, period))?;
     Ok(covered(period, periods.as_slice()).err())
+}
+
+// A day after each day of a period that none of these rows has, which stand in the order of their starts.
+fn free_before(rows: &[Row], period: Period) -> Day
+    ensures { (d : ℕ) → d < period.end.number → is_free (map (λ r. period_of r.period) rows.now) d ≡ true → d < result.number }
+{
+    match rows.last() {
+        Some(row) => {
+            if row.period.end >= period.end {
+                row.period.start
+            } else {
+                period.end
+            }
+        }
+        None => period.end,
+    }
+}
+
+/// A period with all days of a period that no row of the key has, from the least of them on; none where each has a row. It
+/// looks at no more rows than `first_free_day`.
+pub(crate) fn free_span(
+    alloc: Global,
+    tables: &[TableRows],
+    table: usize,
+    key: &Key,
+    period: Period,
+) -> Result<Option<Period>, AllocError>
+    ensures { IfOk result (λ span. (d : ℕ) → Has (days_of (period_of period)) d → is_free (periods_of (rows_at rows_of_table tables.now table) key.now) d ≡ true → IsIn span d) }
+{
+    let Some(start) = first_free_day(alloc, tables, table, key, period)? else {
+        return Ok(None);
+    };
+    let rows = rows_meeting(rows_of_key(tables, table, key), period);
+    Ok(Period::new(start, free_before(rows, period)).ok())
 }
 
 // The least day of a row that no parent has, by one foreign key of its table.
@@ -154,8 +193,8 @@ fn lesser(one: Option<Day>, other: Option<Day>) -> Option<Day>
     }
 }
 
-// And by all foreign keys of its table, which stands at this place.
-fn missing(
+/// And by all foreign keys of its table, which stands at this place.
+pub(crate) fn missing(
     alloc: Global,
     tables: &[TableRows],
     place: usize,
@@ -173,7 +212,7 @@ fn missing(
 }
 
 // The first such day of these rows.
-pub(crate) fn missing_in_rows<'a>(
+fn missing_in_rows<'a>(
     alloc: Global,
     tables: &[TableRows],
     place: usize,
@@ -219,7 +258,7 @@ fn missing_in_strands<'a>(
 }
 
 // The first such day of the table at this place, which may have no rows yet.
-pub(crate) fn missing_in_table<'a>(
+fn missing_in_table<'a>(
     alloc: Global,
     tables: &'a [TableRows],
     schema: &Schema,

@@ -2,7 +2,9 @@
 ghost use Rattle.std.specs.Prelude.{◌≡◌, ◌≤◌, ◌<◌, ℕ, true, map, is_some, IsTrue, IfOk, IsErr};
 ghost use Rattle.std.specs.List.{list_any};
 ghost use Rattle.model.specs.Periods.{period_of, is_free};
+ghost use Rattle.model.specs.Tables.{Row as TableRow};
 ghost use Rattle.rowlaws.specs.Rows.{Has};
+ghost use Rattle.rowlaws.specs.Losing.{lost_days};
 ghost use Rattle.rowlaws.specs.Changes.{clashes};
 ghost use Rattle.rowlaws.specs.Covering.{periods_of};
 ghost use Rattle.rowlaws.specs.Cutting as cutting;
@@ -14,7 +16,7 @@ ghost use Rattle.current.specs.Table.{rows_of_table};
 use crate::correction::Correction;
 use crate::references::first_free_day;
 use crate::row::Row;
-use crate::suspects::has_lost_day;
+use crate::suspects::{Lost, lost_with};
 use crate::table::TableRows;
 use fault::Refusal;
 use overlaps::Key;
@@ -55,18 +57,18 @@ fn passes_over_a_hole(
     first_free_day(alloc, tables, table, key, period)
 }
 
-/// A function that forgets a day of a row that went, where no row of its key has it or its key has no rows, does not meet the contract of `has_lost_day`.
+/// A function that forgets a day of a row that went, where no row of its key has it or its key has no rows, does not meet the contract of `lost_with`.
 fn forgets_a_lost_day(
     alloc: Global,
     tables: &[TableRows],
     table: usize,
-    row: &Row,
-) -> Result<bool, AllocError>
-    ghost day: { ℕ }
-    requires from { row.now.period.start.number ≤ day }
-    requires before { day < row.now.period.end.number }
-    requires free { is_free (periods_of (rows_at rows_of_table tables.now table) row.now.key) day ≡ true }
-    ensures { IfOk result (λ lost. lost ≡ true) }
+    removed: &[Row],
+) -> Result<Lost, AllocError>
+    ghost of: { TableRow × ℕ }
+    requires went { Has (map row_of removed.now) of.0 }
+    requires lost { Has (lost_days (rows_at rows_of_table tables.now table) of.0) of.1 }
+    ensures keys { IfOk result (λ lost. Has lost.keys.keys of.0.key) }
+    ensures span { IfOk result (λ lost. is_some lost.span ≡ true) }
 {
-    has_lost_day(alloc, tables, table, row)
+    lost_with(alloc, tables, table, removed)
 }

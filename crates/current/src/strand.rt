@@ -6,7 +6,7 @@ ghost use Rattle.current.specs.Rows.{row_of};
 ghost use Rattle.current.specs.Touched.{removed_of, added_of};
 ghost use Rattle.current.specs.Corrections.{action_of_correction, is_met, is_stuck, kept, removed_at, added_at};
 
-use crate::compare::{append, rows_without};
+use crate::compare::{add_others, add_unless, append};
 use crate::correction::Correction;
 use crate::row::Row;
 use fault::Refusal;
@@ -50,11 +50,8 @@ fn correct_met(
     ensures err { IfErr result (λ refusal. (refusal ≡ NoMemory) ⊎ ((refusal ≡ NumberRange) × (is_stuck (action_of_correction correction.now) (row_of row.now) ≡ true))) }
 {
     let parts = correction.parts(alloc, row)?;
-    let before = vec![in alloc; row.clone()?]?;
-    let removed = rows_without(alloc, before.as_slice(), parts.as_slice())?;
-    let added = rows_without(alloc, parts.as_slice(), before.as_slice())?;
-    append(&mut changes.removed, removed)?;
-    append(&mut changes.added, added)?;
+    add_unless(&mut changes.removed, row, parts.as_slice())?;
+    add_others(&mut changes.added, parts.as_slice(), row)?;
     append(rows, parts)?;
     Ok(())
 }

@@ -1,151 +1,328 @@
-//! Foreign keys after a transaction, judged where it touched: the rows that came, and the rows that
-//! refer to a key that lost a day. References that held before are judged so as by going through all.
-ghost use Rattle.std.specs.Prelude.{◌≡◌, ◌<◌, map, flat_map, length, IfOk, IfSome};
-ghost use Rattle.std.specs.List.{list_any};
-ghost use Rattle.std.specs.List.Sorted.{IsStrictlySortedBy};
-ghost use Rattle.model.specs.Values.{key_cmp};
-ghost use Rattle.std.specs.Option.{option_map};
+//! Foreign keys after a transaction, judged where it touched: the rows that came, and those that have a day that a key they
+//! refer to lost. References that held before are judged so as by going through all.
+ghost use Rattle.std.specs.Prelude.{◌≡◌, ◌<◌, ◌≤◌, ◌⊎◌, ℕ, IsTrue, map, length, option_map, IfOk, IfSome};
 ghost use Rattle.model.specs.Tables.{Row as TableRow};
 ghost use Rattle.model.specs.Transactions.{State};
 ghost use Rattle.model.specs.Transactions as model;
 ghost use Rattle.rowlaws.specs.Rows.{Has};
 ghost use Rattle.rowlaws.specs.Statements.{AllListed};
-ghost use Rattle.rowlaws.specs.Covering as covering;
-ghost use Rattle.rowlaws.specs.Losing as losing;
+ghost use Rattle.rowlaws.specs.Losing.{lost_days};
 ghost use Rattle.rowlaws.specs.Whole.{ComesFromWhole};
-ghost use Rattle.rowlaws.specs.Suspects.{OrderedOrphan};
-ghost use Rattle.rowlaws.specs.Indexes.{rows_of_key, KeysPicked};
-ghost use Rattle.sqlread.specs.Meaning.{reference_of, references_from, language_of};
+ghost use Rattle.rowlaws.specs.Suspects.{PickedOrphan, earlier as earlier_place};
+ghost use Rattle.sqlread.specs.Meaning.{references_from, language_of};
 ghost use Rattle.current.specs.Rows.{row_of};
 ghost use Rattle.current.specs.Table.{rows_of_table};
 ghost use Rattle.current.specs.Places.{rows_at};
 ghost use Rattle.current.specs.Orphans.{place_of};
 ghost use Rattle.current.specs.Touched.{removed_in, added_in};
-ghost use Rattle.current.specs.Suspects.{IsFirstPicked};
+ghost use Rattle.current.specs.Suspects.{IsIn, IsLost, IsFirstPicked};
 
-use crate::references::{Place, first_free_day, missing_in_rows, missing_in_table, table_at};
+use crate::references::{Place, free_span, missing, referred_key, rows_meeting, table_at};
 use crate::row::Row;
-use crate::strands::strand;
 use crate::table::TableRows;
 use crate::touched::Touched;
-use overlaps::Key;
-use schema::{Schema, Table};
+use overlaps::{Count, Key};
+use period::Period;
+use schema::{Reference, Schema, Table};
 use std::alloc::{AllocError, Global};
 use std::collections::BTreeSet;
 
-// Whether a row that went has a day that no row of its key has now. Of these only those are looked at that have a day
-// of it.
-pub(crate) fn has_lost_day(
-    alloc: Global,
-    tables: &[TableRows],
-    table: usize,
-    row: &Row,
-) -> Result<bool, AllocError>
-    ensures { IfOk result (λ lost. lost ≡ losing.has_lost_day (rows_at rows_of_table tables.now table) (row_of row.now)) }
-{
-    let day = first_free_day(alloc, tables, table, &row.key, row.period)?;
-    Ok(day.is_some())
+/// The keys of a table that lost a day, and a period with all days that they lost.
+#[derive(Debug, Drop)]
+pub(crate) struct Lost {
+    pub keys: BTreeSet<Key>,
+    /// None where no day is lost.
+    pub span: Option<Period>,
 }
 
-// Whether one of these rows that went from a table has such a day.
-fn has_lost_days(
+/// A search for the first day without a parent, among rows of one table.
+#[derive(Clone, Copy)]
+pub(crate) struct Search<'a> {
+    pub alloc: Global,
+    pub tables: &'a [TableRows],
+    /// Where the table stands.
+    pub place: usize,
+    pub table: &'a Table,
+}
+
+// The earlier of two places of one table, by key and then by day.
+fn earlier<'a>(one: Option<Place<'a>>, other: Option<Place<'a>>) -> Option<Place<'a>>
+    ensures { option_map place_of result ≡ earlier_place (option_map place_of one.entry) (option_map place_of other.entry) }
+{
+    match (one, other) {
+        (Some(place), Some(later)) => {
+            let order = place.key.cmp(later.key);
+            if order.then(place.day.number.cmp(&later.day.number)).is_gt() {
+                Some(later)
+            } else {
+                Some(place)
+            }
+        }
+        (Some(place), None) => Some(place),
+        (None, place) => place,
+    }
+}
+
+// A period with the days of both.
+fn joined(one: Option<Period>, other: Period) -> Period
+    ensures first { (d : ℕ) → IsIn one d → (result.start.number ≤ d) × (d < result.end.number) }
+    ensures second { (d : ℕ) → other.start.number ≤ d → d < other.end.number → (result.start.number ≤ d) × (d < result.end.number) }
+{
+    match one {
+        Some(one) => Period {
+            start: one.start.min(other.start),
+            end: one.end.max(other.end),
+        },
+        None => other,
+    }
+}
+
+impl Lost {
+    ghost use Rattle.model.specs.declared.value.Value.{Value};
+    ghost use Rattle.std.specs.Prelude.{List};
+
+    // And what it lost with one row more.
+    fn with(
+        self,
+        alloc: Global,
+        tables: &[TableRows],
+        table: usize,
+        row: &Row,
+    ) -> Result<Lost, AllocError>
+        ensures before { IfOk result (λ lost. (key : List Value) (d : ℕ) → IsLost self key d → IsLost lost key d) }
+        ensures row { IfOk result (λ lost. (d : ℕ) → Has (lost_days (rows_at rows_of_table tables.now table) (row_of row.now)) d → IsLost lost row.now.key d) }
+    {
+        let Some(more) = free_span(alloc, tables, table, &row.key, row.period)? else {
+            return Ok(self);
+        };
+        let Lost { mut keys, span } = self;
+        let key = row.key.clone()?;
+        keys.insert(key)?;
+        Ok(Lost {
+            keys,
+            span: Some(joined(span, more)),
+        })
+    }
+}
+
+/// What a table lost with these rows that went: each day that none of a row's key has now, and its key.
+pub(crate) fn lost_with(
     alloc: Global,
     tables: &[TableRows],
     table: usize,
     removed: &[Row],
-) -> Result<bool, AllocError>
-    ensures { IfOk result (λ lost. lost ≡ list_any (losing.has_lost_day (rows_at rows_of_table tables.now table)) (map row_of removed.now)) }
+) -> Result<Lost, AllocError>
+    ensures { IfOk result (λ lost. (row : TableRow) (d : ℕ) → Has (map row_of removed.now) row → Has (lost_days (rows_at rows_of_table tables.now table) row) d → IsLost lost row.key d) }
 {
+    let mut lost = Lost {
+        keys: BTreeSet::new(alloc),
+        span: None,
+    };
     for row in removed {
-        if has_lost_day(alloc, tables, table, row)? {
-            return Ok(true);
+        let next = lost.with(alloc, tables, table, row)?;
+        lost = next;
+    }
+    Ok(lost)
+}
+
+impl<'a> Search<'a> {
+    ghost use Rattle.std.specs.Prelude.{Some};
+    ghost use Rattle.rowlaws.specs.Suspects.{rows_losing};
+    ghost use Rattle.sqlread.specs.Meaning.{reference_of, values_at};
+    ghost use Rattle.schema.specs.Shape.{ReferenceShape};
+    ghost use Rattle.current.specs.Suspects.{rows_by, LooksAt};
+
+    // Looks at a row.
+    fn row(&self, row: &'a Row, before: Option<Place<'a>>) -> Result<Option<Place<'a>>, AllocError>
+        requires { Has (rows_by self.now self.now.place) (row_of row.now) }
+        ensures { IfOk result (λ now. LooksAt self.now (λ r. r ≡ row_of row.now) (option_map place_of before.entry) (option_map place_of now)) }
+    {
+        let key = &row.key;
+        let table = self.place;
+        match missing(self.alloc, self.tables, table, self.table, row)? {
+            Some(day) => {
+                let here = Some(Place { table, key, day });
+                Ok(earlier(here, before))
+            }
+            None => Ok(before),
         }
     }
-    Ok(false)
-}
 
-// Whether a key of a table that this one refers to lost a day.
-fn has_losing_parent(
-    alloc: Global,
-    tables: &[TableRows],
-    table: &Table,
-    touched: &Touched,
-) -> Result<bool, AllocError>
-    ensures { IfOk result (λ lost. lost ≡ list_any (λ n. list_any (losing.has_lost_day (rows_at rows_of_table tables.now n)) (removed_in touched.now n)) (map (λ f. f.parent) table.now.references)) }
-{
-    let references = table.references();
-    for reference in references {
-        let parent = reference.parent();
-        if has_lost_days(alloc, tables, parent, touched.removed(parent))? {
-            return Ok(true);
+    // Whether the row stands in the table. It is searched for by halves.
+    fn stands(&self, row: &Row) -> bool
+        ensures stands { IsTrue result → Has (rows_by self.now self.now.place) (row_of row.now) }
+        ensures each { Has (rows_by self.now self.now.place) (row_of row.now) → IsTrue result }
+    {
+        match table_at(self.tables, self.place) {
+            Some(rows) => rows.has(row, &mut Count::new()),
+            None => false,
         }
     }
-    Ok(false)
-}
 
-// The keys of rows, in order, each once.
-fn keys_of(alloc: Global, rows: &[Row]) -> Result<BTreeSet<Key>, AllocError>
-    ensures in_order { IfOk result (λ keys. IsStrictlySortedBy key_cmp keys.keys) }
-    ensures keys { IfOk result (λ keys. (row : TableRow) → Has (map row_of rows.now) row → Has keys.keys row.key) }
-{
-    let mut keys = BTreeSet::new(alloc);
-    for row in rows {
-        keys.insert(row.key.clone()?)?;
+    // Looks at a row that came, if it stands now.
+    fn came_row(
+        &self,
+        row: &'a Row,
+        before: Option<Place<'a>>,
+    ) -> Result<Option<Place<'a>>, AllocError>
+        ensures { IfOk result (λ now. LooksAt self.now (λ r. (r ≡ row_of row.now) × Has (rows_by self.now self.now.place) r) (option_map place_of before.entry) (option_map place_of now)) }
+    {
+        if !self.stands(row) {
+            return Ok(before);
+        }
+        self.row(row, before)
     }
-    Ok(keys)
-}
 
-// The rows of a key, of a table that may not be there.
-fn strand_of<'a>(tables: &'a [TableRows], table: usize, key: &Key) -> &'a [Row]
-    ensures { map row_of result.now ≡ rows_of_key (rows_at rows_of_table tables.now table) key.now }
-{
-    match table_at(tables, table) {
-        Some(rows) => strand(&rows.index.strands, key),
-        None => &[],
+    // Looks at those rows that came and stand now.
+    fn came(
+        &self,
+        added: &'a [Row],
+        before: Option<Place<'a>>,
+    ) -> Result<Option<Place<'a>>, AllocError>
+        ensures { IfOk result (λ now. LooksAt self.now (λ r. Has (map row_of added.now) r × Has (rows_by self.now self.now.place) r) (option_map place_of before.entry) (option_map place_of now)) }
+    {
+        let mut found = before;
+        for row in added {
+            let next = self.came_row(row, found)?;
+            found = next;
+        }
+        Ok(found)
+    }
+
+    // Looks at a row, if it refers to one of the keys.
+    fn referring_row(
+        &self,
+        columns: &[usize],
+        keys: &BTreeSet<Key>,
+        row: &'a Row,
+        before: Option<Place<'a>>,
+    ) -> Result<Option<Place<'a>>, AllocError>
+        requires { Has (rows_by self.now self.now.place) (row_of row.now) }
+        ensures { IfOk result (λ now. LooksAt self.now (λ r. (r ≡ row_of row.now) × Has keys.now.keys (values_at self.now.table.now columns.now r.key r.values)) (option_map place_of before.entry) (option_map place_of now)) }
+    {
+        let key = referred_key(self.alloc, self.table, columns, row)?;
+        if !keys.contains(&key) {
+            return Ok(before);
+        }
+        self.row(row, before)
+    }
+
+    // Looks at those of these rows that refer to one of the keys.
+    fn referring(
+        &self,
+        columns: &[usize],
+        keys: &BTreeSet<Key>,
+        rows: &'a [Row],
+        before: Option<Place<'a>>,
+    ) -> Result<Option<Place<'a>>, AllocError>
+        requires { (r : TableRow) → Has (map row_of rows.now) r → Has (rows_by self.now self.now.place) r }
+        ensures { IfOk result (λ now. LooksAt self.now (λ r. Has (map row_of rows.now) r × Has keys.now.keys (values_at self.now.table.now columns.now r.key r.values)) (option_map place_of before.entry) (option_map place_of now)) }
+    {
+        let mut found = before;
+        for row in rows {
+            let next = self.referring_row(columns, keys, row, found)?;
+            found = next;
+        }
+        Ok(found)
+    }
+
+    // Looks at the rows of the table that refer to one of the keys and have a day of the span. Of each key's rows these are
+    // found by halves.
+    fn meeting(
+        &self,
+        columns: &[usize],
+        keys: &BTreeSet<Key>,
+        span: Period,
+        rows: &'a TableRows,
+        before: Option<Place<'a>>,
+    ) -> Result<Option<Place<'a>>, AllocError>
+        requires { rows_of_table rows.now ≡ rows_by self.now self.now.place }
+        ensures { IfOk result (λ now. LooksAt self.now (λ r. Has (rows_of_table rows.now) r × Has keys.now.keys (values_at self.now.table.now columns.now r.key r.values) × (r.period.start < span.end.number) × (span.start.number < r.period.end)) (option_map place_of before.entry) (option_map place_of now)) }
+    {
+        let mut count = Count::new();
+        let mut found = before;
+        for (_, strand) in &rows.index.strands {
+            let met = rows_meeting(strand.all(&mut count), span);
+            let next = self.referring(columns, keys, met, found)?;
+            found = next;
+        }
+        Ok(found)
+    }
+
+    // The same of a table that may have no rows yet.
+    fn spanned(
+        &self,
+        columns: &[usize],
+        keys: &BTreeSet<Key>,
+        span: Period,
+        before: Option<Place<'a>>,
+    ) -> Result<Option<Place<'a>>, AllocError>
+        ensures { IfOk result (λ now. LooksAt self.now (λ r. Has (rows_by self.now self.now.place) r × Has keys.now.keys (values_at self.now.table.now columns.now r.key r.values) × (r.period.start < span.end.number) × (span.start.number < r.period.end)) (option_map place_of before.entry) (option_map place_of now)) }
+    {
+        match table_at(self.tables, self.place) {
+            Some(rows) => self.meeting(columns, keys, span, rows, before),
+            None => Ok(before),
+        }
+    }
+
+    // Looks at the rows that have a day that a key they refer to lost.
+    fn losing(
+        &self,
+        reference: &Reference,
+        removed: &[Row],
+        before: Option<Place<'a>>,
+    ) -> Result<Option<Place<'a>>, AllocError>
+        ensures { IfOk result (λ now. LooksAt self.now (λ r. (row : TableRow) × Has (map row_of removed.now) row × Has (rows_losing (reference_of self.now.place self.now.table.now reference.now) (rows_by self.now self.now.place) (rows_by self.now reference.now.parent) row) r) (option_map place_of before.entry) (option_map place_of now)) }
+    {
+        let lost = lost_with(self.alloc, self.tables, reference.parent(), removed)?;
+        match lost.span {
+            Some(span) => self.spanned(reference.columns(), &lost.keys, span, before),
+            None => Ok(before),
+        }
+    }
+
+    // And so by all foreign keys of the table.
+    fn losing_any(
+        &self,
+        touched: &Touched,
+        before: Option<Place<'a>>,
+    ) -> Result<Option<Place<'a>>, AllocError>
+        ensures { IfOk result (λ now. LooksAt self.now (λ r. (f : ReferenceShape) × Has self.now.table.now.references f × (row : TableRow) × Has (removed_in touched.now f.parent) row × Has (rows_losing (reference_of self.now.place self.now.table.now f) (rows_by self.now self.now.place) (rows_by self.now f.parent) row) r) (option_map place_of before.entry) (option_map place_of now)) }
+    {
+        let mut found = before;
+        let references = self.table.references();
+        for reference in references {
+            let removed = touched.removed(reference.parent());
+            let next = self.losing(reference, removed, found)?;
+            found = next;
+        }
+        Ok(found)
     }
 }
 
-// The first day without a parent of the rows of these keys.
-fn missing_of_keys<'a>(
+// The first such day of the table at this place. A table without foreign keys is not looked at.
+fn first_in_table<'a>(
     alloc: Global,
     tables: &'a [TableRows],
+    schema: &'a Schema,
     place: usize,
-    table: &Table,
-    keys: &BTreeSet<Key>,
-) -> Result<Option<Place<'a>>, AllocError>
-    ensures { IfOk result (λ found. option_map place_of found ≡ covering.missing_in_rows (map (reference_of place table.now) table.now.references) (rows_at rows_of_table tables.now) place (flat_map (rows_of_key (rows_at rows_of_table tables.now place)) keys.now.keys)) }
-{
-    for key in keys {
-        let rows = strand_of(tables, place, key);
-        if let Some(found) = missing_in_rows(alloc, tables, place, table, rows)? {
-            return Ok(Some(found));
-        }
-    }
-    Ok(None)
-}
-
-// The first such day of the table at this place, which is looked for among the rows of keys that came;
-// among all where a key that it may refer to lost a day.
-fn missing_in_picked<'a>(
-    alloc: Global,
-    tables: &'a [TableRows],
-    schema: &Schema,
-    place: usize,
-    touched: &Touched,
+    touched: &'a Touched,
 ) -> Result<Option<Place<'a>>, AllocError>
     requires { place < length schema.now }
     ensures { IfOk result (λ found. IsFirstPicked (references_from 0 schema.now) (rows_at rows_of_table tables.now) (removed_in touched.now) (added_in touched.now) place (option_map place_of found)) }
 {
-    rowlaws::keys_picked();
     let (_, table) = schema.table(place);
     if table.references().is_empty() {
         return Ok(None);
     }
-    if has_losing_parent(alloc, tables, table, touched)? {
-        return missing_in_table(alloc, tables, schema, place);
-    }
-    let keys = keys_of(alloc, touched.added(place))?;
-    missing_of_keys(alloc, tables, place, table, &keys)
+    let search = Search {
+        alloc,
+        tables,
+        place,
+        table,
+    };
+    let found = search.came(touched.added(place), None)?;
+    search.losing_any(touched, found)
 }
 
 /// The first day without a parent, where there was none before these rows went and came: of the
@@ -153,15 +330,15 @@ fn missing_in_picked<'a>(
 pub(crate) fn first_touched_orphan<'a>(
     alloc: Global,
     tables: &'a [TableRows],
-    schema: &Schema,
-    touched: &Touched,
+    schema: &'a Schema,
+    touched: &'a Touched,
 ) -> Result<Option<Place<'a>>, AllocError>
     ensures first { IfOk result (λ found. ComesFromWhole (language_of schema.now) (rows_at rows_of_table tables.now) (removed_in touched.now) (added_in touched.now) → (state : State) → AllListed (rows_at rows_of_table tables.now) state → option_map place_of found ≡ model.first_orphan (language_of schema.now) state) }
     ensures within { IfOk result (λ found. IfSome found (λ place. place.table < length schema.now)) }
 {
-    rowlaws::ordered_orphan();
+    rowlaws::picked_orphan();
     for place in 0..schema.len() {
-        if let Some(found) = missing_in_picked(alloc, tables, schema, place, touched)? {
+        if let Some(found) = first_in_table(alloc, tables, schema, place, touched)? {
             return Ok(Some(found));
         }
     }

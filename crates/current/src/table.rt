@@ -181,8 +181,8 @@ impl TableRows {
         }
     }
 
-    // Whether the row is there. It is searched for by halves, as `KeyIndex::find` does.
-    fn has(&self, row: &Row, count: &mut Count) -> bool
+    /// Whether the row is there. It is searched for by halves, as `KeyIndex::find` does. Takes no memory.
+    pub(crate) fn has(&self, row: &Row, count: &mut Count) -> bool
         ensures there { result ≡ list_any (same_row (row_of row.now)) (strands_of self.now.index.strands row.now.key) }
         ensures few { (digits : ℕ) → length (strands_of self.now.index.strands row.now.key) < 2 ^ digits → count.new ≤ count.old + digits + 1 }
     {

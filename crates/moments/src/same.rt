@@ -1,29 +1,9 @@
-//! Whether two messages or two entries are the same.
+//! Whether two messages or two lists of entries are the same.
 ghost use Rattle.std.specs.Prelude.{◌≡◌, ◌↔◌, IsTrue};
 
-use model::entry::{Entry, Request};
+use model::entry::Entry;
 use model::message::{Body, Message};
-
-fn is_same_request(one: &Request, other: &Request) -> bool
-    ensures { IsTrue result ↔ (one.now ≡ other.now) }
-{
-    one.client.get() == other.client.get()
-        && one.number.get() == other.number.get()
-        && one.text.as_str() == other.text.as_str()
-}
-
-pub(crate) fn is_same_entry(one: &Entry, other: &Entry) -> bool
-    ensures { IsTrue result ↔ (one.now ≡ other.now) }
-{
-    if one.term != other.term || one.stamp.micros() != other.stamp.micros() {
-        return false;
-    }
-    match (&one.request, &other.request) {
-        (Some(request), Some(another)) => is_same_request(request, another),
-        (None, None) => true,
-        _ => false,
-    }
-}
+use node::recall::is_same_entry;
 
 pub(crate) fn are_same_entries(some: &[Entry], others: &[Entry]) -> bool
     ensures { IsTrue result ↔ (some.now ≡ others.now) }

@@ -16,9 +16,9 @@ use Rattle.apply.specs.declared.tables.Tables.{Tables}
 use Rattle.apply.specs.View.{AreTables}
 use Rattle.sqlread.specs.Meaning.{language_of}
 use Rattle.std.specs.List.{cons_option}
-use Rattle.node.specs.Applying.{AreApplied, AreMade, IsNext}
+use Rattle.node.specs.Applying.{AreApplied, AreMade}
 use Rattle.node.specs.View.{told_between}
-use Rattle.node.proofs.Told.{between, range_none, told_none}
+use Rattle.node.proofs.Told.{between}
 
 take_next : {A : Type 0} (xs : List A) (n : ℕ) (x : A) → slice_get xs n ≡ Some x → take (suc n) xs ≡ take n xs ++ x ∷ []
 take_next [] n x h = absurd cc
@@ -35,7 +35,7 @@ take_drop (x ∷ xs) (suc before) n zero e is got = absurd (omega (arith, is))
 take_drop (x ∷ xs) (suc before) n (suc i) e is got = take_drop xs before n i e (omega (arith, is)) got
 
 -- one entry more
-range_next : (log : List Entry) (before i : ℕ) (e : Entry) → before ≤ i → slice_get log i ≡ Some e → slice_range log before (i + 1) ≡ slice_range log before i ++ e ∷ []
+pub range_next : (log : List Entry) (before i : ℕ) (e : Entry) → before ≤ i → slice_get log i ≡ Some e → slice_range log before (i + 1) ≡ slice_range log before i ++ e ∷ []
 range_next log before i e low got =
     let more : (i + 1) - before ≡ suc (i - before) = omega (arith, low) in
     rw more (take_drop log before (i - before) i e (omega (arith, low)) got)
@@ -83,17 +83,11 @@ not_none f o a is h = let e : None ≡ Some (f a) = h ∙ ap (option_map f) is i
 
 -- ---- entries in turn
 
-pub applied_none : (schema : columns.Tables) (log : List Entry) (before : ℕ) (es : List Entry) (ts : List Told) (tables : Tables) → es ≡ [] → ts ≡ [] → AreTables schema (take before log) tables → AreApplied schema log before before es ts tables
-applied_none schema log before es ts tables none silent are = record {
-  entries = none ∙ sym (range_none log before before (omega arith));
-  told = silent ∙ sym (told_none (language_of schema) log before before (omega arith));
-  current = are;
-}
-
 pub applied_next : (schema : columns.Tables) (log : List Entry) (before i : ℕ) (es es' : List Entry) (ts ts' : List Told) (e : Entry) (t : Option Told) (old new : Tables)
-    → before ≤ i → AreApplied schema log before i es ts old → IsNext schema log i e t new → es' ≡ es ++ e ∷ [] → ts' ≡ ts ++ cons_option t [] → AreApplied schema log before (i + 1) es' ts' new
-applied_next schema log before i es es' ts ts' e t old new low was next more told = record {
-  entries = more ∙ ap (λ (xs : List Entry). xs ++ e ∷ []) was.entries ∙ sym (range_next log before i e low next.entry);
-  told = told ∙ ap (λ (xs : List Told). xs ++ cons_option t []) was.told ∙ ap (λ (o : Option Told). told_between (language_of schema) log before i ++ cons_option o []) next.told ∙ sym (between (language_of schema) log before i low);
-  current = next.current;
+    → before ≤ i → AreApplied schema log before i es ts old → slice_get log i ≡ Some e → t ≡ told_at (language_of schema) log (i + 1) → AreTables schema (take (i + 1) log) new
+    → es' ≡ es ++ e ∷ [] → ts' ≡ ts ++ cons_option t [] → AreApplied schema log before (i + 1) es' ts' new
+applied_next schema log before i es es' ts ts' e t old new low was there is are more told = record {
+  entries = more ∙ ap (λ (xs : List Entry). xs ++ e ∷ []) was.entries ∙ sym (range_next log before i e low there);
+  told = told ∙ ap (λ (xs : List Told). xs ++ cons_option t []) was.told ∙ ap (λ (o : Option Told). told_between (language_of schema) log before i ++ cons_option o []) is ∙ sym (between (language_of schema) log before i low);
+  current = are;
 }

@@ -1,5 +1,5 @@
 -- What the laws of `refused` rest on besides the clauses that they speak of.
-use Rattle.std.proofs.Common.{◌≡◌, ◌∙◌, Option, Some, None, Result, Ok, Err, List, ℕ, inl, inr, sym, refl}
+use Rattle.std.proofs.Common.{◌≡◌, ◌∙◌, Option, Some, None, Result, Ok, Err, List, ℕ, inl, inr, sym}
 use Rattle.std.specs.Prelude.{IfErr, IfOk}
 use Rattle.fault.specs.declared.refusal.Refusal.{Refusal}
 use Rattle.fault.specs.declared.refusal.Refusal.TheVariants.{NoMemory}

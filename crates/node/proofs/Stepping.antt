@@ -1,6 +1,5 @@
 -- What one step of a core, once it is stored, makes of a member.
 use Rattle.std.proofs.Common.{◌≡◌, ◌∙◌, ◌≤◌, Option, Some, None, List, ◌++◌, take, length, sym, ap, subst}
-use Rattle.sqlchecks.specs.Columns as columns
 use Rattle.model.specs.declared.entry.Entry.{Entry}
 use Rattle.keep.specs.Durable.{Durable}
 use Rattle.keep.specs.declared.change.Change.{Change}

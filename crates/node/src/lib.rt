@@ -4,6 +4,7 @@
 pub mod durable;
 pub mod node;
 mod reading;
+pub mod recall;
 mod refused;
 mod telling;
 

@@ -1,12 +1,12 @@
 //! A member over a keeper.
-ghost use Rattle.std.specs.Prelude.{◌≡◌, ◌≤◌, ◌+◌, ◌*◌, ◌⊎◌, true, false, length, take, slice_range, if◌then◌else◌, Some, None, Err, IfOk, IfErr, IsOk, OnOk, OnErr, MatchOption};
+ghost use Rattle.std.specs.Prelude.{◌≡◌, ◌≤◌, ◌+◌, ◌*◌, ◌⊎◌, true, false, length, take, slice_range, if◌then◌else◌, [], Some, None, Err, IfOk, IfErr, IfSome, IsOk, OnOk, OnErr, MatchOption};
 ghost use Rattle.std.specs.Coded.{→_prop};
 ghost use Rattle.keep.specs.Log.{IsSmall};
 ghost use Rattle.sqlread.specs.Meaning.{language_of};
 ghost use Rattle.sqlread.specs.Shapes.{query_of};
 ghost use Rattle.answer.specs.Answers.{columns_in};
 ghost use Rattle.apply.specs.View.{AreTables, IsAskedOf};
-ghost use Rattle.node.specs.Once.{step_prop, tables_prop};
+ghost use Rattle.node.specs.Once.{noted_prop, step_prop, tables_prop};
 ghost use Rattle.model.specs.Kept.{node_after};
 ghost use Rattle.model.specs.Members.{applied, closed_time};
 ghost use Rattle.keep.specs.Durable.{Durable, IsBeforeOrAfter};
@@ -14,11 +14,13 @@ ghost use Rattle.raft.specs.Memory.{spares_memory};
 ghost use Rattle.raft.specs.View.{brought, hard_of, node_of, works, Grows, IsInStep, after_change};
 ghost use Rattle.node.specs.View.{durable_of, saves_after, IsSavedOnce, IsSavedAtMostOnce, Gave, IsKept, IsSame, IsTorn, IsCause, IsCauseOr, IsCauseOrBad, HasCauseOr, LeavesUp, risen, started_from, told_between};
 ghost use Rattle.node.specs.Applying.{AreApplied, AreMade};
+ghost use Rattle.node.specs.Recall.{AreNoted, IsRecall};
 ghost use Rattle.node.specs.Saving.{IsDue};
 ghost use Rattle.node.specs.Stepping.{applied_in, sent_in, IsStep, TellsSealed};
 
 use crate::reading::{all_entries, read_state};
-use crate::telling::{Applied, apply_after};
+use crate::recall::{Applied, Notes, Recall};
+use crate::telling::apply_after;
 use answer::Answer;
 use apply::Tables;
 use closedtime::greater;
@@ -72,6 +74,8 @@ pub struct Node<K: Keeper> {
     pub keeper: K,
     /// The tables of the schema after the applied entries.
     pub(crate) tables: Tables,
+    /// What it notes of these for when it starts again.
+    pub(crate) notes: Notes,
     /// No step has failed.
     pub is_up: bool,
     ghost fresh: { is_up ≡ true → core.is_spent ≡ false },
@@ -80,6 +84,7 @@ pub struct Node<K: Keeper> {
     ghost serves: { ∥ K.serves keeper core.members (language_of core.schema) ∥₁ },
     ghost made: { is_up ≡ true → AreMade core.schema tables },
     ghost current: { is_up ≡ true → K.is_honest keeper → AreTables core.schema (applied (node_of core (K.stored keeper).log)) tables } by { →_prop (→_prop (tables_prop _ _ _)) },
+    ghost noted: { is_up ≡ true → AreNoted core.schema tables notes } by { →_prop (noted_prop _ _ _) },
 }
 
 /// Stores a change of a member, if there is one.
@@ -126,11 +131,13 @@ pub(crate) fn finish<K: Keeper>(
     core: &Core,
     keeper: &mut K,
     tables: &mut Tables,
+    notes: &mut Notes,
     taken: Taken,
     sealed_before: Option<Stamp>,
 ) -> Result<Out, StoreError>
     requires due { K.is_honest keeper.old → IsDue core.now taken.change (K.stored keeper.old) }
     requires current { K.is_honest keeper.old → AreTables core.now.schema (take taken.committed_before (after_change taken.change (K.stored keeper.old)).log) tables.old }
+    requires noted { AreNoted core.now.schema tables.old notes.old }
     requires rises { K.is_honest keeper.old → taken.committed_before ≤ core.now.commit }
     requires small { MatchOption taken.change (Unit {0}) IsSmall }
     requires serves { K.serves keeper.old core.now.members (language_of core.now.schema) }
@@ -139,6 +146,7 @@ pub(crate) fn finish<K: Keeper>(
     ensures messages { IfOk result (λ out. out.messages.items ≡ taken.messages.items) }
     ensures applied { IfOk result (λ out. K.is_honest keeper.new → AreApplied core.now.schema (after_change taken.change (K.stored keeper.old)).log taken.committed_before core.now.commit out.applied.items out.told.items tables.new) }
     ensures sealed { IfOk result (λ out. out.sealed ≡ risen sealed_before core.now.sealed) }
+    ensures noted { OnOk result (AreNoted core.now.schema tables.new notes.new) }
     ensures made { OnOk result (AreMade core.now.schema tables.old → AreMade core.now.schema tables.new) }
     ensures ok { OnOk result (K.is_honest keeper.new → K.stored keeper.new ≡ after_change taken.change (K.stored keeper.old)) }
     ensures up { OnOk result (K.is_up keeper.new ≡ true) }
@@ -154,7 +162,7 @@ pub(crate) fn finish<K: Keeper>(
         committed_before,
     } = taken;
     store(alloc, core, keeper, &change)?;
-    let applied = apply_after(alloc, core, keeper, tables, committed_before)?;
+    let applied = apply_after(alloc, core, keeper, tables, notes, committed_before)?;
     let Applied { entries, told } = applied;
     Ok(Out {
         messages,
@@ -170,6 +178,7 @@ fn take_step<K: Keeper>(
     core: &mut Core,
     keeper: &mut K,
     tables: &mut Tables,
+    notes: &mut Notes,
     work: Work,
 ) -> Result<Effect<Out>, StoreError>
     requires up { K.is_up keeper.old ≡ true }
@@ -177,11 +186,13 @@ fn take_step<K: Keeper>(
     requires stored { K.is_honest keeper.old → IsInStep core.old (K.stored keeper.old) }
     requires serves { K.serves keeper.old core.old.members (language_of core.old.schema) }
     requires current { K.is_honest keeper.old → AreTables core.old.schema (applied (node_of core.old (K.stored keeper.old).log)) tables.old }
+    requires noted { AreNoted core.old.schema tables.old notes.old }
     ensures step { IfOk result (λ e. K.is_honest keeper.new → IsStep core.old.schema (node_of core.old (K.stored keeper.old).log) (node_of core.new (K.stored keeper.new).log) (works core.old.schema core.old.members core.old.me work (node_of core.old (K.stored keeper.old).log)) e) }
     ensures sealed { IfOk result (TellsSealed core.old.sealed core.new.sealed) }
     ensures grows { OnOk result (K.is_honest keeper.new → Grows (node_of core.old (K.stored keeper.old).log) (node_of core.new (K.stored keeper.new).log)) }
     ensures stored { OnOk result (K.is_honest keeper.new → IsInStep core.new (K.stored keeper.new)) }
     ensures current { OnOk result (K.is_honest keeper.new → AreTables core.new.schema (applied (node_of core.new (K.stored keeper.new).log)) tables.new) }
+    ensures noted { OnOk result (AreNoted core.new.schema tables.new notes.new) }
     ensures made { OnOk result (AreMade core.old.schema tables.old → AreMade core.new.schema tables.new) }
     ensures fresh { OnOk result (core.new.is_spent ≡ false) }
     ensures up { OnOk result (K.is_up keeper.new ≡ true) }
@@ -198,7 +209,7 @@ fn take_step<K: Keeper>(
     let sealed_before = core.sealed();
     match core.step(keeper, work)? {
         Effect::Done(taken) => {
-            let out = finish(alloc, core, keeper, tables, taken, sealed_before)?;
+            let out = finish(alloc, core, keeper, tables, notes, taken, sealed_before)?;
             Ok(Effect::Done(out))
         }
         Effect::Ignored => Ok(Effect::Ignored),
@@ -231,6 +242,7 @@ impl<K: Keeper> Node<K> {
         ensures group { IfOk result (λ n. (n.is_up ≡ true) × (tables_of n ≡ schema) × (members_of n ≡ members) × (me_of n ≡ me)) }
         ensures saves { IfOk result (λ n. K.saves n.keeper ≡ 0) }
         ensures limit { IfOk result (λ n. K.limit n.keeper ≡ K.limit_of image) }
+        ensures blank { IfOk result (λ n. AreTables schema [] n.tables) }
         ensures back { IfErr result (λ e. (d : Durable) → K.holds e.1 d → K.holds image d) }
         ensures kept { IfErr result (λ e. K.is_sound e.1 → (d : Durable) → K.holds image d → K.holds e.1 d) }
         ensures limited { IfErr result (λ e. K.limit_of e.1 ≡ K.limit_of image) }
@@ -252,8 +264,44 @@ impl<K: Keeper> Node<K> {
             core,
             keeper,
             tables,
+            notes: Notes::Off,
             is_up: true,
         })
+    }
+
+    /// Starts it as `start` does, and keeps in memory what it applies and tells, for when it starts again. What it had
+    /// applied when it went down is not executed again where its log begins with the same: the tables of then are taken.
+    pub fn start_again(
+        alloc: Global,
+        image: K::Image,
+        schema: Schema,
+        members: usize,
+        me: Member,
+        recall: Option<Recall>,
+    ) -> Result<Node<K>, (StoreError, K::Image)>
+        requires few { members ≤ 7 }
+        requires member { (1 ≤ me) × (me ≤ members) }
+        requires suits { K.suits image members (language_of schema) }
+        requires recall { IfSome recall (IsRecall schema) }
+        ensures opened { IfOk result (λ n. K.is_honest n.keeper → member_of n ≡ started_from (durable_of (member_of n))) }
+        ensures found { IfOk result (λ n. K.is_honest n.keeper → K.holds image (durable_of (member_of n))) }
+        ensures group { IfOk result (λ n. (n.is_up ≡ true) × (tables_of n ≡ schema) × (members_of n ≡ members) × (me_of n ≡ me)) }
+        ensures saves { IfOk result (λ n. K.saves n.keeper ≡ 0) }
+        ensures limit { IfOk result (λ n. K.limit n.keeper ≡ K.limit_of image) }
+        ensures back { IfErr result (λ e. (d : Durable) → K.holds e.1 d → K.holds image d) }
+        ensures kept { IfErr result (λ e. K.is_sound e.1 → (d : Durable) → K.holds image d → K.holds e.1 d) }
+        ensures limited { IfErr result (λ e. K.limit_of e.1 ≡ K.limit_of image) }
+        ensures suits { IfErr result (λ e. K.suits e.1 members (language_of schema)) }
+        ensures bad { IfErr result (λ e. e.0 ≡ StoreError.BadStore → K.is_bad e.1 members (language_of schema) ⊎ ((d : Durable) → K.holds e.1 d → ⊥)) }
+        ensures not_down { IfErr result (λ e. e.0 ≡ StoreError.NodeDown → ⊥) }
+    {
+        match Node::start(alloc, image, schema, members, me) {
+            Ok(mut node) => {
+                node.notes = Notes::of(alloc, recall);
+                Ok(node)
+            }
+            Err(back) => Err(back),
+        }
     }
 
     /// Takes one step: the core's, then one save if what is stored changes, then what became committed
@@ -295,6 +343,7 @@ impl<K: Keeper> Node<K> {
             &mut self.core,
             &mut self.keeper,
             &mut self.tables,
+            &mut self.notes,
             work,
         ) {
             Ok(Effect::Done(out)) => Ok(out),
@@ -432,6 +481,24 @@ impl<K: Keeper> Node<K> {
         ensures suits { K.suits result (members_of self) (language_of (tables_of self)) }
         ensures last { self.is_up ≡ true → (d : Durable) → K.holds result d → d ≡ durable_of (member_of self) }
     {
-        self.keeper.close()
+        let (image, _) = self.rest();
+        image
+    }
+
+    /// Stops it as `stop` does, and gives besides what it has noted for when it starts again: none where it is down, was
+    /// not to note it, or had no memory for it.
+    pub fn rest(self) -> (K::Image, Option<Recall>)
+        ensures recall { IfSome result.1 (IsRecall (tables_of self)) }
+        ensures held { (d : Durable) → K.holds result.0 d → K.may_hold self.keeper d }
+        ensures kept { (d : Durable) → K.may_hold self.keeper d → K.holds result.0 d }
+        ensures whole { self.is_up ≡ true → K.is_honest self.keeper → K.holds result.0 (durable_of (member_of self)) }
+        ensures good { K.is_honest self.keeper → K.is_bad result.0 (members_of self) (language_of (tables_of self)) → ⊥ }
+        ensures sound { K.is_sound result.0 → K.is_honest self.keeper }
+        ensures limit { K.limit_of result.0 ≡ K.limit self.keeper }
+        ensures suits { K.suits result.0 (members_of self) (language_of (tables_of self)) }
+        ensures last { self.is_up ≡ true → (d : Durable) → K.holds result.0 d → d ≡ durable_of (member_of self) }
+    {
+        let recall = self.notes.recall(self.tables, self.is_up);
+        (self.keeper.close(), recall)
     }
 }

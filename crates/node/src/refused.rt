@@ -11,9 +11,11 @@ ghost use Rattle.sqlread.specs.Shapes.{query_of};
 ghost use Rattle.apply.specs.View.{AreTables};
 ghost use Rattle.raft.specs.View.{after_change};
 ghost use Rattle.node.specs.Member.{member_of};
+ghost use Rattle.node.specs.Recall.{AreNoted};
 ghost use Rattle.node.specs.Saving.{IsDue};
 
 use crate::node::{Node, Out, finish, store};
+use crate::recall::Notes;
 use answer::Answer;
 use apply::Tables;
 use fault::Refusal;
@@ -66,12 +68,14 @@ fn sends_before_it_saves<K: Keeper>(
     core: &Core,
     keeper: &mut K,
     tables: &mut Tables,
+    notes: &mut Notes,
     taken: Taken,
     sealed_before: Option<Stamp>,
 ) -> Result<Out, StoreError>
     ghost saved: { changes.Change }
     requires due { K.is_honest keeper.old → IsDue core.now taken.change (K.stored keeper.old) }
     requires current { K.is_honest keeper.old → AreTables core.now.schema (take taken.committed_before (after_change taken.change (K.stored keeper.old)).log) tables.old }
+    requires noted { AreNoted core.now.schema tables.old notes.old }
     requires rises { K.is_honest keeper.old → taken.committed_before ≤ core.now.commit }
     requires small { MatchOption taken.change (Unit {0}) IsSmall }
     requires serves { K.serves keeper.old core.now.members (language_of core.now.schema) }
@@ -79,7 +83,7 @@ fn sends_before_it_saves<K: Keeper>(
     requires changed { taken.change ≡ Some saved }
     ensures { OnOk result (K.is_honest keeper.new → (K.stored keeper.new).hard ≡ saved.hard) }
 {
-    finish(alloc, core, keeper, tables, taken, sealed_before)
+    finish(alloc, core, keeper, tables, notes, taken, sealed_before)
 }
 
 /// A function that refuses a question that a seal alone has closed, but for want of memory, does not meet the contract of `Node::ask`.

@@ -138,7 +138,9 @@ impl Seat {
         let image = replace(&mut self.image, MemImage::new(self.alloc));
         match Node::start(self.alloc, image, schema, self.members, self.me) {
             Ok(node) => {
-                self.node = Some(node);
+                if let Some(before) = self.node.replace(node) {
+                    self.image = before.stop();
+                }
                 Ok(())
             }
             Err((_, image)) => {

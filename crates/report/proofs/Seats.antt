@@ -13,7 +13,7 @@ use Rattle.report.specs.Deciding.{AreBlankDown}
 
 blank_seat : (s : Seat) → (node_in s).up ≡ false → (node_in s).commit ≡ 0
 blank_seat (Up x) up = absurd (cc up)
-blank_seat (Down image) up = refl
+blank_seat (Down image recall) up = refl
 
 blank_in : (o : Option Seat) (x : Node) → option_map node_in o ≡ Some x → x.up ≡ false → x.commit ≡ 0
 blank_in None x is up = absurd (cc is)

@@ -35,7 +35,7 @@ period_has rows k p h =
     let r = filter_has (λ (x : Row). same_key x.key k) rows m.0 m.1 in
     (m.0, r.0, same_key-true m.0.key k r.1, m.2)
 
-is_inside : (p : Period) (d : ℕ) → p.start ≤ d → d < p.end → inside p d ≡ true
+pub is_inside : (p : Period) (d : ℕ) → p.start ≤ d → d < p.end → inside p d ≡ true
 is_inside p d a b = and_from _ _ (le-leb _ _ a) (lt-ltb _ _ b)
 
 inside_is : (p : Period) (d : ℕ) → inside p d ≡ true → (p.start ≤ d) × (d < p.end)
@@ -50,7 +50,7 @@ filled_row table r k d row e a b = subst (λ x. is_some (table.fact x d) ≡ tru
 
 -- ---- a day that is in none of the periods
 
-uncovered_by : (f : ℕ → Bool) (p : Period) (d : ℕ) → p.start ≤ d → d < p.end → f d ≡ true → (o : Option ℕ) → IsLeast f p.start p.end o → is_some o ≡ true
+pub uncovered_by : (f : ℕ → Bool) (p : Period) (d : ℕ) → p.start ≤ d → d < p.end → f d ≡ true → (o : Option ℕ) → IsLeast f p.start p.end o → is_some o ≡ true
 uncovered_by f p d a b h None g = absurd (both h (g d a b))
 uncovered_by f p d a b h (Some x) g = refl
 
@@ -139,10 +139,10 @@ loses_day rows more old new removed added k l m touch = (one_loses rows more old
 -- ---- by what stands now, where rows that came and went again may be told of
 
 module _ (rows more : List Row) (old new : Table) (removed added : List Row) (l : Lists rows old) (m : Lists more new) (touch : IsTouchedAmong old new removed added) (k : List Value) where
-  now_free : (d : ℕ) → is_lost old new k d ≡ true → is_free (periods_of more k) d ≡ true
+  pub now_free : (d : ℕ) → is_lost old new k d ≡ true → is_free (periods_of more k) d ≡ true
   now_free d h = sym (ap not (filled_by more new m k d)) ∙ (and_parts _ _ h).1
 
-  among_with : (d : ℕ) → is_lost old new k d ≡ true → (r : Row) × Has removed r × (r.key ≡ k) × (r.period.start ≤ d) × (d < r.period.end)
+  pub among_with : (d : ℕ) → is_lost old new k d ≡ true → (r : Row) × Has removed r × (r.key ≡ k) × (r.period.start ≤ d) × (d < r.period.end)
   among_with d h =
       let q = and_parts _ _ h in
       let c = some_fact (old.fact k d) q.0 in

@@ -1,9 +1,9 @@
 -- References after an action, by what it touched alone.
 use Rattle.std.specs.Result.{result_unwrap_or}
-use Rattle.std.proofs.Common.{◌≡◌, ℕ, ◌<◌, ◌≤◌, ◌⊎◌, inl, inr, Bool, true, false, cond, not, filter, ◌&&◌, ◌==◌, List, [], ◌∷◌, ◌++◌, map, flat_map, Option, Some, None, is_some, Result, Ok, Err, refl, sym, ap, ◌∙◌, subst, arith, Ordering}
+use Rattle.std.proofs.Common.{◌≡◌, ℕ, ◌+◌, ◌-◌, ◌<◌, ◌≤◌, ◌⊎◌, inl, inr, Bool, true, false, cond, not, filter, ◌&&◌, ◌==◌, List, [], ◌∷◌, ◌++◌, map, flat_map, Option, Some, None, is_some, Result, Ok, Err, refl, sym, ap, ◌∙◌, subst, arith, Ordering}
 use Rattle.std.specs.Prelude.{find}
 use Rattle.std.specs.Option.{option_or, option_map_or}
-use Rattle.std.specs.List.{range_with_len, AllByRecursion}
+use Rattle.std.specs.List.{list_any, range_with_len, AllByRecursion}
 use Rattle.std.specs.List.Sorted.{IsStrictlySortedBy}
 use Rattle.std.specs.declared.cmp.Ordering.TheVariants.{Less, Equal, Greater}
 use Rattle.std.specs.Ordering.{ordering_then, ordering_reverse, nat_cmp}
@@ -15,28 +15,30 @@ use Rattle.model.specs.declared.value.Value.{Value}
 use Rattle.model.specs.declared.entry.Entry.{Entry}
 use Rattle.model.specs.declared.entry.Request.{Request}
 use Rattle.model.specs.Values.{key_cmp, same_key}
-use Rattle.model.specs.Tables.{days, Fact, Row, empty_table}
+use Rattle.model.specs.Tables.{days, Period, inside, Fact, Row, empty_table}
+use Rattle.model.specs.Periods.{is_free}
+use Rattle.model.specs.Statements.{days_of}
 use Rattle.model.specs.Transactions.{State, Language, Reference, Place, lacks, is_orphan, first_orphan, unless_orphan, and_then, transacted, run_statements, executed_text}
 use Rattle.model.specs.Logs.{is_first, state_after}
 use Rattle.rowlaws.specs.Rows.{Has}
 use Rattle.rowlaws.specs.Statements.{Rows, AllListed}
-use Rattle.rowlaws.specs.Covering.{place_cmp, AllInOrder, missing, place_at, missing_in_rows, ReferencesHold, rows_orphan}
+use Rattle.rowlaws.specs.Covering.{place_cmp, AllInOrder, periods_of, missing, place_at, missing_in_rows, ReferencesHold, rows_orphan}
 use Rattle.rowlaws.specs.Transactions.{all_in_order, rows_transacted, rows_unless_orphan}
-use Rattle.rowlaws.specs.Losing.{is_lost, losing_keys}
+use Rattle.rowlaws.specs.Losing.{is_lost, has_lost_day, losing_keys, lost_days}
 use Rattle.rowlaws.specs.Whole.{AllTouched, AllTouchedAmong, OneOrphan, NoOrphanThen, NoOrphanAfter, NoneAccepted, WholeItself, WholeThen, WholeAmong}
 use Rattle.rowlaws.specs.Indexes.{rows_of_key, KeysPicked, Index, IsIndex, keys_by, keys_to_check, IndexPicks, IndexGrows}
-use Rattle.rowlaws.specs.Suspects.{rows_referring, suspects_by, suspects, IsPicked, by_order, day_cmp, earlier, first_among, first_in_tables, first_in_order, picked_orphan, ordered_orphan, KeptChild, OrphanSuspect, PickedOrphan, OrderedOrphan, TouchedOrphan, TransactionTouched}
+use Rattle.rowlaws.specs.Suspects.{rows_losing, suspects_by, suspects, IsPicked, by_order, day_cmp, earlier, first_among, first_in_tables, first_in_order, picked_orphan, ordered_orphan, KeptChild, OrphanSuspect, PickedOrphan, OrderedOrphan, TouchedOrphan, TransactionTouched}
 use Rattle.rowlaws.proofs.Orders.{then_less, then_equal, nat_less, nat_equal}
 use Rattle.rowlaws.proofs.Keys.{key_total, key_same, same_key-true, same_key-itself}
-use Rattle.rowlaws.proofs.Members.{has_left, has_right, has_cases, has_map, has_filter, filter_has, has_flat, flat_has, range_has}
+use Rattle.rowlaws.proofs.Members.{has_left, has_right, has_cases, has_map, has_filter, filter_has, has_flat, flat_has, has_range, range_has}
 use Rattle.rowlaws.proofs.RowFacts.{both}
 use Rattle.rowlaws.proofs.Listed.{row_listed, lists_none}
-use Rattle.rowlaws.proofs.Anys.{any_has}
+use Rattle.rowlaws.proofs.Anys.{any_has, has_any}
 use Rattle.rowlaws.proofs.Sorted.{less_has}
-use Rattle.rowlaws.proofs.Least.{IsLeast, least_same}
+use Rattle.rowlaws.proofs.Least.{IsLeast, least_same, find_day}
 use Rattle.rowlaws.proofs.Orphaned.{place, NotAfter, first_one, of_table, keys_first, keys_all, InRows, AreParted, rows_first, rows_all, parted, orphan_is, orphan_row, missing_least}
 use Rattle.rowlaws.proofs.Referring.{hold_is}
-use Rattle.rowlaws.proofs.Losing.{among_losing, touched_among, untouched_among, among_both, then_ok}
+use Rattle.rowlaws.proofs.Losing.{is_inside, uncovered_by, now_free, among_with, touched_among, untouched_among, among_both, then_ok}
 use Rattle.rowlaws.proofs.Transacted.{same_orphan}
 
 has_all : {A : Type 0} (P : A → Type 0) (xs : List A) → ((x : A) → Has xs x → P x) → AllByRecursion P xs
@@ -142,18 +144,45 @@ lack_parts state f p c e h =
     let q = and_parts _ _ t in
     (eqb-true f.child p.table q.0, not-true _ q.1)
 
-module _ (language : Language) (before all removed added : Rows) (old new : State) (l : AllListed before old) (m : AllListed all new) (touch : AllTouchedAmong old new removed added) (clean : first_orphan language old ≡ None) where
-  suspect_by : (n : ℕ) (f : Reference) (r : Row) → f.child ≡ n → Has (added n ++ flat_map (rows_referring f (all n)) (losing_keys (removed f.parent) (all f.parent))) r → Has (suspects_by all removed added n f) r
-  suspect_by n f r e h = subst (λ b. Has (cond b (added n ++ flat_map (rows_referring f (all n)) (losing_keys (removed f.parent) (all f.parent))) []) r) (sym (eq-eqb f.child n e)) h
+-- a row that refers to the key of a row that went, with a day of both that the key has no longer
+has_day : (p : Period) (d : ℕ) → p.start ≤ d → d < p.end → Has (days_of p) d
+has_day p d a b = has_range p.start (p.end - p.start) d a (omega arith)
 
-  -- a row that refers to a key that lost a day
-  suspect_lost : (n : ℕ) (f : Reference) (r : Row) (d : ℕ) → f.child ≡ n → Has (all n) r → is_lost (old f.parent) (new f.parent) (f.refers r.key r.values) d ≡ true → Has (suspects_by all removed added n f) r
-  suspect_lost n f r d e h lost =
+losing_row : (f : Reference) (rows more : List Row) (q r : Row) (d : ℕ) → Has rows r → q.key ≡ f.refers r.key r.values → q.period.start ≤ d → d < q.period.end → r.period.start ≤ d → d < r.period.end
+    → is_free (periods_of more (f.refers r.key r.values)) d ≡ true → Has (rows_losing f rows more q) r
+losing_row f rows more q r d h key a b c e free =
+    let k = f.refers r.key r.values in
+    let lost : Has (lost_days more q) d = has_filter (is_free (periods_of more q.key)) (days_of q.period) d (has_day q.period d a b) (subst (λ (x : List Value). is_free (periods_of more x) d ≡ true) (sym key) free) in
+    has_filter (λ (x : Row). same_key (f.refers x.key x.values) q.key && list_any (inside x.period) (lost_days more q)) rows r h
+    (and_from _ _ (subst (λ (x : List Value). same_key k x ≡ true) (sym key) (same_key-itself k)) (has_any (inside r.period) (lost_days more q) d lost (is_inside r.period d c e)))
+
+-- what it refers to, and that a day was lost
+losing_key : (f : Reference) (rows more removed : List Row) (q r : Row) → Has removed q → Has (rows_losing f rows more q) r → Has rows r × (f.refers r.key r.values ≡ q.key) × Has (losing_keys removed more) q.key
+losing_key f rows more removed q r has h =
+    let x = filter_has (λ (x : Row). same_key (f.refers x.key x.values) q.key && list_any (inside x.period) (lost_days more q)) rows r h in
+    let parts = and_parts (same_key (f.refers r.key r.values) q.key) (list_any (inside r.period) (lost_days more q)) x.1 in
+    let d = any_has (inside r.period) (lost_days more q) parts.1 in
+    let day = filter_has (is_free (periods_of more q.key)) (days_of q.period) d.0 d.1 in
+    let range = range_has q.period.start (q.period.end - q.period.start) d.0 day.0 in
+    let a : q.period.start ≤ d.0 = range.0 in
+    let b : d.0 < q.period.start + (q.period.end - q.period.start) = range.1 in
+    let free = is_free (periods_of more q.key) in
+    let before : d.0 < q.period.end = omega (arith, a, b) in
+    let lost : has_lost_day more q ≡ true = uncovered_by free q.period d.0 a before day.1 (find free (days_of q.period)) (find_day free q.period (omega (arith, a, before))) in
+    (x.0, same_key-true (f.refers r.key r.values) q.key parts.0, has_map (λ (y : Row). y.key) (filter (has_lost_day more) removed) q (has_filter (has_lost_day more) removed q has lost))
+
+module _ (language : Language) (before all removed added : Rows) (old new : State) (l : AllListed before old) (m : AllListed all new) (touch : AllTouchedAmong old new removed added) (clean : first_orphan language old ≡ None) where
+  suspect_by : (n : ℕ) (f : Reference) (r : Row) → f.child ≡ n → Has (added n ++ flat_map (rows_losing f (all n) (all f.parent)) (removed f.parent)) r → Has (suspects_by all removed added n f) r
+  suspect_by n f r e h = subst (λ b. Has (cond b (added n ++ flat_map (rows_losing f (all n) (all f.parent)) (removed f.parent)) []) r) (sym (eq-eqb f.child n e)) h
+
+  -- a row that has a day that a key it refers to lost
+  suspect_lost : (n : ℕ) (f : Reference) (r : Row) (d : ℕ) → f.child ≡ n → Has (all n) r → r.period.start ≤ d → d < r.period.end → is_lost (old f.parent) (new f.parent) (f.refers r.key r.values) d ≡ true → Has (suspects_by all removed added n f) r
+  suspect_lost n f r d e h a b lost =
       let p = f.parent in
       let k = f.refers r.key r.values in
-      let losing = among_losing (before p) (all p) (old p) (new p) (removed p) (added p) (l p) (m p) (touch p) k d lost in
-      let here : Has (rows_referring f (all n) k) r = has_filter (λ (x : Row). same_key (f.refers x.key x.values) k) (all n) r h (same_key-itself k) in
-      suspect_by n f r e (has_right (added n) (flat_map (rows_referring f (all n)) (losing_keys (removed p) (all p))) r (has_flat (rows_referring f (all n)) (losing_keys (removed p) (all p)) k r losing here))
+      let q = among_with (before p) (all p) (old p) (new p) (removed p) (added p) (l p) (m p) (touch p) k d lost in
+      let free = now_free (before p) (all p) (old p) (new p) (removed p) (added p) (l p) (m p) (touch p) k d lost in
+      suspect_by n f r e (has_right (added n) (flat_map (rows_losing f (all n) (all p)) (removed p)) r (has_flat (rows_losing f (all n) (all p)) (removed p) q.0 r q.1 (losing_row f (all n) (all p) q.0 r d h q.2 q.3 q.4 a b free)))
 
   suspect_for : (n : ℕ) → n < language.tables → (r : Row) (d : ℕ) (f : Reference) → Has (all n) r → r.period.start ≤ d → d < r.period.end → Has language.references f → lacks new (place n r.key d) f ≡ true → Has (suspects_by all removed added n f) r
   suspect_for n lt r d f h a b has lack =
@@ -161,10 +190,10 @@ module _ (language : Language) (before all removed added : Rows) (old new : Stat
       let parts = lack_parts new f (place n r.key d) _ (row.filled d a b) lack in
       let child : f.child ≡ n = parts.0 in
       elim ((touch n).comes r row) [
-        | inr c ↦ suspect_by n f r child (has_left (added n) (flat_map (rows_referring f (all n)) (losing_keys (removed f.parent) (all f.parent))) r c)
+        | inr c ↦ suspect_by n f r child (has_left (added n) (flat_map (rows_losing f (all n) (all f.parent)) (removed f.parent)) r c)
         | inl o ↦
             let held = none_before language before old l clean f has (subst (λ x. x < language.tables) (sym child) lt) r.key d _ (subst (λ x. (old x).fact r.key d ≡ Some (record { values = r.values; system_start = r.system_start })) (sym child) (o.filled d a b)) in
-            suspect_lost n f r d child h (and_from _ _ held (not_from_false _ parts.1))
+            suspect_lost n f r d child h a b (and_from _ _ held (not_from_false _ parts.1))
       ]
 
   pub suspect : (n : ℕ) → n < language.tables → (k : List Value) (d : ℕ) → is_orphan language new (place n k d) ≡ true
@@ -237,10 +266,10 @@ suspect_listed fs all removed added old new m touch n r h =
     let f = flat_has (suspects_by all removed added n) fs r h in
     by f.0 (f.0.child == n) f.2
   where
-    by : (f : Reference) (b : Bool) → Has (cond b (added n ++ flat_map (rows_referring f (all n)) (losing_keys (removed f.parent) (all f.parent))) []) r → Has (all n) r
-    by f true g = elim (has_cases (added n) (flat_map (rows_referring f (all n)) (losing_keys (removed f.parent) (all f.parent))) r g) [
+    by : (f : Reference) (b : Bool) → Has (cond b (added n ++ flat_map (rows_losing f (all n) (all f.parent)) (removed f.parent)) []) r → Has (all n) r
+    by f true g = elim (has_cases (added n) (flat_map (rows_losing f (all n) (all f.parent)) (removed f.parent)) r g) [
       | inl c ↦ row_listed (all n) (new n) r (m n) ((touch n).came r c).0
-      | inr k ↦ let x = flat_has (rows_referring f (all n)) (losing_keys (removed f.parent) (all f.parent)) r k in (filter_has (λ (y : Row). same_key (f.refers y.key y.values) x.0) (all n) r x.2).0
+      | inr k ↦ let x = flat_has (rows_losing f (all n) (all f.parent)) (removed f.parent) r k in (losing_key f (all n) (all f.parent) (removed f.parent) x.0 r x.1 x.2).0
     ]
     by f false g = absurd g
 
@@ -257,23 +286,23 @@ suspect_key fs all removed added index is n r h =
     let f = flat_has (suspects_by all removed added n) fs r h in
     has_flat (keys_by all removed added index n) fs f.0 r.key f.1 (by f.0 f.1 (cases_Bool (f.0.child == n)) f.2)
   where
-    keyed : (f : Reference) → Has fs f → f.child ≡ n → Has (added n ++ flat_map (rows_referring f (all n)) (losing_keys (removed f.parent) (all f.parent))) r → Has (map (λ (x : Row). x.key) (added n) ++ flat_map (index n f.parent) (losing_keys (removed f.parent) (all f.parent))) r.key
-    keyed f has e g = elim (has_cases (added n) (flat_map (rows_referring f (all n)) (losing_keys (removed f.parent) (all f.parent))) r g) [
+    keyed : (f : Reference) → Has fs f → f.child ≡ n → Has (added n ++ flat_map (rows_losing f (all n) (all f.parent)) (removed f.parent)) r → Has (map (λ (x : Row). x.key) (added n) ++ flat_map (index n f.parent) (losing_keys (removed f.parent) (all f.parent))) r.key
+    keyed f has e g = elim (has_cases (added n) (flat_map (rows_losing f (all n) (all f.parent)) (removed f.parent)) r g) [
       | inl c ↦ has_left (map (λ (x : Row). x.key) (added n)) (flat_map (index n f.parent) (losing_keys (removed f.parent) (all f.parent))) r.key (has_map (λ (x : Row). x.key) (added n) r c)
       | inr k ↦
-          let x = flat_has (rows_referring f (all n)) (losing_keys (removed f.parent) (all f.parent)) r k in
-          let y = filter_has (λ (y : Row). same_key (f.refers y.key y.values) x.0) (all n) r x.2 in
-          let same : f.refers r.key r.values ≡ x.0 = same_key-true (f.refers r.key r.values) x.0 y.1 in
+          let x = flat_has (rows_losing f (all n) (all f.parent)) (removed f.parent) r k in
+          let y = losing_key f (all n) (all f.parent) (removed f.parent) x.0 r x.1 x.2 in
+          let same : f.refers r.key r.values ≡ x.0.key = y.1 in
           let there : Has (index n f.parent (f.refers r.key r.values)) r.key = subst (λ c. Has (index c f.parent (f.refers r.key r.values)) r.key) e (is f has r (subst (λ c. Has (all c) r) (sym e) y.0)) in
           has_right (map (λ (x : Row). x.key) (added n)) (flat_map (index n f.parent) (losing_keys (removed f.parent) (all f.parent))) r.key
-          (has_flat (index n f.parent) (losing_keys (removed f.parent) (all f.parent)) x.0 r.key x.1 (subst (λ k. Has (index n f.parent k) r.key) same there))
+          (has_flat (index n f.parent) (losing_keys (removed f.parent) (all f.parent)) x.0.key r.key y.2 (subst (λ k. Has (index n f.parent k) r.key) same there))
     ]
 
     by : (f : Reference) → Has fs f → ((f.child == n) ≡ true) ⊎ ((f.child == n) ≡ false) → Has (suspects_by all removed added n f) r → Has (keys_by all removed added index n f) r.key
     by f has (inl y) g =
         subst (λ b. Has (cond b (map (λ (x : Row). x.key) (added n) ++ flat_map (index n f.parent) (losing_keys (removed f.parent) (all f.parent))) []) r.key) (sym y)
-        (keyed f has (eqb-true f.child n y) (subst (λ b. Has (cond b (added n ++ flat_map (rows_referring f (all n)) (losing_keys (removed f.parent) (all f.parent))) []) r) y g))
-    by f has (inr x) g = absurd (subst (λ b. Has (cond b (added n ++ flat_map (rows_referring f (all n)) (losing_keys (removed f.parent) (all f.parent))) []) r) x g)
+        (keyed f has (eqb-true f.child n y) (subst (λ b. Has (cond b (added n ++ flat_map (rows_losing f (all n) (all f.parent)) (removed f.parent)) []) r) y g))
+    by f has (inr x) g = absurd (subst (λ b. Has (cond b (added n ++ flat_map (rows_losing f (all n) (all f.parent)) (removed f.parent)) []) r) x g)
 
 pub index_picks : IndexPicks
 index_picks fs all removed added picked index is keyed = record {

@@ -30,6 +30,10 @@ loses removed added k = list_any (is_uncovered (periods_of added k)) (periods_of
 abbrev pub has_lost_day : List Row → Row → Bool
 has_lost_day more r = is_uncovered (periods_of more r.key) r.period
 
+-- the days of a row that went that no row of its key has now
+abbrev pub lost_days : List Row → Row → List ℕ
+lost_days more r = filter (is_free (periods_of more r.key)) (days_of r.period)
+
 -- the keys that lost a day, of the rows that went and those that stand now
 abbrev pub losing_keys : List Row → List Row → List (List Value)
 losing_keys removed more = map (λ r. r.key) (filter (has_lost_day more) removed)

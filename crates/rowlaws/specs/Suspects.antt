@@ -1,30 +1,30 @@
 -- References after an action, by what it touched alone: which rows can have a day without a parent now, if none had before.
-use Rattle.std.specs.Prelude.{◌≡◌, ℕ, ◌<◌, ◌≤◌, ◌==◌, is_some, IsTrue, Option, Some, None, List, [], ◌∷◌, ◌++◌, if◌then◌else◌, filter, flat_map, Ok}
-use Rattle.std.specs.List.{range_with_len}
+use Rattle.std.specs.Prelude.{◌≡◌, ℕ, ◌<◌, ◌≤◌, ◌==◌, ◌&&◌, is_some, IsTrue, Option, Some, None, List, [], ◌∷◌, ◌++◌, if◌then◌else◌, filter, flat_map, Ok}
+use Rattle.std.specs.List.{list_any, range_with_len}
 use Rattle.std.specs.Option.{option_or}
 use Rattle.std.specs.Ordering.{ordering_then, nat_cmp}
 use Rattle.std.specs.declared.cmp.Ordering.{Ordering}
 use Rattle.std.specs.declared.cmp.Ordering.TheVariants.{Less, Equal, Greater}
 use Rattle.model.specs.declared.value.Value.{Value}
 use Rattle.model.specs.Values.{key_cmp, same_key}
-use Rattle.model.specs.Tables.{Row, IsRow}
+use Rattle.model.specs.Tables.{inside, Row, IsRow}
 use Rattle.model.specs.Transactions.{State, Statement, Language, Reference, Place, is_orphan, first_orphan}
 use Rattle.rowlaws.specs.Rows.{Has}
 use Rattle.rowlaws.specs.Statements.{Rows, run_all_on_rows, AllListed}
 use Rattle.rowlaws.specs.Covering.{place_at, missing, missing_in_rows, AllInOrder}
 use Rattle.rowlaws.specs.Transactions.{rows_transacted, rows_unless_orphan}
-use Rattle.rowlaws.specs.Losing.{is_lost, losing_keys}
+use Rattle.rowlaws.specs.Losing.{is_lost, lost_days}
 use Rattle.rowlaws.specs.Whole.{AllTouched, AllTouchedAmong, ComesFromWhole}
 
 -- ---- the rows to look at
 
--- the rows that by a foreign key refer to this key
-abbrev pub rows_referring : Reference → List Row → List Value → List Row
-rows_referring f rows k = filter (λ r. same_key (f.refers r.key r.values) k) rows
+-- the rows that by a foreign key refer to the key of a row that went, and have a day that the key lost with it
+abbrev pub rows_losing : Reference → List Row → List Row → Row → List Row
+rows_losing f rows more q = filter (λ r. same_key (f.refers r.key r.values) q.key && list_any (inside r.period) (lost_days more q)) rows
 
--- by one foreign key, of its table: the rows that came, and those that refer to a key that lost a day
+-- by one foreign key, of its table: the rows that came, and those that have a day that a key they refer to lost
 abbrev pub suspects_by : Rows → Rows → Rows → ℕ → Reference → List Row
-suspects_by all removed added n f = if f.child == n then added n ++ flat_map (rows_referring f (all n)) (losing_keys (removed f.parent) (all f.parent)) else []
+suspects_by all removed added n f = if f.child == n then added n ++ flat_map (rows_losing f (all n) (all f.parent)) (removed f.parent) else []
 
 -- and by all of them
 abbrev pub suspects : List Reference → Rows → Rows → Rows → Rows

@@ -35,7 +35,7 @@ after_march = row 3 734137 734200 0 102 ∷ row 3 734210 734288 0 102 ∷ row 4 
 abbrev pub after_may : List Row
 after_may = row 3 734137 734257 0 102 ∷ row 4 734137 734288 0 100 ∷ []
 
--- department 3 loses days, so its employees are looked at and that of department 4 is not; the least key has the first day without a parent
+-- department 3 loses days that its employees have, so they are looked at and that of department 4 is not; the least key has the first day without a parent
 abbrev pub LostMarch : Type 0
 LostMarch =
     let all = of_two after_march employees in
@@ -47,14 +47,15 @@ LostMarch =
     × (suspects references.references all removed added 1 ≡ row 6 734168 734227 3 101 ∷ row 5 734168 734227 3 101 ∷ [])
     × (touched_orphan references all removed added ≡ Some (record { table = 1; key = number 5; day = 734200 }))
 
--- without May the same employees are looked at, and none has such a day
+-- without May nobody is looked at: none of its employees has a day of it
 abbrev pub LostMay : Type 0
 LostMay =
     let all = of_two after_may employees in
     let removed = of_two (removed_by without_may 102 departments) [] in
     let added = of_two (added_by without_may 102 departments) [] in
     (rows_changed without_may 102 departments ≡ Ok after_may)
-    × (suspects references.references all removed added 1 ≡ row 6 734168 734227 3 101 ∷ row 5 734168 734227 3 101 ∷ [])
+    × (losing_keys (removed 0) after_may ≡ number 3 ∷ [])
+    × (suspects references.references all removed added 1 ≡ [])
     × (touched_orphan references all removed added ≡ None)
 
 -- an UPDATE that cuts an employee's row in three: each piece came, so it is looked at; what it names may have no row

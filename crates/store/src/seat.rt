@@ -129,8 +129,10 @@ where
         }
         match start_node::<K>(self.alloc, image, schema, members, self.member) {
             Ok((node, chain)) => {
-                self.node = Some(node);
                 self.chain = chain;
+                if let Some(before) = self.node.replace(node) {
+                    self.image = Some(before.stop());
+                }
                 Ok(())
             }
             Err((refusal, image)) => {

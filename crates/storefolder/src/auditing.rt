@@ -50,6 +50,18 @@ pub enum Verdict {
     No(StoreRefusal),
 }
 
+// What a node has stored: in short, and its log.
+fn held_by<K: Judging>(
+    alloc: Global,
+    node: &mut Node<K>,
+) -> Result<(Summary, HeldLog), StoreRefusal>
+where
+    K::Image: Drop,
+{
+    let log = HeldLog::new(alloc, node.entries()?)?;
+    Ok((log.summary(node.hard_state()), log))
+}
+
 // What a database holds: in short, and its log. 49 where it holds no state of a member.
 pub(crate) fn found_in<K: Judging>(
     alloc: Global,
@@ -68,8 +80,9 @@ where
         Ok(node) => node,
         Err((error, _)) => return Err(refusal_of(Refusal::from(error), member)),
     };
-    let log = HeldLog::new(alloc, node.entries()?)?;
-    Ok((log.summary(node.hard_state()), log))
+    let held = held_by(alloc, &mut node);
+    let _ = node.stop();
+    held
 }
 
 // A database that holds no state of a member is one that was altered.

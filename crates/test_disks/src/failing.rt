@@ -101,7 +101,9 @@ fn carry(alloc: Global, play: Play, before: usize, entries: &[Entry]) -> Result<
 // What is stored before the first step and after each, where no call fails.
 fn states_of(alloc: Global, schema: &Schema, play: Play, log: &[Entry]) -> Result<Vec<Held>> {
     let mut place = long_place(alloc, schema, play, log)?;
-    all_states(alloc, &mut place, play)
+    let states = all_states(alloc, &mut place, play);
+    let _ = place.stop();
+    states
 }
 
 fn all_states<K: Keeper>(alloc: Global, place: &mut Place<K>, play: Play) -> Result<Vec<Held>> {
@@ -230,7 +232,9 @@ where
     K::Image: Drop,
 {
     let mut again = place.restart(trial.alloc, trial.play.me())?;
-    judge(trial, &mut again, steps, tally)
+    let judged = judge(trial, &mut again, steps, tally);
+    let _ = again.stop();
+    judged
 }
 
 // Counts what is stored after a step that failed, which has so many others before it.

@@ -172,7 +172,9 @@ impl<'a> Seat<'a> {
             self.lives = self.lives.saturating_add(1);
             let call = self.failing_call(resting.me);
             resting.image.fail_at(call);
-            self.running = Some(resting.start(rt, notes));
+            if let Some(before) = self.running.replace(resting.start(rt, notes)) {
+                self.resting = Some(before.stop(rt));
+            }
         }
     }
 

@@ -61,6 +61,11 @@ impl NewNode {
     fn take_view(&mut self) -> Result<View, Refusal> {
         self.cell.take_view()
     }
+
+    fn stop<R: Wait>(self, rt: &R) {
+        let NewNode { cell } = self;
+        let _ = cell.stop(rt);
+    }
 }
 
 // Adds an asker of the node, which asks one of the questions.
@@ -102,8 +107,13 @@ fn open_node<R: Wait>(
     requires { (1 ≤ me) × (me ≤ 7) }
 {
     let mut node = start(rt, alloc, schema, me)?;
-    add_askers(alloc, schema, &mut node, me, askers)?;
-    Ok(node)
+    match add_askers(alloc, schema, &mut node, me, askers) {
+        Ok(()) => Ok(node),
+        Err(refusal) => {
+            node.stop(rt);
+            Err(refusal)
+        }
+    }
 }
 
 /// All nodes with their inboxes, and an asker of each; of the first there are two.

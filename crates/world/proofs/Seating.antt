@@ -1,5 +1,6 @@
 -- What a step, a stop and a start come to at the seat of a member.
-use Rattle.std.proofs.Common.{◌≡◌, ◌∙◌, ℕ, true, false, Some, None, Result, Ok, Err, IfOk, IfErr, map, refl, sym, ap, subst, ⊎_elim, if◌then◌else◌}
+use Rattle.std.proofs.Common.{◌≡◌, ◌∙◌, ℕ, true, false, Option, Some, None, Result, Ok, Err, IfOk, IfErr, map, refl, sym, ap, subst, ⊎_elim, if◌then◌else◌}
+use Rattle.std.specs.Prelude.{IfSome}
 use Rattle.std.specs.Result.{result_ok}
 use Rattle.fault.specs.declared.refusal.Refusal.{Refusal}
 use Rattle.fault.specs.declared.refusal.Refusal.TheVariants.{NodeDown}
@@ -15,6 +16,8 @@ use Rattle.keep.specs.Log.{IsLog}
 use Rattle.keep.specs.declared.memory.MemImage.{MemImage}
 use Rattle.sqlchecks.specs.Columns.{Tables}
 use Rattle.sqlread.specs.Meaning.{language_of}
+use Rattle.node.specs.Recall.{IsRecall}
+use Rattle.node.specs.declared.recall.Recall.{Recall}
 use Rattle.node.specs.Work.{Work}
 use Rattle.answer.specs.declared.Answer.{Answer}
 use Rattle.sqlread.specs.Shapes.{QueryShape}
@@ -49,6 +52,9 @@ module _ (t : Tables) (n m : ℕ) (s : Seat) (o : Occupant) (there : occupant s 
   pub suited_there : (image : MemImage) → IsLog o.members (language_of o.tables) (stored_in image) → IsLog n (language_of t) (stored_in image)
   suited_there image h = rw (member.members, member.schema) at h
 
+  pub recalled_there : (recall : Option Recall) → IfSome recall (IsRecall o.tables) → IfSome recall (IsRecall t)
+  recalled_there recall h = subst (λ (tables : Tables). IfSome recall (IsRecall tables)) member.schema h
+
   works_there : (work : Work) → works o.tables o.members o.me work x ≡ works_at t n m work (node_in s)
   works_there work = rw (node, up, member.schema, member.members, member.me) refl
 
@@ -65,9 +71,22 @@ module _ (t : Tables) (n m : ℕ) (s : Seat) (o : Occupant) (there : occupant s 
       IsStep (language_of t) m (node_in s) y (works_at t n m work (node_in s)) (Err refusal)
   kept y work refusal did same = (did ∙ works_there work, same ∙ sym node)
 
+-- what is so of a value, if there is one
+for_some : {A : Type 0} (o : Option A) (P : A → Type 0) → IfSome o P → (a : A) → o ≡ Some a → P a
+for_some None P h a is = absurd (cc is)
+for_some (Some x) P h a is = let same : x ≡ a = cc is in subst P same h
+
+pub if_some : {A : Type 0} (o : Option A) (P : A → Type 0) → ((a : A) → o ≡ Some a → P a) → IfSome o P
+if_some None P h = tt
+if_some (Some x) P h = h x refl
+
 -- a member that is down sits there
-pub at_rest_there : (t : Tables) (n m : ℕ) (image : MemImage) → IsLog n (language_of t) (stored_in image) → IsSeat t n m (Down image)
-at_rest_there t n m image h = record { up = λ o is. absurd (cc is); down = λ d is. let same : stored_in image ≡ d = cc is in subst (IsLog n (language_of t)) same h }
+pub at_rest_there : (t : Tables) (n m : ℕ) (image : MemImage) (recall : Option Recall) → IsLog n (language_of t) (stored_in image) → IfSome recall (IsRecall t) → IsSeat t n m (Down image recall)
+at_rest_there t n m image recall h known = record {
+  up = λ o is. absurd (cc is);
+  down = λ d is. let same : stored_in image ≡ d = cc is in subst (IsLog n (language_of t)) same h;
+  recall = for_some recall (IsRecall t) known;
+}
 
 given : (x y : Node) (effect : Effect) (out : Out) → IsGiven x y effect out → y ≡ node_left New x effect
 given x y effect out h =

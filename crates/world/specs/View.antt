@@ -21,7 +21,9 @@ pub use Rattle.node.specs.Answered.{stored_of}
 pub use Rattle.node.specs.View.{durable_of}
 use Rattle.node.specs.View.{works, IsAskedOf, IsGiven}
 use Rattle.node.specs.Member.{me_of, member_of, members_of, tables_of}
+use Rattle.node.specs.Recall.{IsRecall}
 use Rattle.node.specs.Work.{Work}
+use Rattle.node.specs.declared.recall.Recall.{Recall}
 use Rattle.node.specs.declared.node.Node.{Node as NodeUp}
 use Rattle.node.specs.declared.node.Out.{Out as Taken}
 pub use Rattle.node.specs.declared.durable.StoredState.{StoredState}
@@ -79,7 +81,7 @@ at_rest d = stopped (record (fresh d.hard.term d.hard.vote) { floor = d.hard.flo
 
 abbrev pub node_in : Seat → Node
 node_in (Up x) = member_of x
-node_in (Down image) = at_rest (stored_in image)
+node_in (Down image recall) = at_rest (stored_in image)
 
 -- what a seat has of a member that is up
 pub record Occupant : Type 0 where
@@ -93,7 +95,7 @@ occupant_of x = record { tables = tables_of x; members = members_of x; me = me_o
 
 abbrev pub occupant : Seat → Option Occupant
 occupant (Up x) = Some (occupant_of x)
-occupant (Down image) = None
+occupant (Down image recall) = None
 
 -- member m of n, which no step took down
 pub record IsMember (tables : Tables) (n m : ℕ) (o : Occupant) : Type 0 where
@@ -105,12 +107,18 @@ pub record IsMember (tables : Tables) (n m : ℕ) (o : Occupant) : Type 0 where
 -- what a seat has of a member that is down
 abbrev pub rest : Seat → Option Durable
 rest (Up x) = None
-rest (Down image) = Some (stored_in image)
+rest (Down image recall) = Some (stored_in image)
 
--- the seat of member m of n: who is up is that member, and what one that is down has stored forms its log
+-- and what it recalls of what it had applied
+abbrev pub recalled : Seat → Option Recall
+recalled (Up x) = None
+recalled (Down image recall) = recall
+
+-- the seat of member m of n: who is up is that member, and what one that is down has stored forms its log, and what it recalls is of these tables
 pub record IsSeat (tables : Tables) (n m : ℕ) (s : Seat) : Type 0 where
   pub up : ForSome (occupant s) (IsMember tables n m)
   pub down : ForSome (rest s) (IsLog n (language_of tables))
+  pub recall : ForSome (recalled s) (IsRecall tables)
 
 -- what the definitions say of this work at member m, which refuses all while it is down
 abbrev pub works_at : Tables → ℕ → ℕ → Work → Node → Effect

@@ -1,5 +1,6 @@
 //! A group, and all that happened to it.
 ghost use Rattle.std.specs.Prelude.{◌≡◌, ◌++◌, ◌∷◌, ◌≤◌, ◌↔◌, [], true, false, map, None, IfOk, IsErr, IsOk, OnErr, OnOk, if◌then◌else◌};
+ghost use Rattle.std.specs.Coded.{→_prop};
 ghost use Rattle.believed.specs.Agreement.{Agree, decided};
 ghost use Rattle.believed.specs.Explained.{IsDecidedInOrder, IsExplained, WereSubmitted};
 ghost use Rattle.believed.specs.Progress.{CanServe};
@@ -7,6 +8,7 @@ ghost use Rattle.believed.specs.Worlds.{Gives, GivesAll};
 ghost use Rattle.model.specs.Worlds.{Gives as GivesThen, new_world};
 ghost use Rattle.sqlread.specs.Meaning.{language_of};
 ghost use Rattle.believed.specs.Meaning.{IsLanguage};
+ghost use Rattle.world.specs.Once.{run_prop};
 ghost use Rattle.world.specs.View.{commit_in, durable_in, entry_in, event_of, if_up, outputs_of, world_of, IsRun};
 
 use crate::event::Event;
@@ -25,7 +27,7 @@ pub struct World {
     group: Group,
     kept: Vec<Event>,
     is_spent: bool,
-    ghost whole: { is_spent ≡ false → IsRun group kept.items },
+    ghost whole: { is_spent ≡ false → IsRun group kept.items } by { →_prop (run_prop _ _) },
 }
 
 impl World {

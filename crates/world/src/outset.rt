@@ -24,7 +24,7 @@ fn start_member(
     ensures node { IfOk result (λ s. node_in s ≡ fresh 0 None) }
     ensures seat { IfOk result (IsSeat schema members me) }
 {
-    match Node::start(alloc, MemImage::new(alloc), schema, members, me) {
+    match Node::start_again(alloc, MemImage::new(alloc), schema, members, me, None) {
         Ok(node) => Ok(Seat::Up(node)),
         Err(_) => Err(AllocError),
     }

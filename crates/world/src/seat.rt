@@ -16,16 +16,17 @@ use model::member::Member;
 use node::Work;
 use node::durable::StoredState;
 use node::node::{Fault, Node, Out};
+use node::recall::Recall;
 use schema::Schema;
 use sqlread::query::Query;
 use std::alloc::{AllocError, Global};
 use std::mem;
 
-/// A member that is up, or what one that is down has stored.
+/// A member that is up, or what one that is down has stored, with what it recalls of what it had applied.
 #[derive(Drop)]
 pub(crate) enum Seat {
     Up(Node<MemKeeper>),
-    Down(MemImage),
+    Down(MemImage, Option<Recall>),
 }
 
 impl Seat {
@@ -41,7 +42,7 @@ impl Seat {
                 Err(Fault::Kept(refusal)) => Ok(Err(refusal)),
                 Err(Fault::Down(_)) => Err(AllocError),
             },
-            Seat::Down(_) => Ok(Err(Refusal::NodeDown)),
+            Seat::Down(_, _) => Ok(Err(Refusal::NodeDown)),
         }
     }
 
@@ -50,9 +51,12 @@ impl Seat {
         ensures seat { (t : Tables) (n m : ℕ) → IsSeat t n m self.old → IsSeat t n m self.new }
         ensures node { (t : Tables) (n m : ℕ) → IsSeat t n m self.old → node_in self.new ≡ stopped (node_in self.old) }
     {
-        match mem::replace(self, Seat::Down(MemImage::new(alloc))) {
-            Seat::Up(node) => *self = Seat::Down(node.stop()),
-            Seat::Down(image) => *self = Seat::Down(image),
+        match mem::replace(self, Seat::Down(MemImage::new(alloc), None)) {
+            Seat::Up(member) => {
+                let (image, recall) = member.rest();
+                *self = Seat::Down(image, recall);
+            }
+            Seat::Down(image, recall) => *self = Seat::Down(image, recall),
         }
     }
 
@@ -71,12 +75,14 @@ impl Seat {
         ensures seat { OnOk result (IsSeat schema members me self.new) }
         ensures node { OnOk result (node_in self.new ≡ (if (node_in self.old).up then node_in self.old else started (node_in self.old))) }
     {
-        match mem::replace(self, Seat::Down(MemImage::new(alloc))) {
+        match mem::replace(self, Seat::Down(MemImage::new(alloc), None)) {
             Seat::Up(node) => {
                 *self = Seat::Up(node);
                 Ok(())
             }
-            Seat::Down(image) => match Node::start(alloc, image, schema, members, me) {
+            Seat::Down(image, recall) => match Node::start_again(
+                alloc, image, schema, members, me, recall,
+            ) {
                 Ok(node) => {
                     *self = Seat::Up(node);
                     Ok(())
@@ -112,7 +118,7 @@ impl Seat {
     {
         match self {
             Seat::Up(node) => node.durable().ok(),
-            Seat::Down(_) => None,
+            Seat::Down(_, _) => None,
         }
     }
 
@@ -128,7 +134,7 @@ impl Seat {
                 Ok(entry) => Ok(entry),
                 Err(_) => Err(AllocError),
             },
-            Seat::Down(_) => Ok(None),
+            Seat::Down(_, _) => Ok(None),
         }
     }
 
@@ -138,7 +144,7 @@ impl Seat {
     {
         match self {
             Seat::Up(node) => node.commit(),
-            Seat::Down(_) => None,
+            Seat::Down(_, _) => None,
         }
     }
 
@@ -149,7 +155,7 @@ impl Seat {
     {
         match self {
             Seat::Up(node) => node.ask(query),
-            Seat::Down(_) => Err(Refusal::NodeDown),
+            Seat::Down(_, _) => Err(Refusal::NodeDown),
         }
     }
 }

@@ -22,6 +22,7 @@ invariant_of-self g c =
       synced = λ up honest. subst (λ (d : Durable). IsInStep core d) (sym (read.same honest)) (node.synced up (read.honest honest));
       serves = merely (read.serves core.members (language_of core.schema) serves);
       made = node.made;
+      noted = node.noted;
       current = λ up honest. subst (λ (d : Durable). AreTables core.schema (applied (node_of core d.log)) tables) (sym (read.same honest)) (node.current up (read.honest honest));
     }
 

@@ -1,5 +1,6 @@
-use Rattle.std.proofs.Common.{rules, ap, sym}
-use Rattle.world.specs.View.{rest}
+use Rattle.std.proofs.Common.{◌∙◌, rules, ap, sym}
+use Rattle.world.specs.View.{recalled, rest}
+use Rattle.world.proofs.Seating.{if_some}
 use Rattle.world.proofs.seat.Seat.start.Goals as goal
 
 pub returns-in-Up-clause-seat : goal.returns-in-Up-clause-seat
@@ -20,5 +21,8 @@ returns-clause-seat c = search rules
 pub returns-clause-node : goal.returns-clause-node
 returns-clause-node c = search rules
 
-pub start-requires-clause-suits : goal.start-requires-clause-suits
-start-requires-clause-suits c = c.requires.seat.down _ (ap rest (sym c.in-Down.ensures.value))
+pub start_again-requires-clause-recall : goal.start_again-requires-clause-recall
+start_again-requires-clause-recall c = if_some _ _ (λ r is. c.requires.seat.recall r (ap recalled (sym c.in-Down.ensures.value) ∙ is))
+
+pub start_again-requires-clause-suits : goal.start_again-requires-clause-suits
+start_again-requires-clause-suits c = c.requires.seat.down _ (ap rest (sym c.in-Down.ensures.value))
