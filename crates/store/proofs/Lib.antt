@@ -1,5 +1,10 @@
 pub mod Fullness
+pub mod Going
 pub mod Heard
 pub mod Links
+pub mod Opening
 pub mod Ranges
+pub mod Reading
+pub mod Stepping
+pub mod Taking
 pub mod Written
