@@ -48,6 +48,9 @@ before_made rows c r is h = subst (λ xs. Has xs (part r r.period.start c.portio
 pub after_made : (rows : List Row) (c : Correction) (r : Row) → rows ≡ made (action_of_correction c) c.system_start r → c.portion.end.number < r.period.end → Has rows (part r c.portion.end.number r.period.end r.values c.system_start)
 after_made rows c r is h = subst (λ xs. Has xs (part r c.portion.end.number r.period.end r.values c.system_start)) (sym is) (last_made _ _ c.assignments c.system_start r h)
 
+pub among_more : (old more rows : List Row) (x : Row) → rows ≡ old ++ more → Has more x → Has rows x
+among_more old more rows x is h = subst (λ xs. Has xs x) (sym is) (has_right old more x h)
+
 -- ---- days that no row has
 
 hit : (f : ℕ → Bool) (s e d : ℕ) → s ≤ d → d < e → f d ≡ true → (o : Option ℕ) → IsLeast f s e o → is_some o ≡ true
