@@ -4,6 +4,7 @@ use keep::HardState;
 use model::entry::Entry;
 use std::alloc::{AllocError, Global};
 use store::chain::Chain;
+use store::known::KnownLog;
 
 /// The log that a member's database holds.
 #[derive(Drop)]
@@ -13,9 +14,13 @@ pub struct HeldLog {
 }
 
 impl HeldLog {
-    /// One with these entries. The error is want of memory.
-    pub fn new(alloc: Global, entries: Vec<Entry>) -> Result<HeldLog, AllocError> {
-        let chain = Chain::of(alloc, entries.as_slice())?;
+    /// One with these entries. Its chain is taken from a log that is known, as far as that begins so. The error is want of memory.
+    pub fn new(
+        alloc: Global,
+        entries: Vec<Entry>,
+        known: &mut KnownLog,
+    ) -> Result<HeldLog, AllocError> {
+        let chain = known.link(alloc, entries.as_slice())?;
         Ok(HeldLog { entries, chain })
     }
 

@@ -4,6 +4,7 @@
 pub mod announcing;
 pub mod chain;
 pub mod device;
+pub mod known;
 mod leading;
 pub mod members;
 pub mod outcome;

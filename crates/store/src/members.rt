@@ -7,6 +7,7 @@ ghost use Rattle.journal.specs.Digests.{summary_of};
 ghost use Rattle.store.specs.Tales.{IsFit};
 
 use crate::announcing::Announces;
+use crate::known::KnownLog;
 use crate::past::Past;
 use crate::refusal::StoreRefusal;
 use crate::seat::Seat;
@@ -42,13 +43,14 @@ fn start_seat<K: Announces>(
     seat: &mut Seat<K>,
     schema: Schema,
     members: usize,
+    known: &mut KnownLog,
 ) -> Result<(), StoreRefusal>
 where
     K::Image: Drop,
     ensures { OnOk result (ForSome seat.new.node (λ n. n.is_up ≡ true → K.is_honest n.keeper → IsFit seat.old.tale (summary_of (durable_of (member_of n))))) }
 {
     let member = seat.member;
-    match seat.start(schema, members) {
+    match seat.start(schema, members, known) {
         Ok(()) => {}
         Err(StoreRefusal::Refused(Refusal::BadStore)) => {
             return Err(StoreRefusal::Altered {
@@ -90,14 +92,19 @@ where
 }
 
 // Starts each member that has a database.
-fn start_seats<K: Announces>(seats: &mut Vec<Seat<K>>, schema: &Schema) -> Result<(), StoreRefusal>
+fn start_seats<K: Announces>(
+    alloc: Global,
+    seats: &mut Vec<Seat<K>>,
+    schema: &Schema,
+) -> Result<(), StoreRefusal>
 where
     K::Image: Drop,
 {
+    let mut known = KnownLog::new(alloc);
     let count = seats.len();
     for seat in seats.iter_mut() {
         if !seat.is_missing() {
-            start_seat(seat, schema.clone()?, count)?;
+            start_seat(seat, schema.clone()?, count, &mut known)?;
         }
     }
     Ok(())
@@ -122,7 +129,7 @@ where
         if there <= count / 2 {
             return Err(StoreRefusal::TooFew);
         }
-        start_seats(&mut seats, &schema)?;
+        start_seats(alloc, &mut seats, &schema)?;
         Ok(Members {
             alloc,
             schema,

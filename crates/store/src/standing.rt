@@ -3,6 +3,7 @@ ghost use Rattle.std.specs.Prelude.{◌≡◌, ◌≢◌, ◌⊎◌, ◌-◌, �
 ghost use Rattle.store.specs.Journals.{IsSpent};
 
 use crate::announcing::Announces;
+use crate::known::KnownLog;
 use crate::refusal::StoreRefusal;
 use crate::seat::Seat;
 use crate::status::{Standing, Status};
@@ -38,6 +39,7 @@ where
     fn start_node(&mut self, member: Member) -> Result<bool, StoreRefusal> {
         let members = self.seats.len();
         let schema = self.schema.clone()?;
+        let mut known = KnownLog::new(self.alloc);
         let Some(at) = self.place_of(member) else {
             return Err(StoreRefusal::Refused(Refusal::NodeDown));
         };
@@ -45,7 +47,7 @@ where
         if seat.is_up() {
             return Ok(false);
         }
-        seat.start(schema, members)?;
+        seat.start(schema, members, &mut known)?;
         Ok(true)
     }
 
