@@ -5,7 +5,7 @@ use Rattle.live.specs.declared.station.Station.{Station}
 
 -- a node that runs and was asked nothing, whose clock is 0
 abbrev pub IsNew : Station → Type 0
-IsNew s = (s.clock ≡ pos 0) × (s.runs ≡ true) × (s.fell ≡ false) × (s.view ≡ None) × (s.answers.items ≡ [])
+IsNew s = (s.clock ≡ pos 0) × (s.runs ≡ true) × (s.fell ≡ false) × (s.is_full ≡ false) × (s.view ≡ None) × (s.answers.items ≡ [])
 
 abbrev pub stations_of : Driver → List Station
 stations_of d = d.stations.items

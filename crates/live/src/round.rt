@@ -69,7 +69,7 @@ fn add_to(
 impl Driver {
     /// Plays one round: each node that runs is sent the timeout or beat that it is due for, and, if it is due to ask for one,
     /// a floor, then the messages that come now, then the request that is to go to it, all of them together; what comes of
-    /// them is taken in the order of the nodes. A node that is due for nothing is sent nothing.
+    /// them is taken in the order of the nodes. A node that is due for nothing is sent nothing, nor is one whose life is full.
     pub(crate) fn round<R: Wait>(&mut self, rt: &R) -> Result<(), Refusal> {
         let count = self.rounds.saturating_add(1);
         let mut batches = self.no_batches()?;
@@ -88,8 +88,9 @@ impl Driver {
 
     // For each node nothing.
     fn no_batches(&self) -> Result<Vec<Batch>, AllocError> {
-        let mut batches = Vec::new(self.alloc);
-        for _ in 0..self.stations.len() {
+        let count = self.stations.len();
+        let mut batches = Vec::with_capacity(self.alloc, count)?;
+        for _ in 0..count {
             batches.push(Batch::new(self.alloc))?;
         }
         Ok(batches)
@@ -101,14 +102,14 @@ impl Driver {
         rt: &R,
         batches: Vec<Batch>,
     ) -> Result<Vec<Vec<Note>>, Refusal> {
-        let mut sent = Vec::new(self.alloc);
+        let mut sent = Vec::with_capacity(self.alloc, batches.len())?;
         for (at, batch) in batches.into_iter().enumerate() {
             sent.push(self.send(rt, at.saturating_add(1), batch)?)?;
         }
         Ok(sent)
     }
 
-    // Sends a node packets, with what its clock shows, and gives what was sent: to one that does not run nothing is.
+    // Sends a node packets, with what its clock shows, and gives what was sent: to one that takes none nothing is.
     fn send<R: Wait>(&mut self, rt: &R, node: Member, batch: Batch) -> Result<Vec<Note>, Refusal> {
         let Batch { packets, notes } = batch;
         let (false, Some(reading)) = (packets.is_empty(), self.reading(node)) else {
@@ -157,10 +158,10 @@ impl Driver {
         Ok(())
     }
 
-    // What the node's clock shows now, if it runs.
+    // What the node's clock shows now, if it takes packets: it runs, and its life is not full.
     fn reading(&self, node: Member) -> Option<i64> {
         let station = self.stations.get(node.checked_sub(1)?)?;
-        if station.runs {
+        if station.runs && !station.is_full {
             Some(station.reading(self.rounds))
         } else {
             None
@@ -184,7 +185,7 @@ impl Driver {
         Ok(())
     }
 
-    // A request whose node does not run goes to the next one.
+    // A request whose node takes no packets goes to the next one.
     fn add_errand(&mut self, batches: &mut [Batch]) -> Result<(), AllocError> {
         let members = self.stations.len().max(1);
         let Some(node) = self.errand_node() else {
@@ -239,17 +240,25 @@ impl Driver {
         let refusal = match report.outcome {
             Ok(out) => return self.take_out(node, note, out),
             Err(Fault::Kept(refusal)) => refusal,
-            Err(Fault::Down(_)) => {
-                if let Some(station) = self.stations.get_mut(node.saturating_sub(1)) {
-                    station.fell = true;
-                }
-                Refusal::NodeDown
-            }
+            Err(Fault::Down(_)) => Refusal::NodeDown,
         };
+        self.mark_ended(node, &refusal);
         if let (Note::Errand, Some(errand)) = (note, &mut self.errand) {
             errand.refused(refusal, members);
         }
         Ok(())
+    }
+
+    // Marks the life of a node that went down or is full.
+    fn mark_ended(&mut self, node: Member, refusal: &Refusal) {
+        let Some(station) = self.stations.get_mut(node.saturating_sub(1)) else {
+            return;
+        };
+        match refusal {
+            Refusal::NodeDown => station.fell = true,
+            Refusal::LifeFull => station.is_full = true,
+            _ => {}
+        }
     }
 
     // What a step gives: its messages go on their way, and what it tells is heard.

@@ -26,6 +26,8 @@ pub struct Station {
     pub runs: bool,
     /// Whether a step of the life that runs went down.
     pub fell: bool,
+    /// Whether the life that runs refused a packet for want of room, as it does each later one.
+    pub is_full: bool,
     /// The view of the life that runs, once one was asked for.
     pub view: Option<View>,
     /// What its views answered.
@@ -43,6 +45,7 @@ impl Station {
             clock: 0,
             runs: true,
             fell: false,
+            is_full: false,
             view: None,
             answers: Vec::new(alloc),
         }
@@ -62,17 +65,19 @@ impl Station {
     {
         self.runs = false;
         self.fell = false;
+        self.is_full = false;
         self.view = None;
     }
 
     /// A life of it began.
     pub fn started(&mut self)
-        ensures up { (self.new.runs ≡ true) × (self.new.view ≡ None) }
+        ensures up { (self.new.runs ≡ true) × (self.new.is_full ≡ false) × (self.new.view ≡ None) }
         ensures follows { (self.new.pulse.leads ≡ false) × (self.new.pulse.term ≡ self.old.pulse.term) }
         ensures same { (self.new.clock ≡ self.old.clock) × (self.new.answers ≡ self.old.answers) }
     {
         self.runs = true;
         self.fell = false;
+        self.is_full = false;
         self.view = None;
         self.pulse.restart();
     }
