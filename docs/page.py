@@ -3,6 +3,7 @@
 `docs/layers` and `docs/speedplot` draw with it. Colours and fonts are those of `bitable beliefs --svg`.
 """
 import os
+import re
 import sys
 from html import escape
 
@@ -49,13 +50,20 @@ def number(value):
     return text.removesuffix(".0")
 
 
+def plain(rules, colours):
+    """Rules in which each colour by name follows the one of a light page, for programs that show pictures and know no names."""
+    return re.sub(r"([a-z-]+):var\(--([a-z-]+)\)", lambda it: f"{it[1]}:{colours[it[2]][0]};{it[0]}", rules)
+
+
 class Page:
     """What stands on a page."""
 
     def __init__(self, title, description, size, rules="", more=None):
         """`more` are colours of this page alone."""
+        named = COLOURS | (more or {})
+
         def colours(which):
-            return "svg{" + "".join(f"--{name}:{both[which]};" for name, both in (COLOURS | (more or {})).items()) + "}"
+            return "svg{" + "".join(f"--{name}:{both[which]};" for name, both in named.items()) + "}"
 
         width, height = map(number, size)
         self.parts = [
@@ -63,7 +71,7 @@ class Page:
             ' aria-labelledby="t d" style="max-width:100%;height:auto">',
             f'<title id="t">{escape(title, False)}</title>',
             f'<desc id="d">{escape(description, False)}</desc>',
-            f"<style>{colours(0)}@media (prefers-color-scheme:dark){{{colours(1)}}}{RULES}{rules}</style>",
+            f"<style>{colours(0)}@media (prefers-color-scheme:dark){{{colours(1)}}}{plain(RULES + rules, named)}</style>",
             f'<rect x="0" y="0" width="{width}" height="{height}" class="page"/>',
         ]
         self.words(24, 38, title, "h")
