@@ -63,7 +63,7 @@ pub(crate) fn named_key(
         };
         values.push(value.clone()?)?;
     }
-    Ok(Some(Key::new(values)))
+    Ok(Some(Key::new(values)?))
 }
 
 // The day that the term asks for.

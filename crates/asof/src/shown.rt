@@ -27,7 +27,7 @@ fn show(alloc: Global, version: &Version, last: Stamp) -> Result<Shown, AllocErr
     let row = &version.row;
     Ok(Shown {
         key: row.key.as_slice().to_vec(alloc)?,
-        values: row.values.clone()?,
+        values: row.values.as_slice().to_vec(alloc)?,
         period: row.period,
         system_start: row.system_start,
         end: shown_end(last, version.end),

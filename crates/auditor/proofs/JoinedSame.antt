@@ -1,20 +1,17 @@
 -- An audit says the same in both words.
-use Rattle.std.proofs.Common.{◌≡◌, ℕ, zero, suc, ◌+◌, ◌<◌, Option, Some, None, Result, Ok, Err, List, [], ◌∷◌, ◌++◌, length, refl, sym, ap, ◌∙◌, subst, map, Contains, ◌⊎◌, inl, inr}
+use Rattle.std.proofs.Common.{◌≡◌, ℕ, zero, suc, ◌+◌, ◌<◌, Option, Some, None, Result, Ok, Err, List, [], ◌∷◌, ◌++◌, length, refl, sym, ap, ◌∙◌, subst, map, ◌⊎◌, inl, inr}
 use Rattle.std.specs.Prelude.{◌≢◌, codes, slice_get, IsSomeAnd, IfOk, IfErr}
 use Rattle.std.specs.declared.vec.Vec.{Vec}
 use Rattle.std.specs.declared.alloc.Global.{Global}
 use Rattle.fault.specs.declared.refusal.Refusal.{Refusal}
 use Rattle.fault.specs.declared.refusal.Refusal.TheVariants.{Syntax, UnknownTable, UnknownColumn, WrongType, NotAssignable, EmptyPeriod, OutOfRange, TooLarge, BadSchema, KeyOverlap, NoParent, RowLimit, NumberRange, Old, Gap, NotLeader, NotClosed, TimeFull, LogFull, TermFull, StoreFault, NodeDown, LifeFull, NoMemory, BadStore, NoView, BadFlight, BrokenLife, Unsent, StampOrder, WrongAnswer, BadScript}
 use Rattle.model.specs.Lists.{nth}
-use Rattle.model.specs.declared.entry.Entry.{Entry}
 use Rattle.model.specs.declared.entry.Told.{Told}
 use Rattle.model.specs.Answers.{Select, Answer, IsAnswer, read_at}
 use Rattle.model.specs.Worlds.{World, Event, Output, new_world}
 use Rattle.model.specs.Worlds.Event.{Start, Ask}
 use Rattle.model.specs.Worlds.Output.{Sent, Applied, Answered, Refused}
-use Rattle.model.specs.Worlds as old
 use Rattle.believed.specs.Worlds.{Gives}
-use Rattle.model.specs.Agreement as agreement
 use Rattle.flight.specs.declared.flight.Version.{Version}
 use Rattle.flight.specs.declared.flight.Version.TheVariants.{One, Two, Three}
 use Rattle.flight.specs.declared.outcome.Outcome.{Outcome}

@@ -8,7 +8,7 @@ use Rattle.fault.specs.declared.refusal.Refusal.TheVariants.{NotClosed}
 use Rattle.model.specs.Lists.{nth}
 use Rattle.model.specs.Transactions.{Language}
 use Rattle.model.specs.Answers.{Select, Answer as TheAnswer}
-use Rattle.model.specs.Worlds.{World, Event, Output, new_world}
+use Rattle.model.specs.Worlds.{Event, Output, new_world}
 use Rattle.model.specs.Worlds.Event.{Stop, Start, Ask}
 use Rattle.model.specs.Worlds.Output.{Applied, Answered, Refused}
 use Rattle.model.specs.declared.event.Job.{Job}

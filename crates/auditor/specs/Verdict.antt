@@ -1,5 +1,5 @@
 -- What an audit says of what flights have.
-use Rattle.std.specs.Prelude.{◌≢◌, ℕ, List, length}
+use Rattle.std.specs.Prelude.{◌≢◌, List, length}
 use Rattle.std.specs.declared.vec.Vec.{Vec}
 use Rattle.std.specs.declared.alloc.Global.{Global}
 use Rattle.flight.specs.declared.flight.Answered.{Answered}

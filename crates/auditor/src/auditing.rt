@@ -18,7 +18,7 @@ ghost use Rattle.auditor.specs.View.{IsLed};
 use flight::flight::Version;
 use flight::life::Life;
 use moments::laws::one_text;
-use moments::{AuditFault, Moment, Recorded, Replay, check_order, events_in, timeline};
+use moments::{AuditFault, Moment, Recorded, Replay, check_order, timeline};
 use schema::Schema;
 use std::alloc::Global;
 use world::event::Event;
@@ -59,7 +59,7 @@ fn explain(
     let moments = timeline(alloc, lives, answers)?;
     let mut replay = Replay::new(alloc, lives.len(), schema.clone()?)?;
     follow_all(&mut replay, version, schema, lives, answers, &moments)?;
-    Ok(events_in(alloc, &replay.world)?)
+    Ok(replay.into_events())
 }
 
 /// Audits what was recorded of a group of 3 to 7 nodes, in flights of this version: the lives of each, in the order of

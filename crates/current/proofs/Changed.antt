@@ -1,8 +1,6 @@
 -- What becomes of the strands where the map changes at one key.
-use Rattle.std.proofs.Common.{◌≡◌, Result, Ok, Err, Bool, true, false, ◌++◌, ◌==◌, ◌∷◌, length, List, [], Option, Some, refl, sym, ap, ◌∙◌, subst, inl, inr, map, arith, cond}
+use Rattle.std.proofs.Common.{◌≡◌, Result, Ok, Err, true, false, ◌==◌, ◌∷◌, length, List, [], Option, Some, refl, sym, ap, ◌∙◌, subst, inl, inr, map, arith, cond}
 use Rattle.std.specs.BTreeMap.{get, get_by, UpdatesBy, WritesThrough}
-use Rattle.std.specs.Map.{lookup, set_value}
-use Rattle.std.specs.Ordering.{is_eq}
 use Rattle.std.specs.Option.{IsSome}
 use Rattle.std.specs.Result.{OnOk, OnErr}
 use Rattle.std.specs.Cmp.{Equal-is}
@@ -14,7 +12,7 @@ use Rattle.overlaps.specs.Key.{key_cmp_total}
 use Rattle.current.specs.declared.row.Row.{Row as Declared}
 use Rattle.current.specs.Rows.{row_of}
 use Rattle.current.specs.Plans.{instead}
-use Rattle.current.specs.ByKey.{Map, strand_in, strands_of, rows_in, with_strand}
+use Rattle.current.specs.ByKey.{Map, strand_in, strands_of, with_strand}
 
 -- equal keys have the same rows
 pub same_got : (m : Map) (key k : List Value) → same_key key k ≡ true → get key_cmp m key ≡ get key_cmp m k

@@ -1,5 +1,5 @@
 -- A search for the first day without a parent: what it has looked at.
-use Rattle.std.proofs.Common.{leb, ltb, ◌++◌, ◌&&◌, Result, Ok, Err, ◌≡◌, ℕ, zero, suc, ◌+◌, ◌-◌, ◌<◌, ◌≤◌, ◌⊎◌, inl, inr, Bool, true, false, ◌||◌, IsTrue, List, [], ◌∷◌, map, drop, take, length, get_or, Option, Some, None, option_map, refl, sym, ap, ◌∙◌, subst, arith, Ordering}
+use Rattle.std.proofs.Common.{leb, ltb, ◌++◌, ◌&&◌, Result, Ok, Err, ◌≡◌, ℕ, zero, suc, ◌+◌, ◌-◌, ◌<◌, ◌≤◌, ◌⊎◌, inl, inr, Bool, true, List, [], ◌∷◌, map, drop, length, get_or, Option, Some, None, option_map, refl, sym, ap, ◌∙◌, subst, arith, Ordering}
 use Rattle.std.proofs.lemmas.Bool.{cases_Bool, cases_lt, and_parts, leb-true, ltb-true}
 use Rattle.std.specs.Prelude.{find, ◌↔◌, IsOk, IfOk}
 use Rattle.std.specs.Result.{result_ok}
@@ -17,7 +17,7 @@ use Rattle.model.specs.Transactions.{Reference, Place}
 use Rattle.rowlaws.specs.Rows.{Has}
 use Rattle.rowlaws.specs.Covering.{missing, periods_of, place_at}
 use Rattle.rowlaws.specs.Losing.{lost_days}
-use Rattle.rowlaws.specs.Suspects.{earlier, first_among, rows_losing}
+use Rattle.rowlaws.specs.Suspects.{earlier, rows_losing}
 use Rattle.rowlaws.specs.Touching.{same_row}
 use Rattle.rowlaws.proofs.Anys.{any_has, has_any}
 use Rattle.rowlaws.proofs.Keys.{key_same, key_itself, same_key-true}

@@ -25,8 +25,7 @@ use Rattle.sqlchecks.specs.declared.field.Field.TheVariants.{Key}
 use Rattle.sqlchecks.specs.Columns.{kept_at}
 use Rattle.sqlchecks.specs.Comparisons.{holds, compares, passes_all}
 use Rattle.sqlread.specs.declared.statement.Assignment.{Assignment}
-use Rattle.current.specs.declared.correction.Correction.{Correction}
-use Rattle.current.specs.Corrections.{is_met, is_stuck, kept, removed_at, added_at, correction_action, action_of_correction}
+use Rattle.current.specs.Corrections.{is_met, is_stuck, kept, removed_at, added_at, correction_action}
 use Rattle.current.specs.ByKey.{Map, strands_of, rows_in, in_strand}
 use Rattle.current.proofs.InStrand.{each_in_strand}
 use Rattle.current.proofs.Sorted.{in_its_strand, in_all}

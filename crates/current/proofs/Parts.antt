@@ -1,8 +1,6 @@
 -- The parts that the code makes of a row are those of the definitions.
 use Rattle.std.proofs.Common.{◌≡◌, ℕ, Bool, true, false, ◌&&◌, List, ◌++◌, Option, Some, None, unwrap_or, refl, sym, ap, ◌∙◌, Bor}
 use Rattle.std.specs.Prelude.{nat_lt, nat_le, is_none, IsTrue}
-use Rattle.std.specs.declared.alloc.Global.{Global}
-use Rattle.std.specs.declared.vec.Vec.{Vec}
 use Rattle.period.specs.declared.period.Period.{Period as Declared}
 use Rattle.model.specs.declared.value.Value.{Value}
 use Rattle.model.specs.Tables.{inside}
@@ -33,21 +31,21 @@ stuck_not : (b : Bool) (o : Option (List Value)) (a : List Value) → o ≡ Some
 stuck_not true o a h = rw h refl
 stuck_not false o a h = refl
 
-pub parts_are : PartsOfUpdate → PartsOfDelete → (conditions : List Comparison) (p : Declared) (assignments : Option (Bor (List Assignment))) (t : ℕ) (row : DeclaredRow) (before within after : Option Declared) (new : Option (Vec Value Global))
-    → IsTrue (is_met (correction_action conditions (period_of p) assignments) (row_of row)) → AreSet assignments row.values.items new → AreDays row.period p before within after
-    → (row_of_part (row_of row) before row.values.items t ++ (new_part (row_of row) within new t ++ row_of_part (row_of row) after row.values.items t) ≡ made (correction_action conditions (period_of p) assignments) t (row_of row))
+pub parts_are : PartsOfUpdate → PartsOfDelete → (conditions : List Comparison) (p : Declared) (assignments : Option (Bor (List Assignment))) (t : ℕ) (row : DeclaredRow) (before within after : Option Declared) (new : Option (List Value))
+    → IsTrue (is_met (correction_action conditions (period_of p) assignments) (row_of row)) → AreSet assignments (row_of row).values new → AreDays row.period p before within after
+    → (row_of_part (row_of row) before (row_of row).values t ++ (new_part (row_of row) within new t ++ row_of_part (row_of row) after (row_of row).values t) ≡ made (correction_action conditions (period_of p) assignments) t (row_of row))
     × (is_stuck (correction_action conditions (period_of p) assignments) (row_of row) ≡ false)
 parts_are of_update of_delete conditions p None t row before within after new met set days =
     let none : new ≡ None = set in (
-      ap (λ n. row_of_part (row_of row) before row.values.items t ++ (new_part (row_of row) within n t ++ row_of_part (row_of row) after row.values.items t)) none
+      ap (λ n. row_of_part (row_of row) before (row_of row).values t ++ (new_part (row_of row) within n t ++ row_of_part (row_of row) after (row_of row).values t)) none
           ∙ of_delete (passes_all conditions) (row_of row) (period_of p) before within after t row.period.ordered p.ordered met (are_parts row.period p before within after days),
       refl,
     )
 parts_are of_update of_delete conditions p (Some assignments) t row before within after None met set days = let some = set.1 in cc
 parts_are of_update of_delete conditions p (Some assignments) t row before within after (Some values) met set days =
-    let is : set_of assignments.now row.values.items ≡ Some values.items = sym set.0 in
-    let new : values.items ≡ unwrap_or (set_of assignments.now row.values.items) row.values.items = rw is refl in (
-      ap (λ vs. row_of_part (row_of row) before row.values.items t ++ (row_of_part (row_of row) within vs t ++ row_of_part (row_of row) after row.values.items t)) new
+    let is : set_of assignments.now (row_of row).values ≡ Some values = sym set.0 in
+    let new : values ≡ unwrap_or (set_of assignments.now (row_of row).values) (row_of row).values = rw is refl in (
+      ap (λ vs. row_of_part (row_of row) before (row_of row).values t ++ (row_of_part (row_of row) within vs t ++ row_of_part (row_of row) after (row_of row).values t)) new
           ∙ of_update (passes_all conditions) (row_of row) (period_of p) before within after (set_of assignments.now) t row.period.ordered p.ordered met (are_parts row.period p before within after days),
-      stuck_not (meets (passes_all conditions) (period_of p) (row_of row)) _ values.items is,
+      stuck_not (meets (passes_all conditions) (period_of p) (row_of row)) _ values is,
     )

@@ -1,5 +1,5 @@
 -- What the laws of `refused` rest on besides the clauses that they speak of.
-use Rattle.std.proofs.Common.{◌≡◌, ℕ, ◌<◌, ◌≤◌, Bool, true, false, is_some, Option, Some, None, option_map, List, refl, sym, ap, ◌∙◌, subst, arith, inl, inr, ◌++◌, unwrap_or, min, max, ◌∷◌, Result, Ok, Err}
+use Rattle.std.proofs.Common.{◌≡◌, ℕ, ◌<◌, ◌≤◌, Bool, true, false, is_some, Option, Some, None, option_map, List, refl, sym, ◌∙◌, subst, arith, inl, inr, ◌++◌, unwrap_or, min, max, ◌∷◌, Result, Ok, Err}
 use Rattle.std.specs.Prelude.{IfOk, IsErr}
 use Rattle.std.specs.Prelude.{find}
 use Rattle.std.proofs.lemmas.Bool.{lt-ltb}
@@ -47,6 +47,9 @@ before_made rows c r is h = subst (λ xs. Has xs (part r r.period.start c.portio
 
 pub after_made : (rows : List Row) (c : Correction) (r : Row) → rows ≡ made (action_of_correction c) c.system_start r → c.portion.end.number < r.period.end → Has rows (part r c.portion.end.number r.period.end r.values c.system_start)
 after_made rows c r is h = subst (λ xs. Has xs (part r c.portion.end.number r.period.end r.values c.system_start)) (sym is) (last_made _ _ c.assignments c.system_start r h)
+
+pub among_more : (old more rows : List Row) (x : Row) → rows ≡ old ++ more → Has more x → Has rows x
+among_more old more rows x is h = subst (λ xs. Has xs x) (sym is) (has_right old more x h)
 
 -- ---- days that no row has
 

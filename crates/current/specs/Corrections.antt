@@ -1,8 +1,6 @@
 -- What UPDATE and DELETE make of one row.
-use Rattle.std.specs.Prelude.{◌≡◌, ℕ, Bool, IsSome, option_map, false, Option, Some, None, List, [], ◌∷◌, if◌then◌else◌}
+use Rattle.std.specs.Prelude.{◌≡◌, ℕ, Bool, IsSome, false, Option, Some, None, List, [], ◌∷◌, if◌then◌else◌}
 use denote.Ref.{Bor}
-use Rattle.std.specs.declared.alloc.Global.{Global}
-use Rattle.std.specs.declared.vec.Vec.{Vec}
 use Rattle.period.specs.declared.period.Period.{Period as DeclaredPeriod}
 use Rattle.model.specs.declared.value.Value.{Value}
 use Rattle.model.specs.Tables.{Period, Row}
@@ -27,9 +25,9 @@ abbrev pub action_of_correction : Correction → Action
 action_of_correction c = correction_action c.conditions.now (period_of c.portion) c.assignments
 
 -- what SET makes of the values: none for DELETE
-abbrev pub AreSet : Option (Bor (List Assignment)) → List Value → Option (Vec Value Global) → Type 0
+abbrev pub AreSet : Option (Bor (List Assignment)) → List Value → Option (List Value) → Type 0
 AreSet None old new = new ≡ None
-AreSet (Some assignments) old new = (option_map (λ values. values.items) new ≡ set_of assignments.now old) × IsSome new
+AreSet (Some assignments) old new = (new ≡ set_of assignments.now old) × IsSome new
 
 -- there is a SET, and it makes none
 abbrev pub IsOutOfRange : Option (Bor (List Assignment)) → List Value → Type 0
@@ -37,9 +35,9 @@ IsOutOfRange None old = ⊥
 IsOutOfRange (Some assignments) old = set_of assignments.now old ≡ None
 
 -- the row that a part becomes with the new values, if there is a part and there are new values
-abbrev pub new_part : Row → Option DeclaredPeriod → Option (Vec Value Global) → ℕ → List Row
+abbrev pub new_part : Row → Option DeclaredPeriod → Option (List Value) → ℕ → List Row
 new_part r part None t = []
-new_part r part (Some values) t = row_of_part r part values.items t
+new_part r part (Some values) t = row_of_part r part values t
 
 -- the action meets the row
 abbrev pub is_met : Action → Row → Bool

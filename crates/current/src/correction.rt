@@ -1,5 +1,7 @@
 //! UPDATE and DELETE of one row.
 ghost use Rattle.std.specs.Prelude.{◌≡◌, ◌⊎◌, ◌++◌, map, true, false, IsTrue, IfOk, IfErr};
+ghost use Rattle.std.specs.Option.{option_map};
+ghost use Rattle.std.specs.Arc.{arc_slice_items};
 ghost use Rattle.fault.specs.declared.refusal.Refusal.TheVariants.{NoMemory, NumberRange};
 ghost use Rattle.rowlaws.specs.Parts.{row_of_part};
 ghost use Rattle.current.specs.Rows.{row_of};
@@ -14,6 +16,7 @@ use portion::pieces;
 use sqlchecks::comparison::{Comparison, pass_all};
 use sqlread::statement::{Assignment, assigned};
 use std::alloc::{AllocError, Global};
+use std::sync::ArcSlice;
 
 /// An UPDATE or a DELETE of the days in a portion, at an instant.
 #[derive(Clone, Copy)]
@@ -30,10 +33,10 @@ fn push_part(
     parts: &mut Vec<Row>,
     row: &Row,
     part: Option<Period>,
-    values: Vec<Value>,
+    values: ArcSlice<Value>,
     system_start: Stamp,
 ) -> Result<(), AllocError>
-    ensures { IfOk result (λ u. map row_of parts.new.items ≡ map row_of parts.old.items ++ row_of_part (row_of row.now) part values.items system_start) }
+    ensures { IfOk result (λ u. map row_of parts.new.items ≡ map row_of parts.old.items ++ row_of_part (row_of row.now) part (arc_slice_items values) system_start) }
 {
     if let Some(period) = part {
         let key = row.key.clone()?;
@@ -47,17 +50,17 @@ fn push_part(
     Ok(())
 }
 
-// The same with the row's own values, which are copied where there is a part alone.
+// The same with the row's own values.
 fn push_old_part(
     parts: &mut Vec<Row>,
     row: &Row,
     part: Option<Period>,
     system_start: Stamp,
 ) -> Result<(), AllocError>
-    ensures { IfOk result (λ u. map row_of parts.new.items ≡ map row_of parts.old.items ++ row_of_part (row_of row.now) part row.now.values.items system_start) }
+    ensures { IfOk result (λ u. map row_of parts.new.items ≡ map row_of parts.old.items ++ row_of_part (row_of row.now) part (row_of row.now).values system_start) }
 {
     match part {
-        Some(_) => push_part(parts, row, part, row.clone_values()?, system_start),
+        Some(_) => push_part(parts, row, part, row.values.clone()?, system_start),
         None => Ok(()),
     }
 }
@@ -67,10 +70,10 @@ fn push_new_part(
     parts: &mut Vec<Row>,
     row: &Row,
     part: Option<Period>,
-    values: Option<Vec<Value>>,
+    values: Option<ArcSlice<Value>>,
     system_start: Stamp,
 ) -> Result<(), AllocError>
-    ensures { IfOk result (λ u. map row_of parts.new.items ≡ map row_of parts.old.items ++ new_part (row_of row.now) part values system_start) }
+    ensures { IfOk result (λ u. map row_of parts.new.items ≡ map row_of parts.old.items ++ new_part (row_of row.now) part (option_map arc_slice_items values) system_start) }
 {
     match values {
         Some(values) => push_part(parts, row, part, values, system_start),
@@ -90,15 +93,15 @@ impl Correction<'_> {
     }
 
     // What SET makes of the values. DELETE leaves none within the portion.
-    fn new_values(&self, alloc: Global, row: &Row) -> Result<Option<Vec<Value>>, Refusal>
-        ensures ok { IfOk result (λ new. AreSet self.now.assignments row.now.values.items new) }
-        ensures err { IfErr result (λ refusal. (refusal ≡ NoMemory) ⊎ ((refusal ≡ NumberRange) × IsOutOfRange self.now.assignments row.now.values.items)) }
+    fn new_values(&self, alloc: Global, row: &Row) -> Result<Option<ArcSlice<Value>>, Refusal>
+        ensures ok { IfOk result (λ new. AreSet self.now.assignments (row_of row.now).values (option_map arc_slice_items new)) }
+        ensures err { IfErr result (λ refusal. (refusal ≡ NoMemory) ⊎ ((refusal ≡ NumberRange) × IsOutOfRange self.now.assignments (row_of row.now).values)) }
     {
         match self.assignments {
             None => Ok(None),
             Some(assignments) => {
                 match assigned(alloc, assignments, row.values.as_slice())? {
-                    Some(values) => Ok(Some(values)),
+                    Some(values) => Ok(Some(ArcSlice::from_vec(values)?)),
                     None => Err(Refusal::NumberRange),
                 }
             }
@@ -107,12 +110,17 @@ impl Correction<'_> {
 
     /// The rows that become of a row that is met: its parts before the portion and after it, with
     /// the old values, and for UPDATE its part within the portion, with the new ones. All are born
-    /// anew.
+    /// anew, and added to the rows.
     ///
     /// `NumberRange` where a new value is out of range; `NoMemory`.
-    pub(crate) fn parts(&self, alloc: Global, row: &Row) -> Result<Vec<Row>, Refusal>
+    pub(crate) fn add_parts(
+        &self,
+        alloc: Global,
+        row: &Row,
+        rows: &mut Vec<Row>,
+    ) -> Result<(), Refusal>
         requires { IsTrue (is_met (action_of_correction self.now) (row_of row.now)) }
-        ensures ok { IfOk result (λ parts. (map row_of parts.items ≡ made (action_of_correction self.now) self.now.system_start (row_of row.now)) × (is_stuck (action_of_correction self.now) (row_of row.now) ≡ false)) }
+        ensures ok { IfOk result (λ u. (map row_of rows.new.items ≡ map row_of rows.old.items ++ made (action_of_correction self.now) self.now.system_start (row_of row.now)) × (is_stuck (action_of_correction self.now) (row_of row.now) ≡ false)) }
         ensures err { IfErr result (λ refusal. (refusal ≡ NoMemory) ⊎ ((refusal ≡ NumberRange) × (is_stuck (action_of_correction self.now) (row_of row.now) ≡ true))) }
     {
         rowlaws::parts_of_update();
@@ -120,10 +128,9 @@ impl Correction<'_> {
         let new = self.new_values(alloc, row)?;
         let (before, within, after) = pieces(row.period, self.portion);
         let at = self.system_start;
-        let mut parts = Vec::new(alloc);
-        push_old_part(&mut parts, row, before, at)?;
-        push_new_part(&mut parts, row, within, new, at)?;
-        push_old_part(&mut parts, row, after, at)?;
-        Ok(parts)
+        push_old_part(rows, row, before, at)?;
+        push_new_part(rows, row, within, new, at)?;
+        push_old_part(rows, row, after, at)?;
+        Ok(())
     }
 }

@@ -35,6 +35,7 @@ use period::{Day, Period};
 use schema::Schema;
 use sqlread::statement::{Assignment, Delete, Insert, Statement, Update};
 use std::alloc::{AllocError, Global};
+use std::sync::ArcSlice;
 
 /// The current rows of all tables of a schema, which it keeps. A contract sees what `rows_of` gives: of
 /// each table, by its number from 0, its rows in the order of key and start.
@@ -293,8 +294,8 @@ fn no_parent(alloc: Global, schema: &Schema, place: &Place) -> Result<Refusal, A
 fn inserted_row(insert: &Insert, t: Stamp) -> Result<Row, AllocError>
     ensures { IfOk result (λ row. row_of row ≡ new_row insert.now.key.items insert.now.values.items (period_of insert.now.period) t) }
 {
-    let key = Key::new(insert.key.clone()?);
-    let values = insert.values.clone()?;
+    let key = Key::new(insert.key.clone()?)?;
+    let values = ArcSlice::from_vec(insert.values.clone()?)?;
     Ok(Row {
         key,
         period: insert.period,

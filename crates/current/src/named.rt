@@ -51,5 +51,5 @@ pub(crate) fn named_key(
         };
         values.push(value.clone()?)?;
     }
-    Ok(Some(Key::new(values)))
+    Ok(Some(Key::new(values)?))
 }

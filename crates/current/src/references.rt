@@ -40,7 +40,7 @@ pub(crate) struct Place<'a> {
 // What a row has in a column of its table, if that is of the key or a value column.
 #[tactic(auto, unfolding(sqlchecks::specs::Columns::kept_at))]
 fn column_value<'a>(table: &Table, column: usize, row: &'a Row) -> Option<&'a Value>
-    ensures { option_copied result ≡ option_and_then (kept_at row.now.key row.now.values.items) (field_at table.now column) }
+    ensures { option_copied result ≡ option_and_then (kept_at row.now.key (row_of row.now).values) (field_at table.now column) }
 {
     match field_of(table, column) {
         Some(Field::Key(place)) => row.key.as_slice().get(place),
@@ -56,7 +56,7 @@ pub(crate) fn referred_key(
     columns: &[usize],
     row: &Row,
 ) -> Result<Key, AllocError>
-    ensures { IfOk result (λ key. key ≡ values_at table.now columns.now row.now.key row.now.values.items) }
+    ensures { IfOk result (λ key. key ≡ values_at table.now columns.now row.now.key (row_of row.now).values) }
 {
     let mut values = Vec::new(alloc);
     for column in columns {
@@ -64,7 +64,7 @@ pub(crate) fn referred_key(
             values.push(value.clone()?)?;
         }
     }
-    Ok(Key::new(values))
+    Key::new(values)
 }
 
 // The periods of rows.
@@ -176,7 +176,7 @@ fn missing_by(
     reference: &Reference,
     row: &Row,
 ) -> Result<Option<Day>, AllocError>
-    ensures { IfOk result (λ day. option_map (λ d. d.number) day ≡ find (is_free (periods_of (rows_at rows_of_table tables.now reference.now.parent) (values_at table.now reference.now.columns row.now.key row.now.values.items))) (days_of (period_of row.now.period))) }
+    ensures { IfOk result (λ day. option_map (λ d. d.number) day ≡ find (is_free (periods_of (rows_at rows_of_table tables.now reference.now.parent) (values_at table.now reference.now.columns row.now.key (row_of row.now).values))) (days_of (period_of row.now.period))) }
 {
     let key = referred_key(alloc, table, reference.columns(), row)?;
     first_free_day(alloc, tables, reference.parent(), &key, row.period)

@@ -23,13 +23,18 @@ use overlaps::Key;
 use period::{Day, Period};
 use std::alloc::{AllocError, Global};
 
-/// A function that loses what lies of a row before the portion or after it, or gives it new values or the old system start, does not meet the contract of `Correction::parts`.
-fn parts_are_lost(correction: &Correction, alloc: Global, row: &Row) -> Result<Vec<Row>, Refusal>
+/// A function that loses what lies of a row before the portion or after it, or gives it new values or the old system start, does not meet the contract of `Correction::add_parts`.
+fn parts_are_lost(
+    correction: &Correction,
+    alloc: Global,
+    row: &Row,
+    rows: &mut Vec<Row>,
+) -> Result<(), Refusal>
     requires { IsTrue (is_met (action_of_correction correction.now) (row_of row.now)) }
-    ensures before { IfOk result (λ parts. row.now.period.start.number < correction.now.portion.start.number → Has (map row_of parts.items) (cutting.part (row_of row.now) row.now.period.start.number correction.now.portion.start.number row.now.values.items correction.now.system_start)) }
-    ensures after { IfOk result (λ parts. correction.now.portion.end.number < row.now.period.end.number → Has (map row_of parts.items) (cutting.part (row_of row.now) correction.now.portion.end.number row.now.period.end.number row.now.values.items correction.now.system_start)) }
+    ensures before { IfOk result (λ u. row.now.period.start.number < correction.now.portion.start.number → Has (map row_of rows.new.items) (cutting.part (row_of row.now) row.now.period.start.number correction.now.portion.start.number (row_of row.now).values correction.now.system_start)) }
+    ensures after { IfOk result (λ u. correction.now.portion.end.number < row.now.period.end.number → Has (map row_of rows.new.items) (cutting.part (row_of row.now) correction.now.portion.end.number row.now.period.end.number (row_of row.now).values correction.now.system_start)) }
 {
-    correction.parts(alloc, row)
+    correction.add_parts(alloc, row, rows)
 }
 
 /// A function that inserts a row of which another row of the key has a day does not meet the contract of `TableRows::insert`.

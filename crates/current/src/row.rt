@@ -1,5 +1,5 @@
 //! Rows of tables.
-ghost use Rattle.std.specs.Prelude.{◌≡◌, IfOk};
+ghost use Rattle.std.specs.Prelude.{◌≡◌};
 ghost use Rattle.model.specs.Values.{same_key, key_cmp};
 
 use model::stamp::Stamp;
@@ -8,15 +8,16 @@ use overlaps::{HasPeriod, Key};
 use period::Period;
 use std::alloc::AllocError;
 use std::cmp::Ordering;
+use std::sync::ArcSlice;
 
-/// A current row: a key has these values on the days of a period, since an instant. A contract sees
-/// what `row_of` gives.
+/// A current row: a key has these values on the days of a period, since an instant. A copy shares the key and the
+/// values, and takes no memory. A contract sees what `row_of` gives.
 #[derive(Debug, Drop)]
 pub struct Row {
     pub key: Key,
     pub period: Period,
     /// Of the table's value columns, in their order.
-    pub values: Vec<Value>,
+    pub values: ArcSlice<Value>,
     /// The instant of the transaction that made the row.
     pub system_start: Stamp,
 }
@@ -30,7 +31,7 @@ impl Clone for Row {
         Ok(Row {
             key: self.key.clone()?,
             period: self.period,
-            values: self.clone_values()?,
+            values: self.values.clone()?,
             system_start: self.system_start,
         })
     }
@@ -120,13 +121,6 @@ impl Ord for Row {
 impl Row {
     ghost use Rattle.rowlaws.specs.Touching.{same_row};
     ghost use Rattle.current.specs.Rows.{row_of};
-
-    /// A copy of its values.
-    pub(crate) fn clone_values(&self) -> Result<Vec<Value>, AllocError>
-        ensures { IfOk result (λ values. values.items ≡ self.now.values.items) }
-    {
-        self.values.clone()
-    }
 
     /// Whether the two have the same key, period, values and system start. Takes no memory.
     pub fn is_same(&self, other: &Row) -> bool

@@ -1,12 +1,12 @@
 //! UPDATE and DELETE of the rows of one key.
-ghost use Rattle.std.specs.Prelude.{◌≡◌, ◌⊎◌, ◌++◌, [], map, true, false, flat_map, IfOk, IfErr};
+ghost use Rattle.std.specs.Prelude.{◌≡◌, ◌≤◌, ◌⊎◌, ◌++◌, [], drop, length, map, true, false, flat_map, IfOk, IfErr};
 ghost use Rattle.std.specs.List.{list_any};
 ghost use Rattle.fault.specs.declared.refusal.Refusal.TheVariants.{NoMemory, NumberRange};
 ghost use Rattle.current.specs.Rows.{row_of};
 ghost use Rattle.current.specs.Touched.{removed_of, added_of};
 ghost use Rattle.current.specs.Corrections.{action_of_correction, is_met, is_stuck, kept, removed_at, added_at};
 
-use crate::compare::{add_others, add_unless, append};
+use crate::compare::{add_others, add_unless};
 use crate::correction::Correction;
 use crate::row::Row;
 use fault::Refusal;
@@ -34,6 +34,14 @@ impl Changes {
     }
 }
 
+// The rows from a place on.
+fn rows_from(rows: &[Row], place: usize) -> &[Row]
+    requires { place ≤ length rows.now }
+    ensures { result.now ≡ drop place rows.now }
+{
+    &rows[place..]
+}
+
 // Adds what becomes of a row that is met to the rows of its key, and what it touches to the changes.
 fn correct_met(
     alloc: Global,
@@ -49,10 +57,11 @@ fn correct_met(
     ensures in_range { IfOk result (λ u. is_stuck (action_of_correction correction.now) (row_of row.now) ≡ false) }
     ensures err { IfErr result (λ refusal. (refusal ≡ NoMemory) ⊎ ((refusal ≡ NumberRange) × (is_stuck (action_of_correction correction.now) (row_of row.now) ≡ true))) }
 {
-    let parts = correction.parts(alloc, row)?;
-    add_unless(&mut changes.removed, row, parts.as_slice())?;
-    add_others(&mut changes.added, parts.as_slice(), row)?;
-    append(rows, parts)?;
+    let place = rows.len();
+    correction.add_parts(alloc, row, rows)?;
+    let parts = rows_from(rows.as_slice(), place);
+    add_unless(&mut changes.removed, row, parts)?;
+    add_others(&mut changes.added, parts, row)?;
     Ok(())
 }
 
@@ -93,7 +102,7 @@ pub(crate) fn correct_strand(
     ensures in_range { IfOk result (λ rows. list_any (is_stuck (action_of_correction correction.now)) (map row_of strand.now) ≡ false) }
     ensures err { IfErr result (λ refusal. (refusal ≡ NoMemory) ⊎ ((refusal ≡ NumberRange) × (list_any (is_stuck (action_of_correction correction.now)) (map row_of strand.now) ≡ true))) }
 {
-    let mut rows = Vec::new(alloc);
+    let mut rows = Vec::with_capacity(alloc, strand.len())?;
     for row in strand {
         correct_row(alloc, correction, row, &mut rows, changes)?;
     }

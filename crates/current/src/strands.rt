@@ -47,7 +47,11 @@ pub(crate) fn replace_strand(strands: &mut Strands, key: &Key, rows: Vec<Row>)
     if strand.is_empty() {
         return;
     }
+    let some_left = !rows.is_empty();
     *strand = Counted::from(rows);
+    if some_left {
+        return;
+    }
     forget_if_empty(strands, key);
 }
 

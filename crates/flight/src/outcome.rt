@@ -85,7 +85,7 @@ impl Outcomes {
         ensures all { IfOk result (λ o. o ≡ outcomes_of told.now) }
         ensures none { told.now ≡ [] → IsOk result }
     {
-        let mut outcomes = Vec::new(alloc);
+        let mut outcomes = Vec::with_capacity(alloc, told.len())?;
         for one in told {
             let outcome = Outcome::of(alloc, one)?;
             outcomes.push(outcome)?;

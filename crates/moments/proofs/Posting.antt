@@ -1,20 +1,18 @@
 -- Messages that are posted with the mark at which they were sent.
-use Rattle.std.proofs.Common.{◌≡◌, ◌∙◌, ℕ, zero, suc, ◌+◌, ◌<◌, false, List, [], ◌∷◌, ◌++◌, map, take, drop, length, refl, sym, ap, append_assoc, Option, Some, None, ℤ, subst, inl, inr}
-use Rattle.std.specs.Prelude.{slice_index_or, option_map}
+use Rattle.std.proofs.Common.{◌≡◌, ◌∙◌, ℕ, zero, suc, ◌+◌, ◌<◌, Bool, false, List, [], ◌∷◌, ◌++◌, take, drop, map, length, refl, sym, ap, append_assoc, Option, Some, None, ℤ, subst, inl, inr, arith}
+use Rattle.std.specs.Prelude.{◌↔◌, slice_get, slice_index_or, IsTrue}
 use Rattle.std.proofs.lemmas.List.{take_more, map-append}
-use Rattle.std.proofs.lemmas.Option.{same_Some, slice_get-map}
-use Rattle.std.proofs.lemmas.Simd.{map-map}
+use Rattle.std.proofs.lemmas.Option.{same_Some}
 use Rattle.model.specs.Lists.{nth}
 use Rattle.model.specs.declared.message.Message.{Message}
-use Rattle.model.specs.Worlds.{World, Event, happens, run, new_world, Gives}
+use Rattle.model.specs.Worlds.{Event, happens, run, new_world, Gives}
 use Rattle.sqlread.specs.Meaning.{language_of}
 use Rattle.world.specs.declared.history.World.{World as Whole}
 use Rattle.world.specs.declared.output.Output.{Output as Out}
 use Rattle.world.specs.Run.{language_in, tables_in, members_in, events_of, now_of, member_of}
 use Rattle.world.specs.View.{event_of, outputs_of}
-use Rattle.moments.specs.declared.posts.Post.{Post}
 use Rattle.moments.specs.declared.replay.Replay.{Replay}
-use Rattle.moments.specs.Posts.{messages_in, posted, IsPosted}
+use Rattle.moments.specs.Posts.{messages_in, past_with, posted, IsSentThen}
 use Rattle.moments.specs.Past.{Past, IsSent}
 use Rattle.model.specs.declared.event.Job.{Job as ModelJob}
 use Rattle.flight.specs.declared.life.Packet.{Packet}
@@ -26,50 +24,77 @@ use Rattle.flight.specs.declared.life.Ending.TheVariants.{Torn}
 use Rattle.moments.specs.Faults.{IsEndFault, Lacks}
 use Rattle.moments.specs.declared.recorded.AuditFault.TheVariants.{Unsent, Wrong}
 use Rattle.moments.specs.Behind.{IsJob, IsCut}
-use Rattle.moments.specs.View.{past_of, Happened, IsLive, IsSameRun}
-use Rattle.moments.proofs.Sending.{messages_append, messages_are, sent_by, sent_after}
+use Rattle.moments.specs.View.{past_of, Happened, IsSameRun}
+use Rattle.moments.proofs.Sending.{messages_append, sent_after}
 
--- ---- posts
+-- ---- marks
 
 -- one output more
-pub posts_more : (mark : ℕ) (start cur later : List Post) (outs : List Out) (i : ℕ) (o : Out) → cur ≡ start ++ map (posted mark) (messages_in (take i outs)) → later ≡ cur ++ map (posted mark) (messages_in (o ∷ [])) →
-    i < length outs → o ≡ slice_index_or outs i o → later ≡ start ++ map (posted mark) (messages_in (take (i + 1) outs))
+pub posts_more : (mark : ℕ) (start cur later : List ℕ) (outs : List Out) (i : ℕ) (o : Out) → cur ≡ start ++ posted mark (messages_in (take i outs)) → later ≡ cur ++ posted mark (messages_in (o ∷ [])) →
+    i < length outs → o ≡ slice_index_or outs i o → later ≡ start ++ posted mark (messages_in (take (i + 1) outs))
 posts_more mark start cur later outs i o so next lt is =
-    next ∙ ap (λ xs. xs ++ map (posted mark) (messages_in (o ∷ []))) so ∙ append_assoc start _ _
-    ∙ ap (λ xs. start ++ xs) (sym (map-append (posted mark) (messages_in (take i outs)) (messages_in (o ∷ []))) ∙ ap (map (posted mark)) (sym (messages_append (take i outs) (o ∷ []))
+    let mark_of : Message → ℕ = λ message. mark in
+    next ∙ ap (λ xs. xs ++ posted mark (messages_in (o ∷ []))) so ∙ append_assoc start _ _
+    ∙ ap (λ xs. start ++ xs) (sym (map-append mark_of (messages_in (take i outs)) (messages_in (o ∷ []))) ∙ ap (posted mark) (sym (messages_append (take i outs) (o ∷ []))
     ∙ ap messages_in (ap (λ x. take i outs ++ x ∷ []) is ∙ sym (take_more outs i o lt))))
 
-messages_back : (mark : ℕ) (ms : List Message) → map (λ (p : Post). p.message) (map (posted mark) ms) ≡ ms
-messages_back mark [] = refl
-messages_back mark (m ∷ ms) = ap (λ xs. m ∷ xs) (messages_back mark ms)
+-- the k-th message was this one exactly where that is the one that was found
+pub sent_is : (found : Option Message) (sent message : Message) (same : Bool) → found ≡ Some sent → (IsTrue same ↔ (sent ≡ message)) → IsTrue same ↔ (found ≡ Some message)
+sent_is found sent message same is equal = (λ t. is ∙ ap (λ m. Some m) (equal.0 t), λ e. equal.1 (same_Some sent message (sym is ∙ e)))
 
-nth_map : {A B : Type 0} (f : A → B) (xs : List A) (k : ℕ) → nth (map f xs) k ≡ option_map f (nth xs k)
-nth_map f xs zero = refl
-nth_map f xs (suc k) = slice_get-map f xs k
+pub none_sent : (found : Option Message) (message : Message) → found ≡ None → IsTrue false ↔ (found ≡ Some message)
+none_sent found message is = (λ t. absurd (cc t), λ e. absurd (cc (sym is ∙ e)))
 
-some_of : (o : Option Post) (mark : ℕ) (message : Message) → option_map (λ (p : Post). p.message) o ≡ Some message → option_map (λ (p : Post). p.mark) o ≡ Some mark → o ≡ Some (posted mark message)
-some_of None mark message h m = absurd (cc h)
-some_of (Some p) mark message h m = λ i. Some (posted ((same_Some _ _ m) i) ((same_Some _ _ h) i))
+within : {A : Type 0} (xs : List A) (k : ℕ) (x : A) → slice_get xs k ≡ Some x → k < length xs
+within [] k x e = cc
+within (y ∷ xs) zero x e = omega arith
+within (y ∷ xs) (suc k) x e = let less = within xs k x e in omega (arith, less)
 
--- a message that was sent is posted
-pub is_posted : (x : Replay) (mark node : ℕ) (message : Message) (k : ℕ) → IsLive x → IsSent (past_of x) mark node message k → IsPosted x.posts.items mark node message k
-is_posted x mark node message k live h = (
-  some_of (nth x.posts.items k) mark message
-      (sym (nth_map (λ (p : Post). p.message) x.posts.items k) ∙ ap (λ xs. nth xs k) live.posted ∙ h.is)
-      (sym (nth_map (λ (p : Post). p.mark) x.posts.items k) ∙ h.marked),
-  h.addressed,
+-- what stands at a place with another mark was not sent then
+pub other_mark : (p : Past) (at found place : ℕ) (message : Message) → slice_get p.marks place ≡ Some found → (found ≡ at → ⊥) → IsTrue false ↔ IsSentThen p at message (place + 1)
+other_mark p at found place message there other = (
+  λ t. absurd (cc t),
+  λ h.
+      let P : ℕ → Type 0 = λ k. nth p.marks k ≡ Some at in
+      let e : place + 1 ≡ suc place = omega arith in
+      absurd (other (same_Some found at (sym there ∙ subst P e h.marked))),
 )
+
+-- what stands at a place with the mark was sent then, if it is the message
+pub then_is : (p : Past) (at found place : ℕ) (message : Message) (same : Bool) → slice_get p.marks place ≡ Some found → found ≡ at → (IsTrue same ↔ (nth p.world.sent (place + 1) ≡ Some message)) →
+    IsTrue same ↔ IsSentThen p at message (place + 1)
+then_is p at found place message same there mark equal =
+    let P : ℕ → Type 0 = λ k. nth p.marks k ≡ Some at in
+    let e : suc place ≡ place + 1 = omega arith in
+    (λ t. record { is = equal.0 t; marked = subst P e (there ∙ ap (λ m. Some m) mark) }, λ h. equal.1 h.is)
+
+-- where no place has the message with the mark it was not sent then
+pub none_among : (p : Past) (at : ℕ) (message : Message) → ((k : ℕ) → k < length p.marks → IsSentThen p at message (k + 1) → ⊥) → (k : ℕ) → IsSentThen p at message k → ⊥
+none_among p at message none zero h = absurd (cc h.marked)
+none_among p at message none (suc k) h =
+    let P : ℕ → Type 0 = λ j. IsSentThen p at message j in
+    let e : suc k ≡ k + 1 = omega arith in
+    none k (within p.marks k at h.marked) (subst P e h)
+
+pub sent_to : (p : Past) (at node : ℕ) (message : Message) (k : ℕ) → message.addressee ≡ node → IsSentThen p at message k → IsSent p at node message k
+sent_to p at node message k to h = record { is = h.is; marked = h.marked; addressed = to }
+
+pub none_to : (p : Past) (at node : ℕ) (message : Message) → ((k : ℕ) → IsSentThen p at message k → ⊥) → (k : ℕ) → IsSent p at node message k → ⊥
+none_to p at node message none k h = none k (record { is = h.is; marked = h.marked })
+
+pub to_another : (p : Past) (at node : ℕ) (message : Message) → (message.addressee ≡ node → ⊥) → (k : ℕ) → IsSent p at node message k → ⊥
+to_another p at node message other k h = other h.addressed
 
 -- ---- jobs
 
--- a message that is not posted makes no job
-pub no_job : (x : Replay) (posts : List Post) (mark node : ℕ) (reading : ℤ) (message : Message) (packet : Packet) → IsLive x → posts ≡ x.posts.items → packet ≡ Delivered mark reading message →
-    ((k : ℕ) → IsPosted posts mark node message k → ⊥) → (job : ModelJob) → IsJob (past_of x) node packet job → ⊥
-no_job x posts mark node reading message packet live same is none job h =
+-- a message that was not sent then makes no job
+pub no_job : (x : Replay) (marks : List ℕ) (mark node : ℕ) (reading : ℤ) (message : Message) (packet : Packet) → marks ≡ x.marks.items → packet ≡ Delivered mark reading message →
+    ((k : ℕ) → IsSent (past_with x.world marks) mark node message k → ⊥) → (job : ModelJob) → IsJob (past_of x) node packet job → ⊥
+no_job x marks mark node reading message packet same is none job h =
     let P : Packet → Type 0 = λ q. IsJob (past_of x) node q job in
     let found = subst P is h in
-    let Q : List Post → Type 0 = λ ps. IsPosted ps mark node message found.0 in
-    none found.0 (subst Q (sym same) (is_posted x mark node message found.0 live found.1))
+    let Q : List ℕ → Type 0 = λ ms. IsSent (past_with x.world ms) mark node message found.0 in
+    none found.0 (subst Q (sym same) found.1)
 
 -- a step that is cut short has no events where its packet makes no job, or where it told anything
 pub nothing_cut : (p : Past) (node mark : ℕ) (next : Option Life) (ending : Ending) (s : Step) → ending ≡ Torn s → ((job : ModelJob) → IsJob p node s.packet job → ⊥) →
@@ -86,32 +111,24 @@ cut_told p node mark next ending s job is there told =
 
 -- ---- events
 
--- one event happened, and its messages are posted
-pub one_happened : (old new : Replay) (mark : ℕ) (e : Event) (outs : List Out) → IsLive old →
+-- one event happened, and the marks of its messages are known
+pub one_happened : (old new : Replay) (mark : ℕ) (e : Event) (outs : List Out) →
     Gives (language_in old.world) (members_in old.world) (now_of old.world) e (outputs_of outs) →
     now_of new.world ≡ happens (language_in old.world) (members_in old.world) (now_of old.world) e →
     events_of new.world ≡ events_of old.world ++ e ∷ [] → tables_in new.world ≡ tables_in old.world → members_in new.world ≡ members_in old.world →
-    new.world.is_spent ≡ false → new.posts.items ≡ old.posts.items ++ map (posted mark) (messages_in outs) → Happened old new mark (e ∷ [])
-one_happened old new mark e outs live gives now kept tables members spent posts =
+    new.world.is_spent ≡ false → new.marks.items ≡ old.marks.items ++ posted mark (messages_in outs) → Happened old new mark (e ∷ [])
+one_happened old new mark e outs gives now kept tables members spent marks =
     let s = language_in old.world in
     let n = members_in old.world in
     let w = now_of old.world in
-    let ms = messages_in outs in
-    let mark_of : Post → ℕ = λ p. p.mark in
-    let message_of : Post → Message = λ p. p.message in
-    let marks : map mark_of new.posts.items ≡ map mark_of old.posts.items ++ map (λ (m : Message). mark) (drop (length w.sent) (happens s n w e).sent) =
-    ap (map mark_of) posts ∙ map-append mark_of old.posts.items (map (posted mark) ms)
-    ∙ ap (λ xs. map mark_of old.posts.items ++ xs) (map-map mark_of (posted mark) ms ∙ ap (map (λ (m : Message). mark)) (sym (sent_after s n w e outs gives))) in
-    let sent : map message_of new.posts.items ≡ (now_of new.world).sent =
-    ap (map message_of) posts ∙ map-append message_of old.posts.items (map (posted mark) ms)
-    ∙ ap (λ xs. xs ++ map message_of (map (posted mark) ms)) live.posted ∙ ap (λ xs. w.sent ++ xs) (messages_back mark ms ∙ messages_are outs)
-    ∙ sym (sent_by s n w e (outputs_of outs) gives) ∙ ap (λ (v : World). v.sent) (sym now) in
+    let all : new.marks.items ≡ old.marks.items ++ posted mark (drop (length w.sent) (happens s n w e).sent) =
+    marks ∙ ap (λ ms. old.marks.items ++ posted mark ms) (sym (sent_after s n w e outs gives)) in
     record {
       kept = kept;
-      past = λ i. record { world = now i; marks = marks i };
+      past = λ i. record { world = now i; marks = all i };
       tables = tables;
       members = members;
-      live = record { live = spent; posted = sent };
+      live = record { live = spent };
     }
 
 -- ---- what stays the same

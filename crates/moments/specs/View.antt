@@ -1,17 +1,17 @@
 -- The replay as the definitions see it.
-use Rattle.std.specs.Prelude.{◌≡◌, ℕ, false, List, ◌++◌, map}
+use Rattle.std.specs.Prelude.{◌≡◌, ℕ, false, List, ◌++◌}
 use Rattle.model.specs.Worlds.{Event}
-use Rattle.world.specs.Run.{tables_in, language_in, members_in, events_of, now_of}
+use Rattle.world.specs.Run.{tables_in, language_in, members_in, events_of}
 use Rattle.moments.specs.declared.replay.Replay.{Replay}
 use Rattle.moments.specs.Past.{Past, after}
+use Rattle.moments.specs.Posts.{past_with}
 
 abbrev pub past_of : Replay → Past
-past_of x = record { world = now_of x.world; marks = map (λ p. p.mark) x.posts.items }
+past_of x = past_with x.world x.marks.items
 
--- memory was never refused, and the messages that were sent are known
+-- memory was never refused
 pub record IsLive (x : Replay) : Type 0 where
   pub live : x.world.is_spent ≡ false
-  pub posted : map (λ p. p.message) x.posts.items ≡ (now_of x.world).sent
 
 -- these events happened at a mark, and nothing else
 pub record Happened (old new : Replay) (mark : ℕ) (events : List Event) : Type 0 where

@@ -1,64 +1,89 @@
 //! The messages of a run, with the marks at which they were sent.
-ghost use Rattle.std.specs.Prelude.{◌≡◌, ◌++◌, ◌∷◌, [], ℕ, map, slice_get, IfSome, IfNone, OnOk, Some};
+ghost use Rattle.std.specs.Prelude.{◌≡◌, ◌↔◌, ◌<◌, ◌+◌, ◌++◌, ◌∷◌, [], ℕ, false, length, slice_get, IfSome, IfNone, IsTrue, OnOk, Some};
 ghost use Rattle.model.specs.Lists.{nth};
-ghost use Rattle.moments.specs.Posts.{messages_in, posted, IsPosted};
+ghost use Rattle.world.specs.Run.{now_of};
+ghost use Rattle.moments.specs.Past.{IsSent};
+ghost use Rattle.moments.specs.Posts.{messages_in, past_with, posted, IsSentThen};
 
 use crate::same::is_same_message;
 use model::mark::Mark;
 use model::member::Member;
 use model::message::Message;
 use std::alloc::AllocError;
+use world::history::World;
 use world::output::Output;
 
-/// A message, with the mark of the step that sent it.
-#[derive(Drop)]
-pub(crate) struct Post {
-    pub mark: Mark,
-    pub message: Message,
-}
-
-// Adds the message of an output, if it is one.
-fn post_one(posts: &mut Vec<Post>, mark: Mark, output: &Output) -> Result<(), AllocError>
-    ensures { OnOk result (posts.new.items ≡ posts.old.items ++ map (posted mark) (messages_in (output.now ∷ []))) }
+// Adds the mark of the message of an output, if it is one.
+fn post_one(marks: &mut Vec<Mark>, mark: Mark, output: &Output) -> Result<(), AllocError>
+    ensures { OnOk result (marks.new.items ≡ marks.old.items ++ posted mark (messages_in (output.now ∷ []))) }
 {
     match output {
-        Output::Sent(_, message) => {
-            posts.push(Post {
-                mark,
-                message: message.clone()?,
-            })?;
+        Output::Sent(_, _) => {
+            marks.push(mark)?;
             Ok(())
         }
         _ => Ok(()),
     }
 }
 
-/// Adds the messages among outputs, which were sent at this mark.
+/// Adds the mark of each message among outputs, which were sent at this mark.
 pub(crate) fn post_all(
-    posts: &mut Vec<Post>,
+    marks: &mut Vec<Mark>,
     mark: Mark,
     outputs: &[Output],
 ) -> Result<(), AllocError>
-    ensures { OnOk result (posts.new.items ≡ posts.old.items ++ map (posted mark) (messages_in outputs.now)) }
+    ensures { OnOk result (marks.new.items ≡ marks.old.items ++ posted mark (messages_in outputs.now)) }
 {
     for output in outputs {
-        post_one(posts, mark, output)?;
+        post_one(marks, mark, output)?;
     }
     Ok(())
 }
 
+// Whether this is the message that was sent as this one, counted from 1.
+fn is_sent_as(world: &World, number: usize, message: &Message) -> bool
+    requires { world.now.is_spent ≡ false }
+    ensures { IsTrue result ↔ (nth (now_of world.now).sent number ≡ Some message.now) }
+{
+    match world.message(number) {
+        Some(sent) => is_same_message(sent, message),
+        None => false,
+    }
+}
+
+// The number of the mark at this place.
+fn mark_at(marks: &[Mark], place: usize) -> u64
+    requires { place < length marks.now }
+    ensures { slice_get marks.now place ≡ Some result }
+{
+    marks[place].number()
+}
+
+// Whether the message at this place, counted from 0, is this one, and was sent at this mark.
+#[tactic(auto, using(crate::proofs::Posting::other_mark, crate::proofs::Posting::then_is))]
+fn is_sent_then(world: &World, marks: &[Mark], place: usize, mark: Mark, message: &Message) -> bool
+    requires live { world.now.is_spent ≡ false }
+    requires place { place < length marks.now }
+    ensures { IsTrue result ↔ IsSentThen (past_with world.now marks.now) mark message.now (place + 1) }
+{
+    if mark_at(marks, place) != mark.number() {
+        return false;
+    }
+    is_sent_as(world, place + 1, message)
+}
+
 // Which message this is, of those sent at this mark, counted from 1 among all. Marks do not fall from one message to
 // the next, so those of the mark are found by halves.
-fn number_near(posts: &[Post], mark: Mark, message: &Message) -> Option<usize>
-    ensures { IfSome result (λ k. nth posts.now k ≡ Some (posted mark message.now)) }
+fn number_near(world: &World, marks: &[Mark], mark: Mark, message: &Message) -> Option<usize>
+    requires { world.now.is_spent ≡ false }
+    ensures { IfSome result (IsSentThen (past_with world.now marks.now) mark message.now) }
 {
-    let first = posts.partition_point(|post| post.mark.number() < mark.number());
-    for place in first..posts.len() {
-        let post = &posts[place];
-        if post.mark.number() != mark.number() {
+    let first = marks.partition_point(|sent| sent.number() < mark.number());
+    for place in first..marks.len() {
+        if mark_at(marks, place) > mark.number() {
             return None;
         }
-        if is_same_message(&post.message, message) {
+        if is_sent_then(world, marks, place, mark, message) {
             return Some(place + 1);
         }
     }
@@ -66,35 +91,39 @@ fn number_near(posts: &[Post], mark: Mark, message: &Message) -> Option<usize>
 }
 
 // The same, looked for among all.
-fn number_among(posts: &[Post], mark: Mark, message: &Message) -> Option<usize>
-    ensures some { IfSome result (λ k. nth posts.now k ≡ Some (posted mark message.now)) }
-    ensures none { IfNone result ((k : ℕ) → slice_get posts.now k ≡ Some (posted mark message.now) → ⊥) }
+#[tactic(auto, using(crate::proofs::Posting::none_among))]
+fn number_among(world: &World, marks: &[Mark], mark: Mark, message: &Message) -> Option<usize>
+    requires { world.now.is_spent ≡ false }
+    ensures some { IfSome result (IsSentThen (past_with world.now marks.now) mark message.now) }
+    ensures none { IfNone result ((k : ℕ) → IsSentThen (past_with world.now marks.now) mark message.now k → ⊥) }
 {
-    for place in 0..posts.len() {
-        let post = &posts[place];
-        if post.mark.number() == mark.number() && is_same_message(&post.message, message) {
+    for place in 0..marks.len() {
+        if is_sent_then(world, marks, place, mark, message) {
             return Some(place + 1);
         }
     }
     None
 }
 
-/// Which message this is, of those sent to the node at this mark, counted from 1 among all. Before it answers none it
-/// has looked at all.
+/// Which message this is, of those sent to the node at this mark, counted from 1 among all: each of them has the mark at
+/// its place. Before it answers none it has looked at all.
+#[tactic(auto, using(crate::proofs::Posting::sent_to, crate::proofs::Posting::none_to, crate::proofs::Posting::to_another))]
 pub(crate) fn number_of(
-    posts: &[Post],
+    world: &World,
+    marks: &[Mark],
     mark: Mark,
     node: Member,
     message: &Message,
 ) -> Option<usize>
-    ensures some { IfSome result (IsPosted posts.now mark node message.now) }
-    ensures none { IfNone result ((k : ℕ) → IsPosted posts.now mark node message.now k → ⊥) }
+    requires { world.now.is_spent ≡ false }
+    ensures some { IfSome result (IsSent (past_with world.now marks.now) mark node message.now) }
+    ensures none { IfNone result ((k : ℕ) → IsSent (past_with world.now marks.now) mark node message.now k → ⊥) }
 {
     if message.addressee != node {
         return None;
     }
-    match number_near(posts, mark, message) {
+    match number_near(world, marks, mark, message) {
         Some(number) => Some(number),
-        None => number_among(posts, mark, message),
+        None => number_among(world, marks, mark, message),
     }
 }

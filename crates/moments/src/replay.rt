@@ -1,5 +1,5 @@
 //! The run that lives and answers are compared with, moment by moment.
-ghost use Rattle.std.specs.Prelude.{◌≡◌, ◌∷◌, ◌↔◌, ◌≤◌, [], ℕ, None, Some, IsTrue, IfOk, IfErr, OnOk, MatchOption, length, slice_get, ◌<◌, ◌+◌, ◌^◌};
+ghost use Rattle.std.specs.Prelude.{◌≡◌, ◌∷◌, ◌↔◌, ◌≤◌, [], ℕ, None, Some, IsTrue, IfOk, IfErr, OnOk, MatchOption, length, map, slice_get, ◌<◌, ◌+◌, ◌^◌};
 ghost use Rattle.std.specs.List.{All};
 ghost use Rattle.std.specs.Option.{option_copied};
 ghost use Rattle.model.specs.Worlds.{Gives};
@@ -17,7 +17,7 @@ ghost use Rattle.moments.specs.declared.recorded.AuditFault.TheVariants.{Broken,
 
 use crate::moment::{Deed, Moment};
 use crate::order::{is_marked, lives_of};
-use crate::posts::{Post, number_of, post_all};
+use crate::posts::{number_of, post_all};
 use crate::recorded::{AuditFault, Recorded};
 use crate::told::are_told;
 use answertext::Lines;
@@ -86,7 +86,7 @@ fn is_text(alloc: Global, outs: &[Output], text: &Text) -> Result<bool, AllocErr
     is_told_by(alloc, output, text)
 }
 
-/// A run so far, with the messages that were sent and their marks.
+/// A run so far, with the marks at which its messages were sent.
 ///
 /// It is live from `new` on as long as each call answers Ok. After an Err it is not to be asked again: its world may be
 /// spent, or have had an event that nothing recorded explains.
@@ -95,7 +95,8 @@ pub struct Replay {
     alloc: Global,
     /// The group, and all events that happened to it so far.
     pub world: World,
-    posts: Vec<Post>,
+    // Of each message that was sent, in their order.
+    marks: Vec<Mark>,
 }
 
 impl Replay {
@@ -117,8 +118,20 @@ impl Replay {
         Ok(Replay {
             alloc,
             world: World::new(alloc, members, schema)?,
-            posts: Vec::new(alloc),
+            marks: Vec::new(alloc),
         })
+    }
+
+    /// The events of the run, to be moved elsewhere. Takes no memory.
+    pub fn into_events(self) -> Vec<Event>
+        ensures { map event_of result.items ≡ events_of self.world }
+    {
+        let Replay {
+            alloc: _,
+            world,
+            marks: _marks,
+        } = self;
+        world.into_events()
     }
 
     // Lets an event happen at a mark.
@@ -129,7 +142,7 @@ impl Replay {
         ensures happened { OnOk result (Happened self.old self.new mark (event_of event ∷ [])) }
     {
         let outs = self.world.step(&event)?;
-        post_all(&mut self.posts, mark, &outs)?;
+        post_all(&mut self.marks, mark, &outs)?;
         Ok(outs)
     }
 
@@ -144,7 +157,7 @@ impl Replay {
                 mark,
                 reading,
                 message,
-            } => match number_of(&self.posts, *mark, node, message) {
+            } => match number_of(&self.world, &self.marks, *mark, node, message) {
                 Some(message) => Ok(Some(Job::Delivery {
                     message,
                     reading: *reading,

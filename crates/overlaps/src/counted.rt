@@ -147,11 +147,15 @@ impl<T> Counted<T> {
 }
 
 impl<T: Drop> Counted<T> {
-    /// Adds an item at its end. Want of memory changes nothing.
+    /// Adds an item at its end. Want of memory changes nothing. The first one takes memory for itself alone, as most lists
+    /// have one item.
     pub fn push(&mut self, item: T) -> Result<(), AllocError>
         ensures ok { OnOk result (self.new ≡ self.old ++ item ∷ []) }
         ensures err { OnErr result (self.new ≡ self.old) }
     {
+        if self.items.is_empty() {
+            self.items.reserve_exact(1)?;
+        }
         self.items.push(item)?;
         Ok(())
     }

@@ -1,5 +1,5 @@
 //! The keys of rows.
-ghost use Rattle.std.specs.Prelude.{◌≡◌, refl};
+ghost use Rattle.std.specs.Prelude.{◌≡◌, refl, IfOk};
 ghost use Rattle.std.specs.Cmp.{partial_equiv_from_equiv};
 ghost use Rattle.std.specs.Ordering.{as_partial_cmp};
 ghost use Rattle.model.specs.Values.{key_cmp, same_key};
@@ -9,29 +9,33 @@ use model::value::Value;
 use std::alloc::AllocError;
 use std::cmp::Ordering;
 use std::marker::Model;
+use std::sync::ArcSlice;
 
 /// The values of a row's key columns, in their order. Keys order by their columns in turn, and two
-/// are equal where no column differs. A contract sees the list of the values.
+/// are equal where no column differs. The values are stored once: a copy shares them and takes no memory. A contract
+/// sees the list of the values.
 #[derive(Debug, Drop)]
 pub struct Key {
-    values: Vec<Value>,
+    values: ArcSlice<Value>,
 }
 
 impl Model for Key {
     ghost use Rattle.std.specs.Prelude.{List};
+    ghost use Rattle.std.specs.Arc.{arc_slice_items};
     ghost use Rattle.model.specs.declared.value.Value.{Value as ColumnValue};
 
     ghost Value = { List ColumnValue };
 
-    ghost view = { λ k. k.values.items };
+    ghost view = { λ k. arc_slice_items k.values };
 }
 
 impl Key {
-    /// The key with these values. Takes no memory.
-    pub fn new(values: Vec<Value>) -> Key
-        ensures { result ≡ values.items }
+    /// The key with these values. The error is want of memory.
+    pub fn new(values: Vec<Value>) -> Result<Key, AllocError>
+        ensures { IfOk result (λ key. key ≡ values.items) }
     {
-        Key { values }
+        let values = ArcSlice::from_vec(values)?;
+        Ok(Key { values })
     }
 
     /// Its values. Takes no memory.

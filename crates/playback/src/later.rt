@@ -1,6 +1,5 @@
 //! Journals that go on from others, which are away.
 use crate::group::Group;
-use crate::held::{HeldLog, beginning_of};
 use crate::play::Play;
 use crate::stage::Stage;
 use fault::Refusal;
@@ -9,6 +8,8 @@ use model::member::Member;
 use schema::Schema;
 use std::alloc::Global;
 use store::StoreRefusal;
+use store::beginnings::beginning_of;
+use store::held::HeldLog;
 
 impl Play {
     /// Before the journal of this number, where those before it are away: each member goes on from what this journal tells that it has

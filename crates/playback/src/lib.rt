@@ -7,7 +7,6 @@ mod decided;
 mod found;
 mod group;
 mod hearing;
-mod held;
 mod later;
 mod lives;
 mod play;
@@ -20,5 +19,4 @@ mod stored;
 mod told;
 
 pub use decided::Decided;
-pub use held::HeldLog;
 pub use play::Play;

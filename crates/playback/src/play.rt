@@ -3,7 +3,6 @@ ghost use Rattle.std.specs.Prelude.{◌≡◌, ◌<◌, ◌+◌, IfOk, vec_len};
 
 use crate::actor::Actor;
 use crate::decided::Decided;
-use crate::held::HeldLog;
 use crate::post::Post;
 use crate::stage::Stage;
 use crate::told::Word;
@@ -14,6 +13,7 @@ use model::member::Member;
 use schema::Schema;
 use std::alloc::{AllocError, Global};
 use store::StoreRefusal;
+use store::held::HeldLog;
 use world::event::Event;
 use world::history::World;
 use world::output::Output;

@@ -79,7 +79,7 @@ impl Core {
         let length = self.log.length();
         let first = before.min(length);
         let end = length.min(first + most);
-        let mut window = Vec::new(self.alloc);
+        let mut window = Vec::with_capacity(self.alloc, end - first)?;
         for place in first..end {
             let Some(entry) = self.entry(reader, place + 1)? else {
                 return Err(StoreError::StoreFault);

@@ -1,5 +1,11 @@
 pub mod Fullness
+pub mod Going
 pub mod Heard
+pub mod Helds
 pub mod Links
+pub mod Opening
 pub mod Ranges
+pub mod Reading
+pub mod Stepping
+pub mod Taking
 pub mod Written

@@ -8,7 +8,7 @@ use Rattle.journal.specs.declared.line.Line.{Line}
 use Rattle.journal.specs.declared.line.Line.TheVariants.{Opens, Rests, Life, Clock, Takes, Saves, Made, Ends, Answer, Printed}
 use Rattle.store.specs.declared.scribe.Scribe.{Scribe}
 use Rattle.store.specs.Writing.{AppendsPart, IsWritten, IsLastWritten, with_line}
-use Rattle.store.specs.Journals.{IsAdded, IsFlushed, EndsWith, HasLast, IsLonger, IsOpened}
+use Rattle.store.specs.Journals.{IsAdded, IsFlushed, EndsWith, IsLonger, IsOpened}
 
 -- a beginning of a block that was made of this buffer
 pub part_of_block : (old new : Option (List ℕ)) (sum : ℕ) (buffer text none block made : List ℕ) → text ≡ buffer → none ≡ [] → block ≡ made → Adds none made (block_text sum text)

@@ -3,9 +3,15 @@ pub mod Applied
 pub mod Asking
 pub mod Chains
 pub mod Fullness
+pub mod Going
+pub mod Held
+pub mod HeldAt
 pub mod Journals
+pub mod Nodes
+pub mod Opening
 pub mod Pasts
 pub mod Refusals
+pub mod Seats
 pub mod Tales
 pub mod Telling
 pub mod Words

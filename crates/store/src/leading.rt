@@ -1,6 +1,7 @@
 //! Who leads.
 ghost use Rattle.std.specs.Prelude.{◌≡◌, IsErr, IfErr, OnErr};
 ghost use Rattle.store.specs.Refusals.{IsOfJournal};
+ghost use Rattle.store.specs.Going.{GoesOn};
 ghost use Rattle.store.specs.Journals.{IsSpent};
 
 use crate::announcing::Announces;
@@ -31,22 +32,24 @@ where
     fn elect(&mut self, member: Member, least: usize, reading: i64) -> Result<(), StoreRefusal>
         ensures why { IfErr result IsOfJournal }
         ensures fails { OnErr result (IsSpent self.new.scribe) }
+        ensures goes { GoesOn K.is_honest K.may_hold K.holds self.old self.new }
     {
         let stands = match self.seat(member) {
             Some(seat) => seat.is_up() && seat.chain.len() >= least,
             None => false,
         };
-        if stands && self.leader.is_none() {
-            let _ = self.hand(member, reading, Taken::Timeout, Input::Timeout)?;
-            self.deliver_all(reading)?;
+        if !stands || self.leader.is_some() {
+            return Ok(());
         }
-        Ok(())
+        let _ = self.hand(member, reading, Taken::Timeout, Input::Timeout)?;
+        self.deliver_all(reading)
     }
 
     // Has each member stand in turn whose log is so long, until one leads.
     fn elect_any(&mut self, least: usize, reading: i64) -> Result<(), StoreRefusal>
         ensures why { IfErr result IsOfJournal }
         ensures fails { OnErr result (IsSpent self.new.scribe) }
+        ensures goes { GoesOn K.is_honest K.may_hold K.holds self.old self.new }
     {
         for at in 0..self.seats.len() {
             self.elect(at.saturating_add(1), least, reading)?;
@@ -59,6 +62,7 @@ where
     pub fn lead(&mut self, reading: i64) -> Result<Option<Member>, StoreRefusal>
         ensures why { IfErr result IsOfJournal }
         ensures fails { OnErr result (IsSpent self.new.scribe) }
+        ensures goes { GoesOn K.is_honest K.may_hold K.holds self.old self.new }
         ensures spent { IsSpent self.old.scribe → IsErr result × (self.new ≡ self.old) }
     {
         self.check()?;

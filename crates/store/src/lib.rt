@@ -2,8 +2,10 @@
 #![tactic(auto)]
 
 pub mod announcing;
+pub mod beginnings;
 pub mod chain;
 pub mod device;
+pub mod held;
 mod leading;
 pub mod members;
 pub mod outcome;

@@ -1,9 +1,13 @@
 //! The members of a store as it is opened: what each database holds has to be what the journal says.
-ghost use Rattle.std.specs.Prelude.{◌≡◌, true, OnOk};
+ghost use Rattle.std.specs.Prelude.{◌≡◌, ◌<◌, true, IfOk, OnOk, length};
 ghost use Rattle.std.specs.Option.{ForSome};
+ghost use Rattle.model.specs.Members.{Node as TheNode};
 ghost use Rattle.node.specs.Member.{member_of};
 ghost use Rattle.node.specs.View.{durable_of};
 ghost use Rattle.journal.specs.Digests.{summary_of};
+ghost use Rattle.runlaws.specs.Going.{MayStart};
+ghost use Rattle.store.specs.Opening.{AreLaid, AreOpened, Starts};
+ghost use Rattle.store.specs.Seats.{HasMember, IsClean};
 ghost use Rattle.store.specs.Tales.{IsFit};
 
 use crate::announcing::Announces;
@@ -45,7 +49,9 @@ fn start_seat<K: Announces>(
 ) -> Result<(), StoreRefusal>
 where
     K::Image: Drop,
-    ensures { OnOk result (ForSome seat.new.node (λ n. n.is_up ≡ true → K.is_honest n.keeper → IsFit seat.old.tale (summary_of (durable_of (member_of n))))) }
+    ensures fits { OnOk result (ForSome seat.new.node (λ n. n.is_up ≡ true → K.is_honest n.keeper → IsFit seat.old.tale (summary_of (durable_of (member_of n))))) }
+    ensures clean { IsClean K.is_honest K.holds seat.new → IsClean K.is_honest K.holds seat.old }
+    ensures starts { IsClean K.is_honest K.holds seat.new → (x : TheNode) → HasMember K.may_hold K.holds schema members seat.old.member seat.old x → (y : TheNode) × (HasMember K.may_hold K.holds schema members seat.old.member seat.new y × MayStart x y) }
 {
     let member = seat.member;
     match seat.start(schema, members) {
@@ -75,12 +81,12 @@ fn seats_of<K: Announces>(
 ) -> Result<(Vec<Seat<K>>, usize), StoreRefusal>
 where
     K::Image: Drop,
+    ensures { IfOk result (λ p. AreLaid images.items p.0.items) }
 {
     let mut seats = Vec::new(alloc);
-    let mut member: Member = 0;
     let mut there = 0usize;
     for image in images {
-        member = member.saturating_add(1);
+        let member: Member = seats.len() + 1;
         if image.is_some() {
             there = there.saturating_add(1);
         }
@@ -89,16 +95,34 @@ where
     Ok((seats, there))
 }
 
+// Starts the member that has so many before it, where it has a database.
+fn start_at<K: Announces>(
+    seats: &mut Vec<Seat<K>>,
+    at: usize,
+    schema: &Schema,
+) -> Result<(), StoreRefusal>
+where
+    K::Image: Drop,
+    requires { at < length seats.old.items }
+    ensures { Starts K.is_honest K.may_hold K.holds schema.now (length seats.old.items) seats.old.items seats.new.items }
+{
+    let count = seats.len();
+    let schema = schema.clone()?;
+    let seat = &mut seats[at];
+    if seat.is_missing() {
+        return Ok(());
+    }
+    start_seat(seat, schema, count)
+}
+
 // Starts each member that has a database.
 fn start_seats<K: Announces>(seats: &mut Vec<Seat<K>>, schema: &Schema) -> Result<(), StoreRefusal>
 where
     K::Image: Drop,
+    ensures { Starts K.is_honest K.may_hold K.holds schema.now (length seats.old.items) seats.old.items seats.new.items }
 {
-    let count = seats.len();
-    for seat in seats.iter_mut() {
-        if !seat.is_missing() {
-            start_seat(seat, schema.clone()?, count)?;
-        }
+    for at in 0..seats.len() {
+        start_at(seats, at, schema)?;
     }
     Ok(())
 }
@@ -116,7 +140,9 @@ where
         schema: Schema,
         images: Vec<Option<K::Image>>,
         past: &Past,
-    ) -> Result<Members<K>, StoreRefusal> {
+    ) -> Result<Members<K>, StoreRefusal>
+        ensures { IfOk result (AreOpened K.is_honest K.may_hold K.holds images.items) }
+    {
         let count = images.len();
         let (mut seats, there) = seats_of::<K>(alloc, images, past)?;
         if there <= count / 2 {

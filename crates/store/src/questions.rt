@@ -2,6 +2,7 @@
 ghost use Rattle.std.specs.Prelude.{◌≡◌, ◌-◌, IsErr, IfOk, IfErr, OnOk, OnErr, IfSome, MatchOption, slice_get, string_bytes};
 ghost use Rattle.store.specs.Asking.{IsAnswerOf};
 ghost use Rattle.answertext.specs.Answers.{answer_text};
+ghost use Rattle.store.specs.Going.{GoesOn};
 ghost use Rattle.store.specs.Journals.{IsSpent, EndsWith, IsUnclosed};
 ghost use Rattle.store.specs.Refusals.{IsOfJournal};
 
@@ -74,12 +75,13 @@ where
     fn close_time(&mut self, reading: i64) -> Result<(), StoreRefusal>
         ensures why { IfErr result IsOfJournal }
         ensures fails { OnErr result (IsSpent self.new.scribe) }
+        ensures goes { GoesOn K.is_honest K.may_hold K.holds self.old self.new }
     {
-        if let Some(leader) = self.lead(reading)? {
-            let _ = self.hand(leader, reading, Taken::Floor, Input::Floor { reading })?;
-            self.deliver_all(reading)?;
-        }
-        Ok(())
+        let Some(leader) = self.lead(reading)? else {
+            return Ok(());
+        };
+        let _ = self.hand(leader, reading, Taken::Floor, Input::Floor { reading })?;
+        self.deliver_all(reading)
     }
 
     // The answer from what a member has applied, asked again once time is closed where it is not yet.
@@ -91,6 +93,7 @@ where
     ) -> Result<Result<Answer, Refusal>, StoreRefusal>
         ensures why { IfErr result IsOfJournal }
         ensures fails { OnErr result (IsSpent self.new.scribe) }
+        ensures goes { GoesOn K.is_honest K.may_hold K.holds self.old self.new }
         ensures asked { IfOk result (λ r. IfOk r (λ a. MatchOption (slice_get self.new.seats.items (member - 1)) ⊥ (λ seat. MatchOption seat.node ⊥ (λ n. IsAnswerOf K.is_honest n self.new.schema text.now a)))) }
     {
         match self.ask_once(member, text) {
@@ -108,6 +111,7 @@ where
         ensures told { OnOk result (EndsWith K.Journal.contents self.new.scribe (Line.Answer member query.now (string_bytes words))) }
         ensures why { IfErr result IsOfJournal }
         ensures fails { OnErr result (IsSpent self.new.scribe) }
+        ensures goes { GoesOn K.is_honest K.may_hold K.holds self.old self.new }
         ensures same { self.new ≡ record self.old { scribe = self.new.scribe } }
     {
         let Ok(line) = answer_line(self.alloc, member, query, words) else {
@@ -126,6 +130,7 @@ where
         ensures told { IfOk result (λ a. EndsWith K.Journal.contents self.new.scribe (Line.Answer member text.now (answer_text a))) }
         ensures asked { IfOk result (λ a. MatchOption (slice_get self.new.seats.items (member - 1)) ⊥ (λ seat. MatchOption seat.node ⊥ (λ n. IsAnswerOf K.is_honest n self.new.schema text.now a))) }
         ensures unclosed { IfErr result (IsUnclosed K.Journal.contents self.new.scribe member text.now) }
+        ensures goes { GoesOn K.is_honest K.may_hold K.holds self.old self.new }
         ensures spent { IsSpent self.old.scribe → IsErr result × (self.new ≡ self.old) }
     {
         self.check()?;
@@ -149,6 +154,7 @@ where
     /// Asks the leader, or where none is known the first member that is up: who was asked, and what `ask` gives.
     pub fn ask_any(&mut self, reading: i64, text: &str) -> Result<(Member, Answer), StoreRefusal>
         ensures told { IfOk result (λ p. EndsWith K.Journal.contents self.new.scribe (Line.Answer p.0 text.now (answer_text p.1))) }
+        ensures goes { GoesOn K.is_honest K.may_hold K.holds self.old self.new }
         ensures spent { IsSpent self.old.scribe → IsErr result × (self.new ≡ self.old) }
     {
         let member = self.first_asked();

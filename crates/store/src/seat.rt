@@ -1,8 +1,12 @@
 //! A member's seat: what a store has of it.
-ghost use Rattle.std.specs.Prelude.{◌≡◌, ◌≤◌, ◌⊎◌, true, false, Some, None, Err, IsTrue, IsSome, IfOk, IfErr, OnOk, OnErr, MatchOption, ◌↔◌};
+ghost use Rattle.std.specs.Prelude.{◌≡◌, ◌≤◌, ◌⊎◌, ℕ, true, false, Some, None, Err, IsTrue, IsSome, IfOk, IfErr, OnOk, OnErr, MatchOption, ◌↔◌};
 ghost use Rattle.std.specs.Option.{ForSome};
-ghost use Rattle.node.specs.Member.{me_of, member_of, members_of, tables_of};
-ghost use Rattle.node.specs.View.{durable_of};
+ghost use Rattle.keep.specs.Durable.{Durable};
+ghost use Rattle.model.specs.Members.{Node as TheNode};
+ghost use Rattle.sqlchecks.specs.Columns.{Tables};
+ghost use Rattle.node.specs.Member.{me_of, member_of, members_of, tables_of, IsSameSeat};
+ghost use Rattle.node.specs.View.{durable_of, started_from};
+ghost use Rattle.store.specs.Nodes.{IsMember, StepsTo};
 ghost use Rattle.journal.specs.Digests.{summary_of};
 ghost use Rattle.store.specs.Chains.{links_of};
 
@@ -14,6 +18,7 @@ use crate::tale::Tale;
 use crate::voice::Voice;
 use fault::Refusal;
 use journal::{Line, Summary};
+use keep::StoreError;
 use model::member::Member;
 use node::{Fault, Node, Out, Work};
 use schema::Schema;
@@ -44,7 +49,10 @@ where
     K::Image: Drop,
     ensures links { IfOk result (λ chain. K.is_honest node.new.keeper → chain.links.items ≡ links_of (member_of node.new).log) }
     ensures up { OnOk result (node.new.is_up ≡ true) }
-    ensures me { me_of node.new ≡ me_of node.old }
+    ensures group { IsSameSeat node.old node.new }
+    ensures honest { K.is_honest node.new.keeper → K.is_honest node.old.keeper }
+    ensures member { OnOk result (K.is_honest node.new.keeper → member_of node.new ≡ member_of node.old) }
+    ensures held { node.old.is_up ≡ true → (d : Durable) → K.may_hold node.new.keeper d → d ≡ durable_of (member_of node.old) }
 {
     let entries = node.entries()?;
     let chain = Chain::of(alloc, entries.as_slice())?;
@@ -63,7 +71,10 @@ where
     K::Image: Drop,
     requires few { members ≤ 7 }
     requires member { (1 ≤ member) × (member ≤ members) }
-    ensures me { IfOk result (λ p. me_of p.0 ≡ member) }
+    ensures group { IfOk result (λ p. (tables_of p.0 ≡ schema) × (members_of p.0 ≡ members) × (me_of p.0 ≡ member)) }
+    ensures opened { IfOk result (λ p. K.is_honest p.0.keeper → member_of p.0 ≡ started_from (durable_of (member_of p.0))) }
+    ensures found { IfOk result (λ p. K.is_honest p.0.keeper → K.holds image (durable_of (member_of p.0))) }
+    ensures back { IfErr result (λ e. (d : Durable) → K.holds e.1 d → K.holds image d) }
     ensures links { IfOk result (λ p. K.is_honest p.0.keeper → p.1.links.items ≡ links_of (member_of p.0).log) }
     ensures up { IfOk result (λ p. p.0.is_up ≡ true) }
 {
@@ -81,6 +92,9 @@ impl<K: Announces> Seat<K>
 where
     K::Image: Drop,
 {
+    ghost use Rattle.runlaws.specs.Going.{after_stop, MayStart};
+    ghost use Rattle.store.specs.Seats.{HasMember, IsClean};
+
     /// A member with this database, which is not started yet; with none it is missing.
     pub fn new(alloc: Global, member: Member, image: Option<K::Image>, tale: Tale) -> Seat<K>
         ensures { (result.member ≡ member) × (result.node ≡ None) × (result.image ≡ image) × (result.tale ≡ tale) }
@@ -115,6 +129,8 @@ where
         ensures err { OnErr result (self.new.node ≡ None) }
         ensures still { IsSome self.old.node → self.new ≡ self.old }
         ensures missing { self.old.node ≡ None → self.old.image ≡ None → result ≡ Err (StoreRefusal.Refused Refusal.NodeDown) }
+        ensures clean { IsClean K.is_honest K.holds self.new → IsClean K.is_honest K.holds self.old }
+        ensures starts { IsClean K.is_honest K.holds self.new → (x : TheNode) → HasMember K.may_hold K.holds schema members self.old.member self.old x → (y : TheNode) × (HasMember K.may_hold K.holds schema members self.old.member self.new y × MayStart x y) }
         ensures same { (self.new.member ≡ self.old.member) × (self.new.tale ≡ self.old.tale) }
     {
         if self.is_up() {
@@ -146,6 +162,8 @@ where
     pub fn stop(&mut self)
         ensures down { self.new.node ≡ None }
         ensures still { self.old.node ≡ None → self.new ≡ self.old }
+        ensures clean { IsClean K.is_honest K.holds self.new → IsClean K.is_honest K.holds self.old }
+        ensures stops { (tables : Tables) (n m : ℕ) (x : TheNode) → HasMember K.may_hold K.holds tables n m self.old x → HasMember K.may_hold K.holds tables n m self.new (after_stop x) }
         ensures same { (self.new.member ≡ self.old.member) × (self.new.tale ≡ self.old.tale) }
     {
         if !self.is_up() {
@@ -196,7 +214,9 @@ where
         scribe: Scribe<K::Journal>,
         work: Work,
     ) -> (Option<Scribe<K::Journal>>, Result<Out, Fault>)
-        ensures { (self.new.member ≡ self.old.member) × (self.new.tale ≡ self.old.tale) }
+        ensures clean { IsClean K.is_honest K.holds self.new → IsClean K.is_honest K.holds self.old }
+        ensures steps { IsClean K.is_honest K.holds self.new → (tables : Tables) (n m : ℕ) (x : TheNode) → HasMember K.may_hold K.holds tables n m self.old x → (y : TheNode) × (HasMember K.may_hold K.holds tables n m self.new y × StepsTo tables n m work x y result.1) }
+        ensures same { (self.new.member ≡ self.old.member) × (self.new.tale ≡ self.old.tale) }
     {
         let Some(node) = &mut self.node else {
             return (Some(scribe), Err(Fault::Kept(Refusal::NodeDown)));
@@ -233,7 +253,9 @@ where
     requires up { node.old.is_up ≡ true }
     requires links { K.is_honest node.old.keeper → voice.chain.links.items ≡ links_of (member_of node.old).log }
     ensures links { MatchOption result.0 (node.new.is_up ≡ false) (λ v. node.new.is_up ≡ true → K.is_honest node.new.keeper → v.chain.links.items ≡ links_of (member_of node.new).log) }
-    ensures me { me_of node.new ≡ me_of node.old }
+    ensures group { IsSameSeat node.old node.new }
+    ensures honest { K.is_honest node.new.keeper → K.is_honest node.old.keeper }
+    ensures steps { K.is_honest node.new.keeper → (y : TheNode) × (IsMember K.may_hold node.new y × StepsTo (tables_of node.old) (members_of node.old) (me_of node.old) work (member_of node.old) y result.1) }
 {
     node.keeper.lend(voice);
     let result = node.step(work);
@@ -241,7 +263,7 @@ where
         Some(voice) => (Some(voice), result),
         None => {
             node.take_down();
-            (None, result)
+            (None, Err(Fault::Down(StoreError::StoreFault)))
         }
     }
 }

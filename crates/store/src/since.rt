@@ -1,9 +1,14 @@
 //! What a member has applied, for who keeps a copy of it.
 ghost use Rattle.std.specs.Prelude.{◌≡◌, ◌≢◌, ◌-◌, ◌<◌, ℕ, true, false, None, Some, length, slice_get, slice_range, IsErr, IfOk, IfErr, IfSome, OnOk, OnSome, MatchBool, MatchOption};
 ghost use Rattle.std.specs.Option.{ForSome};
-ghost use Rattle.node.specs.Member.{me_of, member_of};
+ghost use Rattle.keep.specs.Durable.{Durable};
+ghost use Rattle.model.specs.Members.{Node as TheNode};
+ghost use Rattle.node.specs.Member.{me_of, member_of, IsSameSeat};
+ghost use Rattle.node.specs.View.{durable_of};
+ghost use Rattle.sqlchecks.specs.Columns.{Tables};
 ghost use Rattle.store.specs.Applied.{IsKept, IsSince, SaysDown, found};
 ghost use Rattle.store.specs.Chains.{links_of};
+ghost use Rattle.store.specs.Going.{GoesOn};
 ghost use Rattle.store.specs.Journals.{IsSpent};
 
 use crate::announcing::Announces;
@@ -43,6 +48,8 @@ where
     ensures member { node.new.is_up ≡ true → K.is_honest node.new.keeper → member_of node.new ≡ member_of node.old }
     ensures honest { K.is_honest node.new.keeper → K.is_honest node.old.keeper }
     ensures me { me_of node.new ≡ me_of node.old }
+    ensures group { IsSameSeat node.old node.new }
+    ensures held { (d : Durable) → K.may_hold node.new.keeper d → d ≡ durable_of (member_of node.old) }
     ensures why { IfErr result (λ refusal. SaysDown refusal → ⊥) }
 {
     match node.entry(place + 1) {
@@ -69,6 +76,8 @@ where
     ensures member { node.new.is_up ≡ true → K.is_honest node.new.keeper → member_of node.new ≡ member_of node.old }
     ensures honest { K.is_honest node.new.keeper → K.is_honest node.old.keeper }
     ensures me { me_of node.new ≡ me_of node.old }
+    ensures group { IsSameSeat node.old node.new }
+    ensures down { node.new.is_up ≡ false → K.is_honest node.new.keeper → (d : Durable) → K.may_hold node.new.keeper d → d ≡ durable_of (member_of node.old) }
     ensures why { IfErr result (λ refusal. SaysDown refusal → ⊥) }
 {
     let mut entries = Vec::new(alloc);
@@ -97,6 +106,9 @@ where
     ensures since { IfOk result (λ since. IsSince K.is_honest node.new after since) }
     ensures member { node.new.is_up ≡ true → K.is_honest node.new.keeper → K.is_honest node.old.keeper × (member_of node.new ≡ member_of node.old) }
     ensures me { me_of node.new ≡ me_of node.old }
+    ensures honest { K.is_honest node.new.keeper → K.is_honest node.old.keeper }
+    ensures group { IsSameSeat node.old node.new }
+    ensures down { node.new.is_up ≡ false → K.is_honest node.new.keeper → (d : Durable) → K.may_hold node.new.keeper d → d ≡ durable_of (member_of node.old) }
     ensures why { IfErr result (λ refusal. SaysDown refusal → ⊥) }
 {
     let applied = node.commit().unwrap_or(0);
@@ -115,6 +127,8 @@ impl<K: Announces> Seat<K>
 where
     K::Image: Drop,
 {
+    ghost use Rattle.store.specs.Seats.{HasMember, IsClean, MayFall};
+
     // Whether it has a node that is up.
     fn is_running(&self) -> bool
         ensures { MatchBool result (MatchOption self.now.node ⊥ (λ n. n.is_up ≡ true)) (ForSome self.now.node (λ n. n.is_up ≡ false)) }
@@ -131,6 +145,8 @@ where
         ensures since { IfOk result (λ since. MatchOption self.new.node ⊥ (λ n. IsSince K.is_honest n after since)) }
         ensures kept { OnOk result (IsKept K.is_honest self.old.node self.new.node) }
         ensures why { IfErr result (λ refusal. SaysDown refusal → ⊥) }
+        ensures clean { IsClean K.is_honest K.holds self.new → IsClean K.is_honest K.holds self.old }
+        ensures reads { IsClean K.is_honest K.holds self.new → (tables : Tables) (n m : ℕ) (x : TheNode) → HasMember K.may_hold K.holds tables n m self.old x → (y : TheNode) × (HasMember K.may_hold K.holds tables n m self.new y × MayFall x y) }
     {
         match &mut self.node {
             Some(node) => since_of(self.alloc, node, &self.chain, after),
@@ -167,6 +183,7 @@ where
         ensures kept { OnOk result (IsKept K.is_honest (found self.old.seats.items at (λ seat. seat.node)) (found self.new.seats.items at (λ seat. seat.node))) }
         ensures others { (i : ℕ) → i ≢ at → slice_get self.new.seats.items i ≡ slice_get self.old.seats.items i }
         ensures same { self.new ≡ record self.old { seats = self.new.seats } }
+        ensures goes { GoesOn K.is_honest K.may_hold K.holds self.old self.new }
         ensures why { IfErr result (λ refusal. SaysDown refusal → ⊥) }
     {
         let seat = &mut self.seats[at];
@@ -189,6 +206,7 @@ where
         ensures kept { IfOk result (λ r. OnSome r (IsKept K.is_honest (found self.old.seats.items (member - 1) (λ seat. seat.node)) (found self.new.seats.items (member - 1) (λ seat. seat.node)))) }
         ensures others { (i : ℕ) → i ≢ member - 1 → slice_get self.new.seats.items i ≡ slice_get self.old.seats.items i }
         ensures same { OnOk result (self.new ≡ record self.old { seats = self.new.seats }) }
+        ensures goes { GoesOn K.is_honest K.may_hold K.holds self.old self.new }
         ensures why { IfErr result (λ refusal. SaysDown refusal → ⊥) }
         ensures spent { IsSpent self.old.scribe → IsErr result × (self.new ≡ self.old) }
     {
@@ -219,10 +237,12 @@ where
     // Where a member's database failed as it was read, the member goes down, and the journal says so; where that can't be written the
     // store is spent.
     fn end_failed(&mut self, at: usize, member: Member)
-        ensures { (i : ℕ) → i ≢ member - 1 → slice_get self.new.seats.items i ≡ slice_get self.old.seats.items i }
+        ensures others { (i : ℕ) → i ≢ member - 1 → slice_get self.new.seats.items i ≡ slice_get self.old.seats.items i }
+        ensures goes { GoesOn K.is_honest K.may_hold K.holds self.old self.new }
     {
-        if self.has_failed(at) {
-            let _ = self.stop(member);
+        if !self.has_failed(at) {
+            return;
         }
+        let _ = self.stop(member);
     }
 }

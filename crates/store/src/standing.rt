@@ -1,5 +1,6 @@
 //! How members stand, and are stopped and started.
 ghost use Rattle.std.specs.Prelude.{◌≡◌, ◌≢◌, ◌⊎◌, ◌-◌, ℕ, IsErr, OnErr, slice_get};
+ghost use Rattle.store.specs.Going.{GoesOn};
 ghost use Rattle.store.specs.Journals.{IsSpent};
 
 use crate::announcing::Announces;
@@ -22,6 +23,7 @@ where
     pub fn stop(&mut self, member: Member) -> Result<(), StoreRefusal>
         ensures others { (at : ℕ) → at ≢ member - 1 → slice_get self.new.seats.items at ≡ slice_get self.old.seats.items at }
         ensures fails { OnErr result (IsSpent self.new.scribe ⊎ (self.new ≡ self.old)) }
+        ensures goes { GoesOn K.is_honest K.may_hold K.holds self.old self.new }
         ensures spent { IsSpent self.old.scribe → IsErr result × (self.new ≡ self.old) }
     {
         self.check()?;
@@ -35,7 +37,9 @@ where
     }
 
     // Starts a member's node. Whether it was not up before.
-    fn start_node(&mut self, member: Member) -> Result<bool, StoreRefusal> {
+    fn start_node(&mut self, member: Member) -> Result<bool, StoreRefusal>
+        ensures { GoesOn K.is_honest K.may_hold K.holds self.old self.new }
+    {
         let members = self.seats.len();
         let schema = self.schema.clone()?;
         let Some(at) = self.place_of(member) else {
@@ -52,6 +56,7 @@ where
     /// A member comes up again, and is brought what it lacks; one that is up stays so. 41 where its database was missing as the store
     /// was opened, 40, 43 and 44 where its database is refused: it stays down then.
     pub fn start(&mut self, reading: i64, member: Member) -> Result<(), StoreRefusal>
+        ensures goes { GoesOn K.is_honest K.may_hold K.holds self.old self.new }
         ensures spent { IsSpent self.old.scribe → IsErr result × (self.new ≡ self.old) }
     {
         self.check()?;
@@ -59,15 +64,25 @@ where
             return Ok(());
         }
         self.write_life(member)?;
-        if let Some(leader) = self.lead(reading)? {
-            let _ = self.hand(leader, reading, Taken::Beat, Input::Beat)?;
-            self.deliver_all(reading)?;
-        }
+        self.bring(reading)?;
         self.flush()
     }
 
+    // Each member is brought what it lacks, where one leads.
+    fn bring(&mut self, reading: i64) -> Result<(), StoreRefusal>
+        ensures { GoesOn K.is_honest K.may_hold K.holds self.old self.new }
+    {
+        let Some(leader) = self.lead(reading)? else {
+            return Ok(());
+        };
+        let _ = self.hand(leader, reading, Taken::Beat, Input::Beat)?;
+        self.deliver_all(reading)
+    }
+
     // A life of a member that is up begins.
-    fn write_life(&mut self, member: Member) -> Result<(), StoreRefusal> {
+    fn write_life(&mut self, member: Member) -> Result<(), StoreRefusal>
+        ensures { GoesOn K.is_honest K.may_hold K.holds self.old self.new }
+    {
         let stored = match self.seat(member) {
             Some(seat) => seat.stored(),
             None => None,
@@ -143,14 +158,24 @@ where
     }
 
     // Stops each member that is up.
-    pub(crate) fn stop_all(&mut self) -> Result<(), StoreRefusal> {
+    pub(crate) fn stop_all(&mut self) -> Result<(), StoreRefusal>
+        ensures { GoesOn K.is_honest K.may_hold K.holds self.old self.new }
+    {
         for at in 0..self.seats.len() {
-            let member = at.saturating_add(1);
-            if self.is_up(member) {
-                self.write(&Line::Ends { member })?;
-                self.fall(member);
-            }
+            self.end(at.saturating_add(1))?;
         }
         self.flush()
+    }
+
+    // Stops a member, if it is up.
+    fn end(&mut self, member: Member) -> Result<(), StoreRefusal>
+        ensures { GoesOn K.is_honest K.may_hold K.holds self.old self.new }
+    {
+        if !self.is_up(member) {
+            return Ok(());
+        }
+        self.write(&Line::Ends { member })?;
+        self.fall(member);
+        Ok(())
     }
 }

@@ -1,5 +1,6 @@
 //! Steps of the members, and what comes of them.
-ghost use Rattle.std.specs.Prelude.{◌≡◌, ◌≢◌, ◌-◌, ℕ, IfErr, OnOk, OnErr, slice_get};
+ghost use Rattle.std.specs.Prelude.{◌≡◌, ◌≢◌, ◌<◌, ◌+◌, ◌-◌, ℕ, Some, [], ◌∷◌, IfOk, IfErr, OnOk, OnErr, length, slice_get};
+ghost use Rattle.store.specs.Going.{Anywhere, GoesOn, GoesOnSo, HasSent, HasStepped, Hears, IsAmong, IsBrought, MayHaveStepped, Publishes, SaysWhy};
 ghost use Rattle.store.specs.Journals.{IsSpent, HasLast};
 ghost use Rattle.store.specs.Refusals.{IsOfJournal};
 
@@ -48,7 +49,9 @@ pub(crate) enum Stepped {
 
 impl Watched {
     // Hears what a member told of a request. The first that is told of this one counts.
-    fn hear(&mut self, told: Told) {
+    fn hear(&mut self, told: Told)
+        ensures { Hears (IsAmong (told ∷ [])) (Some self.old) (Some self.new) }
+    {
         let Told {
             index,
             client,
@@ -79,9 +82,41 @@ where
     ) -> Result<Stepped, StoreRefusal>
         ensures why { IfErr result IsOfJournal }
         ensures fails { OnErr result (IsSpent self.new.scribe) }
+        ensures goes { GoesOnSo K.is_honest K.may_hold K.holds (IsBrought self.old member work) (SaysWhy member result) self.old self.new }
     {
+        let Some(at) = self.place_of(member) else {
+            return Ok(Stepped::Fell);
+        };
         self.begin_step(member, reading, taken)?;
-        match self.lend(member, work)? {
+        self.take_step(at, member, work)
+    }
+
+    fn begin_step(&mut self, member: Member, reading: i64, taken: Taken) -> Result<(), StoreRefusal>
+        ensures takes { OnOk result (HasLast self.new.scribe (Line.Takes member taken)) }
+        ensures why { IfErr result IsOfJournal }
+        ensures fails { OnErr result (IsSpent self.new.scribe) }
+        ensures live { OnOk result ((IsSpent self.old.scribe → ⊥) × (IsSpent self.new.scribe → ⊥)) }
+        ensures same { self.new ≡ record self.old { scribe = self.new.scribe } }
+    {
+        match &mut self.scribe {
+            Some(scribe) => {
+                scribe.show(reading)?;
+                Ok(scribe.add(&Line::Takes { member, taken })?)
+            }
+            None => Err(spent()),
+        }
+    }
+
+    // A step that is begun, of the member that has so many before it.
+    fn take_step(&mut self, at: usize, member: Member, work: Work) -> Result<Stepped, StoreRefusal>
+        requires there { at < length self.old.seats.items }
+        requires member { member ≡ at + 1 }
+        requires live { IsSpent self.old.scribe → ⊥ }
+        ensures why { IfErr result IsOfJournal }
+        ensures fails { OnErr result (IsSpent self.new.scribe) }
+        ensures goes { GoesOnSo K.is_honest K.may_hold K.holds (IsBrought self.old member work) (SaysWhy member result) self.old self.new }
+    {
+        match self.lend(at, work)? {
             Ok(out) => {
                 self.end_step(member, out)?;
                 Ok(Stepped::Done)
@@ -93,34 +128,21 @@ where
             }
             Err(Fault::Down(_)) => {
                 self.fall(member);
-                self.check()?;
                 Ok(Stepped::Fell)
             }
         }
     }
 
-    fn begin_step(&mut self, member: Member, reading: i64, taken: Taken) -> Result<(), StoreRefusal>
-        ensures takes { OnOk result (HasLast self.new.scribe (Line.Takes member taken)) }
+    // Lends the journal to the member that has so many before it, for a step.
+    fn lend(&mut self, at: usize, work: Work) -> Result<Result<Out, Fault>, StoreRefusal>
+        requires there { at < length self.old.seats.items }
+        requires live { IsSpent self.old.scribe → ⊥ }
         ensures why { IfErr result IsOfJournal }
         ensures fails { OnErr result (IsSpent self.new.scribe) }
+        ensures live { OnOk result (IsSpent self.new.scribe → ⊥) }
+        ensures stepped { IfOk result (HasStepped K.is_honest K.may_hold K.holds self.old self.new at work) }
+        ensures lost { OnErr result (MayHaveStepped K.is_honest K.may_hold K.holds self.old self.new at work) }
     {
-        match &mut self.scribe {
-            Some(scribe) => {
-                scribe.show(reading)?;
-                Ok(scribe.add(&Line::Takes { member, taken })?)
-            }
-            None => Err(spent()),
-        }
-    }
-
-    // Lends the journal to a member for a step.
-    fn lend(&mut self, member: Member, work: Work) -> Result<Result<Out, Fault>, StoreRefusal>
-        ensures why { IfErr result IsOfJournal }
-        ensures fails { OnErr result (IsSpent self.new.scribe) }
-    {
-        let Some(at) = self.place_of(member) else {
-            return Ok(Err(Fault::Kept(Refusal::NodeDown)));
-        };
         let Some(scribe) = self.scribe.take() else {
             return Err(spent());
         };
@@ -135,6 +157,7 @@ where
     fn end_step(&mut self, member: Member, out: Out) -> Result<(), StoreRefusal>
         ensures why { IfErr result IsOfJournal }
         ensures fails { OnErr result (IsSpent self.new.scribe) }
+        ensures passes { Publishes self.old self.new out.messages.items out.told.items }
     {
         let Out {
             messages,
@@ -146,17 +169,15 @@ where
             return Err(self.spend());
         };
         self.write(&Line::Made { member, outcomes })?;
-        for message in messages {
-            self.send(member, message)?;
-        }
-        for one in told {
-            self.hear(one);
-        }
+        self.send_all(member, messages)?;
+        self.hear_all(told);
         Ok(())
     }
 
     // What is written of what a step told: each outcome at the first member that tells it.
-    fn note(&mut self, told: &[Told]) -> Result<Outcomes, AllocError> {
+    fn note(&mut self, told: &[Told]) -> Result<Outcomes, AllocError>
+        ensures same { self.new ≡ record self.old { noted = self.new.noted } }
+    {
         let mut outcomes = Vec::new(self.alloc);
         for one in told {
             if one.index > self.noted {
@@ -168,22 +189,56 @@ where
         Ok(Outcomes::new(outcomes))
     }
 
+    // What a member sends in a step comes under way.
+    fn send_all(&mut self, member: Member, messages: Vec<Message>) -> Result<(), StoreRefusal>
+        ensures why { IfErr result IsOfJournal }
+        ensures fails { OnErr result (IsSpent self.new.scribe) }
+        ensures passes { Publishes self.old self.new messages.items [] }
+    {
+        for message in messages {
+            self.send(member, message)?;
+        }
+        Ok(())
+    }
+
     fn send(&mut self, member: Member, message: Message) -> Result<(), StoreRefusal>
         ensures why { IfErr result IsOfJournal }
         ensures fails { OnErr result (IsSpent self.new.scribe) }
+        ensures passes { Publishes self.old self.new (message ∷ []) [] }
     {
         if matches!(message.body, Body::Append { .. }) {
             self.leader = Some(member);
         }
-        self.sent = self.sent.saturating_add(1);
-        let number = self.sent;
+        self.post(message)
+    }
+
+    fn post(&mut self, message: Message) -> Result<(), StoreRefusal>
+        ensures why { IfErr result IsOfJournal }
+        ensures fails { OnErr result (IsSpent self.new.scribe) }
+        ensures passes { Publishes self.old self.new (message ∷ []) [] }
+    {
+        let Some(number) = self.sent.checked_add(1) else {
+            return Err(self.spend());
+        };
+        self.sent = number;
         match self.queue.push_back(Letter { number, message }) {
             Ok(()) => Ok(()),
             Err(_) => Err(self.spend()),
         }
     }
 
-    fn hear(&mut self, told: Told) {
+    // What a member told in a step is heard.
+    fn hear_all(&mut self, told: Vec<Told>)
+        ensures { Publishes self.old self.new [] told.items }
+    {
+        for one in told {
+            self.hear(one);
+        }
+    }
+
+    fn hear(&mut self, told: Told)
+        ensures { Publishes self.old self.new [] (told ∷ []) }
+    {
         self.heard = self.heard.max(told.index);
         if let Some(watched) = &mut self.watched {
             watched.hear(told);
@@ -192,7 +247,8 @@ where
 
     // Stops a member's node.
     fn stop_node(&mut self, member: Member)
-        ensures { (at : ℕ) → at ≢ member - 1 → slice_get self.new.seats.items at ≡ slice_get self.old.seats.items at }
+        ensures others { (at : ℕ) → at ≢ member - 1 → slice_get self.new.seats.items at ≡ slice_get self.old.seats.items at }
+        ensures goes { GoesOn K.is_honest K.may_hold K.holds self.old self.new }
     {
         let Some(at) = self.place_of(member) else {
             return;
@@ -203,7 +259,8 @@ where
 
     // A member is down.
     pub(crate) fn fall(&mut self, member: Member)
-        ensures { (at : ℕ) → at ≢ member - 1 → slice_get self.new.seats.items at ≡ slice_get self.old.seats.items at }
+        ensures others { (at : ℕ) → at ≢ member - 1 → slice_get self.new.seats.items at ≡ slice_get self.old.seats.items at }
+        ensures goes { GoesOn K.is_honest K.may_hold K.holds self.old self.new }
     {
         self.stop_node(member);
         if self.leader == Some(member) {
@@ -221,6 +278,7 @@ where
     ) -> Result<Stepped, StoreRefusal>
         ensures why { IfErr result IsOfJournal }
         ensures fails { OnErr result (IsSpent self.new.scribe) }
+        ensures goes { GoesOnSo K.is_honest K.may_hold K.holds Anywhere (SaysWhy member result) self.old self.new }
     {
         self.step(member, reading, taken, Work::Local(input))
     }
@@ -230,6 +288,7 @@ where
     pub(crate) fn deliver_all(&mut self, reading: i64) -> Result<(), StoreRefusal>
         ensures why { IfErr result IsOfJournal }
         ensures fails { OnErr result (IsSpent self.new.scribe) }
+        ensures goes { GoesOn K.is_honest K.may_hold K.holds self.old self.new }
     {
         for _ in 0..DELIVERIES_MOST {
             let Some(letter) = self.queue.pop_front() else {
@@ -243,13 +302,15 @@ where
     fn deliver(&mut self, reading: i64, letter: Letter) -> Result<(), StoreRefusal>
         ensures why { IfErr result IsOfJournal }
         ensures fails { OnErr result (IsSpent self.new.scribe) }
+        ensures goes { GoesOnSo K.is_honest K.may_hold K.holds (HasSent self.old letter) (λ gave. Unit {0}) self.old self.new }
     {
         let Letter { number, message } = letter;
         let member = message.addressee;
-        if self.is_up(member) {
-            let work = Work::Delivered { reading, message };
-            let _ = self.step(member, reading, Taken::Message(number), work)?;
+        if !self.is_up(member) {
+            return Ok(());
         }
+        let work = Work::Delivered { reading, message };
+        let _ = self.step(member, reading, Taken::Message(number), work)?;
         Ok(())
     }
 }

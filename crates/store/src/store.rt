@@ -1,5 +1,7 @@
 //! The open store.
-ghost use Rattle.std.specs.Prelude.{◌≡◌, ◌↔◌, ◌⊎◌, ◌<◌, ◌+◌, ◌-◌, Some, IsTrue, IfSome, IfNone, IfErr, OnOk, OnErr, length, slice_get};
+ghost use Rattle.std.specs.Prelude.{◌≡◌, ◌↔◌, ◌⊎◌, ◌<◌, ◌+◌, ◌-◌, [], Some, IsTrue, IfSome, IfNone, IfOk, IfErr, OnOk, OnErr, length, slice_get};
+ghost use Rattle.store.specs.Going.{GoesOn, Publishes};
+ghost use Rattle.store.specs.Opening.{Begins};
 ghost use Rattle.store.specs.Journals.{IsSpent, IsAdded, IsLonger, IsFlushed, IsOpened};
 ghost use Rattle.store.specs.Refusals.{IsOfJournal};
 
@@ -68,7 +70,9 @@ where
         journal: u64,
         marks: u64,
         reading: i64,
-    ) -> Result<Store<K>, StoreRefusal> {
+    ) -> Result<Store<K>, StoreRefusal>
+        ensures { IfOk result (Begins K.is_honest K.may_hold K.holds members) }
+    {
         let Members {
             alloc,
             schema,
@@ -94,7 +98,8 @@ where
 
     // The first block of the journal.
     fn write_head(&mut self, journal: u64, marks: u64) -> Result<(), StoreRefusal>
-        ensures { OnOk result (IsOpened K.Journal.contents self.old.scribe self.new.scribe journal marks) }
+        ensures opens { OnOk result (IsOpened K.Journal.contents self.old.scribe self.new.scribe journal marks) }
+        ensures goes { GoesOn K.is_honest K.may_hold K.holds self.old self.new }
     {
         let sum = match &self.scribe {
             Some(scribe) => scribe.sum(),
@@ -113,7 +118,8 @@ where
 
     // What a member begins the journal with.
     fn write_seat(&mut self, at: usize) -> Result<(), StoreRefusal>
-        ensures { OnOk result (IsLonger self.old.scribe self.new.scribe) }
+        ensures longer { OnOk result (IsLonger self.old.scribe self.new.scribe) }
+        ensures goes { GoesOn K.is_honest K.may_hold K.holds self.old self.new }
     {
         let Some(seat) = self.seats.get(at) else {
             return Ok(());
@@ -139,7 +145,10 @@ where
         ensures ok { OnOk result (IsAdded self.old.scribe self.new.scribe line.now) }
         ensures why { IfErr result IsOfJournal }
         ensures fails { OnErr result (IsSpent self.new.scribe) }
+        ensures live { OnOk result (IsSpent self.old.scribe → ⊥) }
         ensures same { self.new ≡ record self.old { scribe = self.new.scribe } }
+        ensures passes { Publishes self.old self.new [] [] }
+        ensures goes { GoesOn K.is_honest K.may_hold K.holds self.old self.new }
     {
         match &mut self.scribe {
             Some(scribe) => Ok(scribe.add(line)?),
@@ -152,7 +161,9 @@ where
         ensures ok { OnOk result (IsFlushed K.Journal.contents self.old.scribe self.new.scribe) }
         ensures why { IfErr result IsOfJournal }
         ensures fails { OnErr result (IsSpent self.new.scribe) }
+        ensures live { OnOk result (IsSpent self.old.scribe → ⊥) }
         ensures same { self.new ≡ record self.old { scribe = self.new.scribe } }
+        ensures goes { GoesOn K.is_honest K.may_hold K.holds self.old self.new }
     {
         match &mut self.scribe {
             Some(scribe) => Ok(scribe.flush()?),
@@ -180,6 +191,8 @@ where
         ensures why { IsOfJournal result }
         ensures fails { IsSpent self.new.scribe }
         ensures same { self.new ≡ record self.old { scribe = self.new.scribe } }
+        ensures passes { Publishes self.old self.new [] [] }
+        ensures goes { GoesOn K.is_honest K.may_hold K.holds self.old self.new }
     {
         if let Some(scribe) = &mut self.scribe {
             scribe.spend(DeviceError::NoMemory);

@@ -17,12 +17,13 @@ use flight::records::Records;
 use journal::Summary;
 use model::member::Member;
 use node::Node;
-use playback::{HeldLog, Play};
+use playback::Play;
 use progressline::Progress;
 use schema::Schema;
 use sqlite::{Alter, Connection};
 use std::alloc::Global;
 use store::announcing::Judging;
+use store::held::HeldLog;
 use store::{Past, StoreRefusal};
 
 /// What an audit that says yes found.

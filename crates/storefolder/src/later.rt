@@ -7,11 +7,12 @@ use crate::numbers::Journals;
 use durable::SqlKeeper;
 use journal::Summary;
 use model::member::Member;
-use playback::{HeldLog, Play};
+use playback::Play;
 use progressline::Progress;
 use sqlite::{Alter, Connection};
 use std::alloc::Global;
 use store::announcing::Judging;
+use store::held::HeldLog;
 use store::{Past, StoreRefusal};
 
 /// What an audit found of a folder whose first journals are away, and says yes of.

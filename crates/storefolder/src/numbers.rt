@@ -1,5 +1,7 @@
 //! Which journals a folder has.
-ghost use Rattle.std.specs.Prelude.{◌≡◌, ◌≤◌, ◌↔◌, ◌⊎◌, ◌+◌, IsTrue, ℕ, IfOk, Contains};
+ghost use Rattle.std.specs.Prelude.{◌≡◌, ◌≢◌, ◌≤◌, ◌<◌, ◌↔◌, ◌⊎◌, ◌+◌, ◌-◌, [], Some, Ok, IsTrue, ℕ, IfOk, IfErr, Contains, slice_get};
+ghost use Rattle.std.specs.List.{All};
+ghost use Rattle.std.specs.List.Sorted.{IsNonDecreasing};
 
 use crate::faults::file_refusal;
 use std::alloc::Global;
@@ -15,7 +17,10 @@ pub(crate) struct Journals {
 
 impl Journals {
     /// How many there are.
-    pub fn count(&self) -> u64 {
+    pub fn count(&self) -> u64
+        ensures none { self.now.last < self.now.first → result ≡ 0 }
+        ensures some { 0 < self.now.first → self.now.first ≤ self.now.last → result + self.now.first ≡ self.now.last + 1 }
+    {
         if self.last < self.first {
             0
         } else {
@@ -31,12 +36,16 @@ impl Journals {
     }
 
     /// Whether those before the first one are away.
-    pub fn is_later(&self) -> bool {
+    pub fn is_later(&self) -> bool
+        ensures { IsTrue result ↔ 1 < self.now.first }
+    {
         self.first > 1
     }
 
     /// The refusal of the journal before the first one, which is away: 55.
-    pub fn refusal_before(&self) -> StoreRefusal {
+    pub fn refusal_before(&self) -> StoreRefusal
+        ensures { result ≡ StoreRefusal.BadJournal (self.now.first - 1) 0 }
+    {
         StoreRefusal::BadJournal {
             journal: self.first.saturating_sub(1),
             at: 0,
@@ -74,7 +83,8 @@ fn numbers_in(rt: &HostRuntime, alloc: Global, dir: &str) -> io::Result<Vec<u64>
 // Journals with this number more, which is no less than the first. The error is the one that is missing before it.
 fn extended(journals: Journals, number: u64) -> Result<Journals, u64>
     ensures first { IfOk result (λ j. j.first ≡ journals.first) }
-    ensures last { IfOk result (λ j. (j.last ≡ journals.last) ⊎ ((j.last ≡ number) × (number ≡ journals.last + 1))) }
+    ensures last { IfOk result (λ j. ((j.last ≡ journals.last) × (number ≤ j.last)) ⊎ ((j.last ≡ number) × (number ≡ journals.last + 1))) }
+    ensures missing { IfErr result (λ missing. (missing ≡ journals.last + 1) × (missing < number)) }
 {
     let Journals { first, last } = journals;
     if number <= last {
@@ -91,7 +101,12 @@ fn extended(journals: Journals, number: u64) -> Result<Journals, u64>
 
 // Journals of these numbers, which rise. The error is the first one that is missing before a later one.
 fn follow(numbers: &[u64]) -> Result<Journals, u64>
-    ensures { IfOk result (λ j. (n : ℕ) → j.first ≤ n → n ≤ j.last → Contains numbers.now n) }
+    ensures none { numbers.now ≡ [] → result ≡ Ok (record { first = 1; last = 0 }) }
+    ensures first { IfOk result (λ j. numbers.now ≢ [] → slice_get numbers.now 0 ≡ Some j.first) }
+    ensures there { IfOk result (λ j. (n : ℕ) → j.first ≤ n → n ≤ j.last → Contains numbers.now n) }
+    ensures all { IfOk result (λ j. All (λ n. n ≤ j.last) numbers.now) }
+    ensures gap { IfErr result (λ missing. IsNonDecreasing numbers.now → Contains numbers.now missing → ⊥) }
+    ensures missing { IfErr result (λ missing. (0 < missing) × Contains numbers.now (missing - 1) × ((n : ℕ) × Contains numbers.now n × (missing < n))) }
 {
     let Some(first) = numbers.first() else {
         return Ok(Journals { first: 1, last: 0 });

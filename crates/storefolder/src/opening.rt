@@ -1,4 +1,7 @@
 //! Opening a store that is in a folder.
+ghost use Rattle.std.specs.Prelude.{IfOk};
+ghost use Rattle.store.specs.Opening.{IsRunFrom};
+
 use crate::databases::{Database, open_databases};
 use crate::faults::file_refusal;
 use crate::form::Form;
@@ -173,6 +176,7 @@ fn go_on<K: Announces, F: FnOnce() -> Result<K::Journal, StoreRefusal>>(
 where
     K::Image: Drop,
     requires { F.IsAlwaysCallable begin_journal }
+    ensures { IfOk result (λ p. IsRunFrom K.is_honest K.may_hold K.holds images.items p.0) }
 {
     let schema = form.schema.clone()?;
     let members = Members::<K>::open(alloc, schema, images, &before.past)?;

@@ -1,5 +1,5 @@
 //! The members of a group, and every message that they sent.
-ghost use Rattle.std.specs.Prelude.{◌≡◌, ◌+◌, ◌++◌, ◌<◌, ℕ, None, true, false, length, map, vec_len, IfOk, IsOk, OnOk, MatchOption};
+ghost use Rattle.std.specs.Prelude.{◌≡◌, ◌+◌, ◌++◌, ◌<◌, ℕ, None, Some, true, false, length, map, vec_len, IfOk, IsOk, OnOk, MatchOption};
 ghost use Rattle.std.specs.List.{All};
 ghost use Rattle.model.specs.Lists.{nth};
 ghost use Rattle.model.specs.Members.{Node as TheNode};
@@ -95,14 +95,18 @@ impl Group {
         self.bring(member, Work::Local(input.clone()?))
     }
 
-    /// A copy of the message that was sent as this one, counted from 1.
+    /// The message that was sent as this one, counted from 1.
+    pub(crate) fn sent_as(&self, number: usize) -> Option<&Message>
+        ensures { MatchOption result (nth self.now.sent.items number ≡ None) (λ message. nth self.now.sent.items number ≡ Some message.now) }
+    {
+        self.sent.get(number.checked_sub(1)?)
+    }
+
+    /// A copy of it.
     fn message(&self, number: usize) -> Result<Option<Message>, AllocError>
         ensures { IfOk result (λ m. m ≡ nth self.now.sent.items number) }
     {
-        if number == 0 {
-            return Ok(None);
-        }
-        match self.sent.get(number - 1) {
+        match self.sent_as(number) {
             Some(message) => Ok(Some(message.clone()?)),
             None => Ok(None),
         }

@@ -1,10 +1,11 @@
 //! A group, and all that happened to it.
-ghost use Rattle.std.specs.Prelude.{◌≡◌, ◌++◌, ◌∷◌, ◌≤◌, ◌↔◌, [], true, false, map, None, IfOk, IsErr, IsOk, OnErr, OnOk, if◌then◌else◌};
+ghost use Rattle.std.specs.Prelude.{◌≡◌, ◌++◌, ◌∷◌, ◌≤◌, ◌↔◌, [], true, false, map, None, Some, IfOk, IsErr, IsOk, MatchOption, OnErr, OnOk, if◌then◌else◌};
 ghost use Rattle.std.specs.Coded.{→_prop};
 ghost use Rattle.believed.specs.Agreement.{Agree, decided};
 ghost use Rattle.believed.specs.Explained.{IsDecidedInOrder, IsExplained, WereSubmitted};
 ghost use Rattle.believed.specs.Progress.{CanServe};
 ghost use Rattle.believed.specs.Worlds.{Gives, GivesAll};
+ghost use Rattle.model.specs.Lists.{nth};
 ghost use Rattle.model.specs.Worlds.{Gives as GivesThen, new_world};
 ghost use Rattle.sqlread.specs.Meaning.{language_of};
 ghost use Rattle.believed.specs.Meaning.{IsLanguage};
@@ -17,6 +18,7 @@ use crate::output::Output;
 use crate::outset::open_group;
 use model::entry::Entry;
 use model::member::Member;
+use model::message::Message;
 use node::durable::StoredState;
 use schema::Schema;
 use std::alloc::{AllocError, Global};
@@ -68,6 +70,25 @@ impl World {
         ensures { result.now ≡ self.now.kept.items }
     {
         &self.kept
+    }
+
+    /// The same, to be moved elsewhere. Takes no memory.
+    pub fn into_events(self) -> Vec<Event>
+        ensures { result.items ≡ self.kept.items }
+    {
+        let World {
+            group: _group,
+            kept,
+            is_spent: _,
+        } = self;
+        kept
+    }
+
+    /// The message that was sent as this one, counted from 1 in the order in which all were sent. Takes no memory.
+    pub fn message(&self, number: usize) -> Option<&Message>
+        ensures { self.now.is_spent ≡ false → MatchOption result (nth (now_of self.now).sent number ≡ None) (λ message. nth (now_of self.now).sent number ≡ Some message.now) }
+    {
+        self.group.sent_as(number)
     }
 
     /// An error where the world is spent.

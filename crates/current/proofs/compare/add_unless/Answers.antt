@@ -1,4 +1,4 @@
-use Rattle.std.proofs.Common.{map, sym, ap, ◌∙◌, ◌++◌, ◌∷◌, []}
+use Rattle.std.proofs.Common.{map, sym, ap, ◌∙◌, ◌++◌}
 use Rattle.std.proofs.lemmas.List.{append-nil}
 use Rattle.current.specs.Rows.{row_of}
 use Rattle.current.proofs.Lists.{pushed, one_absent, one_present}

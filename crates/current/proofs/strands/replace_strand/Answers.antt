@@ -23,6 +23,16 @@ returns-then-is_empty c =
     strands_written_back m (c.get_mut.follows.lender v) key v v value (c.get_mut.follows.holds v) refl
     ∙ strands_same m key (instead (strands_of m key) rows) (sym old ∙ instead_none v rows (sym c.is_empty.ensures ∙ c.if-is_empty.true) ∙ ap (λ o. instead o rows) old)
 
+pub returns-then-some_left : goal.returns-then-some_left
+returns-then-some_left c =
+    let m = c.args.strands.now in
+    let key = c.args.key.now in
+    let w = c.from.result in
+    let v = c.in-Some.strand.now in
+    let rows = map row_of c.args.rows.items in
+    let value = c.in-Some.ensures.value in
+    strands_written m (c.get_mut.follows.lender w) key v w (instead (strands_of m key) rows) value (c.get_mut.follows.holds w) (ap (map row_of) c.from.ensures ∙ instead_some v rows (sym c.is_empty.ensures ∙ c.if-is_empty.false) ∙ ap (λ o. instead o rows) (ap strand_in value))
+
 pub returns : goal.returns
 returns c =
     let m = c.args.strands.now in

@@ -1,4 +1,4 @@
-use Rattle.std.proofs.Common.{ℕ, inl, inr}
+use Rattle.std.proofs.Common.{inr}
 use Rattle.current.specs.Places.{rows_at}
 use Rattle.current.specs.Table.{rows_of_table}
 use Rattle.current.proofs.Looking.{lost_then, lost_all}

@@ -1,4 +1,3 @@
-use Rattle.std.proofs.Common.{ℕ}
 use Rattle.current.specs.Places.{rows_at}
 use Rattle.current.specs.Table.{rows_of_table}
 use Rattle.current.proofs.Looking.{IsLostTo}

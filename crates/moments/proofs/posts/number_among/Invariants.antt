@@ -1,7 +1,6 @@
-use Rattle.std.proofs.Common.{◌≡◌, ◌<◌, ℕ, Some}
-use Rattle.std.specs.Prelude.{slice_get}
-use Rattle.moments.specs.Posts.{posted}
+use Rattle.std.proofs.Common.{◌<◌, ◌+◌, ℕ}
+use Rattle.moments.specs.Posts.{past_with, IsSentThen}
 use Rattle.moments.proofs.posts.number_among.Given as goal
 
 abbrev pub invariant-loop-place : goal.invariant-loop-place
-invariant-loop-place l = (k : ℕ) → k < l.place → slice_get l.posts k ≡ Some (posted l.mark l.message) → ⊥
+invariant-loop-place l = (k : ℕ) → k < l.place → IsSentThen (past_with l.world l.marks) l.mark l.message (k + 1) → ⊥

@@ -1,6 +1,16 @@
 use Rattle.std.proofs.Math.Logic.{∥∥₁_elim}
 use Rattle.std.proofs.Props.{props}
 use Rattle.std.proofs.lemmas.Grind.{merely}
+use Rattle.std.proofs.Common.{◌≡◌, ◌∙◌, Err, refl, sym, ap, subst}
+use Rattle.model.specs.Members as model
+use Rattle.model.specs.Worlds.{stopped}
+use Rattle.keep.specs.Durable.{Durable}
+use Rattle.keep.specs.declared.error.StoreError.TheVariants.{StoreFault}
+use Rattle.node.specs.declared.node.Fault.TheVariants.{Down}
+use Rattle.node.specs.Member.{me_of, member_of, members_of, tables_of}
+use Rattle.node.specs.View.{durable_of}
+use Rattle.store.specs.Nodes.{StepsTo}
+use Rattle.store.proofs.Stepping.{came, given_back, lost, member_with, seen_down, what_stays}
 use Rattle.store.proofs.seat.step_with.Goals as goal
 
 pub invariant_of-node-clause-serves : goal.invariant_of-node-clause-serves
@@ -14,3 +24,48 @@ invariant_of-node-2-clause-serves g c = ∥∥₁_elim c.step-result.new.self.se
 
 pub invariant_of-node-2-clause-current : goal.invariant_of-node-2-clause-current
 invariant_of-node-2-clause-current g c = λ up honest. rw c.take_back.ensures.stored (c.step-result.new.self.current up (c.take_back.ensures.honest.0 honest))
+
+pub returns-in-Some-clause-steps : goal.returns-in-Some-clause-steps
+returns-in-Some-clause-steps g c = λ late.
+    let reader = g.K.LogReader in
+    let first = c.args.node.now in
+    let stepped = c.step-result.new.self in
+    let honest = c.take_back.ensures.honest.0 late in
+    let lent = member_with first (reader.stored c.lend.new.self).log in
+    let same : lent ≡ member_of first = ap (λ (d : Durable). member_with first d.log) c.lend.ensures.stored in
+    let r = came (tables_of first) (members_of first) (me_of first) c.args.work lent refl reader.may_hold stepped (reader.is_honest stepped.keeper) honest first.is_up c.requires.up (reader.stored stepped.keeper) c.step-result.result
+    (g.met.K.LogReader.holds_stored stepped.keeper honest) c.step-result.ensures.done c.step-result.ensures.told c.step-result.ensures.same c.step-result.ensures.torn c.step-result.ensures.up c.step-result.ensures.leaves
+    (λ d may. g.met.K.LogReader.only_stored stepped.keeper d may) in
+    let P : Durable → Type 0 = reader.may_hold stepped.keeper in
+    let less : (d : Durable) → reader.may_hold c.take_back.new.self d → reader.may_hold stepped.keeper d = λ d may. subst P (sym (g.met.K.LogReader.only_stored c.take_back.new.self d may ∙ c.take_back.ensures.stored)) (g.met.K.LogReader.holds_stored stepped.keeper honest) in (
+      r.0,
+      (
+        given_back reader.may_hold stepped (reader.may_hold c.take_back.new.self) (member_with stepped (reader.stored c.take_back.new.self).log) r.0 (ap (λ (d : Durable). member_with stepped d.log) c.take_back.ensures.stored) less r.1.0,
+        subst (λ (z : model.Node). StepsTo (tables_of first) (members_of first) (me_of first) c.args.work z r.0 c.step-result.result) same r.1.1,
+      ),
+    )
+
+pub returns-in-None-clause-steps : goal.returns-in-None-clause-steps
+returns-in-None-clause-steps g c = λ late.
+    let reader = g.K.LogReader in
+    let first = c.args.node.now in
+    let stepped = c.step-result.new.self in
+    let honest = c.take_back.ensures.honest.0 (subst g.K.LogReader.is_honest c.take_down.ensures.keeper late) in
+    let lent = member_with first (reader.stored c.lend.new.self).log in
+    let same : lent ≡ member_of first = ap (λ (d : Durable). member_with first d.log) c.lend.ensures.stored in
+    let r = came (tables_of first) (members_of first) (me_of first) c.args.work lent refl reader.may_hold stepped (reader.is_honest stepped.keeper) honest first.is_up c.requires.up (reader.stored stepped.keeper) c.step-result.result
+    (g.met.K.LogReader.holds_stored stepped.keeper honest) c.step-result.ensures.done c.step-result.ensures.told c.step-result.ensures.same c.step-result.ensures.torn c.step-result.ensures.up c.step-result.ensures.leaves
+    (λ d may. g.met.K.LogReader.only_stored stepped.keeper d may) in
+    let down = c.take_down.new.self in
+    let P : Durable → Type 0 = reader.may_hold stepped.keeper in
+    let is_stored : (d : Durable) → reader.may_hold down.keeper d → d ≡ reader.stored stepped.keeper = λ d may. g.met.K.LogReader.only_stored down.keeper d may ∙ ap reader.stored c.take_down.ensures.keeper ∙ c.take_back.ensures.stored in
+    let back = ap (λ (d : Durable). durable_of (member_with stepped d.log)) c.take_back.ensures.stored in
+    let only : (d : Durable) → reader.may_hold down.keeper d → d ≡ durable_of r.0 = λ d may.
+    what_stays reader.may_hold stepped r.0 d r.1.0 (subst P (sym (is_stored d may)) (g.met.K.LogReader.holds_stored stepped.keeper honest)) (λ up. c.take_down.ensures.held up d may ∙ back) in
+    let l = lost (tables_of first) (members_of first) (me_of first) c.args.work lent refl (reader.may_hold down.keeper) StoreFault r.0 c.step-result.result r.1.1 only in (
+      stopped r.0,
+      (
+        seen_down (tables_of first) (members_of first) (me_of first) c.args.work lent refl reader.may_hold down (stopped r.0) c.take_down.ensures.down l.0,
+        subst (λ (z : model.Node). StepsTo (tables_of first) (members_of first) (me_of first) c.args.work z (stopped r.0) (Err (Down StoreFault))) same l.1,
+      ),
+    )

@@ -21,6 +21,7 @@ loop-place-preserved g c =
           let got : slice_get log place ≡ Some entry = subst (λ (m : Node). slice_get m.log place ≡ Some entry) (inv.same (one.honest h)) (one.entry h) in
           c.in_ok-push.ensures.items ∙ ap (λ (es : List Entry). es ++ entry ∷ []) (inv.read (one.honest h)) ∙ sym (range_next log c.args.after place entry (omega arith) got);
       me = one.me ∙ inv.me;
+      group = (one.group.0 ∙ inv.group.0, one.group.1 ∙ inv.group.1, one.group.2 ∙ inv.group.2);
     }
 
 pub returns-clause-entries : goal.returns-clause-entries

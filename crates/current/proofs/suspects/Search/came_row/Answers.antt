@@ -1,9 +1,8 @@
-use Rattle.std.proofs.Common.{◌≡◌, ◌∙◌, sym, subst, false}
+use Rattle.std.proofs.Common.{subst}
 use Rattle.rowlaws.specs.Rows.{Has}
 use Rattle.rowlaws.proofs.RowFacts.{both}
-use Rattle.current.specs.Rows.{row_of}
 use Rattle.current.specs.Suspects.{rows_by}
-use Rattle.current.proofs.Looking.{looks_none, looks_at_more, ok_looks}
+use Rattle.current.proofs.Looking.{looks_none, ok_looks}
 use Rattle.current.proofs.suspects.Search.came_row.Goals as goal
 
 pub returns-then-not-stands : goal.returns-then-not-stands

@@ -1,7 +1,5 @@
-use Rattle.std.proofs.Common.{◌≡◌, ◌∙◌, ℕ, ap, sym, subst, List}
-use Rattle.model.specs.declared.value.Value.{Value}
+use Rattle.std.proofs.Common.{◌∙◌, ℕ, ap, sym, subst, List}
 use Rattle.model.specs.Periods.{period_of}
-use Rattle.model.specs.Tables.{Row}
 use Rattle.rowlaws.specs.Rows.{Has}
 use Rattle.rowlaws.specs.Losing.{lost_days}
 use Rattle.sqlread.specs.Meaning.{reference_of, values_at}

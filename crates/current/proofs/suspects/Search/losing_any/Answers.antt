@@ -1,10 +1,9 @@
-use Rattle.std.proofs.Common.{◌≡◌, ◌∷◌, ◌+◌, ◌∙◌, ◌⊎◌, ap, sym, subst, List, map, drop, inl, inr}
+use Rattle.std.proofs.Common.{◌∷◌, ◌+◌, ◌∙◌, ap, sym, subst, List, drop, inl, inr}
 use Rattle.model.specs.Tables.{Row}
 use Rattle.rowlaws.specs.Rows.{Has}
 use Rattle.rowlaws.specs.Suspects.{rows_losing}
 use Rattle.schema.specs.Shape.{ReferenceShape}
 use Rattle.sqlread.specs.Meaning.{reference_of}
-use Rattle.current.specs.Rows.{row_of}
 use Rattle.current.specs.Touched.{removed_in}
 use Rattle.current.specs.Suspects.{rows_by}
 use Rattle.current.proofs.Lists.{drop_here, drop_none}

@@ -1,4 +1,4 @@
-use Rattle.std.proofs.Common.{◌≡◌, ◌∷◌, ◌∙◌, List, [], map, inl, inr, refl, sym, subst, rules}
+use Rattle.std.proofs.Common.{◌≡◌, ◌∷◌, List, map, inl, inr, refl, sym, subst, rules}
 use Rattle.std.specs.Map.Iter.{deref_pair}
 use Rattle.std.proofs.lemmas.Map.Iter.{rest_more}
 use Rattle.overlaps.specs.Index.{AreApart}

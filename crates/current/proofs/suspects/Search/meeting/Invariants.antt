@@ -1,4 +1,4 @@
-use Rattle.std.proofs.Common.{◌≡◌, ◌<◌, map, option_map}
+use Rattle.std.proofs.Common.{◌<◌, option_map}
 use Rattle.rowlaws.specs.Rows.{Has}
 use Rattle.sqlread.specs.Meaning.{values_at}
 use Rattle.current.specs.ByKey.{rows_in}

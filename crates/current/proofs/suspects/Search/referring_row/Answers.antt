@@ -1,10 +1,8 @@
-use Rattle.std.proofs.Common.{◌≡◌, ◌∙◌, ap, sym, subst, List, false}
-use Rattle.model.specs.declared.value.Value.{Value}
+use Rattle.std.proofs.Common.{◌∙◌, ap, sym, subst}
 use Rattle.model.specs.Tables.{Row}
 use Rattle.rowlaws.specs.Rows.{Has}
 use Rattle.rowlaws.proofs.RowFacts.{both}
 use Rattle.sqlread.specs.Meaning.{values_at}
-use Rattle.current.specs.Rows.{row_of}
 use Rattle.current.proofs.Looking.{looks_none, ok_looks, key_found}
 use Rattle.current.proofs.suspects.Search.referring_row.Goals as goal
 

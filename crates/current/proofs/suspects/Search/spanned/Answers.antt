@@ -1,4 +1,4 @@
-use Rattle.std.proofs.Common.{◌≡◌, ◌∙◌, ap, sym, subst, List, []}
+use Rattle.std.proofs.Common.{◌∙◌, ap, sym, subst, List, []}
 use Rattle.std.specs.Option.{option_map_or}
 use Rattle.model.specs.Tables.{Row}
 use Rattle.rowlaws.specs.Rows.{Has}

@@ -1,4 +1,4 @@
-use Rattle.std.proofs.Common.{◌∙◌, ◌++◌, List, map, ap}
+use Rattle.std.proofs.Common.{◌∙◌, ◌++◌, List, ap}
 use Rattle.believed.proofs.AgreeSame.{given_before}
 use Rattle.world.specs.declared.output.Output.{Output}
 use Rattle.world.specs.Run.{language_in, members_in, outset_of, events_of}
@@ -19,6 +19,6 @@ returns-clause-happened c =
     let w = old.world in
     let gave = given_before (language_in w) (members_in w) (outset_of w) (events_of w) (event_of c.args.event) (outputs_of c.in_ok-outs.outs.items) c.in_ok-outs.ensures.gives in
     let now = now_next w c.step.new.self (event_of c.args.event) c.step.ensures.same.0 c.step.ensures.same.1 c.in_ok-outs.ensures.kept in
-    let posts = c.in_ok-post_all.ensures ∙ ap (λ (xs : List Output). old.posts.items ++ map (posted c.args.mark) (messages_in xs)) c.deref.ensures.value in
-    one_happened old _ c.args.mark _ c.in_ok-outs.outs.items c.requires.live gave now c.in_ok-outs.ensures.kept
-    c.step.ensures.tables c.step.ensures.same.1 c.in_ok-outs.ensures.ok.1 posts
+    let marks = c.in_ok-post_all.ensures ∙ ap (λ (xs : List Output). old.marks.items ++ posted c.args.mark (messages_in xs)) c.deref.ensures.value in
+    one_happened old _ c.args.mark _ c.in_ok-outs.outs.items gave now c.in_ok-outs.ensures.kept
+    c.step.ensures.tables c.step.ensures.same.1 c.in_ok-outs.ensures.ok.1 marks

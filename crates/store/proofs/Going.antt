@@ -1,0 +1,490 @@
+-- A store that goes on.
+use Rattle.std.proofs.Common.{◌≡◌, ◌∙◌, ℕ, zero, suc, ◌+◌, ◌⊎◌, ⊎_elim, inl, inr, Option, Some, None, Result, Ok, Err, List, [], ◌∷◌, ◌++◌, IfSome, OnOk, OnErr, length, slice_get, slice_set, refl, sym, ap, subst, append-nil, append_assoc, arith}
+use Rattle.std.specs.List.{All}
+use Rattle.std.proofs.lemmas.List.{length_push}
+use Rattle.std.proofs.lemmas.List.Elements.{All-push, All-nil, All-cons, All-head, All-tail, Contains-append_left, Contains-append_right}
+use Rattle.std.proofs.lemmas.Option.{IfSome_then}
+use Rattle.fault.specs.declared.refusal.Refusal.{Refusal as Reason}
+use Rattle.model.specs.Lists.{nth, with_nth}
+use Rattle.model.specs.Members as model
+use Rattle.model.specs.declared.entry.Told.{Told}
+use Rattle.model.specs.declared.message.Message.{Message}
+use Rattle.model.specs.Worlds.{World, Output, with_node}
+use Rattle.model.specs.Worlds.Output.{Refused as Refuses}
+use Rattle.keep.specs.Durable.{Durable}
+use Rattle.sessions.proofs.Lists.{with_length}
+use Rattle.sqlchecks.specs.Columns.{Tables}
+use Rattle.sqlread.specs.Meaning.{language_of}
+use Rattle.runlaws.specs.Going.{AreSeated, Goes, MayStart, WasTold}
+use Rattle.runlaws.proofs.Going.{goes_nowhere, goes_both, goes_to, given_before, given_then, told_before, told_then}
+use Rattle.runlaws.proofs.Seats.{nth_next, set_next, seated, seated_anew, sent_before, sent_next}
+use Rattle.store.specs.declared.store.Store.{Store}
+use Rattle.store.specs.declared.seat.Seat.{Seat}
+use Rattle.store.specs.declared.steps.Letter.{Letter}
+use Rattle.store.specs.declared.steps.Watched.{Watched}
+use Rattle.store.specs.declared.outcome.Outcome.{Outcome}
+use Rattle.store.specs.declared.outcome.Outcome.TheVariants.{Accepted, Refused, Unanswered}
+use Rattle.store.specs.Journals.{IsSpent}
+use Rattle.store.specs.Seats.{HasMember, IsClean}
+use Rattle.node.specs.Work.{Work}
+use Rattle.store.specs.Going.{Anywhere, AreClean, AreUnderWay, Changes, ComesOf, GoesOn, GoesOnSo, HasSent, Heard, Hears, IsAmong, IsBrought, IsIn, IsOutcome, Publishes, WentOn}
+
+-- ---- what is heard
+
+-- who tells an outcome of the request of a client and a number
+abbrev pub Tells : Type 1
+Tells = ℕ → ℕ → Result ℕ Reason → Type 0
+
+-- what one tells another one tells too
+abbrev pub TellsLess : (few more : ℕ → ℕ → Result ℕ Reason → Type 0) → Type 0
+TellsLess few more = (client number : ℕ) (o : Result ℕ Reason) → few client number o → more client number o
+
+pub hears_same : (tells : ℕ → ℕ → Result ℕ Reason → Type 0) (old new : Option Watched) → new ≡ old → Hears tells old new
+hears_same tells old new same = subst (λ (v : Option Watched). Hears tells old v) (sym same) (go old)
+  where
+    before : (o : Option (Result ℕ Reason)) (P : Result ℕ Reason → Type 0) → IfSome o (λ x. (o ≡ Some x) ⊎ P x)
+    before None P = tt
+    before (Some x) P = inl refl
+
+    go : (v : Option Watched) → Hears tells v v
+    go None = tt
+    go (Some v) = (refl, refl, before v.outcome (λ o. tells v.client v.number o))
+
+heard_more : (few more : ℕ → ℕ → Result ℕ Reason → Type 0) → TellsLess few more → (v : Option Watched) (o : Result ℕ Reason) → Heard few v o → Heard more v o
+heard_more few more less None o h = h
+heard_more few more less (Some v) o h = ⊎_elim (λ early. inl early) (λ told. inr (less v.client v.number o told)) h
+
+pub hears_more : (few more : ℕ → ℕ → Result ℕ Reason → Type 0) → TellsLess few more → (old new : Option Watched) → Hears few old new → Hears more old new
+hears_more few more less old None h = tt
+hears_more few more less None (Some w) h = h
+hears_more few more less (Some v) (Some w) h = (h.0, h.1, IfSome_then w.outcome {P = Heard few (Some v)} {Q = Heard more (Some v)} h.2 (λ o k. heard_more few more less (Some v) o k))
+
+some_at : {A : Type 0} (o : Option A) (P : A → Type 0) (x : A) → o ≡ Some x → IfSome o P → P x
+some_at None P x e p = absurd (cc e)
+some_at (Some y) P x e p = let same : y ≡ x = cc e in subst P same p
+
+-- an outcome that is heard of what was heard before
+heard_on : (one two all : ℕ → ℕ → Result ℕ Reason → Type 0) → TellsLess one all → TellsLess two all → (old mid : Option Watched) (o : Result ℕ Reason) → Hears one old mid → Heard two mid o → Heard all old o
+heard_on one two all first then old None o a b = absurd b
+heard_on one two all first then None (Some m) o a b = absurd a
+heard_on one two all first then (Some v) (Some m) o a b = ⊎_elim
+    (λ (was : m.outcome ≡ Some o). heard_more one all first (Some v) o (some_at m.outcome (Heard one (Some v)) o was a.2))
+    (λ (told : two m.client m.number o). inr (then v.client v.number o (subst (λ k. two v.client k o) a.1 (subst (λ c. two c m.number o) a.0 told))))
+    b
+
+pub hears_both : (one two all : ℕ → ℕ → Result ℕ Reason → Type 0) → TellsLess one all → TellsLess two all → (old mid new : Option Watched) → Hears one old mid → Hears two mid new → Hears all old new
+hears_both one two all first then old mid None a b = tt
+hears_both one two all first then old None (Some w) a b = absurd b
+hears_both one two all first then None (Some m) (Some w) a b = absurd a
+hears_both one two all first then (Some v) (Some m) (Some w) a b =
+    (b.0 ∙ a.0, b.1 ∙ a.1, IfSome_then w.outcome {P = Heard two (Some m)} {Q = Heard all (Some v)} b.2 (λ o h. heard_on one two all first then (Some v) (Some m) o a h))
+
+-- outcomes of events, and of more events after them
+module _ (one two : List (List Output)) where
+  pub tells_before : TellsLess (WasTold one) (WasTold (one ++ two))
+  tells_before client number o t = told_before one two client number o t
+
+  pub tells_then : TellsLess (WasTold two) (WasTold (one ++ two))
+  tells_then client number o t = told_then one two client number o t
+
+  pub comes_before : (client number : ℕ) (o : Outcome) → ComesOf client number o one → ComesOf client number o (one ++ two)
+  comes_before client number (Accepted stamp) c = tells_before client number (Ok stamp) c
+  comes_before client number (Refused reason) c = ⊎_elim (λ t. inl (tells_before client number (Err reason) t)) (λ (m, h). inr (m, given_before one two (Refuses m reason) h)) c
+  comes_before client number Unanswered c = tt
+
+  pub comes_then : (client number : ℕ) (o : Outcome) → ComesOf client number o two → ComesOf client number o (one ++ two)
+  comes_then client number (Accepted stamp) c = tells_then client number (Ok stamp) c
+  comes_then client number (Refused reason) c = ⊎_elim (λ t. inl (tells_then client number (Err reason) t)) (λ (m, h). inr (m, given_then one two (Refuses m reason) h)) c
+  comes_then client number Unanswered c = tt
+
+  pub outcome_before : (v : Option Watched) (o : Outcome) → IsOutcome v o one → IsOutcome v o (one ++ two)
+  outcome_before v (Accepted stamp) c = heard_more (WasTold one) (WasTold (one ++ two)) tells_before v (Ok stamp) c
+  outcome_before v (Refused reason) c = ⊎_elim (λ t. inl (heard_more (WasTold one) (WasTold (one ++ two)) tells_before v (Err reason) t)) (λ (m, h). inr (m, given_before one two (Refuses m reason) h)) c
+  outcome_before v Unanswered c = tt
+
+  pub outcome_then : (old mid : Option Watched) (o : Outcome) → Hears (WasTold one) old mid → IsOutcome mid o two → IsOutcome old o (one ++ two)
+  outcome_then old mid (Accepted stamp) h c = heard_on (WasTold one) (WasTold two) (WasTold (one ++ two)) tells_before tells_then old mid (Ok stamp) h c
+  outcome_then old mid (Refused reason) h c = ⊎_elim
+      (λ t. inl (heard_on (WasTold one) (WasTold two) (WasTold (one ++ two)) tells_before tells_then old mid (Err reason) h t))
+      (λ (m, k). inr (m, given_then one two (Refuses m reason) k)) c
+  outcome_then old mid Unanswered h c = tt
+
+-- a request that had no outcome yet
+pub outcome_comes : (watched : Option Watched) (v : Watched) (o : Outcome) (gave : List (List Output)) → watched ≡ Some v → v.outcome ≡ None → IsOutcome watched o gave → ComesOf v.client v.number o gave
+outcome_comes watched v o gave is none c = go o (subst (λ (x : Option Watched). IsOutcome x o gave) is c)
+  where
+    told : (r : Result ℕ Reason) → Heard (WasTold gave) (Some v) r → WasTold gave v.client v.number r
+    told r h = ⊎_elim (λ was. absurd (cc (none, was))) (λ t. t) h
+
+    go : (o : Outcome) → IsOutcome (Some v) o gave → ComesOf v.client v.number o gave
+    go (Accepted stamp) h = told (Ok stamp) h
+    go (Refused reason) h = ⊎_elim (λ t. inl (told (Err reason) t)) (λ r. inr r) h
+    go Unanswered h = tt
+
+-- ---- what was told, of lists
+
+among_left : (a b : List Told) → TellsLess (IsAmong a) (IsAmong (a ++ b))
+among_left a b client number o (t, has, c, n, is) = (t, Contains-append_left a b t has, c, n, is)
+
+among_right : (a b : List Told) → TellsLess (IsAmong b) (IsAmong (a ++ b))
+among_right a b client number o (t, has, c, n, is) = (t, Contains-append_right a b t has, c, n, is)
+
+nobody : (tells : ℕ → ℕ → Result ℕ Reason → Type 0) → TellsLess (IsAmong []) tells
+nobody tells client number o (t, (k, l, p), c, n, is) = absurd (omega (arith, l))
+
+-- ---- one seat
+
+-- the world of these members, with these messages sent
+abbrev pub world_with : List model.Node → List Message → World
+world_with nodes sent = record { nodes = nodes; sent = sent }
+
+pub all_back : {A : Type 0} (P : A → Type 0) (xs : List A) (at : ℕ) (before after : A) → slice_get xs at ≡ Some before → (P after → P before) → All P (slice_set xs at after) → All P xs
+all_back P [] at before after e f all = All-nil P
+all_back P (x ∷ xs) zero before after e f all = let same : before ≡ x = cc e in All-cons P x xs (subst P same (f (All-head P after xs all))) (All-tail P after xs all)
+all_back P (x ∷ xs) (suc at) before after e f all = All-cons P x xs (All-head P x (slice_set xs at after) all) (all_back P xs at before after e f (All-tail P x (slice_set xs at after) all))
+
+pub all_at : {A : Type 0} (P : A → Type 0) (xs : List A) (at : ℕ) (before after : A) → slice_get xs at ≡ Some before → All P (slice_set xs at after) → P after
+all_at P [] at before after e all = absurd (cc e)
+all_at P (x ∷ xs) zero before after e all = All-head P after xs all
+all_at P (x ∷ xs) (suc at) before after e all = all_at P xs at before after e (All-tail P x (slice_set xs at after) all)
+
+-- the same letters
+pub under_same : (old new : List Letter) (k l : ℕ) (sent : List Message) → new ≡ old → l ≡ k → AreUnderWay old k sent → AreUnderWay new l sent
+under_same old new k l sent queue count u = subst (λ (c : ℕ). AreUnderWay new c sent) (sym count) (subst (λ (q : List Letter). AreUnderWay q k sent) (sym queue) u)
+
+-- one more message
+pub sent_one : (letters : List Letter) (count number : ℕ) (message : Message) (sent : List Message) → number ≡ count + 1 → AreUnderWay letters count sent → AreUnderWay (letters ++ record { number = number; message = message } ∷ []) number (sent ++ message ∷ [])
+sent_one letters count number message sent is u =
+    let next : number ≡ length sent + 1 = is ∙ ap (λ k. k + 1) u.0 in
+    let new : Letter = record { number = number; message = message } in (
+      next ∙ sym (long sent),
+      All-push (λ (l : Letter). nth (sent ++ message ∷ []) l.number ≡ Some l.message) letters new
+          (sent_before (λ (l : Letter). l.number) (λ (l : Letter). l.message) letters sent (message ∷ []) u.1)
+          (ap (nth (sent ++ message ∷ [])) next ∙ sent_next sent [] message),
+    )
+  where
+    long : (xs : List Message) → length (xs ++ message ∷ []) ≡ length xs + 1
+    long xs = length_push xs message
+
+-- after an error it is so, and before a success it was not
+pub spends : {A E : Type 0} (r : Result A E) (P Q : Type 0) → OnOk r (P → ⊥) → OnErr r Q → P → Q
+spends (Ok x) P Q live fails was = absurd (live was)
+spends (Err e) P Q live fails was = fails
+
+module _ {K J I : Type 0} {g : _} {s : _} {d : _} (honest : K → Type 0) (held : K → Durable → Type 0) (holds : I → Durable → Type 0) where
+  abbrev On : Store K J I g s d → Store K J I g s d → Type 0
+  On = GoesOn honest held holds
+
+  -- ---- a store that goes on goes on
+
+  -- a run that went on, and then went on
+  pub record WentBoth (a b c : Store K J I g s d) (w : World) (x : WentOn held holds a b w) (y : WentOn held holds b c x.world) : Type 0 where
+    pub went : WentOn held holds a c w
+    pub gave : went.goes.gave ≡ x.goes.gave ++ y.goes.gave
+
+  pub went_both : (a b c : Store K J I g s d) → b.schema ≡ a.schema → length b.seats.items ≡ length a.seats.items → (w : World) (x : WentOn held holds a b w) (y : WentOn held holds b c x.world) → WentBoth a b c w x y
+  went_both a b c schema count w x y =
+      let both = goes_both (language_of a.schema) (language_of b.schema) (length a.seats.items) (length b.seats.items) w x.world y.world (ap language_of schema) count x.goes y.goes in
+      let hears : Hears (WasTold (x.goes.gave ++ y.goes.gave)) a.watched c.watched =
+      hears_both (WasTold x.goes.gave) (WasTold y.goes.gave) (WasTold (x.goes.gave ++ y.goes.gave)) (tells_before x.goes.gave y.goes.gave) (tells_then x.goes.gave y.goes.gave) a.watched b.watched c.watched x.hears y.hears in
+      record {
+        went = record { world = y.world; goes = both.goes; is_in = y.is_in; hears = subst (λ (outs : List (List Output)). Hears (WasTold outs) a.watched c.watched) (sym both.gave_is) hears };
+        gave = both.gave_is;
+      }
+
+  pub stays : (t : Store K J I g s d) → On t t
+  stays t = record {
+    schema = refl;
+    count = refl;
+    clean = λ c. c;
+    went = λ c w i. record { world = w; goes = goes_nowhere (language_of t.schema) (length t.seats.items) w; is_in = i; hears = hears_same (WasTold (goes_nowhere (language_of t.schema) (length t.seats.items) w).gave) t.watched t.watched refl };
+  }
+
+  pub goes_on : (a b c : Store K J I g s d) → On a b → On b c → On a c
+  goes_on a b c x y = record {
+    schema = y.schema ∙ x.schema;
+    count = y.count ∙ x.count;
+    clean = λ k. x.clean (y.clean k);
+    went = λ k w i.
+        let one = x.went (y.clean k) w i in
+        let both = went_both a b c x.schema x.count w one (y.went k one.world one.is_in) in
+        both.went;
+  }
+
+  -- what is said of a run that goes on before that, or after it
+  pub so_then : (P : World → Type 0) (Q R : List (List Output) → Type 0) (a b c : Store K J I g s d) → ((one two : List (List Output)) → Q one → R (one ++ two)) → GoesOnSo honest held holds P Q a b → On b c → GoesOnSo honest held holds P R a c
+  so_then P Q R a b c later x y = record {
+    schema = y.schema ∙ x.schema;
+    count = y.count ∙ x.count;
+    clean = λ k. x.clean (y.clean k);
+    went = λ k w i p.
+        let one = x.went (y.clean k) w i p in
+        let two = y.went k one.0.world one.0.is_in in
+        let both = went_both a b c x.schema x.count w one.0 two in
+        (both.went, subst R (sym both.gave) (later one.0.goes.gave two.goes.gave one.1));
+  }
+
+  pub then_so : (Q R : List (List Output) → Type 0) (a b c : Store K J I g s d) → ((one two : List (List Output)) → Hears (WasTold one) a.watched b.watched → Q two → R (one ++ two)) → On a b → GoesOnSo honest held holds Anywhere Q b c → GoesOnSo honest held holds Anywhere R a c
+  then_so Q R a b c later x y = record {
+    schema = y.schema ∙ x.schema;
+    count = y.count ∙ x.count;
+    clean = λ k. x.clean (y.clean k);
+    went = λ k w i p.
+        let one = x.went (y.clean k) w i in
+        let two = y.went k one.world one.is_in tt in
+        let both = went_both a b c x.schema x.count w one two.0 in
+        (both.went, subst R (sym both.gave) (later one.goes.gave two.0.goes.gave one.hears two.1));
+  }
+
+  -- what is said of it is left out, or is always so
+  pub so_goes : (P : World → Type 0) (Q : List (List Output) → Type 0) (a b : Store K J I g s d) → ((w : World) → IsIn held holds a w → P w) → GoesOnSo honest held holds P Q a b → On a b
+  so_goes P Q a b from x = record { schema = x.schema; count = x.count; clean = x.clean; went = λ k w i. let on = x.went k w i (from w i) in on.0 }
+
+  pub goes_so : (P : World → Type 0) (Q : List (List Output) → Type 0) (a b : Store K J I g s d) → ((gave : List (List Output)) → Q gave) → On a b → GoesOnSo honest held holds P Q a b
+  goes_so P Q a b all x = record { schema = x.schema; count = x.count; clean = x.clean; went = λ k w i p. let on = x.went k w i in (on, all on.goes.gave) }
+
+  pub so_weaker : (P R : World → Type 0) (Q S : List (List Output) → Type 0) (a b : Store K J I g s d) → ((w : World) → R w → P w) → ((gave : List (List Output)) → Q gave → S gave) → GoesOnSo honest held holds P Q a b → GoesOnSo honest held holds R S a b
+  so_weaker P R Q S a b from gives x = record { schema = x.schema; count = x.count; clean = x.clean; went = λ k w i p. let on = x.went k w i (from w p) in (on.0, gives on.0.goes.gave on.1) }
+
+  -- ---- the members stay, and maybe letters come under way
+
+  pub passes : (a b : Store K J I g s d) (messages : List Message) (told : List Told) → Publishes a b messages told → (tells : ℕ → ℕ → Result ℕ Reason → Type 0) → TellsLess (IsAmong told) tells → Hears tells a.watched b.watched
+  passes a b messages told p tells less = hears_more (IsAmong told) tells less a.watched b.watched p.hears
+
+  pub publishes_both : (a b c : Store K J I g s d) (one two : List Message) (early late : List Told) → Publishes a b one early → Publishes b c two late → Publishes a c (one ++ two) (early ++ late)
+  publishes_both a b c one two early late x y = record {
+    schema = y.schema ∙ x.schema;
+    seats = y.seats ∙ x.seats;
+    spent = λ k. y.spent (x.spent k);
+    letters = λ live sent u. subst (AreUnderWay c.queue.items c.sent) (append_assoc sent one two) (y.letters live (sent ++ one) (x.letters (λ k. live (y.spent k)) sent u));
+    hears = hears_both (IsAmong early) (IsAmong late) (IsAmong (early ++ late)) (among_left early late) (among_right early late) a.watched b.watched c.watched x.hears y.hears;
+  }
+
+  -- first nothing, then these
+  pub then_publishes : (a b c : Store K J I g s d) (messages : List Message) (told : List Told) → Publishes a b [] [] → Publishes b c messages told → Publishes a c messages told
+  then_publishes a b c messages told x y = publishes_both a b c [] messages [] told x y
+
+  -- first the messages, then what is told
+  pub publishes_then : (a b c : Store K J I g s d) (messages : List Message) (told : List Told) → Publishes a b messages [] → Publishes b c [] told → Publishes a c messages told
+  publishes_then a b c messages told x y = subst (λ (ms : List Message). Publishes a c ms told) (append-nil messages) (publishes_both a b c messages [] [] told x y)
+
+  -- in a spent store nothing comes under way, whatever was to
+  pub spent_publishes : (a b : Store K J I g s d) (messages : List Message) (told : List Told) → b.schema ≡ a.schema → b.seats ≡ a.seats → b.watched ≡ a.watched → IsSpent b.scribe → Publishes a b messages told
+  spent_publishes a b messages told schema seats watched spent = record {
+    schema = schema;
+    seats = ap (λ v. v.items) seats;
+    spent = λ k. spent;
+    letters = λ live sent u. absurd (live spent);
+    hears = hears_same (IsAmong told) a.watched b.watched watched;
+  }
+
+  -- the same where some were to come under way before
+  pub spent_any : (a b : Store K J I g s d) (some messages : List Message) (told : List Told) → Publishes a b some [] → IsSpent b.scribe → Publishes a b messages told
+  spent_any a b some messages told p spent = record {
+    schema = p.schema;
+    seats = p.seats;
+    spent = λ k. spent;
+    letters = λ live sent u. absurd (live spent);
+    hears = hears_more (IsAmong []) (IsAmong told) (nobody (IsAmong told)) a.watched b.watched p.hears;
+  }
+
+  -- it was spent in the midst of it
+  pub spent_same : (a mid b : Store K J I g s d) (messages : List Message) (told : List Told) → mid.schema ≡ a.schema → mid.seats ≡ a.seats → mid.watched ≡ a.watched → b ≡ record mid { scribe = b.scribe } → IsSpent b.scribe → Publishes a b messages told
+  spent_same a mid b messages told schema seats watched is spent =
+      spent_publishes a b messages told (ap (λ t. t.schema) is ∙ schema) (ap (λ t. t.seats) is ∙ seats) (ap (λ t. t.watched) is ∙ watched) spent
+
+  -- a letter came under way
+  pub posted : (a b : Store K J I g s d) (number : ℕ) (message : Message) → number ≡ a.sent + 1 → b.queue.items ≡ a.queue.items ++ record { number = number; message = message } ∷ [] → b.sent ≡ number →
+      b.schema ≡ a.schema → b.seats ≡ a.seats → b.scribe ≡ a.scribe → b.watched ≡ a.watched → Publishes a b (message ∷ []) []
+  posted a b number message next queue sent schema seats scribe watched = record {
+    schema = schema;
+    seats = ap (λ v. v.items) seats;
+    spent = λ k. subst IsSpent (sym scribe) k;
+    letters = λ live before u. under_same (a.queue.items ++ record { number = number; message = message } ∷ []) b.queue.items number b.sent (before ++ message ∷ []) queue sent (sent_one a.queue.items a.sent number message before next u);
+    hears = hears_same (IsAmong []) a.watched b.watched watched;
+  }
+
+  -- a store by another name
+  pub publishes_at : (a b t : Store K J I g s d) (messages : List Message) (told : List Told) → t ≡ b → Publishes a b messages told → Publishes a t messages told
+  publishes_at a b t messages told is p = subst (λ (x : Store K J I g s d). Publishes a x messages told) (sym is) p
+
+  -- nothing that is looked at here is another
+  pub same_publishes : (a b : Store K J I g s d) → b.schema ≡ a.schema → b.seats ≡ a.seats → b.queue ≡ a.queue → b.sent ≡ a.sent → b.watched ≡ a.watched → (IsSpent a.scribe → IsSpent b.scribe) → Publishes a b [] []
+  same_publishes a b schema seats queue sent watched spent = record {
+    schema = schema;
+    seats = ap (λ v. v.items) seats;
+    spent = spent;
+    letters = λ live sent_before u. subst (AreUnderWay b.queue.items b.sent) (sym (append-nil sent_before)) (under_same a.queue.items b.queue.items a.sent b.sent sent_before (ap (λ q. q.items) queue) sent u);
+    hears = hears_same (IsAmong []) a.watched b.watched watched;
+  }
+
+  -- nothing but the journal is another
+  pub only_scribe : (old new : Store K J I g s d) → new ≡ record old { scribe = new.scribe } → (IsSpent old.scribe → IsSpent new.scribe) → Publishes old new [] []
+  only_scribe old new is spent = same_publishes old new (ap (λ t. t.schema) is) (ap (λ t. t.seats) is) (ap (λ t. t.queue) is) (ap (λ t. t.sent) is) (ap (λ t. t.watched) is) spent
+
+  -- a call that writes: after an error the store is spent, and before a success it was not
+  pub writes : {A E : Type 0} (r : Result A E) (old new : Store K J I g s d) → new ≡ record old { scribe = new.scribe } → OnOk r (IsSpent old.scribe → ⊥) → OnErr r (IsSpent new.scribe) → Publishes old new [] []
+  writes r old new is live fails = only_scribe old new is (spends r (IsSpent old.scribe) (IsSpent new.scribe) live fails)
+
+  -- the same seats
+  pub seats_as : (a b : Store K J I g s d) → b.schema ≡ a.schema → b.seats.items ≡ a.seats.items → (w : World) → IsIn held holds a w → AreSeated (λ m seat x. HasMember held holds b.schema (length b.seats.items) m seat x) b.seats.items w.nodes
+  seats_as a b schema seats w i =
+      subst (λ (t : Tables). AreSeated (λ m seat x. HasMember held holds t (length b.seats.items) m seat x) b.seats.items w.nodes) (sym schema)
+      (subst (λ (xs : List (Seat K J I g s d)). AreSeated (λ m seat x. HasMember held holds a.schema (length xs) m seat x) xs w.nodes) (sym seats) i.seated)
+
+  -- a store whose members stay, and in which nothing comes under way, is in the same world
+  pub same_in : (a b : Store K J I g s d) (told : List Told) → Publishes a b [] told → (w : World) → IsIn held holds a w → IsIn held holds b w
+  same_in a b told p w i = record {
+    seated = seats_as a b p.schema p.seats w i;
+    under_way = λ live. subst (AreUnderWay b.queue.items b.sent) (append-nil w.sent) (p.letters live w.sent (i.under_way (λ k. live (p.spent k))));
+  }
+
+  -- nothing but up to where outcomes are written is another
+  pub only_noted : (old new : Store K J I g s d) → new ≡ record old { noted = new.noted } → Publishes old new [] []
+  only_noted old new is = same_publishes old new (ap (λ t. t.schema) is) (ap (λ t. t.seats) is) (ap (λ t. t.queue) is) (ap (λ t. t.sent) is) (ap (λ t. t.watched) is) (λ k. subst IsSpent (sym (ap (λ t. t.scribe) is)) k)
+
+  -- nothing but what the queue is made of is another
+  pub only_queue : (old new : Store K J I g s d) → new ≡ record old { queue = new.queue } → new.queue.items ≡ old.queue.items → Publishes old new [] []
+  only_queue old new is queue = record {
+    schema = ap (λ t. t.schema) is;
+    seats = ap (λ t. t.seats.items) is;
+    spent = λ k. subst IsSpent (sym (ap (λ t. t.scribe) is)) k;
+    letters = λ live before u. subst (AreUnderWay new.queue.items new.sent) (sym (append-nil before)) (under_same old.queue.items new.queue.items old.sent new.sent before queue (ap (λ t. t.sent) is) u);
+    hears = hears_same (IsAmong []) old.watched new.watched (ap (λ t. t.watched) is);
+  }
+
+  -- nothing comes of nothing
+  pub publishes_none : (t : Store K J I g s d) → Publishes t t [] []
+  publishes_none t = same_publishes t t refl refl refl refl refl (λ k. k)
+
+  pub publishes_on : (a b : Store K J I g s d) → Publishes a b [] [] → On a b
+  publishes_on a b p = record {
+    schema = p.schema;
+    count = ap length p.seats;
+    clean = λ k. subst (All (IsClean honest holds)) p.seats k;
+    went = λ k w i.
+        let goes = goes_nowhere (language_of a.schema) (length a.seats.items) w in
+        record { world = w; goes = goes; is_in = same_in a b [] p w i; hears = passes a b [] [] p (WasTold goes.gave) (nobody (WasTold goes.gave)) };
+  }
+
+  -- nothing but who leads is another
+  pub only_leader : (old new : Store K J I g s d) → new ≡ record old { leader = new.leader } → On old new
+  only_leader old new is = publishes_on old new (same_publishes old new (ap (λ t. t.schema) is) (ap (λ t. t.seats) is) (ap (λ t. t.queue) is) (ap (λ t. t.sent) is) (ap (λ t. t.watched) is) (λ k. subst IsSpent (sym (ap (λ t. t.scribe) is)) k))
+
+  -- what is waited for is another, and nothing is waited for at the end
+  pub waited : (Q : List (List Output) → Type 0) (a b : Store K J I g s d) (watched : Option Watched) → GoesOnSo honest held holds Anywhere Q (record a { watched = watched }) b → GoesOnSo honest held holds Anywhere Q a (record b { watched = None })
+  waited Q a b watched x = record {
+    schema = x.schema;
+    count = x.count;
+    clean = x.clean;
+    went = λ k w i p.
+        let on = x.went k w (record { seated = i.seated; under_way = i.under_way }) tt in
+        (record { world = on.0.world; goes = on.0.goes; is_in = record { seated = on.0.is_in.seated; under_way = on.0.is_in.under_way }; hears = tt }, on.1);
+  }
+
+  -- the outcome is taken out
+  pub taken_out : (old new : Store K J I g s d) (v : Watched) (o : Result ℕ Reason) → old.watched ≡ Some v → v.outcome ≡ Some o → new ≡ record old { watched = Some (record v { outcome = None }) } →
+      GoesOnSo honest held holds Anywhere (λ gave. Heard (WasTold gave) old.watched o) old new
+  taken_out old new v o was told is =
+      let next : Store K J I g s d = record old { watched = Some (record v { outcome = None }) } in
+      let there : (tells : ℕ → ℕ → Result ℕ Reason → Type 0) → Heard tells old.watched o = λ tells. subst (λ (x : Option Watched). Heard tells x o) (sym was) (inl told) in
+      subst (GoesOnSo honest held holds Anywhere (λ gave. Heard (WasTold gave) old.watched o) old) (sym is) (record {
+        schema = refl;
+        count = refl;
+        clean = λ k. k;
+        went = λ k w i p.
+            let goes = goes_nowhere (language_of old.schema) (length old.seats.items) w in
+            let hears : Hears (WasTold goes.gave) (Some v) next.watched = (refl, refl, tt) in
+            (record { world = w; goes = goes; is_in = record { seated = i.seated; under_way = i.under_way }; hears = subst (λ (x : Option Watched). Hears (WasTold goes.gave) x next.watched) (sym was) hears }, there (WasTold goes.gave));
+      })
+
+  -- ---- a letter that is taken out
+
+  pub popped : (old mid new : Store K J I g s d) (letter : Letter) → mid ≡ record old { queue = mid.queue } → old.queue.items ≡ letter ∷ mid.queue.items → GoesOnSo honest held holds (HasSent mid letter) (λ gave. Unit {0}) mid new → On old new
+  popped old mid new letter is queue x =
+      let y = subst (λ (m : Store K J I g s d). GoesOnSo honest held holds (HasSent m letter) (λ gave. Unit {0}) m new) is x in
+      record {
+        schema = y.schema;
+        count = y.count;
+        clean = y.clean;
+        went = λ k w i.
+            let rest : (IsSpent old.scribe → ⊥) → AreUnderWay (letter ∷ mid.queue.items) old.sent w.sent = λ live. subst (λ (q : List Letter). AreUnderWay q old.sent w.sent) queue (i.under_way live) in
+            let on = y.went k w
+            (record { seated = i.seated; under_way = λ live. let u = rest live in (u.0, All-tail (λ (l : Letter). nth w.sent l.number ≡ Some l.message) letter mid.queue.items u.1) })
+            (λ live. let u = rest live in All-head (λ (l : Letter). nth w.sent l.number ≡ Some l.message) letter mid.queue.items u.1) in
+            record { world = on.0.world; goes = on.0.goes; is_in = on.0.is_in; hears = on.0.hears };
+      }
+
+  -- ---- a step that is begun
+
+  pub begun : (m : ℕ) (work : Work) (Q : List (List Output) → Type 0) (old mid new : Store K J I g s d) → mid ≡ record old { scribe = mid.scribe } → (IsSpent old.scribe → ⊥) → GoesOnSo honest held holds (IsBrought mid m work) Q mid new →
+      GoesOnSo honest held holds (IsBrought old m work) Q old new
+  begun m work Q old mid new is live x =
+      let y = subst (λ (t : Store K J I g s d). GoesOnSo honest held holds (IsBrought t m work) Q t new) is x in
+      record {
+        schema = y.schema;
+        count = y.count;
+        clean = y.clean;
+        went = λ k w i p.
+            let on = y.went k w (record { seated = i.seated; under_way = λ other. i.under_way live }) (λ other. p live) in
+            (record { world = on.0.world; goes = on.0.goes; is_in = on.0.is_in; hears = on.0.hears }, on.1);
+      }
+
+  -- ---- a seat whose member is stopped or started
+
+  module _ (old new : Store K J I g s d) (at : ℕ) (before after : Seat K J I g s d) (C : Changes honest holds old new at before after) where
+    abbrev Has : ℕ → Seat K J I g s d → model.Node → Type 0
+    Has m seat x = HasMember held holds old.schema (length old.seats.items) m seat x
+
+    pub same_count : length new.seats.items ≡ length old.seats.items
+    same_count = ap length (C.seats ∙ set_next old.seats.items (at + 1) at after refl) ∙ with_length old.seats.items (at + 1) after
+
+    pub tidy : AreClean honest holds new → IsClean honest holds after
+    tidy k = all_at (IsClean honest holds) old.seats.items at before after C.there (subst (All (IsClean honest holds)) C.seats k)
+
+    pub was_tidy : AreClean honest holds new → AreClean honest holds old
+    was_tidy k = all_back (IsClean honest holds) old.seats.items at before after C.there C.clean (subst (All (IsClean honest holds)) C.seats k)
+
+    -- the member that sits there
+    pub sits : (w : World) → IsIn held holds old w → (x : model.Node) × (nth w.nodes (at + 1) ≡ Some x) × Has (at + 1) before x
+    sits w i = seated Has old.seats.items w.nodes i.seated (at + 1) before (nth_next old.seats.items (at + 1) at refl ∙ C.there)
+
+    -- the store is in the world in which the seat's member is this one
+    pub seat_in : (IsSpent old.scribe → IsSpent new.scribe) → (w : World) (y : model.Node) → IsIn held holds old w → Has (at + 1) after y → IsIn held holds new (world_with (with_nth w.nodes (at + 1) y) w.sent)
+    seat_in spent w y i h =
+        let nodes = with_nth w.nodes (at + 1) y in
+        let anew : AreSeated Has (with_nth old.seats.items (at + 1) after) nodes = seated_anew Has old.seats.items w.nodes i.seated (at + 1) after y h in
+        let seats : with_nth old.seats.items (at + 1) after ≡ new.seats.items = sym (C.seats ∙ set_next old.seats.items (at + 1) at after refl) in
+        let there : AreSeated Has new.seats.items nodes = subst (λ (xs : List (Seat K J I g s d)). AreSeated Has xs nodes) seats anew in
+        let named : AreSeated (λ m seat x. HasMember held holds new.schema (length old.seats.items) m seat x) new.seats.items nodes =
+        subst (λ (t : Tables). AreSeated (λ m seat x. HasMember held holds t (length old.seats.items) m seat x) new.seats.items nodes) (sym C.schema) there in
+        record {
+          seated = subst (λ (n : ℕ). AreSeated (λ m seat x. HasMember held holds new.schema n m seat x) new.seats.items nodes) (sym same_count) named;
+          under_way = λ live. under_same old.queue.items new.queue.items old.sent new.sent w.sent (ap (λ q. q.items) C.queue) C.sent (i.under_way (λ k. live (spent k)));
+        }
+
+    -- a member that was stopped or started
+    pub one_seat : (IsSpent old.scribe → IsSpent new.scribe) → (IsClean honest holds after → (x : model.Node) → Has (at + 1) before x →
+        (y : model.Node) × (Has (at + 1) after y × ((w : World) → nth w.nodes (at + 1) ≡ Some x → Goes (language_of old.schema) (length old.seats.items) w (with_node w (at + 1) y [])))) → On old new
+    one_seat spent turn = record {
+      schema = C.schema;
+      count = same_count;
+      clean = was_tidy;
+      went = λ k w i.
+          let x = sits w i in
+          let t = turn (tidy k) x.0 x.2 in
+          let v = world_with (with_nth w.nodes (at + 1) t.0) w.sent in
+          let goes = goes_to (language_of old.schema) (length old.seats.items) w (with_node w (at + 1) t.0 []) v (ap (world_with (with_nth w.nodes (at + 1) t.0)) (append-nil w.sent)) (t.1.1 w x.1) in
+          record { world = v; goes = goes; is_in = seat_in spent w t.0 i t.1.0; hears = hears_same (WasTold goes.gave) old.watched new.watched C.watched };
+    }
+
+  -- a seat that may have been started, by the seat's own words
+  pub started_seat : (before after : Seat K J I g s d) (schema named : Tables) (n k m : ℕ) → named ≡ schema → k ≡ n →
+      ((x : model.Node) → HasMember held holds named k before.member before x → (y : model.Node) × (HasMember held holds named k before.member after y × MayStart x y)) →
+      (x : model.Node) → HasMember held holds schema n m before x → (y : model.Node) × (HasMember held holds schema n m after y × MayStart x y)
+  started_seat before after schema named n k m tables count starts x has =
+      let T : Tables → ℕ → ℕ → Type 0 = λ t c i. HasMember held holds t c i before x → (y : model.Node) × (HasMember held holds t c i after y × MayStart x y) in
+      let a : T schema k before.member = subst (λ (t : Tables). T t k before.member) tables (starts x) in
+      let b : T schema n before.member = subst (λ (c : ℕ). T schema c before.member) count a in
+      let e : T schema n m = subst (λ (i : ℕ). T schema n i) has.0 b in
+      e has

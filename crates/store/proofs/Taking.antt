@@ -1,0 +1,173 @@
+-- A step of a member of a store, as events of a run.
+use Rattle.std.proofs.Common.{◌≡◌, ◌∙◌, ℕ, ◌+◌, ◌⊎◌, ⊎_elim, inl, inr, Bool, true, false, Some, Result, Ok, Err, IsErr, MatchBool, List, [], length, refl, sym, ap, subst, arith}
+use Rattle.std.specs.List.{All, Contains}
+use Rattle.std.specs.Option.{option_map_or}
+use Rattle.std.proofs.lemmas.Bool.{eq-eqb}
+use Rattle.std.specs.Prelude.{◌==◌, ℤ}
+use Rattle.fault.specs.declared.refusal.Refusal.{Refusal as Reason}
+use Rattle.fault.specs.declared.refusal.Refusal.TheVariants.{NodeDown}
+use Rattle.model.specs.Lists.{nth, with_nth}
+use Rattle.model.specs.Members as model
+use Rattle.model.specs.Steps.{Effect, Moves, Refuses as Denies, Nothing, on_message}
+use Rattle.model.specs.declared.entry.Told.{Told}
+use Rattle.model.specs.declared.event.Job.{Job}
+use Rattle.model.specs.declared.event.Job.TheVariants.{Local as TheLocal, Delivery}
+use Rattle.model.specs.declared.message.Input.{Input}
+use Rattle.model.specs.declared.message.Message.{Message}
+use Rattle.model.specs.Worlds.{World, Output, effect, is_for, node_left, stopped, with_node}
+use Rattle.model.specs.Worlds.Output.{Applied, Refused as Refuses}
+use Rattle.keep.specs.Durable.{Durable}
+use Rattle.sessions.specs.Kills.{Steps}
+use Rattle.sqlchecks.specs.Columns.{Tables}
+use Rattle.sqlread.specs.Meaning.{language_of}
+use Rattle.node.specs.declared.node.Out.{Out}
+use Rattle.node.specs.declared.node.Fault.{Fault}
+use Rattle.node.specs.declared.node.Fault.TheVariants.{Kept, Down}
+use Rattle.node.specs.View.{told_between, works, IsEmpty, IsGiven}
+use Rattle.node.specs.Work.{Work, Local, Delivered}
+use Rattle.runlaws.specs.Going.{Goes, HasGiven, WasTold}
+use Rattle.runlaws.proofs.Going.{made, refused, torn, turned}
+use Rattle.store.specs.declared.store.Store.{Store}
+use Rattle.store.specs.declared.steps.Letter.{Letter}
+use Rattle.store.specs.declared.steps.Stepped.{Stepped}
+use Rattle.store.specs.declared.refusal.StoreRefusal.{StoreRefusal}
+use Rattle.store.specs.Journals.{IsSpent}
+use Rattle.store.specs.Nodes.{StepsTo}
+use Rattle.store.specs.Seats.{IsClean}
+use Rattle.store.specs.Going.{GoesOn, GoesOnSo, HasSent, HasStepped, Hears, IsAmong, IsBrought, Publishes, SaysWhy}
+use Rattle.store.proofs.Going.{TellsLess, hears_more, same_count, seat_in, seats_as, sits, so_then, so_weaker, publishes_none, spent_publishes, tidy, was_tidy, world_with}
+
+-- what a step sends, and what it tells
+abbrev pub messages_of : Result Out Fault → List Message
+messages_of (Ok out) = out.messages.items
+messages_of (Err fault) = []
+
+abbrev pub told_of : Result Out Fault → List Told
+told_of (Ok out) = out.told.items
+told_of (Err fault) = []
+
+-- where a member refuses, it says why
+abbrev pub Says : ℕ → Result Out Fault → List (List Output) → Type 0
+Says m (Ok out) gave = Unit {0}
+Says m (Err (Kept reason)) gave = HasGiven gave (Refuses m reason)
+Says m (Err (Down error)) gave = Unit {0}
+
+nobody : (one : Told) → Contains [] one → ⊥
+nobody one (k, l, p) = omega (arith, l)
+
+-- an error says nothing
+pub says_nothing : (m : ℕ) (r : Result Stepped StoreRefusal) (gave : List (List Output)) → IsErr r → SaysWhy m r gave
+says_nothing m (Ok x) gave e = absurd (cc e)
+says_nothing m (Err refusal) gave e = tt
+
+-- ---- one member
+
+module _ (tables : Tables) (n m : ℕ) (work : Work) (w : World) (x : model.Node) (at : nth w.nodes m ≡ Some x) (job : Job) (for : is_for w m job ≡ true)
+    (same : (z : model.Node) → effect (language_of tables) n w m job z ≡ works tables n m work z) where
+  -- what a step comes to
+  pub record Turn (y : model.Node) (result : Result Out Fault) : Type 0 where
+    pub goes : Goes (language_of tables) n w (with_node w m y (messages_of result))
+    pub tells : (one : Told) → Contains (told_of result) one → HasGiven goes.gave (Applied m one)
+    pub says : Says m result goes.gave
+
+  steps : x.up ≡ true → Steps w m job
+  steps up = record { node = x; at = at; up = up; for = for }
+
+  given : (y : model.Node) (out : Out) → IsGiven x y (works tables n m work x) out →
+      (Moves (record { node = y; sent = out.messages.items }) ≡ effect (language_of tables) n w m job x) ⊎ ((Nothing ≡ effect (language_of tables) n w m job x) × (y ≡ x) × (out.messages.items ≡ []) × (out.told.items ≡ []))
+  given y out came = ⊎_elim
+      (λ (moved : Moves (record { node = y; sent = out.messages.items }) ≡ works tables n m work x). inl (moved ∙ sym (same x)))
+      (λ (none : (Nothing ≡ works tables n m work x) × (y ≡ x) × IsEmpty out). inr (none.0 ∙ sym (same x), none.1, none.2.0, none.2.2)) came
+
+  pub turn : (y : model.Node) (result : Result Out Fault) → StepsTo tables n m work x y result → Turn y result
+  unfolding told_between steps
+  turn y (Ok out) s =
+      let d = made (language_of tables) n w m job (steps s.0) y out.messages.items out.told.items (given y out s.1) s.2 in
+      record { goes = d.goes; tells = d.tells; says = tt }
+  turn y (Err (Kept reason)) s = go x.up refl s.1
+    where
+      go : (b : Bool) → x.up ≡ b → MatchBool b (Denies reason ≡ works tables n m work x) (reason ≡ NodeDown) → Turn y (Err (Kept reason))
+      go true up is =
+          let d = refused (language_of tables) n w m job (steps up) y reason (is ∙ sym (same x)) s.0 in
+          record { goes = d.goes; tells = λ one has. absurd (nobody one has); says = d.says }
+      go false down is =
+          let d = turned (language_of tables) n w m job x at down for y s.0 in
+          record { goes = d.goes; tells = λ one has. absurd (nobody one has); says = subst (λ (r : Reason). HasGiven d.goes.gave (Refuses m r)) (sym is) d.says }
+  turn y (Err (Down error)) s = record {
+    goes = torn (language_of tables) n w m job (steps s.0) y s.1.0 (s.1.1 ∙ ap (λ (o : Effect). stopped (node_left s.1.0 x o)) (sym (same x)));
+    tells = λ one has. absurd (nobody one has);
+    says = tt;
+  }
+
+-- ---- one step of a store
+
+module _ {K J I : Type 0} {g : _} {s : _} {d : _} (honest : K → Type 0) (held : K → Durable → Type 0) (holds : I → Durable → Type 0) where
+  abbrev So : (World → Type 0) → (List (List Output) → Type 0) → Store K J I g s d → Store K J I g s d → Type 0
+  So = GoesOnSo honest held holds
+
+  -- a member took a step, what it sent came under way, and what it told was heard
+  pub step_on : (old mid new : Store K J I g s d) (at : ℕ) (work : Work) (result : Result Out Fault) → HasStepped honest held holds old mid at work result → (IsSpent old.scribe → ⊥) → Publishes mid new (messages_of result) (told_of result) →
+      So (IsBrought old (at + 1) work) (Says (at + 1) result) old new
+  step_on old mid new at work result h live p =
+      let C = h.changes in
+      let m = at + 1 in
+      record {
+        schema = p.schema ∙ C.schema;
+        count = ap length p.seats ∙ same_count honest held holds old mid at h.before h.after C;
+        clean = λ k. was_tidy honest held holds old mid at h.before h.after C (subst (All (IsClean honest holds)) p.seats k);
+        went = λ k w i brought.
+            let neat = subst (All (IsClean honest holds)) p.seats k in
+            let sat = sits honest held holds old mid at h.before h.after C w i in
+            let t = h.steps (tidy honest held holds old mid at h.before h.after C neat) sat.0 sat.2 in
+            let b = brought live in
+            let turned = turn old.schema (length old.seats.items) m work w sat.0 sat.1 b.0 b.1 b.2 t.0 result t.1.1 in
+            let there = seat_in honest held holds old mid at h.before h.after C (λ was. absurd (live was)) w t.0 i t.1.0 in
+            let less : TellsLess (IsAmong (told_of result)) (WasTold turned.goes.gave) = λ client number o one. record { member = m; told = one.0; client_is = one.2; number_is = one.3; outcome_is = one.4; given = turned.tells one.0 one.1 } in
+            let hears = hears_more (IsAmong (told_of result)) (WasTold turned.goes.gave) less mid.watched new.watched p.hears in (
+              record {
+                world = with_node w m t.0 (messages_of result);
+                goes = turned.goes;
+                is_in = record {
+                  seated = seats_as honest held holds mid new p.schema p.seats (world_with (with_nth w.nodes m t.0) w.sent) there;
+                  under_way = λ up. p.letters up w.sent (there.under_way (λ was. up (p.spent was)));
+                };
+                hears = subst (λ v. Hears (WasTold turned.goes.gave) v new.watched) C.watched hears;
+              },
+              turned.says,
+            );
+      }
+
+  -- the same of a member by its number
+  pub stepped : (old mid new : Store K J I g s d) (at m : ℕ) (work : Work) (result : Result Out Fault) → m ≡ at + 1 → HasStepped honest held holds old mid at work result → (IsSpent old.scribe → ⊥) → Publishes mid new (messages_of result) (told_of result) →
+      So (IsBrought old m work) (Says m result) old new
+  stepped old mid new at m work result is h live p = subst (λ (k : ℕ). So (IsBrought old k work) (Says k result) old new) (sym is) (step_on old mid new at work result h live p)
+
+  -- the store was spent in the midst of it
+  pub stepped_last : (old mid : Store K J I g s d) (at m : ℕ) (work : Work) → m ≡ at + 1 → ((result : Result Out Fault) × HasStepped honest held holds old mid at work result) → (IsSpent old.scribe → ⊥) → IsSpent mid.scribe →
+      So (IsBrought old m work) (λ gave. Unit {0}) old mid
+  stepped_last old mid at m work is h live spent =
+      so_weaker honest held holds (IsBrought old m work) (IsBrought old m work) (Says m h.0) (λ gave. Unit {0}) old mid (λ w b. b) (λ gave says. tt)
+      (stepped old mid mid at m work h.0 is h.1 live (spent_publishes honest held holds mid mid (messages_of h.0) (told_of h.0) refl refl refl spent))
+
+  -- the member went down, and was stopped
+  pub stepped_down : (old mid new : Store K J I g s d) (at m : ℕ) (work : Work) (result : Result Out Fault) → m ≡ at + 1 → HasStepped honest held holds old mid at work result → (IsSpent old.scribe → ⊥) → messages_of result ≡ [] → told_of result ≡ [] →
+      GoesOn honest held holds mid new → So (IsBrought old m work) (λ gave. Unit {0}) old new
+  stepped_down old mid new at m work result is h live none nobody_told on =
+      let quiet : Publishes mid mid (messages_of result) (told_of result) =
+      subst (λ (ms : List Message). Publishes mid mid ms (told_of result)) (sym none) (subst (λ (ts : List Told). Publishes mid mid [] ts) (sym nobody_told) (publishes_none honest held holds mid)) in
+      so_then honest held holds (IsBrought old m work) (Says m result) (λ gave. Unit {0}) old mid new (λ one two says. tt) (stepped old mid mid at m work result is h live quiet) on
+
+  -- ---- what a step is in the events
+
+  -- an input is handed to a member
+  pub hands : (store : Store K J I g s d) (m : ℕ) (input : Input) (w : World) → IsBrought store m (Local input) w
+  hands store m input w live = (TheLocal input, refl, λ x. refl)
+
+  -- a letter is delivered
+  pub delivers : (store : Store K J I g s d) (letter : Letter) (reading : ℤ) (w : World) → HasSent store letter w → IsBrought store letter.message.addressee (Delivered reading letter.message) w
+  delivers store letter reading w sent live =
+      let there = sent live in (
+        Delivery letter.number reading,
+        ap (λ o. option_map_or (λ (p : Message). p.addressee == letter.message.addressee) o false) there ∙ eq-eqb letter.message.addressee letter.message.addressee refl,
+        λ x. ap (λ o. option_map_or (λ (p : Message). on_message (language_of store.schema) (length store.seats.items) letter.message.addressee reading p x) o Nothing) there,
+      )

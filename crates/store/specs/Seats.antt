@@ -1,0 +1,21 @@
+-- The members that a store's seats have.
+use Rattle.std.specs.Prelude.{◌≡◌, ◌⊎◌, ℕ, false, MatchOption}
+use Rattle.model.specs.Members as model
+use Rattle.keep.specs.Durable.{Durable}
+use Rattle.sqlchecks.specs.Columns.{Tables}
+use Rattle.runlaws.specs.Going.{after_stop}
+use Rattle.store.specs.declared.seat.Seat.{Seat}
+use Rattle.store.specs.Nodes.{IsNodeOf, Rests}
+
+-- a member that was read stays as it is, or stops
+abbrev pub MayFall : model.Node → model.Node → Type 0
+MayFall x y = (y ≡ x) ⊎ (y ≡ after_stop x)
+
+module _ {K J I : Type 0} {g : _} {s : _} {d : _} where
+  -- a seat's node took nothing wrong as true, or its database holds something
+  abbrev pub IsClean : (honest : K → Type 0) (holds : I → Durable → Type 0) → Seat K J I g s d → Type 0
+  IsClean honest holds seat = MatchOption seat.node (MatchOption seat.image (Unit {0}) (λ image. (stored : Durable) × holds image stored)) (λ node. honest node.keeper)
+
+  -- the seat of member m of n has this member
+  abbrev pub HasMember : (held : K → Durable → Type 0) (holds : I → Durable → Type 0) → Tables → (n m : ℕ) → Seat K J I g s d → model.Node → Type 0
+  HasMember held holds tables n m seat x = (seat.member ≡ m) × MatchOption seat.node (MatchOption seat.image (x.up ≡ false) (λ image. Rests (holds image) x)) (λ node. IsNodeOf held tables n m node x)

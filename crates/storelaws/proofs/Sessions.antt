@@ -1,0 +1,235 @@
+-- What a store leaves, and how its session goes on.
+use Rattle.std.proofs.Common.{◌≡◌, ◌∙◌, ℕ, zero, suc, ◌+◌, Bool, true, false, Option, Some, None, Result, List, [], ◌∷◌, ◌++◌, MatchOption, MatchBool, length, slice_get, refl, sym, ap, subst, append-nil, arith}
+use Rattle.std.proofs.lemmas.List.Elements.{All-get_or}
+use Rattle.std.proofs.lemmas.Option.{get_or_from_slice_get, slice_get_within}
+use Rattle.std.proofs.lemmas.List.{length-map}
+use Rattle.model.specs.Lists.{nth}
+use Rattle.model.specs.Members as model
+use Rattle.model.specs.Transactions.{Language}
+use Rattle.model.specs.declared.event.Job.TheVariants.{Local, Delivery}
+use Rattle.fault.specs.declared.refusal.Refusal.{Refusal}
+use Rattle.model.specs.declared.entry.Entry.{Entry}
+use Rattle.model.specs.Answers.{Select, Query, IsAnswer, closed_query, read_at}
+use Rattle.model.specs.Answers as model_answers
+use Rattle.model.specs.Members.{applied, closed_time}
+use Rattle.model.specs.Worlds.Output.{Answered}
+use Rattle.onelist.specs.Explained.{IsAnswered}
+use Rattle.model.specs.Worlds.{World, Event, Hand, Deliver, Stop, Start, Torn, Ask, Output, run, happens, stopped, step_gives, delivery_gives, GivesAll, IsGivenAt, IsGivenBy, IsGivenIn}
+use Rattle.keep.specs.Durable.{Durable}
+use Rattle.safety.proofs.Runs.{run_append}
+use Rattle.onelist.proofs.Explained.{gives_append}
+use Rattle.sessions.specs.Kills.{Between, durable, opened}
+use Rattle.sessions.specs.Sessions.{Session, AreSessions, IsSession, found_after, new_databases}
+use Rattle.sessions.specs.Together.{ExplainsSessions}
+use Rattle.sessions.proofs.Lists.{further, get_short, get_there, of_map}
+use Rattle.sqlchecks.specs.Columns.{Tables}
+use Rattle.sqlread.specs.Meaning.{language_of, select_of}
+use Rattle.answer.specs.declared.Answer.{Answer as Rows}
+use Rattle.answer.specs.Answers.{answer_of}
+use Rattle.runlaws.specs.Going.{Goes, WasTold}
+use Rattle.runlaws.proofs.Going.{goes_by, goes_further, goes_nowhere}
+use Rattle.runlaws.proofs.Seats.{nth_next, seated}
+use Rattle.node.specs.declared.node.Node.{Node}
+use Rattle.node.specs.Member.{member_of}
+use Rattle.node.specs.View.{durable_of}
+use Rattle.store.specs.declared.seat.Seat.{Seat}
+use Rattle.store.specs.declared.store.Store.{Store}
+use Rattle.store.specs.Asking.{IsAnswerOf}
+use Rattle.store.specs.Nodes.{IsMember, IsNodeOf, Rests, rested}
+use Rattle.store.specs.Seats.{HasMember, IsClean}
+use Rattle.store.specs.Going.{Anywhere, AreClean, GoesOn, GoesOnSo, IsIn, IsRunOf}
+use Rattle.store.specs.Opening.{AreFound}
+use Rattle.storelaws.specs.Sessions.{AreAfter, AreLeft, Answers, Came, Further, HasAnswered, IsListed, MayHold, session_of}
+
+-- what a member told in a session is in the list that explains it
+pub listed : (language : Language) (sessions : List Session) (list : List Entry) → ExplainsSessions language sessions list → (i : ℕ) (s : Session) → nth sessions i ≡ Some s → (client number : ℕ) (outcome : Result ℕ Refusal) → WasTold s.gave client number outcome →
+    IsListed language list client number outcome
+listed language sessions list E i s at client number outcome t = (t.told, t.client_is, t.number_is, t.outcome_is, E.told i t.given.0 t.member t.told (s, at, t.given.1))
+
+-- the next one in a list
+behind : {A : Type 0} (xs : List A) (y : A) (k : ℕ) → k ≡ length xs + 1 → nth (xs ++ y ∷ []) k ≡ Some y
+behind xs y k e = nth_next (xs ++ y ∷ []) k (length xs) e ∙ ap (slice_get (xs ++ y ∷ [])) (let e : length xs ≡ length xs + 0 = omega arith in e) ∙ further xs (y ∷ []) 0
+
+module _ (language : Language) (n : ℕ) where
+  given_all : (es : List Event) (w : World) (outs : List (List Output)) → GivesAll language n w es outs → length outs ≡ length es
+  given_all [] w outs p = ap length p
+  given_all (e ∷ es) w outs (out, rest, p, g, more) = ap length p ∙ ap suc (given_all es (happens language n w e) rest more)
+
+  -- ---- one session more
+
+  sessions_more : (ss : List Session) (s : Session) (found : List model.Node) → AreSessions language n found ss → IsSession language n (found_after found ss) s → AreSessions language n found (ss ++ s ∷ [])
+  sessions_more [] s found A S = (S, tt)
+  sessions_more (t ∷ ss) s found A S = (A.0, sessions_more ss s t.left A.1 S)
+
+  found_last : (ss : List Session) (s : Session) (found : List model.Node) → found_after found (ss ++ s ∷ []) ≡ s.left
+  found_last [] s found = refl
+  found_last (t ∷ ss) s found = found_last ss s t.left
+
+  ends_now : (found : List model.Node) (w : World) (goes : Goes language n (opened found) w) → IsSession language n found (record { filed = goes.events; moment = Between []; gave = goes.gave; left = durable w })
+  ends_now found w goes = record {
+    leaves = (tt, ap durable goes.leads);
+    gives = subst (λ (es : List Event). GivesAll language n (opened found) es goes.gave) (sym (append-nil goes.events)) goes.gives;
+  }
+
+  -- ---- events that are given what they gave
+
+  -- one that asks nothing gives one thing, and one that asks changes nothing
+  by_one : (e : Event) (w : World) → Goes language n w (happens language n w e)
+  by_one (Hand m input) w = goes_by language n w (happens language n w (Hand m input)) (Hand m input) (step_gives language n w m (Local input) (nth w.nodes m)) refl refl
+  by_one (Deliver k reading) w = goes_by language n w (happens language n w (Deliver k reading)) (Deliver k reading) (delivery_gives language n w (Delivery k reading) (nth w.sent k)) refl refl
+  by_one (Stop m) w = goes_by language n w (happens language n w (Stop m)) (Stop m) [] refl refl
+  by_one (Start m) w = goes_by language n w (happens language n w (Start m)) (Start m) [] refl refl
+  by_one (Torn m job left) w = goes_by language n w (happens language n w (Torn m job left)) (Torn m job left) [] refl refl
+  by_one (Ask m q) w = goes_nowhere language n w
+
+  -- events one after the other
+  joined : (w v u : World) → Goes language n w v → Goes language n v u → Goes language n w u
+  joined w v u a b = record {
+    events = a.events ++ b.events;
+    gave = a.gave ++ b.gave;
+    leads = b.leads ∙ ap (λ (z : World). run language n z b.events) a.leads ∙ sym (run_append language n a.events b.events w);
+    gives = gives_append language n a.events b.events w a.gave b.gave a.gives (subst (λ (z : World). GivesAll language n z b.events b.gave) a.leads b.gives);
+  }
+
+  unasked : (events : List Event) (w : World) → Goes language n w (run language n w events)
+  unasked [] w = goes_nowhere language n w
+  unasked (e ∷ es) w = goes_further language n w (happens language n w e) (run language n w (e ∷ es)) (by_one e w) (unasked es (happens language n w e))
+
+-- the member is asked, and gives its answer
+gives_answer : (language : Language) (m : ℕ) (q : Select) (x y : model.Node) (o : Option model.Node) (a : model_answers.Answer) (t : ℕ) → o ≡ Some x → x ≡ y → y.up ≡ true → closed_query q (closed_time y) ≡ Some (read_at t q) → IsAnswer language (read_at t q) (applied y) a →
+    IsGivenAt language m q o (Answered m a ∷ [])
+gives_answer language m q x y o a t at same up closed is =
+    let inside : IsGivenIn language m y (closed_query q (closed_time y)) (Answered m a ∷ []) = subst (λ (c : Option Query). IsGivenIn language m y c (Answered m a ∷ [])) (sym closed) (a, is, refl) in
+    let by : IsGivenBy language m q y y.up (Answered m a ∷ []) = subst (λ (b : Bool). IsGivenBy language m q y b (Answered m a ∷ [])) (sym up) inside in
+    subst (λ (z : Option model.Node). IsGivenAt language m q z (Answered m a ∷ [])) (sym at) (subst (λ (z : model.Node). IsGivenBy language m q z z.up (Answered m a ∷ [])) (sym same) by)
+
+module _ {K I : Type 0} {g : _} {s : _} (held : K → Durable → Type 0) where
+  -- an up node's keeper holds nothing else than what its member has stored
+  abbrev pub Keeps : Node K I g s → Type 0
+  Keeps node = node.is_up ≡ true → (stored : Durable) → held node.keeper stored → stored ≡ durable_of (member_of node)
+
+  -- a node that stops
+  node_rests : (holds : I → Durable → Type 0) (node : Node K I g s) → Keeps node → (x : model.Node) → IsMember held node x → (image : I) → ((stored : Durable) → holds image stored → held node.keeper stored) → Rests (holds image) (stopped x)
+  node_rests holds node keeps x is image less = go node.is_up refl is
+    where
+      go : (up : Bool) → node.is_up ≡ up → MatchBool up (x ≡ member_of node) (Rests (held node.keeper) x) → Rests (holds image) (stopped x)
+      go true u same = (refl, λ d h. ap stopped same ∙ sym (ap rested (keeps u d (less d h))))
+      go false u rests = (refl, λ d h. ap stopped (rests.1 d (less d h)))
+
+module _ {K J I : Type 0} {g : _} {s : _} {d : _} (held : K → Durable → Type 0) (holds : I → Durable → Type 0) where
+  -- ---- what a store leaves
+
+  -- the database of a seat
+  seat_rests : ((node : Node K I g s) → Keeps held node) → (tables : Tables) (n m : ℕ) (seat : Seat K J I g s d) (x : model.Node) → HasMember held holds tables n m seat x → (image : I) → ((stored : Durable) → holds image stored → MayHold held holds seat stored) → Rests (holds image) (stopped x)
+  seat_rests keeps tables n m seat x has image less = go seat.node has.1 less
+    where
+      at_rest : (o : Option I) → MatchOption o (x.up ≡ false) (λ i. Rests (holds i) x) → ((stored : Durable) → holds image stored → MatchOption o ⊥ (λ i. holds i stored)) → Rests (holds image) (stopped x)
+      at_rest None down none = (refl, λ d h. absurd (none d h))
+      at_rest (Some i) rests some = (refl, λ d h. ap stopped (rests.1 d (some d h)))
+
+      go : (o : Option (Node K I g s)) → MatchOption o (MatchOption seat.image (x.up ≡ false) (λ i. Rests (holds i) x)) (λ node. IsNodeOf held tables n m node x) →
+          ((stored : Durable) → holds image stored → MatchOption o (MatchOption seat.image ⊥ (λ i. holds i stored)) (λ node. held node.keeper stored)) → Rests (holds image) (stopped x)
+      go None rests some = at_rest seat.image rests some
+      go (Some node) is some = node_rests held holds node (keeps node) x is.is image some
+
+  pub leaves : ((node : Node K I g s) → Keeps held node) → (store : Store K J I g s d) (w : World) → IsIn held holds store w → (images : List (Option I)) → AreLeft held holds store images → AreFound holds images (durable w)
+  leaves keeps store w i images L = record { all = length-map w.nodes stopped ∙ i.seated.all ∙ sym L.count; each = go }
+    where
+      rests : (o : Option I) (i : ℕ) (seat : Seat K J I g s d) (x : model.Node) → slice_get store.seats.items i ≡ Some seat → slice_get images i ≡ Some o → HasMember held holds store.schema (length store.seats.items) (suc i) seat x →
+          MatchOption o ((stopped x).up ≡ false) (λ image. Rests (holds image) (stopped x))
+      rests None i seat x p q has = refl
+      rests (Some image) i seat x p q has = seat_rests keeps store.schema (length store.seats.items) (suc i) seat x has image (λ stored h. L.each i seat image stored p q h)
+
+      go : (m : ℕ) (image : Option I) (y : model.Node) → nth images m ≡ Some image → nth (durable w) m ≡ Some y → MatchOption image (y.up ≡ false) (λ i. Rests (holds i) y)
+      go zero image y p q = absurd (cc p)
+      go (suc k) image y p q =
+          let short = get_short images k image p in
+          let count = L.count in
+          let seat = get_there store.seats.items k (omega (arith, short, count)) in
+          let x = of_map stopped w.nodes k y q in
+          subst (λ (z : model.Node). MatchOption image (z.up ≡ false) (λ i. Rests (holds i) z)) x.2
+          (rests image k seat.0 x.0 seat.1 p (i.seated.each (suc k) seat.0 x.0 seat.1 x.1))
+
+  -- ---- how its session goes on
+
+  pub came : (found : List model.Node) (store : Store K J I g s d) → (events : List Event) × IsRunOf held holds found events store → Came held holds found store
+  came found store ran = record { world = run (language_of store.schema) (length store.seats.items) (opened found) ran.0; goes = unasked (language_of store.schema) (length store.seats.items) ran.0 (opened found); is_in = ran.1 }
+
+  pub goes_on : (honest : K → Type 0) (gives : List (List Output) → Type 0) (found : List model.Node) (old new : Store K J I g s d) (before : Came held holds found old) → GoesOnSo honest held holds Anywhere gives old new → AreClean honest holds new →
+      (after : Came held holds found new) × Further gives before after
+  unfolding joined
+  goes_on honest gives found old new before x k =
+      let on = x.went k before.world before.is_in tt in
+      let all = joined (language_of old.schema) (length old.seats.items) (opened found) before.world on.0.world before.goes on.0.goes in
+      let goes : Goes (language_of new.schema) (length new.seats.items) (opened found) on.0.world = record {
+        events = all.events;
+        gave = all.gave;
+        leads = subst (λ (t : Tables). on.0.world ≡ run (language_of t) (length new.seats.items) (opened found) all.events) (sym x.schema) (subst (λ (n : ℕ). on.0.world ≡ run (language_of old.schema) n (opened found) all.events) (sym x.count) all.leads);
+        gives = subst (λ (t : Tables). GivesAll (language_of t) (length new.seats.items) (opened found) all.events all.gave) (sym x.schema) (subst (λ (n : ℕ). GivesAll (language_of old.schema) n (opened found) all.events all.gave) (sym x.count) all.gives);
+      } in
+      (record { world = on.0.world; goes = goes; is_in = on.0.is_in }, record { events = on.0.goes.events; gave = on.0.goes.gave; events_are = refl; gave_is = refl; gives_so = on.1 })
+
+  -- ---- one session more
+
+  pub next : ((node : Node K I g s) → Keeps held node) → (sessions : List Session) (images : List (Option I)) (store : Store K J I g s d) (c : Came held holds (found_after (new_databases (length store.seats.items)) sessions) store) → AreAfter holds (language_of store.schema) (length store.seats.items) sessions images →
+      (left : List (Option I)) → AreLeft held holds store left → AreAfter holds (language_of store.schema) (length store.seats.items) (sessions ++ session_of c ∷ []) left
+  next keeps sessions images store c A left L =
+      let language = language_of store.schema in
+      let n = length store.seats.items in (
+        sessions_more language n sessions (session_of c) (new_databases n) A.0 (ends_now language n (found_after (new_databases n) sessions) c.world c.goes),
+        subst (AreFound holds left) (sym (found_last language n sessions (session_of c) (new_databases n))) (leaves keeps store c.world c.is_in left L),
+      )
+
+  -- ---- what is answered
+
+  -- an event more, in which nothing changes
+  asked : (found : List model.Node) (store : Store K J I g s d) (before : Came held holds found store) (m : ℕ) (q : Select) (a : model_answers.Answer) → IsGivenAt (language_of store.schema) m q (nth before.world.nodes m) (Answered m a ∷ []) →
+      (after : Came held holds found store) × Further (λ gave. gave ≡ (Answered m a ∷ []) ∷ []) before after × IsAnswered (after.goes.events ++ []) after.goes.gave (length before.goes.events + 1) m q a
+  unfolding joined
+  asked found store before m q a gives =
+      let language = language_of store.schema in
+      let n = length store.seats.items in
+      let more : Goes language n before.world before.world = record { events = Ask m q ∷ []; gave = (Answered m a ∷ []) ∷ []; leads = refl; gives = (Answered m a ∷ [], [], refl, gives, refl) } in
+      let goes = joined language n (opened found) before.world before.world before.goes more in
+      let long = given_all language n before.goes.events (opened found) before.goes.gave before.goes.gives in (
+        record { world = before.world; goes = goes; is_in = before.is_in },
+        record { events = more.events; gave = more.gave; events_are = refl; gave_is = refl; gives_so = refl },
+        (
+          subst (λ (es : List Event). nth es (length before.goes.events + 1) ≡ Some (Ask m q)) (sym (append-nil goes.events)) (behind before.goes.events (Ask m q) (length before.goes.events + 1) refl),
+          (Answered m a ∷ [], behind before.goes.gave (Answered m a ∷ []) (length before.goes.events + 1) (ap (λ (k : ℕ). k + 1) (sym long)), (0, omega arith, refl)),
+        ),
+      )
+
+  pub answers : (honest : K → Type 0) (found : List model.Node) (store : Store K J I g s d) (before : Came held holds found store) (at : ℕ) (text : List ℕ) (a : Rows) → AreClean honest holds store → HasAnswered honest store at text a → Answers held holds found store before (at + 1) text a
+  answers honest found store before at text a clean has = by_seat (slice_get store.seats.items at) refl has
+    where
+      n : ℕ
+      n = length store.seats.items
+
+      by_node : (seat : Seat K J I g s d) (o : Option (Node K I g s)) → slice_get store.seats.items at ≡ Some seat → seat.node ≡ o → MatchOption o ⊥ (λ node. IsAnswerOf honest node store.schema text a) → Answers held holds found store before (at + 1) text a
+      by_node seat None there e none = absurd none
+      by_node seat (Some node) there e (q, spelled, up, says) =
+          let Has : ℕ → Seat K J I g s d → model.Node → Type 0 = λ m seat x. HasMember held holds store.schema n m seat x in
+          let sits = seated Has store.seats.items before.world.nodes before.is_in.seated (at + 1) seat (nth_next store.seats.items (at + 1) at refl ∙ there) in
+          let is : IsNodeOf held store.schema n (at + 1) node sits.0 = subst (λ (o : Option (Node K I g s)). MatchOption o (MatchOption seat.image (sits.0.up ≡ false) (λ i. Rests (holds i) sits.0)) (λ node. IsNodeOf held store.schema n (at + 1) node sits.0)) e sits.2.1 in
+          let same : sits.0 ≡ member_of node = subst (λ (b : Bool). MatchBool b (sits.0 ≡ member_of node) (Rests (held node.keeper) sits.0)) up is.is in
+          let neat : IsClean honest holds seat = subst (IsClean honest holds) (get_or_from_slice_get store.seats.items at seat seat there) (All-get_or (IsClean honest holds) store.seats.items at seat (slice_get_within store.seats.items at seat there) clean) in
+          let honest_is : honest node.keeper = subst (λ (o : Option (Node K I g s)). MatchOption o (MatchOption seat.image (Unit {0}) (λ image. (stored : Durable) × holds image stored)) (λ node. honest node.keeper)) e neat in
+          let ask = says honest_is in
+          let listed : IsAnswer (language_of store.schema) (read_at ask.0 (select_of q)) (applied (member_of node)) (answer_of a) = subst (λ (t : Tables). IsAnswer (language_of t) (read_at ask.0 (select_of q)) (applied (member_of node)) (answer_of a)) is.tables_are ask.3 in
+          let came = asked found store before (at + 1) (select_of q) (answer_of a) (gives_answer (language_of store.schema) (at + 1) (select_of q) sits.0 (member_of node) (nth before.world.nodes (at + 1)) (answer_of a) ask.0 sits.1 same refl ask.2 listed) in
+          record {
+            query = q;
+            spelled = spelled;
+            after = came.0;
+            further = came.1;
+            answered = came.2;
+          }
+
+      by_seat : (o : Option (Seat K J I g s d)) → slice_get store.seats.items at ≡ o → MatchOption o ⊥ (λ seat. MatchOption seat.node ⊥ (λ node. IsAnswerOf honest node store.schema text a)) → Answers held holds found store before (at + 1) text a
+      by_seat None there none = absurd none
+      by_seat (Some seat) there some = by_node seat seat.node there refl some
+
+  -- a call of which no more is said
+  pub so : (honest : K → Type 0) (old new : Store K J I g s d) → GoesOn honest held holds old new → GoesOnSo honest held holds Anywhere (λ gave. Unit {0}) old new
+  so honest old new x = record { schema = x.schema; count = x.count; clean = x.clean; went = λ k w i p. (x.went k w i, tt) }

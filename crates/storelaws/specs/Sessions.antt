@@ -1,0 +1,73 @@
+-- The sessions of stores that are opened one after the other over the same databases.
+use Rattle.std.specs.Prelude.{◌≡◌, ℕ, Option, Some, Result, List, [], ◌∷◌, ◌++◌, ◌+◌, Ok, MatchOption, length, slice_get}
+use Rattle.fault.specs.declared.refusal.Refusal.{Refusal}
+use Rattle.model.specs.declared.entry.Entry.{Entry}
+use Rattle.model.specs.declared.entry.Told.{Told}
+use Rattle.model.specs.Agreement.{IsTold}
+use Rattle.model.specs.Members.{Node}
+use Rattle.model.specs.Transactions.{Language}
+use Rattle.model.specs.Worlds.{World, Event, Output}
+use Rattle.model.specs.Worlds.Output.{Answered}
+use Rattle.keep.specs.Durable.{Durable}
+use Rattle.sessions.specs.Kills.{Between, durable, opened}
+use Rattle.sessions.specs.Sessions.{Session, AreSessions, events_of, found_after, new_databases}
+use Rattle.onelist.specs.Explained.{IsAnswered}
+use Rattle.sqlread.specs.Meaning.{language_of, select_of}
+use Rattle.answer.specs.declared.Answer.{Answer}
+use Rattle.answer.specs.Answers.{answer_of}
+use Rattle.sqlread.specs.Shapes.{QueryShape}
+use Rattle.sqlread.specs.Texts.{query_in}
+use Rattle.runlaws.specs.Going.{Goes}
+use Rattle.store.specs.Asking.{IsAnswerOf}
+use Rattle.store.specs.declared.seat.Seat.{Seat}
+use Rattle.store.specs.declared.store.Store.{Store}
+use Rattle.store.specs.Going.{IsIn}
+use Rattle.store.specs.Opening.{AreFound}
+
+-- these sessions followed one another, the first one over members that were never started, and these databases hold what they left
+abbrev pub AreAfter : {I : Type 0} → (holds : I → Durable → Type 0) → Language → ℕ → List Session → List (Option I) → Type 0
+AreAfter holds language n sessions images = AreSessions language n (new_databases n) sessions × AreFound holds images (found_after (new_databases n) sessions)
+
+-- the list has the request of this client and number, with this outcome
+abbrev pub IsListed : Language → List Entry → (client number : ℕ) → Result ℕ Refusal → Type 0
+IsListed language list client number outcome = (told : Told) × (told.client ≡ client) × (told.number ≡ number) × (told.outcome ≡ outcome) × IsTold language list told
+
+module _ {K J I : Type 0} {g : _} {s : _} {d : _} where
+  -- what the database of a seat may hold
+  abbrev pub MayHold : (held : K → Durable → Type 0) (holds : I → Durable → Type 0) → Seat K J I g s d → Durable → Type 0
+  MayHold held holds seat stored = MatchOption seat.node (MatchOption seat.image ⊥ (λ image. holds image stored)) (λ node. held node.keeper stored)
+
+  -- what is found of a store's databases once its process has ended: each that is there holds nothing else than its seat's may hold
+  pub record AreLeft (held : K → Durable → Type 0) (holds : I → Durable → Type 0) (store : Store K J I g s d) (images : List (Option I)) : Type 0 where
+    pub count : length images ≡ length store.seats.items
+    pub each : (i : ℕ) (seat : Seat K J I g s d) (image : I) (stored : Durable) → slice_get store.seats.items i ≡ Some seat → slice_get images i ≡ Some (Some image) → holds image stored → MayHold held holds seat stored
+
+  -- how a store came to where it is: by events, from members with this stored
+  pub record Came (held : K → Durable → Type 0) (holds : I → Durable → Type 0) (found : List Node) (store : Store K J I g s d) : Type 0 where
+    pub world : World
+    pub goes : Goes (language_of store.schema) (length store.seats.items) (opened found) world
+    pub is_in : IsIn held holds store world
+
+  -- it as a session that ends now, between two calls
+  abbrev pub session_of : {held : K → Durable → Type 0} {holds : I → Durable → Type 0} {found : List Node} {store : Store K J I g s d} → Came held holds found store → Session
+  session_of came = record { filed = came.goes.events; moment = Between []; gave = came.goes.gave; left = durable came.world }
+
+  -- the same session further on, by events more, which gave what this holds of
+  pub record Further {held : K → Durable → Type 0} {holds : I → Durable → Type 0} {found : List Node} {old new : Store K J I g s d} (gives : List (List Output) → Type 0) (before : Came held holds found old) (after : Came held holds found new) : Type 0 where
+    pub events : List Event
+    pub gave : List (List Output)
+    pub events_are : after.goes.events ≡ before.goes.events ++ events
+    pub gave_is : after.goes.gave ≡ before.goes.gave ++ gave
+    pub gives_so : gives gave
+
+  -- the member of the seat that has so many before it is up, and answers the question of this text so
+  abbrev pub HasAnswered : (honest : K → Type 0) → Store K J I g s d → ℕ → List ℕ → Answer → Type 0
+  HasAnswered honest store at text a = MatchOption (slice_get store.seats.items at) ⊥ (λ seat. MatchOption seat.node ⊥ (λ node. IsAnswerOf honest node store.schema text a))
+
+  -- it was an event more of the session that the member was asked, and gave this answer
+  pub record Answers (held : K → Durable → Type 0) (holds : I → Durable → Type 0) (found : List Node) (store : Store K J I g s d) (before : Came held holds found store) (m : ℕ) (text : List ℕ) (a : Answer) : Type 0 where
+    pub query : QueryShape
+    pub spelled : query_in store.schema text ≡ Ok query
+    pub after : Came held holds found store
+    pub further : Further (λ gave. gave ≡ (Answered m (answer_of a) ∷ []) ∷ []) before after
+    pub answered : IsAnswered (events_of (session_of after)) (session_of after).gave (length before.goes.events + 1) m (select_of query) (answer_of a)

@@ -1,0 +1,73 @@
+//! The sessions of a store: what it leaves in its databases, and how one goes on from where the one before ended. No function here does
+//! anything: what it is for is its contract, which a caller has as a fact.
+#![tactic(auto)]
+
+ghost use Rattle.std.specs.Prelude.{◌≡◌, ◌+◌, ◌++◌, ◌∷◌, ℕ, Some, Option, Result, List, [], length};
+ghost use Rattle.model.specs.Members.{Node};
+ghost use Rattle.model.specs.Worlds.{World};
+ghost use Rattle.model.specs.declared.entry.Entry.{Entry};
+ghost use Rattle.sessions.specs.Kills.{durable};
+ghost use Rattle.sessions.specs.Sessions.{Session, found_after, new_databases};
+ghost use Rattle.model.specs.Lists.{nth};
+ghost use Rattle.model.specs.Transactions.{Language};
+ghost use Rattle.fault.specs.declared.refusal.Refusal.{Refusal};
+ghost use Rattle.answer.specs.declared.Answer.{Answer};
+ghost use Rattle.runlaws.specs.Going.{WasTold};
+ghost use Rattle.sessions.specs.Together.{ExplainsSessions};
+ghost use Rattle.sqlread.specs.Meaning.{language_of};
+ghost use Rattle.store.specs.Going.{Anywhere, AreClean, ComesOf, GoesOn, GoesOnSo, IsIn};
+ghost use Rattle.store.specs.declared.outcome.Outcome.{Outcome};
+ghost use Rattle.store.specs.Opening.{AreFound, IsRunFrom};
+ghost use Rattle.storelaws.specs.Sessions.{Answers, AreAfter, AreLeft, Came, Further, HasAnswered, IsListed, session_of};
+
+use store::Store;
+use store::announcing::Announces;
+
+/// What is left. Where a process ends between two calls of its store, whether that is closed or the process is killed, what its databases
+/// hold is what the members of the run have stored.
+pub fn leaves<K: Announces>(store: &Store<K>)
+where
+    K::Image: Drop,
+    ensures { (w : World) → IsIn K.may_hold K.holds store.now w → (images : List (Option K.Image)) → AreLeft K.may_hold K.holds store.now images → AreFound K.holds images (durable w) }
+{}
+
+/// A store that was opened came to where it is by events from what its databases held, while nothing wrong was taken as true.
+pub fn comes<K: Announces>(store: &Store<K>)
+where
+    K::Image: Drop,
+    ensures { (images : List (Option K.Image)) (found : List Node) → AreFound K.holds images found → IsRunFrom K.is_honest K.may_hold K.holds images store.now → AreClean K.is_honest K.holds store.now → Came K.may_hold K.holds found store.now }
+{}
+
+/// Its session goes on with each call: by events more, which gave what the call says of the outcome of a request.
+pub fn goes_on<K: Announces>(old: &Store<K>, new: &Store<K>)
+where
+    K::Image: Drop,
+    ensures goes { (found : List Node) (before : Came K.may_hold K.holds found old.now) → GoesOn K.is_honest K.may_hold K.holds old.now new.now → AreClean K.is_honest K.holds new.now →
+        (after : Came K.may_hold K.holds found new.now) × Further (λ gave. Unit {0}) before after }
+    ensures tells { (found : List Node) (before : Came K.may_hold K.holds found old.now) (client number : ℕ) (outcome : Outcome) → GoesOnSo K.is_honest K.may_hold K.holds Anywhere (ComesOf client number outcome) old.now new.now → AreClean K.is_honest K.holds new.now →
+        (after : Came K.may_hold K.holds found new.now) × Further (ComesOf client number outcome) before after }
+{}
+
+/// The next session. Where a store was opened after some sessions, they and its own are sessions one after the other, and whatever is
+/// found of its databases once its process has ended between two calls is what these left.
+pub fn next_session<K: Announces>(store: &Store<K>)
+where
+    K::Image: Drop,
+    ensures { (sessions : List Session) (images : List (Option K.Image)) (came : Came K.may_hold K.holds (found_after (new_databases (length store.now.seats.items)) sessions) store.now) →
+        AreAfter K.holds (language_of store.now.schema) (length store.now.seats.items) sessions images → (left : List (Option K.Image)) → AreLeft K.may_hold K.holds store.now left →
+        AreAfter K.holds (language_of store.now.schema) (length store.now.seats.items) (sessions ++ session_of came ∷ []) left }
+{}
+
+/// An answer is an event more of the session: the member of a seat, which has `at` others before it, was asked, and gave it.
+pub fn answers<K: Announces>(store: &Store<K>)
+where
+    K::Image: Drop,
+    ensures { (found : List Node) (before : Came K.may_hold K.holds found store.now) (at : ℕ) (text : List ℕ) (answer : Answer) → AreClean K.is_honest K.holds store.now → HasAnswered K.is_honest store.now at text answer →
+        Answers K.may_hold K.holds found store.now before (at + 1) text answer }
+{}
+
+/// What was told of a request in any session stands in the one list that explains them all.
+pub fn is_told()
+    ensures { (language : Language) (sessions : List Session) (list : List Entry) → ExplainsSessions language sessions list → (i : ℕ) (session : Session) → nth sessions i ≡ Some session →
+        (client number : ℕ) (outcome : Result ℕ Refusal) → WasTold session.gave client number outcome → IsListed language list client number outcome }
+{}
