@@ -6,6 +6,7 @@ pub mod beginnings;
 pub mod chain;
 pub mod device;
 pub mod held;
+pub mod known;
 mod leading;
 pub mod members;
 pub mod outcome;

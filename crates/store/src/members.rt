@@ -11,6 +11,7 @@ ghost use Rattle.store.specs.Seats.{HasMember, IsClean};
 ghost use Rattle.store.specs.Tales.{IsFit};
 
 use crate::announcing::Announces;
+use crate::known::KnownLog;
 use crate::past::Past;
 use crate::refusal::StoreRefusal;
 use crate::seat::Seat;
@@ -46,6 +47,7 @@ fn start_seat<K: Announces>(
     seat: &mut Seat<K>,
     schema: Schema,
     members: usize,
+    known: &mut KnownLog,
 ) -> Result<(), StoreRefusal>
 where
     K::Image: Drop,
@@ -54,7 +56,7 @@ where
     ensures starts { IsClean K.is_honest K.holds seat.new → (x : TheNode) → HasMember K.may_hold K.holds schema members seat.old.member seat.old x → (y : TheNode) × (HasMember K.may_hold K.holds schema members seat.old.member seat.new y × MayStart x y) }
 {
     let member = seat.member;
-    match seat.start(schema, members) {
+    match seat.start(schema, members, known) {
         Ok(()) => {}
         Err(StoreRefusal::Refused(Refusal::BadStore)) => {
             return Err(StoreRefusal::Altered {
@@ -100,6 +102,7 @@ fn start_at<K: Announces>(
     seats: &mut Vec<Seat<K>>,
     at: usize,
     schema: &Schema,
+    known: &mut KnownLog,
 ) -> Result<(), StoreRefusal>
 where
     K::Image: Drop,
@@ -112,17 +115,22 @@ where
     if seat.is_missing() {
         return Ok(());
     }
-    start_seat(seat, schema, count)
+    start_seat(seat, schema, count, known)
 }
 
 // Starts each member that has a database.
-fn start_seats<K: Announces>(seats: &mut Vec<Seat<K>>, schema: &Schema) -> Result<(), StoreRefusal>
+fn start_seats<K: Announces>(
+    alloc: Global,
+    seats: &mut Vec<Seat<K>>,
+    schema: &Schema,
+) -> Result<(), StoreRefusal>
 where
     K::Image: Drop,
     ensures { Starts K.is_honest K.may_hold K.holds schema.now (length seats.old.items) seats.old.items seats.new.items }
 {
+    let mut known = KnownLog::new(alloc);
     for at in 0..seats.len() {
-        start_at(seats, at, schema)?;
+        start_at(seats, at, schema, &mut known)?;
     }
     Ok(())
 }
@@ -148,7 +156,7 @@ where
         if there <= count / 2 {
             return Err(StoreRefusal::TooFew);
         }
-        start_seats(&mut seats, &schema)?;
+        start_seats(alloc, &mut seats, &schema)?;
         Ok(Members {
             alloc,
             schema,

@@ -4,6 +4,7 @@ ghost use Rattle.store.specs.Going.{GoesOn};
 ghost use Rattle.store.specs.Journals.{IsSpent};
 
 use crate::announcing::Announces;
+use crate::known::KnownLog;
 use crate::refusal::StoreRefusal;
 use crate::seat::Seat;
 use crate::status::{Standing, Status};
@@ -42,6 +43,7 @@ where
     {
         let members = self.seats.len();
         let schema = self.schema.clone()?;
+        let mut known = KnownLog::new(self.alloc);
         let Some(at) = self.place_of(member) else {
             return Err(StoreRefusal::Refused(Refusal::NodeDown));
         };
@@ -49,7 +51,7 @@ where
         if seat.is_up() {
             return Ok(false);
         }
-        seat.start(schema, members)?;
+        seat.start(schema, members, &mut known)?;
         Ok(true)
     }
 

@@ -13,6 +13,7 @@ use sqlite::{Alter, Connection};
 use std::alloc::Global;
 use store::announcing::Judging;
 use store::held::HeldLog;
+use store::known::KnownLog;
 use store::{Past, StoreRefusal};
 
 /// What an audit found of a folder whose first journals are away, and says yes of.
@@ -48,12 +49,13 @@ where
         found: Vec::new(alloc),
         logs: Vec::new(alloc),
     };
+    let mut known = KnownLog::new(alloc);
     let mut member: Member = 0;
     for database in databases {
         member = member.saturating_add(1);
         match database {
             Some(database) => {
-                let (found, log) = found_in::<K>(alloc, database, form, member)?;
+                let (found, log) = found_in::<K>(alloc, database, form, member, &mut known)?;
                 held.found.push(Some(found))?;
                 held.logs.push(Some(log))?;
             }
