@@ -171,12 +171,12 @@ module _ {K J I : Type 0} {g : _} {s : _} {d : _} (held : K → Durable → Type
 
   -- ---- one session more
 
-  pub next : ((node : Node K I g s) → Keeps held node) → (sessions : List Session) (images : List (Option I)) (store : Store K J I g s d) (c : Came held holds (found_after (new_databases (length store.seats.items)) sessions) store) → AreAfter holds (language_of store.schema) (length store.seats.items) sessions images →
+  pub next : ((node : Node K I g s) → Keeps held node) → (sessions : List Session) (store : Store K J I g s d) (c : Came held holds (found_after (new_databases (length store.seats.items)) sessions) store) → AreSessions (language_of store.schema) (length store.seats.items) (new_databases (length store.seats.items)) sessions →
       (left : List (Option I)) → AreLeft held holds store left → AreAfter holds (language_of store.schema) (length store.seats.items) (sessions ++ session_of c ∷ []) left
-  next keeps sessions images store c A left L =
+  next keeps sessions store c A left L =
       let language = language_of store.schema in
       let n = length store.seats.items in (
-        sessions_more language n sessions (session_of c) (new_databases n) A.0 (ends_now language n (found_after (new_databases n) sessions) c.world c.goes),
+        sessions_more language n sessions (session_of c) (new_databases n) A (ends_now language n (found_after (new_databases n) sessions) c.world c.goes),
         subst (AreFound holds left) (sym (found_last language n sessions (session_of c) (new_databases n))) (leaves keeps store c.world c.is_in left L),
       )
 

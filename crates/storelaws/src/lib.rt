@@ -7,7 +7,7 @@ ghost use Rattle.model.specs.Members.{Node};
 ghost use Rattle.model.specs.Worlds.{World};
 ghost use Rattle.model.specs.declared.entry.Entry.{Entry};
 ghost use Rattle.sessions.specs.Kills.{durable};
-ghost use Rattle.sessions.specs.Sessions.{Session, found_after, new_databases};
+ghost use Rattle.sessions.specs.Sessions.{Session, AreSessions, found_after, new_databases};
 ghost use Rattle.model.specs.Lists.{nth};
 ghost use Rattle.model.specs.Transactions.{Language};
 ghost use Rattle.fault.specs.declared.refusal.Refusal.{Refusal};
@@ -48,13 +48,13 @@ where
         (after : Came K.may_hold K.holds found new.now) × Further (ComesOf client number outcome) before after }
 {}
 
-/// The next session. Where a store was opened after some sessions, they and its own are sessions one after the other, and whatever is
+/// The next session. Where a store came from what some sessions left, they and its own are sessions one after the other, and whatever is
 /// found of its databases once its process has ended between two calls is what these left.
 pub fn next_session<K: Announces>(store: &Store<K>)
 where
     K::Image: Drop,
-    ensures { (sessions : List Session) (images : List (Option K.Image)) (came : Came K.may_hold K.holds (found_after (new_databases (length store.now.seats.items)) sessions) store.now) →
-        AreAfter K.holds (language_of store.now.schema) (length store.now.seats.items) sessions images → (left : List (Option K.Image)) → AreLeft K.may_hold K.holds store.now left →
+    ensures { (sessions : List Session) (came : Came K.may_hold K.holds (found_after (new_databases (length store.now.seats.items)) sessions) store.now) →
+        AreSessions (language_of store.now.schema) (length store.now.seats.items) (new_databases (length store.now.seats.items)) sessions → (left : List (Option K.Image)) → AreLeft K.may_hold K.holds store.now left →
         AreAfter K.holds (language_of store.now.schema) (length store.now.seats.items) (sessions ++ session_of came ∷ []) left }
 {}
 
