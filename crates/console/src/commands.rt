@@ -17,8 +17,9 @@ use std::io::{BufRead, BufReader, IsTerminal, Read};
 use std::{env, fs};
 use store::announcing::Announces;
 use store::{Device, StoreRefusal};
+use storeaudit::{Audited, Later, Verdict};
 use storecommands::{Command, ExportRows, ImportRows, NewStore, OpenStore};
-use storefolder::{Audited, Kept, Later, Opened, Verdict, reading_of};
+use storefolder::{Kept, Opened, reading_of};
 use transfer::{Export, Import, Order, Versions};
 
 // How many columns a terminal has, where nothing tells.
@@ -283,7 +284,7 @@ fn put_missing(missing: &[Member], text: &mut String) -> Result<(), AllocError> 
 
 // Judges the store in a folder. The exit status is 0 where the audit says yes, else 1.
 fn run_audit(rt: &HostRuntime, alloc: Global, dir: &str) -> Result<u8, Fault> {
-    match storefolder::audit(rt, alloc, dir, &progress_on(rt))? {
+    match storeaudit::audit(rt, alloc, dir, &progress_on(rt))? {
         Verdict::Yes(audited) => {
             let lines = yes_lines(alloc, &audited)?;
             print(rt, lines.as_str())?;
@@ -333,7 +334,7 @@ fn decided_line(alloc: Global, decided: &Decided) -> Result<String, AllocError> 
 
 // Lists the decided requests of the store in a folder.
 fn run_log(rt: &HostRuntime, alloc: Global, dir: &str) -> Result<u8, Fault> {
-    let play = storefolder::replay(rt, alloc, dir, &progress_on(rt))?;
+    let play = storeaudit::replay(rt, alloc, dir, &progress_on(rt))?;
     for decided in play.decided() {
         let line = decided_line(alloc, decided)?;
         print(rt, line.as_str())?;
@@ -349,7 +350,7 @@ fn run_flights<'a>(
     out: &'a str,
 ) -> Result<u8, Stop<'a>> {
     let tried = "writing the flights";
-    match storefolder::flights(rt, alloc, dir, out, &progress_on(rt)) {
+    match storeaudit::flights(rt, alloc, dir, out, &progress_on(rt)) {
         Ok(()) => Ok(0),
         Err(StoreRefusal::NotEmpty) => {
             Err(Stop::of(

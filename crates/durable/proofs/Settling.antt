@@ -1,20 +1,22 @@
 -- What each call leaves stored.
-use Rattle.std.proofs.Common.{◌≡◌, ℕ, ◌+◌, ◌≤◌, ◌++◌, Option, Some, None, length, length-append, take, sym, ap, subst, ◌∙◌}
+use Rattle.std.proofs.Common.{◌≡◌, ℕ, zero, suc, ◌+◌, ◌≤◌, ◌++◌, Option, Some, None, List, [], ◌∷◌, length, length-append, take, slice_get, option_map, refl, sym, ap, subst, ◌∙◌}
 use Rattle.std.proofs.lemmas.List.{take-map, map-append, length-map, length-take-le}
 use Rattle.std.proofs.lemmas.Grind.{merely}
 use Rattle.sqlite.specs.State.{State, HasCleanDisk, IsUnchanged, KeepsCommit}
+use Rattle.model.specs.declared.entry.Entry.{Entry}
 use Rattle.keep.specs.declared.change.Change.{Change}
 use Rattle.keep.specs.declared.hard_state.HardState.{HardState}
 use Rattle.keep.specs.Durable.{Durable, after}
 use Rattle.keep.specs.Log.{IsLog}
 use Rattle.model.specs.Transactions.{Language}
-use Rattle.storetables.specs.Contents.{Contents, number_of_vote, item_of, items_of, contents_of, changed, entry_in, durable_in}
+use Rattle.storetables.specs.Contents.{Contents, Item, number_of_vote, item_of, items_of, contents_of, changed, entry_in, entries_in, durable_in}
 use Rattle.storetables.specs.Rows.{Holds}
 use Rattle.storetables.specs.Stored.{contents_in, stored_in, AreTexts, IsSettled, IsSound, IsStored}
 use Rattle.storetables.specs.Found.{read_back, texts_had}
+use Rattle.storetables.proofs.Tails.{found_in}
 use Rattle.storetables.proofs.Texts.{texts_append, texts_take}
 use Rattle.storetables.specs.Steps.{IsKept, IsKnown, IsMeta, IsFloor}
-use Rattle.durable.specs.Saving.{IsSaved, IsHard}
+use Rattle.durable.specs.Saving.{IsSaved, IsBeginning, IsHard}
 
 -- a change of the tables is the change of what is stored
 pub changed_is : (c : Change) (d : Durable) → contents_of (after c d) ≡ changed c (contents_of d)
@@ -113,3 +115,32 @@ is_known s known count d set told counted has =
 
 pub keeps_hard : (old new : State) (known : Option HardState) → KeepsCommit old new → IsSound new → IsHard known (stored_in old.committed) → IsHard known (stored_in new.committed)
 keeps_hard old new known keeps sound = subst (IsHard known) (sym (keeps_same old new keeps sound))
+
+-- ---- what an open read
+
+pub begins : (es log : List Entry) → es ≡ log → IsBeginning es log
+begins es log is = subst (IsBeginning es) is (own es)
+  where
+    own : (l : List Entry) → IsBeginning l l
+    own [] = tt
+    own (e ∷ l) = (refl, own l)
+
+pub begins_at : (es log : List Entry) (i : ℕ) (e : Entry) → IsBeginning es log → slice_get es i ≡ Some e → slice_get log i ≡ Some e
+begins_at [] log i e begin is = absurd cc
+begins_at (x ∷ es) [] i e begin is = absurd begin
+begins_at (x ∷ es) (y ∷ log) zero e begin is = subst (λ z. ◌≡◌ {A = Option Entry} (Some z) (Some e)) begin.0 is
+begins_at (x ∷ es) (y ∷ log) (suc i) e begin is = begins_at es log i e begin.1 is
+
+-- a copy of what was read is what the tables say
+pub read_is : (xs : List Item) (es : List Entry) (i : ℕ) (e : Entry) → IsBeginning es (entries_in xs) → slice_get es i ≡ Some e → ◌≡◌ {A = Option Entry} (Some e) (option_map entry_in (slice_get xs i))
+read_is xs es i e begin is = sym (begins_at es (entries_in xs) i e begin is) ∙ found_in xs i
+
+pub begins_cut : (kept : ℕ) (es log more : List Entry) → IsBeginning es log → IsBeginning (take kept es) (take kept log ++ more)
+begins_cut zero es log more begin = tt
+begins_cut (suc kept) [] log more begin = tt
+begins_cut (suc kept) (x ∷ es) [] more begin = absurd begin
+begins_cut (suc kept) (x ∷ es) (y ∷ log) more begin = (begin.0, begins_cut kept es log more begin.1)
+
+-- of what is committed, where that stays
+pub keeps_begun : (old new : State) (es : List Entry) → KeepsCommit old new → IsSound new → IsBeginning es (stored_in old.committed).log → IsBeginning es (stored_in new.committed).log
+keeps_begun old new es keeps sound = subst (λ (d : Durable). IsBeginning es d.log) (sym (keeps_same old new keeps sound))

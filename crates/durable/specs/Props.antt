@@ -1,5 +1,5 @@
 -- That the tables are settled has one proof.
-use Rattle.std.specs.Prelude.{ℕ, Option, Some, None, List}
+use Rattle.std.specs.Prelude.{ℕ, Option, Some, None, List, [], ◌∷◌}
 use Rattle.std.specs.Coded.{Coded, Coded-set, code_by, coded×, coded_ℕ, coded_list, coded_option, Unit-prop}
 use Rattle.std.proofs.Common.{ap, refl}
 use Rattle.std.proofs.Props.{props}
@@ -9,12 +9,14 @@ use Rattle.sqlite.specs.Schema.{Schema}
 use Rattle.sqlite_trees.specs.Props.{Trees-set, rows_set}
 use Rattle.sqlite.specs.Effect.{Database}
 use Rattle.sqlite.specs.State.{State}
+use Rattle.model.specs.declared.entry.Entry.{Entry}
+use Rattle.model.specs.declared.entry.Request.{Request}
 use Rattle.keep.specs.declared.hard_state.HardState.{HardState}
 use Rattle.keep.specs.Durable.{Durable}
 use Rattle.storetables.specs.Contents.{Item, Contents}
 use Rattle.storetables.specs.Rows.{Holds}
 use Rattle.storetables.specs.Stored.{IsSettled, IsStored, contents_in}
-use Rattle.durable.specs.Saving.{IsHard}
+use Rattle.durable.specs.Saving.{IsBeginning, IsHard}
 
 pub Schema-set : IsSet Schema
 Schema-set = Coded-set schema_row.the_row.coded
@@ -81,3 +83,25 @@ HardState-set = Coded-set coded_hard
 pub IsHard-prop : (known : Option HardState) (d : Durable) → IsProp (IsHard known d)
 IsHard-prop None d = Unit-prop
 IsHard-prop (Some h) d = HardState-set h d.hard
+
+abbrev coded_request : Coded Request
+coded_request =
+    code_by (ℕ × (ℕ × List ℕ)) (coded× coded_ℕ (coded× coded_ℕ (coded_list coded_ℕ)))
+    (λ r. (r.client, (r.number, r.text)))
+    (λ p. record { client = p.0; number = p.1.0; text = p.1.1 })
+    (λ _. refl)
+
+abbrev coded_entry : Coded Entry
+coded_entry =
+    code_by (ℕ × (ℕ × Option Request)) (coded× coded_ℕ (coded× coded_ℕ (coded_option coded_request)))
+    (λ e. (e.term, (e.stamp, e.request)))
+    (λ p. record { term = p.0; stamp = p.1.0; request = p.1.1 })
+    (λ _. refl)
+
+Entry-set : IsSet Entry
+Entry-set = Coded-set coded_entry
+
+pub IsBeginning-prop : (es log : List Entry) → IsProp (IsBeginning es log)
+IsBeginning-prop [] log = Unit-prop
+IsBeginning-prop (e ∷ es) [] = λ p. absurd p
+IsBeginning-prop (e ∷ es) (x ∷ xs) = λ p q. λ i. (Entry-set e x p.0 q.0 i, IsBeginning-prop es xs p.1 q.1 i)

@@ -1,7 +1,8 @@
 -- A save.
-use Rattle.std.specs.Prelude.{◌≡◌, Option, Some, None, IsTrue}
+use Rattle.std.specs.Prelude.{◌≡◌, Option, Some, None, List, [], ◌∷◌, IsTrue}
 use Rattle.sqlite.specs.State.{State}
 use Rattle.sqlite.specs.Tree.{Trees}
+use Rattle.model.specs.declared.entry.Entry.{Entry}
 use Rattle.keep.specs.declared.hard_state.HardState.{HardState}
 use Rattle.keep.specs.Durable.{Durable}
 use Rattle.storetables.specs.Contents.{Contents}
@@ -23,3 +24,9 @@ Leaves old made trees = (d : Contents) → Holds old.now d → Holds (record { s
 abbrev pub IsHard : Option HardState → Durable → Type 0
 IsHard None d = Unit {0}
 IsHard (Some h) d = h ≡ d.hard
+
+-- these are the first entries of a log
+abbrev pub IsBeginning : List Entry → List Entry → Type 0
+IsBeginning [] log = Unit {0}
+IsBeginning (e ∷ es) [] = ⊥
+IsBeginning (e ∷ es) (x ∷ xs) = (e ≡ x) × IsBeginning es xs

@@ -6,9 +6,10 @@ ghost use Rattle.std.specs.Coded.{Π_prop};
 ghost use Rattle.keep.specs.Log.{IsLog, log_prop};
 ghost use Rattle.storetables.specs.Stored.{contents_in, stored_in, IsBad, IsSettled, IsSound, IsStored, Offers};
 ghost use Rattle.storetables.specs.Found.{offers_held, stored_offers, is_one};
-ghost use Rattle.durable.specs.Saving.{IsHard};
-ghost use Rattle.durable.specs.Props.{IsSettled-prop, IsStored-prop, IsHard-prop};
+ghost use Rattle.durable.specs.Saving.{IsBeginning, IsHard};
+ghost use Rattle.durable.specs.Props.{IsSettled-prop, IsStored-prop, IsHard-prop, IsBeginning-prop};
 
+use crate::reading::{entry_at, keep_read};
 use crate::saving::commit_change;
 use keep::{Change, HardState, Keeper, LogReader, State, StoreError};
 use model::entry::Entry;
@@ -16,8 +17,6 @@ use schema::Schema;
 use sqlite::{Alter, Connection, Error, ErrorCode};
 use std::alloc::Global;
 use storetables::finding::{find_log, read_state};
-use storetables::reading::find_entry;
-use storetables::whole::Whole;
 
 /// Keeps a member's hard state and log in three tables of a database, over every store that `sqlite` has.
 /// What it opens, and what is left of it, is the connection. It is honest while the store is clean:
@@ -29,12 +28,15 @@ use storetables::whole::Whole;
 /// answers `BadStore` where the schema is not the three tables alone or the rows are not those of a log of
 /// the member. Each `save` is one commit: a crash within it, or an
 /// error of it, leaves the state before or after. It states only what changed since the save before it, and the first
-/// one states all. `state` and `entry` read single rows by their number.
+/// one states all. `state` reads single rows by their number, and so does `entry`, but for those entries that the open read: they
+/// stay in memory for the first saves, so that a member that is started reads its log once.
 #[derive(Drop)]
 pub struct SqlKeeper<S: Alter + Drop> {
     conn: Connection<S>,
     /// How many entries the log has.
     count: usize,
+    /// The first entries of the log, as the open read them; none after some saves.
+    read: Vec<Entry>,
     /// The hard state of the last save: none before the first, and none after one that failed.
     known: Option<HardState>,
     failures: u64,
@@ -48,6 +50,7 @@ pub struct SqlKeeper<S: Alter + Drop> {
     ghost held: { IsSound (state S.Store conn) → IsStored (state S.Store conn).committed } by { Π_prop (λ _. IsStored-prop (state S.Store conn).committed) },
     ghost counted: { is_up ≡ true → HasCleanDisk (state S.Store conn) → count ≡ length (contents_in (state S.Store conn).now).log },
     ghost remembered: { IsSound (state S.Store conn) → IsHard known (stored_in (state S.Store conn).committed) } by { Π_prop (λ _. IsHard-prop known (stored_in (state S.Store conn).committed)) },
+    ghost begun: { is_up ≡ true → IsSound (state S.Store conn) → IsBeginning read.items (stored_in (state S.Store conn).committed).log } by { Π_prop (λ _. Π_prop (λ _. IsBeginning-prop read.items (stored_in (state S.Store conn).committed).log)) },
 }
 
 /// What an error of the database is told as: `NoMemory` where it is want of memory or of room on the
@@ -122,10 +125,7 @@ impl<S: Alter + Drop> LogReader for SqlKeeper<S> {
             return Ok(None);
         }
         self.is_up = false;
-        let number = Whole {
-            value: i as u64 + 1,
-        };
-        match find_entry(&mut self.conn, number) {
+        match entry_at(&mut self.conn, self.read.as_slice(), i) {
             Ok(entry) => {
                 self.is_up = true;
                 Ok(entry)
@@ -177,9 +177,10 @@ impl<S: Alter + Drop> Keeper for SqlKeeper<S> {
             return Err((StoreError::BadStore, image));
         }
         match find_log(alloc, &mut image, members, schema) {
-            Ok(Some(count)) => Ok(SqlKeeper {
+            Ok(Some(log)) => Ok(SqlKeeper {
                 conn: image,
-                count,
+                count: log.len(),
+                read: log,
                 known: None,
                 failures: 0,
                 asked: 0,
@@ -209,7 +210,6 @@ impl<S: Alter + Drop> Keeper for SqlKeeper<S> {
     }
 
     fn save(&mut self, alloc: Global, change: &Change) -> Result<(), StoreError> {
-        let _ = alloc;
         self.saved = self.saved.saturating_add(1);
         if !self.is_up {
             return Err(StoreError::NodeDown);
@@ -218,6 +218,7 @@ impl<S: Alter + Drop> Keeper for SqlKeeper<S> {
         let known = self.known.take();
         match commit_change(&mut self.conn, change, &known, self.count) {
             Ok(()) => {
+                keep_read(alloc, &mut self.read, change, self.saved);
                 self.count = change.kept + change.entries.len();
                 self.known = Some(change.hard);
                 self.is_up = true;
@@ -231,6 +232,7 @@ impl<S: Alter + Drop> Keeper for SqlKeeper<S> {
         let SqlKeeper {
             conn,
             count: _,
+            read: _,
             known: _,
             failures: _,
             asked: _,

@@ -2,6 +2,7 @@
 #![tactic(auto)]
 
 pub mod keeper;
+mod reading;
 pub mod saving;
 
 pub use keeper::SqlKeeper;

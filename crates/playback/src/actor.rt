@@ -3,7 +3,6 @@ use flight::life::{Ending, Life, Step};
 use flight::outcome::Outcomes;
 use journal::Summary;
 use model::entry::Entry;
-use model::stamp::Stamp;
 use std::alloc::{AllocError, Global};
 use store::chain::Chain;
 use store::past::Tale;
@@ -20,23 +19,7 @@ pub(crate) struct Begun {
     pub announced: Option<Summary>,
 }
 
-/// The term and the stamp of an entry, by which it is known at its place.
-#[derive(Clone, Copy, PartialEq, Eq)]
-pub(crate) struct Known {
-    term: u64,
-    stamp: Stamp,
-}
-
-impl Known {
-    pub fn of(entry: &Entry) -> Known {
-        Known {
-            term: entry.term,
-            stamp: entry.stamp,
-        }
-    }
-}
-
-/// A member: its lives so far, where flights are kept, and the chain of its log.
+/// A member: its lives so far, where flights are kept, and its log with the chain of it.
 #[derive(Drop)]
 pub(crate) struct Actor {
     pub lives: Vec<Life>,
@@ -44,7 +27,7 @@ pub(crate) struct Actor {
     pub is_open: bool,
     pub begun: Option<Begun>,
     pub chain: Chain,
-    pub known: Vec<Known>,
+    pub log: Vec<Entry>,
     /// The number of the mark of its last life or step, 0 for none.
     pub mark: u64,
     /// Whether it is known what it goes on from.
@@ -60,7 +43,7 @@ impl Actor {
             is_open: false,
             begun: None,
             chain: Chain::new(alloc),
-            known: Vec::new(alloc),
+            log: Vec::new(alloc),
             mark: 0,
             is_known: true,
             tale: None,
@@ -136,13 +119,21 @@ impl Actor {
     /// One entry more of its log.
     pub fn add(&mut self, entry: &Entry) -> Result<(), AllocError> {
         self.chain.push(entry)?;
-        self.known.push(Known::of(entry))?;
+        self.log.push(entry.clone()?)?;
         Ok(())
+    }
+
+    /// Whether it has this entry at a place of its log, counted from 0. There it is known by its term and its stamp.
+    pub fn has(&self, place: usize, entry: &Entry) -> bool {
+        match self.log.get(place) {
+            Some(own) => own.term == entry.term && own.stamp == entry.stamp,
+            None => false,
+        }
     }
 
     /// Only the first so many entries of its log.
     pub fn cut(&mut self, kept: usize) {
-        self.known.truncate(kept);
+        self.log.truncate(kept);
         self.chain.truncate(kept);
     }
 

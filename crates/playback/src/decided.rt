@@ -1,6 +1,6 @@
 //! What is decided, and what may be given out of it.
 use crate::play::Play;
-use crate::told::{Word, refusal_words};
+use crate::told::Word;
 use fault::{Refusal, Text};
 use flight::outcome::Outcome;
 use model::entry::Told;
@@ -39,38 +39,32 @@ impl Play {
     }
 
     fn hear_told(&mut self, member: Member, told: &Told) -> Result<(), StoreRefusal> {
-        let outcome = Outcome::of(self.alloc, told)?;
-        let words = String::from_str(self.alloc, outcome.text.as_str())?;
-        self.words.push(Word {
-            client: told.client,
-            number: told.number,
-            words,
-        })?;
-        self.decide(member, outcome)
+        self.words.push(Word::of(told)?)?;
+        self.decide(member, told)
     }
 
     fn hear_refusal(&mut self, job: &Job, refusal: &Refusal) -> Result<(), StoreRefusal> {
         if let Job::Local(Input::Submit { request, .. }) = job {
-            let words = refusal_words(self.alloc, refusal)?;
+            let outcome = Err(refusal.clone()?);
             self.words.push(Word {
                 client: request.client,
                 number: request.number,
-                words,
+                outcome,
             })?;
         }
         Ok(())
     }
 
     // A request that a member tells of, if nobody told of it before.
-    fn decide(&mut self, member: Member, outcome: Outcome) -> Result<(), StoreRefusal> {
+    fn decide(&mut self, member: Member, told: &Told) -> Result<(), StoreRefusal> {
         let last = match self.decided.last() {
             Some(decided) => decided.index,
             None => 0,
         };
-        if outcome.index <= last {
+        if told.index <= last {
             return Ok(());
         }
-        let Some(entry) = self.stage.entry(member, outcome.index)? else {
+        let Some(entry) = self.stage.entry(member, told.index)? else {
             return Ok(());
         };
         let Some(request) = &entry.request else {
@@ -82,7 +76,7 @@ impl Play {
             client,
             number,
             text: outcome,
-        } = outcome;
+        } = self.texts.outcome(told)?;
         self.decided.push(Decided {
             index,
             stamp: entry.stamp,

@@ -42,14 +42,13 @@ impl Play {
         self.close(member, found)?;
         self.start(member)?;
         let is_same = self.stored(member)? == Some(*found);
-        let at = self.place(member)?;
-        let length = self.actors[at].chain.len();
-        let own = self.entries(member, length)?;
         let _ = self.happen(Event::Stop(member))?;
         if is_same {
             return Ok(());
         }
-        let entry = first_difference(self.alloc, entries, &own)?;
+        let at = self.place(member)?;
+        let own = self.actors[at].log.as_slice();
+        let entry = first_difference(self.alloc, entries, own)?;
         Err(StoreRefusal::Altered { member, entry })
     }
 }

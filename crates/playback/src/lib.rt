@@ -16,6 +16,7 @@ mod seat;
 mod stage;
 mod steps;
 mod stored;
+mod texts;
 mod told;
 
 pub use decided::Decided;

@@ -54,7 +54,7 @@ impl Play {
     }
 
     // The life of a member that has this stored, as a flight has it, where flights are kept.
-    fn life_of(&mut self, member: Member, found: &Summary) -> Result<Option<Life>, StoreRefusal> {
+    fn life_of(&self, member: Member, found: &Summary) -> Result<Option<Life>, StoreRefusal> {
         if !self.keeps {
             return Ok(None);
         }

@@ -5,6 +5,7 @@ use crate::actor::Actor;
 use crate::decided::Decided;
 use crate::post::Post;
 use crate::stage::Stage;
+use crate::texts::Texts;
 use crate::told::Word;
 use fault::Refusal;
 use flight::{Answered, Records};
@@ -45,6 +46,7 @@ pub struct Play {
     pub(crate) is_head: bool,
     /// What may be printed of requests.
     pub(crate) words: Vec<Word>,
+    pub(crate) texts: Texts,
     pub(crate) decided: Vec<Decided>,
     pub(crate) answers: Vec<Vec<Answered>>,
     pub(crate) sessions: u64,
@@ -128,6 +130,7 @@ impl Play {
             noted: 0,
             is_head: false,
             words: Vec::new(alloc),
+            texts: Texts::new(alloc),
             decided: Vec::new(alloc),
             answers,
             sessions: 0,

@@ -37,7 +37,7 @@ impl Play {
     ) -> Result<(), StoreRefusal> {
         self.requests = self.requests.saturating_add(1);
         let is_told = printed == "unanswered"
-            || is_said(self.words.as_slice(), client, number, printed);
+            || is_said(self.alloc, self.words.as_slice(), client, number, printed)?;
         self.words.clear();
         if is_told {
             Ok(())

@@ -2,7 +2,7 @@
 use crate::actor::Begun;
 use crate::play::{Play, bad_line, mark_of};
 use crate::post::post_all;
-use crate::told::{all_told, are_same, first_told};
+use crate::told::are_same;
 use fault::Refusal;
 use flight::life::{Packet, Step};
 use flight::outcome::Outcomes;
@@ -164,7 +164,7 @@ impl Play {
         if step.is_none() {
             return Ok(());
         }
-        let told = Outcomes::new(all_told(self.alloc, outputs)?);
+        let told = Outcomes::new(self.texts.all_told(outputs)?);
         let at = self.place(member)?;
         self.actors[at].make(step, told)?;
         Ok(())
@@ -178,7 +178,7 @@ impl Play {
         outputs: &[Output],
         written: &Outcomes,
     ) -> Result<(), StoreRefusal> {
-        let (first, noted) = first_told(self.alloc, outputs, self.noted)?;
+        let (first, noted) = self.texts.first_told(outputs, self.noted)?;
         self.noted = noted;
         if are_same(written.as_slice(), &first) {
             Ok(())

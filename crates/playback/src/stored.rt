@@ -1,5 +1,4 @@
 //! What members have stored.
-use crate::actor::Known;
 use crate::play::Play;
 use journal::Summary;
 use model::entry::Entry;
@@ -7,7 +6,7 @@ use model::member::Member;
 use store::StoreRefusal;
 
 impl Play {
-    /// Brings the chain of a member's log up to what it has, and gives what it has stored; none where it is down.
+    /// Brings a member's log with its chain up to what it has, and gives what it has stored; none where it is down.
     pub(crate) fn stored(&mut self, member: Member) -> Result<Option<Summary>, StoreRefusal> {
         let Some(stored) = self.stage.durable(member)? else {
             return Ok(None);
@@ -20,7 +19,7 @@ impl Play {
         Ok(Some(self.actors[at].chain.summary(stored.hard)))
     }
 
-    // Adds the entries after so many to the chain of a member's log. Whether all are there.
+    // Adds the entries after so many to a member's log. Whether all are there.
     fn add_entries(
         &mut self,
         member: Member,
@@ -37,17 +36,17 @@ impl Play {
         Ok(true)
     }
 
-    // How much of a member's log is as its chain has it; the chain is cut to that.
+    // How much of a member's log is as it has it; the log is cut to that.
     fn kept(&mut self, member: Member, length: usize) -> Result<usize, StoreRefusal> {
         let at = self.place(member)?;
-        let most = self.actors[at].known.len().min(length);
+        let most = self.actors[at].log.len().min(length);
         let kept = self.last_known(member, most)?;
         let at = self.place(member)?;
         self.actors[at].cut(kept);
         Ok(kept)
     }
 
-    // The last index, up to this one, at which a member has the entry that its chain has there; 0 where there is none.
+    // The last index, up to this one, at which a member has the entry that its log here has; 0 where there is none.
     fn last_known(&mut self, member: Member, most: usize) -> Result<usize, StoreRefusal> {
         for less in 0..most {
             let index = most.saturating_sub(less);
@@ -58,31 +57,26 @@ impl Play {
         Ok(0)
     }
 
-    // Whether a member has the entry at an index that its chain has there.
+    // Whether a member has the entry at an index that its log here has.
     fn is_known(&mut self, member: Member, index: usize) -> Result<bool, StoreRefusal> {
         let Some(entry) = self.stage.entry(member, index)? else {
             return Ok(false);
         };
         let place = index.saturating_sub(1);
         let at = self.place(member)?;
-        Ok(match self.actors[at].known.get(place) {
-            Some(known) => *known == Known::of(&entry),
-            None => false,
-        })
+        Ok(self.actors[at].has(place, &entry))
     }
 
-    /// The first so many entries of a member's log, none of one that is down.
+    /// Copies of the first so many entries of a member's log, or of all where there are fewer, as it was last brought up to what the
+    /// member has.
     pub(crate) fn entries(
-        &mut self,
+        &self,
         member: Member,
         length: usize,
     ) -> Result<Vec<Entry>, StoreRefusal> {
-        let mut entries = Vec::new(self.alloc);
-        for index in 0..length {
-            if let Some(entry) = self.stage.entry(member, index.saturating_add(1))? {
-                entries.push(entry)?;
-            }
-        }
-        Ok(entries)
+        let at = self.place(member)?;
+        let log = self.actors[at].log.as_slice();
+        let most = length.min(log.len());
+        Ok(log[..most].to_vec(self.alloc)?)
     }
 }

@@ -1,16 +1,32 @@
-//! What steps tell of requests, and the words that may be given out of them.
+//! The outcomes that may be given out of requests.
 use fault::Refusal;
 use flight::outcome::Outcome;
+use model::entry::Told;
 use model::request::{Client, RequestNumber};
+use model::stamp::Stamp;
 use std::alloc::{AllocError, Global};
-use world::output::Output;
 
-/// Words that may be given out of a request.
+/// An outcome whose words may be given out of a request.
 #[derive(Drop)]
 pub(crate) struct Word {
     pub client: Client,
     pub number: RequestNumber,
-    pub words: String,
+    pub outcome: Result<Stamp, Refusal>,
+}
+
+impl Word {
+    /// That of what a member tells.
+    pub fn of(told: &Told) -> Result<Word, AllocError> {
+        let outcome = match &told.outcome {
+            Ok(stamp) => Ok(*stamp),
+            Err(refusal) => Err(refusal.clone()?),
+        };
+        Ok(Word {
+            client: told.client,
+            number: told.number,
+            outcome,
+        })
+    }
 }
 
 // Whether two outcomes are the same.
@@ -35,47 +51,32 @@ pub(crate) fn are_same(some: &[Outcome], others: &[Outcome]) -> bool {
     true
 }
 
-/// What outputs tell of the requests of entries past an index, each past those before it, and the index of the last one.
-pub(crate) fn first_told(
+// The words that an outcome is given out with.
+fn words_of(alloc: Global, outcome: &Result<Stamp, Refusal>) -> Result<String, AllocError> {
+    match outcome {
+        Ok(stamp) => {
+            let instant = stamp.instant();
+            format!(in alloc; "accepted {instant}")
+        }
+        Err(refusal) => format!(in alloc; "refused {refusal}"),
+    }
+}
+
+/// Whether these words are those of one of the outcomes that may be given out of a request.
+pub(crate) fn is_said(
     alloc: Global,
-    outputs: &[Output],
-    noted: usize,
-) -> Result<(Vec<Outcome>, usize), AllocError> {
-    let mut noted = noted;
-    let mut first = Vec::new(alloc);
-    for output in outputs {
-        if let Output::Applied(_, told) = output {
-            if told.index > noted {
-                noted = told.index;
-                first.push(Outcome::of(alloc, told)?)?;
+    said: &[Word],
+    client: Client,
+    number: RequestNumber,
+    words: &str,
+) -> Result<bool, AllocError> {
+    for word in said {
+        if word.client == client && word.number == number {
+            let own = words_of(alloc, &word.outcome)?;
+            if own.as_str() == words {
+                return Ok(true);
             }
         }
     }
-    Ok((first, noted))
-}
-
-/// All that outputs tell of requests.
-pub(crate) fn all_told(alloc: Global, outputs: &[Output]) -> Result<Vec<Outcome>, AllocError> {
-    let mut all = Vec::new(alloc);
-    for output in outputs {
-        if let Output::Applied(_, told) = output {
-            all.push(Outcome::of(alloc, told)?)?;
-        }
-    }
-    Ok(all)
-}
-
-/// The words of a refusal of a request.
-pub(crate) fn refusal_words(alloc: Global, refusal: &Refusal) -> Result<String, AllocError> {
-    format!(in alloc; "refused {refusal}")
-}
-
-/// Whether these words are among those that may be given out of a request.
-pub(crate) fn is_said(said: &[Word], client: Client, number: RequestNumber, words: &str) -> bool {
-    for word in said {
-        if word.client == client && word.number == number && word.words.as_str() == words {
-            return true;
-        }
-    }
-    false
+    Ok(false)
 }

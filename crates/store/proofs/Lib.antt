@@ -1,3 +1,5 @@
+pub mod Became
+pub mod Closing
 pub mod Fullness
 pub mod Going
 pub mod Heard
@@ -6,6 +8,7 @@ pub mod Links
 pub mod Opening
 pub mod Ranges
 pub mod Reading
+pub mod Statuses
 pub mod Stepping
 pub mod Taking
 pub mod Written

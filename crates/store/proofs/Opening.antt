@@ -24,6 +24,7 @@ use Rattle.node.specs.declared.node.Node.{Node}
 use Rattle.store.specs.Nodes.{IsNodeOf, Rests}
 use Rattle.store.specs.Seats.{HasMember, IsClean}
 use Rattle.store.specs.Opening.{AreFound, AreLaid, AreMembers, AreOpened, Begins, Starts}
+use Rattle.store.specs.Tales.{Told, tale_of}
 use Rattle.store.proofs.Going.{all_at, all_back, world_with}
 
 -- what stands in a list with one more at its end
@@ -37,12 +38,12 @@ pushed (x ∷ xs) y z (suc i) e = elim (pushed xs y z i e) [
 ]
 
 module _ {K J I : Type 0} {g : _} {s : _} {d : _} where
-  pub laid_none : (seats : List (Seat K J I g s d)) → seats ≡ [] → AreLaid {I = I} [] seats
-  laid_none seats is = record { all = ap length is; each = λ i seat image p q. absurd (cc q) }
+  pub laid_none : (told : Told) (seats : List (Seat K J I g s d)) → seats ≡ [] → AreLaid {I = I} told [] seats
+  laid_none told seats is = record { all = ap length is; each = λ i seat image p q. absurd (cc q) }
 
   -- one seat more
-  pub laid_more : (images : List (Option I)) (seats : List (Seat K J I g s d)) (image : Option I) (seat : Seat K J I g s d) → AreLaid images seats → seat.member ≡ length images + 1 → seat.node ≡ None → seat.image ≡ image → AreLaid (images ++ image ∷ []) (seats ++ seat ∷ [])
-  laid_more images seats image seat L me none is = record {
+  pub laid_more : (told : Told) (images : List (Option I)) (seats : List (Seat K J I g s d)) (image : Option I) (seat : Seat K J I g s d) → AreLaid told images seats → seat.member ≡ length images + 1 → seat.node ≡ None → seat.image ≡ image → seat.tale ≡ tale_of told (length images) → AreLaid told (images ++ image ∷ []) (seats ++ seat ∷ [])
+  laid_more told images seats image seat L me none is tale = record {
     all = length-append seats (seat ∷ []) ∙ ap (λ (n : ℕ). n + 1) L.all ∙ sym (length-append images (image ∷ []));
     each = λ i one found p q. elim (pushed seats seat one i p) [
       | inl a ↦ elim (pushed images image found i q) [
@@ -51,7 +52,7 @@ module _ {K J I : Type 0} {g : _} {s : _} {d : _} where
       ]
       | inr a ↦ elim (pushed images image found i q) [
         | inl b ↦ let w = slice_get_within images i found b in let all = L.all in let e = a.0 in absurd (omega (arith, w, all, e))
-        | inr b ↦ (ap (λ (t : Seat K J I g s d). t.member) a.1 ∙ me ∙ ap (λ (n : ℕ). n + 1) (sym b.0), ap (λ (t : Seat K J I g s d). t.node) a.1 ∙ none, ap (λ (t : Seat K J I g s d). t.image) a.1 ∙ is ∙ sym b.1)
+        | inr b ↦ (ap (λ (t : Seat K J I g s d). t.member) a.1 ∙ me ∙ ap (λ (n : ℕ). n + 1) (sym b.0), ap (λ (t : Seat K J I g s d). t.node) a.1 ∙ none, ap (λ (t : Seat K J I g s d). t.image) a.1 ∙ is ∙ sym b.1, ap (λ (t : Seat K J I g s d). t.tale) a.1 ∙ tale ∙ ap (tale_of told) (sym b.0))
       ]
     ];
   }
@@ -64,8 +65,8 @@ module _ {K J I : Type 0} {g : _} {s : _} {d : _} (honest : K → Type 0) (held 
       let there : MatchOption seat.image (x.up ≡ false) (λ i. Rests (holds i) x) = subst (λ (o : Option I). MatchOption o (x.up ≡ false) (λ i. Rests (holds i) x)) (sym is) rests in
       (me, subst (λ (o : Option (Node K I g s)). MatchOption o (MatchOption seat.image (x.up ≡ false) (λ i. Rests (holds i) x)) (λ node. IsNodeOf held tables n m node x)) (sym none) there)
 
-  pub laid : (tables : Tables) (n : ℕ) (images : List (Option I)) (seats : List (Seat K J I g s d)) (found : List model.Node) → AreLaid images seats → AreFound holds images found → AreSeated (λ m seat x. HasMember held holds tables n m seat x) seats found
-  laid tables n images seats found L F = record { all = F.all ∙ sym L.all; each = go }
+  pub laid : (told : Told) (tables : Tables) (n : ℕ) (images : List (Option I)) (seats : List (Seat K J I g s d)) (found : List model.Node) → AreLaid told images seats → AreFound holds images found → AreSeated (λ m seat x. HasMember held holds tables n m seat x) seats found
+  laid told tables n images seats found L F = record { all = F.all ∙ sym L.all; each = go }
     where
       go : (m : ℕ) (seat : Seat K J I g s d) (x : model.Node) → nth seats m ≡ Some seat → nth found m ≡ Some x → HasMember held holds tables n m seat x
       go zero seat x p q = absurd (cc p)
@@ -118,12 +119,12 @@ module _ {K J I : Type 0} {g : _} {s : _} {d : _} (honest : K → Type 0) (held 
 
   -- ---- the members of a store that is opened
 
-  pub are_opened : (tables : Tables) (images : List (Option I)) (laid_down new : List (Seat K J I g s d)) → AreLaid images laid_down → Starts honest held holds tables (length laid_down) laid_down new →
+  pub are_opened : (told : Told) (tables : Tables) (images : List (Option I)) (laid_down new : List (Seat K J I g s d)) → AreLaid told images laid_down → Starts honest held holds tables (length laid_down) laid_down new →
       (All (IsClean honest holds) new → (found : List model.Node) → AreFound holds images found →
       (v : World) × (Goes (language_of tables) (length images) (opened found) v × (v.sent ≡ []) × AreMembers held holds tables (length images) new v))
-  are_opened tables images laid_down new L S k found F =
+  are_opened told tables images laid_down new L S k found F =
       let T : ℕ → Type 0 = λ n. (v : World) × (Goes (language_of tables) n (opened found) v × (v.sent ≡ []) × AreMembers held holds tables n new v) in
-      let there : T (length laid_down) = S.went k (opened found) (laid tables (length laid_down) images laid_down found L F) in
+      let there : T (length laid_down) = S.went k (opened found) (laid told tables (length laid_down) images laid_down found L F) in
       subst T L.all there
 
   -- ---- a store that begins
@@ -150,9 +151,9 @@ module _ {K J I : Type 0} {g : _} {s : _} {d : _} (honest : K → Type 0) (held 
   }
 
   -- a store that was begun with members that were opened is a run from what the databases held
-  pub runs : (images : List (Option I)) (members : Members K J I g s d) (store : Store K J I g s d) → AreOpened honest held holds images members → Begins honest held holds members store → AreClean honest holds store →
+  pub runs : (told : Told) (images : List (Option I)) (members : Members K J I g s d) (store : Store K J I g s d) → AreOpened honest held holds told images members → Begins honest held holds members store → AreClean honest holds store →
       (found : List model.Node) → AreFound holds images found → (events : List Event) × IsRunOf held holds found events store
-  runs images members store O B k found F =
+  runs told images members store O B k found F =
       let o = O.went (B.clean k) found F in
       let v = o.0 in
       let named : (u : World) × (Goes (language_of members.schema) (length members.seats.items) (opened found) u × (u.sent ≡ []) × AreMembers held holds members.schema (length members.seats.items) members.seats.items u) =

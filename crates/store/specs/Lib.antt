@@ -2,6 +2,7 @@ pub mod Announcing
 pub mod Applied
 pub mod Asking
 pub mod Chains
+pub mod Closing
 pub mod Fullness
 pub mod Going
 pub mod Held
@@ -12,6 +13,7 @@ pub mod Opening
 pub mod Pasts
 pub mod Refusals
 pub mod Seats
+pub mod Statuses
 pub mod Tales
 pub mod Telling
 pub mod Words

@@ -1,5 +1,5 @@
 -- What a store is opened from.
-use Rattle.std.specs.Prelude.{◌≡◌, ◌+◌, ℕ, false, Option, Some, None, List, [], length, slice_get, MatchOption}
+use Rattle.std.specs.Prelude.{◌≡◌, ◌+◌, ◌↔◌, ℕ, false, Option, Some, None, List, [], length, slice_get, MatchOption}
 use Rattle.std.specs.List.{All}
 use Rattle.model.specs.Members.{Node}
 use Rattle.model.specs.Worlds.{World, Event}
@@ -11,19 +11,21 @@ use Rattle.runlaws.specs.Going.{AreSeated, Goes}
 use Rattle.store.specs.declared.members.Members.{Members}
 use Rattle.store.specs.declared.seat.Seat.{Seat}
 use Rattle.store.specs.declared.store.Store.{Store}
+use Rattle.store.specs.Closing.{FitsTale}
 use Rattle.store.specs.Nodes.{Rests}
 use Rattle.store.specs.Seats.{HasMember, IsClean}
 use Rattle.store.specs.Going.{AreClean, IsIn, IsRunOf}
+use Rattle.store.specs.Tales.{Told, tale_of}
 
 -- these members are down, and each has stored what its database holds, if it is there and holds anything
 abbrev pub AreFound : {I : Type 0} → (holds : I → Durable → Type 0) → List (Option I) → List Node → Type 0
 AreFound holds images found = AreSeated (λ m image x. MatchOption image (x.up ≡ false) (λ i. Rests (holds i) x)) images found
 
 module _ {K J I : Type 0} {g : _} {s : _} {d : _} where
-  -- a seat for each database, whose member is not started yet
-  pub record AreLaid (images : List (Option I)) (seats : List (Seat K J I g s d)) : Type 0 where
+  -- a seat for each database, whose member is not started yet, with what is told of it
+  pub record AreLaid (told : Told) (images : List (Option I)) (seats : List (Seat K J I g s d)) : Type 0 where
     pub all : length seats ≡ length images
-    pub each : (i : ℕ) (seat : Seat K J I g s d) (image : Option I) → slice_get seats i ≡ Some seat → slice_get images i ≡ Some image → (seat.member ≡ i + 1) × (seat.node ≡ None) × (seat.image ≡ image)
+    pub each : (i : ℕ) (seat : Seat K J I g s d) (image : Option I) → slice_get seats i ≡ Some seat → slice_get images i ≡ Some image → (seat.member ≡ i + 1) × (seat.node ≡ None) × (seat.image ≡ image) × (seat.tale ≡ tale_of told i)
 
   -- the seats have the members of this world, m of n
   abbrev pub AreMembers : (held : K → Durable → Type 0) (holds : I → Durable → Type 0) → Tables → ℕ → List (Seat K J I g s d) → World → Type 0
@@ -35,9 +37,11 @@ module _ {K J I : Type 0} {g : _} {s : _} {d : _} where
     pub clean : All (IsClean honest holds) new → All (IsClean honest holds) old
     pub went : All (IsClean honest holds) new → (w : World) → AreMembers held holds tables n old w → (v : World) × (Goes (language_of tables) n w v × (v.sent ≡ w.sent) × AreMembers held holds tables n new v)
 
-  -- from what the databases hold events lead to these members, and no message is under way
-  pub record AreOpened (honest : K → Type 0) (held : K → Durable → Type 0) (holds : I → Durable → Type 0) (images : List (Option I)) (members : Members K J I g s d) : Type 0 where
+  -- Those whose database is there are up and have stored what is told of them, and the others are not up. From what the databases hold
+  -- events lead to these members, and no message is under way.
+  pub record AreOpened (honest : K → Type 0) (held : K → Durable → Type 0) (holds : I → Durable → Type 0) (told : Told) (images : List (Option I)) (members : Members K J I g s d) : Type 0 where
     pub count : length members.seats.items ≡ length images
+    pub each : (i : ℕ) (seat : Seat K J I g s d) (image : Option I) → slice_get members.seats.items i ≡ Some seat → slice_get images i ≡ Some image → (seat.member ≡ i + 1) × ((seat.node ≡ None) ↔ (image ≡ None)) × FitsTale honest (tale_of told i) seat
     pub went : All (IsClean honest holds) members.seats.items → (found : List Node) → AreFound holds images found →
         (v : World) × (Goes (language_of members.schema) (length images) (opened found) v × (v.sent ≡ []) × AreMembers held holds members.schema (length images) members.seats.items v)
 

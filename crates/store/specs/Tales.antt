@@ -80,6 +80,10 @@ pub record Told : Type 0 where
   pub sessions : ℕ
   pub requests : ℕ
 
+-- what is told of the member with so many before it
+abbrev pub tale_of : Told → ℕ → Tale
+tale_of p at = unwrap_or (slice_get p.tales at) untold
+
 -- before anything is told of so many members
 abbrev pub nothing_told : ℕ → Told
 nothing_told members = record { tales = replicate members untold; marks = 0; sessions = 0; requests = 0 }

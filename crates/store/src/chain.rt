@@ -95,11 +95,19 @@ impl Chain {
         ensures { IfOk result (λ chain. chain.links.items ≡ links_of entries.now) }
     {
         let mut chain = Chain::new(alloc);
-        chain.links.reserve(entries.len())?;
-        for entry in entries {
-            chain.push(entry)?;
-        }
+        chain.push_all(entries)?;
         Ok(chain)
+    }
+
+    /// That of the first so many entries, or of all where there are fewer. The error is want of memory.
+    pub fn beginning(&self, length: usize) -> Result<Chain, AllocError>
+        ensures { IfOk result (λ chain. chain.links.items ≡ take length self.now.links.items) }
+    {
+        let most = length.min(self.links.len());
+        Ok(Chain {
+            alloc: self.alloc,
+            links: self.links[..most].to_vec(self.alloc)?,
+        })
     }
 
     /// How many entries the log has.
@@ -176,6 +184,17 @@ impl Chain {
     {
         let link = self.link_at(self.links.len()).next(self.alloc, entry)?;
         self.links.push(link)?;
+        Ok(())
+    }
+
+    /// These entries more. The error is want of memory.
+    pub fn push_all(&mut self, entries: &[Entry]) -> Result<(), AllocError>
+        ensures { OnOk result (self.new.links.items ≡ fold link_entry self.old.links.items entries.now) }
+    {
+        self.links.reserve(entries.len())?;
+        for entry in entries {
+            self.push(entry)?;
+        }
         Ok(())
     }
 

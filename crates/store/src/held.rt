@@ -5,6 +5,7 @@ ghost use Rattle.store.specs.Chains.{links_of};
 ghost use Rattle.store.specs.Held.{IsBeginning};
 
 use crate::chain::Chain;
+use crate::known::KnownLog;
 use journal::Summary;
 use keep::hard_state::HardState;
 use model::entry::Entry;
@@ -21,11 +22,15 @@ pub struct HeldLog {
 impl HeldLog {
     ghost use Rattle.model.specs.declared.entry.Entry.{Entry as TheEntry};
 
-    /// One with these entries. The error is want of memory.
-    pub fn new(alloc: Global, entries: Vec<Entry>) -> Result<HeldLog, AllocError>
+    /// One with these entries. Its chain is taken from a log that is known, as far as that begins so. The error is want of memory.
+    pub fn new(
+        alloc: Global,
+        entries: Vec<Entry>,
+        known: &mut KnownLog,
+    ) -> Result<HeldLog, AllocError>
         ensures { IfOk result (λ held. held.entries.items ≡ entries.items) }
     {
-        let chain = Chain::of(alloc, entries.as_slice())?;
+        let chain = known.link(alloc, entries.as_slice())?;
         Ok(HeldLog { entries, chain })
     }
 

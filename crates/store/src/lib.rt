@@ -4,8 +4,10 @@
 pub mod announcing;
 pub mod beginnings;
 pub mod chain;
+pub mod databases;
 pub mod device;
 pub mod held;
+pub mod known;
 mod leading;
 pub mod members;
 pub mod outcome;
@@ -25,6 +27,7 @@ pub mod tale;
 pub mod telling;
 pub mod voice;
 
+pub use databases::Databases;
 pub use device::{Device, DeviceError, NoDevice};
 pub use outcome::Outcome;
 pub use past::Past;

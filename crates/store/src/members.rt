@@ -1,16 +1,14 @@
 //! The members of a store as it is opened: what each database holds has to be what the journal says.
-ghost use Rattle.std.specs.Prelude.{◌≡◌, ◌<◌, true, IfOk, OnOk, length};
-ghost use Rattle.std.specs.Option.{ForSome};
+ghost use Rattle.std.specs.Prelude.{◌≡◌, ◌<◌, IfOk, IsSome, OnOk, length};
 ghost use Rattle.model.specs.Members.{Node as TheNode};
-ghost use Rattle.node.specs.Member.{member_of};
-ghost use Rattle.node.specs.View.{durable_of};
-ghost use Rattle.journal.specs.Digests.{summary_of};
 ghost use Rattle.runlaws.specs.Going.{MayStart};
+ghost use Rattle.store.specs.Closing.{Became, EachBecame, FitsTale, IsStarted};
 ghost use Rattle.store.specs.Opening.{AreLaid, AreOpened, Starts};
+ghost use Rattle.store.specs.Pasts.{told_by};
 ghost use Rattle.store.specs.Seats.{HasMember, IsClean};
-ghost use Rattle.store.specs.Tales.{IsFit};
 
 use crate::announcing::Announces;
+use crate::known::KnownLog;
 use crate::past::Past;
 use crate::refusal::StoreRefusal;
 use crate::seat::Seat;
@@ -46,15 +44,18 @@ fn start_seat<K: Announces>(
     seat: &mut Seat<K>,
     schema: Schema,
     members: usize,
+    known: &mut KnownLog,
 ) -> Result<(), StoreRefusal>
 where
     K::Image: Drop,
-    ensures fits { OnOk result (ForSome seat.new.node (λ n. n.is_up ≡ true → K.is_honest n.keeper → IsFit seat.old.tale (summary_of (durable_of (member_of n))))) }
+    ensures up { OnOk result (IsSome seat.new.node) }
+    ensures same { seat.new.member ≡ seat.old.member }
+    ensures fits { OnOk result (FitsTale K.is_honest seat.old.tale seat.new) }
     ensures clean { IsClean K.is_honest K.holds seat.new → IsClean K.is_honest K.holds seat.old }
     ensures starts { IsClean K.is_honest K.holds seat.new → (x : TheNode) → HasMember K.may_hold K.holds schema members seat.old.member seat.old x → (y : TheNode) × (HasMember K.may_hold K.holds schema members seat.old.member seat.new y × MayStart x y) }
 {
     let member = seat.member;
-    match seat.start(schema, members) {
+    match seat.start(schema, members, known) {
         Ok(()) => {}
         Err(StoreRefusal::Refused(Refusal::BadStore)) => {
             return Err(StoreRefusal::Altered {
@@ -81,7 +82,7 @@ fn seats_of<K: Announces>(
 ) -> Result<(Vec<Seat<K>>, usize), StoreRefusal>
 where
     K::Image: Drop,
-    ensures { IfOk result (λ p. AreLaid images.items p.0.items) }
+    ensures { IfOk result (λ p. AreLaid (told_by past.now) images.items p.0.items) }
 {
     let mut seats = Vec::new(alloc);
     let mut there = 0usize;
@@ -100,11 +101,13 @@ fn start_at<K: Announces>(
     seats: &mut Vec<Seat<K>>,
     at: usize,
     schema: &Schema,
+    known: &mut KnownLog,
 ) -> Result<(), StoreRefusal>
 where
     K::Image: Drop,
     requires { at < length seats.old.items }
-    ensures { Starts K.is_honest K.may_hold K.holds schema.now (length seats.old.items) seats.old.items seats.new.items }
+    ensures up { OnOk result (Became (IsStarted K.is_honest) at seats.old.items seats.new.items) }
+    ensures starts { Starts K.is_honest K.may_hold K.holds schema.now (length seats.old.items) seats.old.items seats.new.items }
 {
     let count = seats.len();
     let schema = schema.clone()?;
@@ -112,17 +115,23 @@ where
     if seat.is_missing() {
         return Ok(());
     }
-    start_seat(seat, schema, count)
+    start_seat(seat, schema, count, known)
 }
 
 // Starts each member that has a database.
-fn start_seats<K: Announces>(seats: &mut Vec<Seat<K>>, schema: &Schema) -> Result<(), StoreRefusal>
+fn start_seats<K: Announces>(
+    alloc: Global,
+    seats: &mut Vec<Seat<K>>,
+    schema: &Schema,
+) -> Result<(), StoreRefusal>
 where
     K::Image: Drop,
-    ensures { Starts K.is_honest K.may_hold K.holds schema.now (length seats.old.items) seats.old.items seats.new.items }
+    ensures up { OnOk result (EachBecame (IsStarted K.is_honest) seats.old.items seats.new.items) }
+    ensures starts { Starts K.is_honest K.may_hold K.holds schema.now (length seats.old.items) seats.old.items seats.new.items }
 {
+    let mut known = KnownLog::new(alloc);
     for at in 0..seats.len() {
-        start_at(seats, at, schema)?;
+        start_at(seats, at, schema, &mut known)?;
     }
     Ok(())
 }
@@ -141,14 +150,14 @@ where
         images: Vec<Option<K::Image>>,
         past: &Past,
     ) -> Result<Members<K>, StoreRefusal>
-        ensures { IfOk result (AreOpened K.is_honest K.may_hold K.holds images.items) }
+        ensures { IfOk result (AreOpened K.is_honest K.may_hold K.holds (told_by past.now) images.items) }
     {
         let count = images.len();
         let (mut seats, there) = seats_of::<K>(alloc, images, past)?;
         if there <= count / 2 {
             return Err(StoreRefusal::TooFew);
         }
-        start_seats(&mut seats, &schema)?;
+        start_seats(alloc, &mut seats, &schema)?;
         Ok(Members {
             alloc,
             schema,
@@ -156,7 +165,7 @@ where
         })
     }
 
-    /// The members whose database is missing.
+    /// The members whose database is missing, in their order. The error is want of memory.
     pub fn missing(&self) -> Result<Vec<Member>, StoreRefusal> {
         let mut missing = Vec::new(self.alloc);
         for seat in &self.seats {

@@ -12,6 +12,7 @@ ghost use Rattle.store.specs.Chains.{links_of};
 
 use crate::announcing::Announces;
 use crate::chain::Chain;
+use crate::known::KnownLog;
 use crate::refusal::StoreRefusal;
 use crate::scribe::Scribe;
 use crate::tale::Tale;
@@ -44,7 +45,11 @@ where
 }
 
 // The chain of a node's log.
-fn chain_of<K: Announces>(alloc: Global, node: &mut Node<K>) -> Result<Chain, StoreRefusal>
+fn chain_of<K: Announces>(
+    alloc: Global,
+    node: &mut Node<K>,
+    known: &mut KnownLog,
+) -> Result<Chain, StoreRefusal>
 where
     K::Image: Drop,
     ensures links { IfOk result (λ chain. K.is_honest node.new.keeper → chain.links.items ≡ links_of (member_of node.new).log) }
@@ -55,7 +60,7 @@ where
     ensures held { node.old.is_up ≡ true → (d : Durable) → K.may_hold node.new.keeper d → d ≡ durable_of (member_of node.old) }
 {
     let entries = node.entries()?;
-    let chain = Chain::of(alloc, entries.as_slice())?;
+    let chain = known.link(alloc, entries.as_slice())?;
     Ok(chain)
 }
 
@@ -66,6 +71,7 @@ fn start_node<K: Announces>(
     schema: Schema,
     members: usize,
     member: Member,
+    known: &mut KnownLog,
 ) -> Result<(Node<K>, Chain), (StoreRefusal, K::Image)>
 where
     K::Image: Drop,
@@ -82,7 +88,7 @@ where
         Ok(node) => node,
         Err((error, image)) => return Err((StoreRefusal::from(error), image)),
     };
-    match chain_of(alloc, &mut node) {
+    match chain_of(alloc, &mut node, known) {
         Ok(chain) => Ok((node, chain)),
         Err(refusal) => Err((refusal, node.stop())),
     }
@@ -93,6 +99,7 @@ where
     K::Image: Drop,
 {
     ghost use Rattle.runlaws.specs.Going.{after_stop, MayStart};
+    ghost use Rattle.store.specs.Closing.{IsAtRest};
     ghost use Rattle.store.specs.Seats.{HasMember, IsClean};
 
     /// A member with this database, which is not started yet; with none it is missing.
@@ -123,8 +130,14 @@ where
         self.node.is_none() && self.image.is_none()
     }
 
-    /// Starts it over its database; one that is up stays so. 41 where it is missing, else the refusal of the database.
-    pub fn start(&mut self, schema: Schema, members: usize) -> Result<(), StoreRefusal>
+    /// Starts it over its database; one that is up stays so. 41 where it is missing, else the refusal of the database. The chain of
+    /// its log is taken from one that is known, as far as that begins so.
+    pub fn start(
+        &mut self,
+        schema: Schema,
+        members: usize,
+        known: &mut KnownLog,
+    ) -> Result<(), StoreRefusal>
         ensures up { OnOk result (IsSome self.new.node) }
         ensures err { OnErr result (self.new.node ≡ None) }
         ensures still { IsSome self.old.node → self.new ≡ self.old }
@@ -143,7 +156,7 @@ where
             self.image = Some(image);
             return Err(StoreRefusal::Refused(Refusal::NodeDown));
         }
-        match start_node::<K>(self.alloc, image, schema, members, self.member) {
+        match start_node::<K>(self.alloc, image, schema, members, self.member, known) {
             Ok((node, chain)) => {
                 self.chain = chain;
                 if let Some(before) = self.node.replace(node) {
@@ -160,7 +173,7 @@ where
 
     /// Stops it; one that is not up stays so.
     pub fn stop(&mut self)
-        ensures down { self.new.node ≡ None }
+        ensures rests { IsAtRest K.may_hold K.holds self.old self.new }
         ensures still { self.old.node ≡ None → self.new ≡ self.old }
         ensures clean { IsClean K.is_honest K.holds self.new → IsClean K.is_honest K.holds self.old }
         ensures stops { (tables : Tables) (n m : ℕ) (x : TheNode) → HasMember K.may_hold K.holds tables n m self.old x → HasMember K.may_hold K.holds tables n m self.new (after_stop x) }
@@ -174,13 +187,11 @@ where
         }
     }
 
-    /// Its database, once it is stopped.
-    pub fn into_image(self) -> Option<K::Image> {
-        let Seat { node, image, .. } = self;
-        match node {
-            Some(node) => Some(node.stop()),
-            None => image,
-        }
+    /// Takes its database out, where its member is not up.
+    pub fn take_image(&mut self) -> Option<K::Image>
+        ensures { (result ≡ self.old.image) × (self.new.image ≡ None) × (self.new.member ≡ self.old.member) × (self.new.node ≡ self.old.node) }
+    {
+        self.image.take()
     }
 
     /// What it has stored, where it is up.

@@ -1,9 +1,12 @@
 //! How members stand, and are stopped and started.
-ghost use Rattle.std.specs.Prelude.{◌≡◌, ◌≢◌, ◌⊎◌, ◌-◌, ℕ, IsErr, OnErr, slice_get};
+ghost use Rattle.std.specs.Prelude.{◌≡◌, ◌≢◌, ◌⊎◌, ◌-◌, ℕ, IfOk, IsErr, OnErr, slice_get, if◌then◌else◌};
+ghost use Rattle.store.specs.Closing.{EachBecame, IsStillThere};
 ghost use Rattle.store.specs.Going.{GoesOn};
 ghost use Rattle.store.specs.Journals.{IsSpent};
+ghost use Rattle.store.specs.Statuses.{IsStatus, leads};
 
 use crate::announcing::Announces;
+use crate::known::KnownLog;
 use crate::refusal::StoreRefusal;
 use crate::seat::Seat;
 use crate::status::{Standing, Status};
@@ -14,6 +17,16 @@ use journal::{Line, Taken};
 use model::member::Member;
 use model::message::Input;
 use model::stamp::Stamp;
+
+// Whether a member that is up leads or follows, as far as it is known who leads.
+fn standing_of(leader: Option<Member>, member: Member) -> Standing
+    ensures { result ≡ (if leads leader member then Standing.Leads else Standing.Follows) }
+{
+    match leader {
+        Some(leader) if leader == member => Standing::Leads,
+        _ => Standing::Follows,
+    }
+}
 
 impl<K: Announces> Store<K>
 where
@@ -42,6 +55,7 @@ where
     {
         let members = self.seats.len();
         let schema = self.schema.clone()?;
+        let mut known = KnownLog::new(self.alloc);
         let Some(at) = self.place_of(member) else {
             return Err(StoreRefusal::Refused(Refusal::NodeDown));
         };
@@ -49,7 +63,7 @@ where
         if seat.is_up() {
             return Ok(false);
         }
-        seat.start(schema, members)?;
+        seat.start(schema, members, &mut known)?;
         Ok(true)
     }
 
@@ -93,7 +107,9 @@ where
         }
     }
 
-    fn status_of(&self, seat: &Seat<K>) -> Status {
+    fn status_of(&self, seat: &Seat<K>) -> Status
+        ensures { IsStatus K.is_honest self.now.leader seat.now result }
+    {
         let Some(node) = &seat.node else {
             let standing = if seat.is_missing() {
                 Standing::Missing
@@ -109,14 +125,9 @@ where
                 closed: None,
             };
         };
-        let standing = if self.leader == Some(seat.member) {
-            Standing::Leads
-        } else {
-            Standing::Follows
-        };
         Status {
             member: seat.member,
-            standing,
+            standing: standing_of(self.leader, seat.member),
             term: node.hard_state().term,
             entries: seat.chain.len(),
             applied: node.commit().unwrap_or(0),
@@ -149,7 +160,9 @@ where
     }
 
     /// How each member stands, in their order. The error is want of memory.
-    pub fn status(&self) -> Result<Vec<Status>, StoreRefusal> {
+    pub fn status(&self) -> Result<Vec<Status>, StoreRefusal>
+        ensures { IfOk result (λ all. EachBecame (IsStatus K.is_honest self.now.leader) self.now.seats.items all.items) }
+    {
         let mut all = Vec::new(self.alloc);
         for seat in &self.seats {
             all.push(self.status_of(seat))?;
@@ -159,7 +172,8 @@ where
 
     // Stops each member that is up.
     pub(crate) fn stop_all(&mut self) -> Result<(), StoreRefusal>
-        ensures { GoesOn K.is_honest K.may_hold K.holds self.old self.new }
+        ensures there { EachBecame IsStillThere self.old.seats.items self.new.seats.items }
+        ensures goes { GoesOn K.is_honest K.may_hold K.holds self.old self.new }
     {
         for at in 0..self.seats.len() {
             self.end(at.saturating_add(1))?;
@@ -169,7 +183,8 @@ where
 
     // Stops a member, if it is up.
     fn end(&mut self, member: Member) -> Result<(), StoreRefusal>
-        ensures { GoesOn K.is_honest K.may_hold K.holds self.old self.new }
+        ensures there { EachBecame IsStillThere self.old.seats.items self.new.seats.items }
+        ensures goes { GoesOn K.is_honest K.may_hold K.holds self.old self.new }
     {
         if !self.is_up(member) {
             return Ok(());

@@ -1,5 +1,6 @@
 //! Steps of the members, and what comes of them.
 ghost use Rattle.std.specs.Prelude.{◌≡◌, ◌≢◌, ◌<◌, ◌+◌, ◌-◌, ℕ, Some, [], ◌∷◌, IfOk, IfErr, OnOk, OnErr, length, slice_get};
+ghost use Rattle.store.specs.Closing.{EachBecame, IsStillThere};
 ghost use Rattle.store.specs.Going.{Anywhere, GoesOn, GoesOnSo, HasSent, HasStepped, Hears, IsAmong, IsBrought, MayHaveStepped, Publishes, SaysWhy};
 ghost use Rattle.store.specs.Journals.{IsSpent, HasLast};
 ghost use Rattle.store.specs.Refusals.{IsOfJournal};
@@ -247,6 +248,7 @@ where
 
     // Stops a member's node.
     fn stop_node(&mut self, member: Member)
+        ensures there { EachBecame IsStillThere self.old.seats.items self.new.seats.items }
         ensures others { (at : ℕ) → at ≢ member - 1 → slice_get self.new.seats.items at ≡ slice_get self.old.seats.items at }
         ensures goes { GoesOn K.is_honest K.may_hold K.holds self.old self.new }
     {
@@ -259,6 +261,7 @@ where
 
     // A member is down.
     pub(crate) fn fall(&mut self, member: Member)
+        ensures there { EachBecame IsStillThere self.old.seats.items self.new.seats.items }
         ensures others { (at : ℕ) → at ≢ member - 1 → slice_get self.new.seats.items at ≡ slice_get self.old.seats.items at }
         ensures goes { GoesOn K.is_honest K.may_hold K.holds self.old self.new }
     {

@@ -1,11 +1,13 @@
 //! The open store.
 ghost use Rattle.std.specs.Prelude.{◌≡◌, ◌↔◌, ◌⊎◌, ◌<◌, ◌+◌, ◌-◌, [], Some, IsTrue, IfSome, IfNone, IfOk, IfErr, OnOk, OnErr, length, slice_get};
+ghost use Rattle.store.specs.Closing.{IsClosed};
 ghost use Rattle.store.specs.Going.{GoesOn, Publishes};
 ghost use Rattle.store.specs.Opening.{Begins};
 ghost use Rattle.store.specs.Journals.{IsSpent, IsAdded, IsLonger, IsFlushed, IsOpened};
 ghost use Rattle.store.specs.Refusals.{IsOfJournal};
 
 use crate::announcing::Announces;
+use crate::databases::Databases;
 use crate::device::DeviceError;
 use crate::members::Members;
 pub use crate::outcome::Outcome;
@@ -254,35 +256,17 @@ where
         &self.schema
     }
 
-    /// Stops every member, and gives the databases back, in the order of the members that have one, and the journal's device. What
-    /// could not be written to the journal is its refusal; the databases hold what was stored all the same.
-    pub fn close(mut self) -> (Vec<K::Image>, Option<K::Journal>, Result<(), StoreRefusal>) {
+    /// Stops every member, and gives the databases back, and the journal's device. What could not be written to the journal is its
+    /// refusal; the databases hold what was stored all the same.
+    pub fn close(mut self) -> (Databases<K>, Option<K::Journal>, Result<(), StoreRefusal>)
+        ensures { IsClosed K.is_honest K.may_hold K.holds self result.0.seats.items }
+    {
         let stopped = self.stop_all();
-        let Store {
-            alloc,
-            seats,
-            scribe,
-            ..
-        } = self;
-        let images = images_of(alloc, seats);
+        let Store { seats, scribe, .. } = self;
         let device = match scribe {
             Some(scribe) => Some(scribe.into_device()),
             None => None,
         };
-        (images, device, stopped)
+        (Databases::of(seats), device, stopped)
     }
-}
-
-// The databases of members that have one, in their order.
-fn images_of<K: Announces>(alloc: Global, seats: Vec<Seat<K>>) -> Vec<K::Image>
-where
-    K::Image: Drop,
-{
-    let mut images = Vec::new(alloc);
-    for seat in seats {
-        if let Some(image) = seat.into_image() {
-            let _ = images.push(image);
-        }
-    }
-    images
 }

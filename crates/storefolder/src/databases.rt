@@ -8,7 +8,7 @@ use store::past::Tale;
 use store::{Past, StoreRefusal};
 
 /// A database in a file.
-pub(crate) type Database = Connection<FileStore<DatabaseFile>>;
+pub type Database = Connection<FileStore<DatabaseFile>>;
 
 fn refusal_of(error: &Error) -> StoreRefusal {
     match error {
@@ -43,7 +43,7 @@ fn open_database(
 
 /// The members' databases, in their order; none for one that is missing. 40 and 43 where one can't be opened, 48 where another process
 /// has it.
-pub(crate) fn open_databases(
+pub fn open_databases(
     rt: &HostRuntime,
     alloc: Global,
     dir: &str,

@@ -15,7 +15,7 @@ pub(crate) fn device_error(error: &io::Error) -> DeviceError {
 }
 
 /// What an error of any other file is: 38, 43, or 40.
-pub(crate) fn file_refusal(error: &io::Error) -> StoreRefusal {
+pub fn file_refusal(error: &io::Error) -> StoreRefusal {
     StoreRefusal::from(device_error(error))
 }
 

@@ -2,29 +2,27 @@
 #![tactic(auto)]
 
 mod adopting;
-mod auditing;
 mod clock;
 mod databases;
 mod faults;
 mod form;
 mod journal_file;
 mod journals;
-mod later;
 mod memory;
 mod numbers;
 mod opening;
 mod place;
-mod replayed;
 mod task;
 
 pub use adopting::adopt;
-pub use auditing::{Audited, Verdict, audit};
 pub use clock::reading_of;
+pub use databases::{Database, open_databases};
+pub use faults::file_refusal;
 pub use form::{Form, read_form};
 pub use journal_file::JournalFile;
-pub use later::Later;
+pub use journals::tell_all;
 pub use memory::{InMemory, open_in_memory};
+pub use numbers::{Journals, find_journals};
 pub use opening::{Cut, FolderStore, Found, Kept, Opened, close, open};
-pub use place::{Folder, enter, make};
-pub use replayed::{flights, is_file, replay};
+pub use place::{Folder, enter, is_file, make};
 pub use task::{Task, with_store};

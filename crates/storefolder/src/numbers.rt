@@ -10,7 +10,7 @@ use store::StoreRefusal;
 
 /// The numbers of journals, each one more than that before: from the first to the last; none where the last is below the first.
 #[derive(Clone, Copy, PartialEq, Eq, Debug)]
-pub(crate) struct Journals {
+pub struct Journals {
     pub first: u64,
     pub last: u64,
 }
@@ -122,11 +122,7 @@ fn follow(numbers: &[u64]) -> Result<Journals, u64>
 }
 
 /// The journals in a folder. The first ones may be away; 55 of one that is missing between others.
-pub(crate) fn find_journals(
-    rt: &HostRuntime,
-    alloc: Global,
-    dir: &str,
-) -> Result<Journals, StoreRefusal> {
+pub fn find_journals(rt: &HostRuntime, alloc: Global, dir: &str) -> Result<Journals, StoreRefusal> {
     let mut numbers = match numbers_in(rt, alloc, dir) {
         Ok(numbers) => numbers,
         Err(error) => return Err(file_refusal(&error)),

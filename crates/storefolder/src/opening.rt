@@ -18,7 +18,7 @@ use store::announcing::{Announces, Announcing};
 use store::members::Members;
 use store::past::End;
 use store::scribe::Scribe;
-use store::{Device, Past, Store, StoreRefusal};
+use store::{Databases, Device, Past, Store, StoreRefusal};
 
 /// What keeps a member of a store: a database in S, and what it is about to store is told to a journal J first.
 pub type Kept<S, J> = Announcing<SqlKeeper<S>, J>;
@@ -47,6 +47,7 @@ struct Before {
 /// What an opening found, and the folder, which is this process's own.
 #[derive(Drop)]
 pub struct Found {
+    alloc: Global,
     folder: Folder,
     /// The number of the journal that was begun.
     pub journal: u64,
@@ -208,6 +209,7 @@ fn open_over<S: Alter + Drop, J: Device, F: FnOnce() -> Result<J, StoreRefusal>>
     Ok(Opened {
         store,
         found: Found {
+            alloc,
             folder,
             journal: before.next,
             cut: before.cut,
@@ -236,6 +238,21 @@ pub fn open(
     open_over(alloc, folder, &before, databases, begin_journal, reading)
 }
 
+// The databases that are there, in the order of the members. One for which there is no memory is closed without more.
+fn images_of<K: Announces>(alloc: Global, databases: Databases<K>) -> Vec<K::Image>
+where
+    K::Image: Drop,
+{
+    let mut databases = databases;
+    let mut images = Vec::new(alloc);
+    for member in 1..=databases.members() {
+        if let Some(image) = databases.take(member) {
+            let _ = images.push(image);
+        }
+    }
+    images
+}
+
 fn close_databases(databases: Vec<Database>) {
     for database in databases {
         let _ = database.close();
@@ -261,6 +278,7 @@ impl Found {
 fn stop<S: Alter + Drop, J: Device>(opened: Opened<Kept<S, J>>) -> Stopped<S, J> {
     let Opened { store, found } = opened;
     let (databases, journal, closed) = store.close();
+    let databases = images_of::<Kept<S, J>>(found.alloc, databases);
     Stopped {
         databases,
         journal,

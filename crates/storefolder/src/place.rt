@@ -34,6 +34,14 @@ pub(crate) fn exists(rt: &HostRuntime, path: &str) -> Result<bool, StoreRefusal>
     }
 }
 
+/// Whether this is the name of a file, which no folder has.
+pub fn is_file(rt: &HostRuntime, name: &str) -> bool {
+    match fs::metadata(rt, name) {
+        Ok(found) => found.is_file(),
+        Err(_) => false,
+    }
+}
+
 // Whether the folder has something of a store or of a run in it.
 fn is_taken(rt: &HostRuntime, alloc: Global, dir: &str) -> Result<bool, StoreRefusal> {
     if exists(rt, form_path(alloc, dir)?.as_str())?

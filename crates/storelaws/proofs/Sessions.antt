@@ -39,7 +39,8 @@ use Rattle.store.specs.Nodes.{IsMember, IsNodeOf, Rests, rested}
 use Rattle.store.specs.Seats.{HasMember, IsClean}
 use Rattle.store.specs.Going.{Anywhere, AreClean, GoesOn, GoesOnSo, IsIn, IsRunOf}
 use Rattle.store.specs.Opening.{AreFound}
-use Rattle.storelaws.specs.Sessions.{AreAfter, AreLeft, Answers, Came, Further, HasAnswered, IsListed, MayHold, session_of}
+use Rattle.store.specs.Closing.{AreLeft, IsClosed, MayHold, images_in}
+use Rattle.storelaws.specs.Sessions.{AreAfter, Answers, Came, Further, HasAnswered, HasEnded, IsListed, session_of}
 
 -- what a member told in a session is in the list that explains it
 pub listed : (language : Language) (sessions : List Session) (list : List Entry) → ExplainsSessions language sessions list → (i : ℕ) (s : Session) → nth sessions i ≡ Some s → (client number : ℕ) (outcome : Result ℕ Refusal) → WasTold s.gave client number outcome →
@@ -233,3 +234,17 @@ module _ {K J I : Type 0} {g : _} {s : _} {d : _} (held : K → Durable → Type
   -- a call of which no more is said
   pub so : (honest : K → Type 0) (old new : Store K J I g s d) → GoesOn honest held holds old new → GoesOnSo honest held holds Anywhere (λ gave. Unit {0}) old new
   so honest old new x = record { schema = x.schema; count = x.count; clean = x.clean; went = λ k w i p. (x.went k w i, tt) }
+
+-- what is left of a store that is closed
+module _ {K J I : Type 0} {g : _} {s : _} {d : _} (honest : K → Type 0) (held : K → Durable → Type 0) (holds : I → Durable → Type 0) where
+  pub ended : (store : Store K J I g s d) (seats : List (Seat K J I g s d)) → IsClosed honest held holds store seats → HasEnded honest held holds store (images_in seats)
+  ended store seats C = record {
+    last = C.last;
+    goes = C.goes;
+    left = record {
+      count = length-map seats (λ (seat : Seat K J I g s d). seat.image) ∙ C.rests.count;
+      each = λ i seat image stored p q h.
+          let after = of_map (λ (seat : Seat K J I g s d). seat.image) seats i (Some image) q in
+          ((C.rests.each i seat after.0 p after.1).holds_it image after.2 stored).0 h;
+    };
+  }

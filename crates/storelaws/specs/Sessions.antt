@@ -1,5 +1,5 @@
 -- The sessions of stores that are opened one after the other over the same databases.
-use Rattle.std.specs.Prelude.{◌≡◌, ℕ, Option, Some, Result, List, [], ◌∷◌, ◌++◌, ◌+◌, Ok, MatchOption, length, slice_get}
+use Rattle.std.specs.Prelude.{◌≡◌, ℕ, Option, Result, List, [], ◌∷◌, ◌++◌, ◌+◌, Ok, MatchOption, length, slice_get}
 use Rattle.fault.specs.declared.refusal.Refusal.{Refusal}
 use Rattle.model.specs.declared.entry.Entry.{Entry}
 use Rattle.model.specs.declared.entry.Told.{Told}
@@ -19,9 +19,9 @@ use Rattle.sqlread.specs.Shapes.{QueryShape}
 use Rattle.sqlread.specs.Texts.{query_in}
 use Rattle.runlaws.specs.Going.{Goes}
 use Rattle.store.specs.Asking.{IsAnswerOf}
-use Rattle.store.specs.declared.seat.Seat.{Seat}
 use Rattle.store.specs.declared.store.Store.{Store}
-use Rattle.store.specs.Going.{IsIn}
+use Rattle.store.specs.Closing.{AreLeft}
+use Rattle.store.specs.Going.{GoesOn, IsIn}
 use Rattle.store.specs.Opening.{AreFound}
 
 -- these sessions followed one another, the first one over members that were never started, and these databases hold what they left
@@ -33,14 +33,11 @@ abbrev pub IsListed : Language → List Entry → (client number : ℕ) → Resu
 IsListed language list client number outcome = (told : Told) × (told.client ≡ client) × (told.number ≡ number) × (told.outcome ≡ outcome) × IsTold language list told
 
 module _ {K J I : Type 0} {g : _} {s : _} {d : _} where
-  -- what the database of a seat may hold
-  abbrev pub MayHold : (held : K → Durable → Type 0) (holds : I → Durable → Type 0) → Seat K J I g s d → Durable → Type 0
-  MayHold held holds seat stored = MatchOption seat.node (MatchOption seat.image ⊥ (λ image. holds image stored)) (λ node. held node.keeper stored)
-
-  -- what is found of a store's databases once its process has ended: each that is there holds nothing else than its seat's may hold
-  pub record AreLeft (held : K → Durable → Type 0) (holds : I → Durable → Type 0) (store : Store K J I g s d) (images : List (Option I)) : Type 0 where
-    pub count : length images ≡ length store.seats.items
-    pub each : (i : ℕ) (seat : Seat K J I g s d) (image : I) (stored : Durable) → slice_get store.seats.items i ≡ Some seat → slice_get images i ≡ Some (Some image) → holds image stored → MayHold held holds seat stored
+  -- a store went on to its last step, and these databases are left of it then
+  pub record HasEnded (honest : K → Type 0) (held : K → Durable → Type 0) (holds : I → Durable → Type 0) (store : Store K J I g s d) (images : List (Option I)) : Type 0 where
+    pub last : Store K J I g s d
+    pub goes : GoesOn honest held holds store last
+    pub left : AreLeft held holds last images
 
   -- how a store came to where it is: by events, from members with this stored
   pub record Came (held : K → Durable → Type 0) (holds : I → Durable → Type 0) (found : List Node) (store : Store K J I g s d) : Type 0 where

@@ -1,7 +1,8 @@
 -- Rows that form a log, and the log that they form.
-use Rattle.std.proofs.Common.{drop-cons, add-one, ◌≡◌, ◌↔◌, ℕ, suc, ◌+◌, ◌<◌, ◌≤◌, Bool, true, false, ◌&&◌, nat_lt, nat_le, Option, Some, None, option_map, is_ok, Result, Ok, Err, List, [], ◌∷◌, length, drop, get_or, arith, refl, sym, ap, subst, ◌∙◌}
+use Rattle.std.proofs.Common.{drop-cons, add-one, ◌≡◌, ◌↔◌, ℕ, suc, ◌+◌, ◌<◌, ◌≤◌, Bool, true, false, ◌&&◌, nat_lt, nat_le, Option, Some, None, option_map, is_ok, Result, Ok, Err, List, [], ◌∷◌, ◌++◌, length, drop, get_or, arith, refl, sym, ap, subst, ◌∙◌}
 use Rattle.std.specs.List.{list_all}
 use Rattle.std.proofs.lemmas.Bool.Decides.{nat_tests}
+use Rattle.std.proofs.lemmas.List.{append_assoc}
 use Rattle.sqlite.specs.Order.{Row}
 use Rattle.fault.specs.declared.refusal.Refusal.{Refusal}
 use Rattle.model.specs.declared.entry.Entry.{Entry}
@@ -45,9 +46,13 @@ lt_from m n h = grind (arith, nat_tests)
 dropped : (i : ℕ) (rows : List Row) (r : Row) → i < length rows → r ≡ get_or rows i r → drop i rows ≡ r ∷ drop (i + 1) rows
 dropped i rows r low is = drop-cons rows i r low ∙ ap (λ x. x ∷ drop (suc i) rows) (sym is) ∙ ap (λ n. r ∷ drop n rows) (sym (add-one i))
 
-pub forms_next : (tables : Language) (top at term least i : ℕ) (rows : List Row) (r : Row) (e : Entry) → i < length rows → r ≡ get_or rows i r → r ≡ entry_values at (item_of e) → Follows tables top term least e
-    → Forms tables top (at + 1) e.term (e.stamp + 1) (drop (i + 1) rows) → Forms tables top at term least (drop i rows)
-forms_next tables top at term least i rows r e low is shown fits rest = subst (Forms tables top at term least) (sym (dropped i rows r low is)) (e, shown, fits, rest)
+-- the entries so far, and those that the other rows show
+pub shown_next : (tables : Language) (top at term least i : ℕ) (rows : List Row) (r : Row) (e : Entry) (log es : List Entry) → i < length rows → r ≡ get_or rows i r → r ≡ entry_values at (item_of e) → Follows tables top term least e
+    → ((rest : List Entry) → drop i rows ≡ shown_log at (items_of rest) → Go tables top term least rest → (rows ≡ shown_log 1 (items_of (log ++ rest))) × Go tables top 0 0 (log ++ rest))
+    → drop (i + 1) rows ≡ shown_log (at + 1) (items_of es) → Go tables top e.term (e.stamp + 1) es → (rows ≡ shown_log 1 (items_of ((log ++ e ∷ []) ++ es))) × Go tables top 0 0 ((log ++ e ∷ []) ++ es)
+shown_next tables top at term least i rows r e log es low is shown fits known later go =
+    let here = dropped i rows r low is ∙ ap (λ x. x ∷ drop (i + 1) rows) shown ∙ ap (λ xs. entry_values at (item_of e) ∷ xs) later in
+    subst (λ all. (rows ≡ shown_log 1 (items_of all)) × Go tables top 0 0 all) (sym (append_assoc log (e ∷ []) es)) (known (e ∷ es) here (fits, go))
 
 pub forms_rest : (tables : Language) (top at term least i : ℕ) (rows : List Row) (r : Row) (e : Entry) → i < length rows → r ≡ get_or rows i r → r ≡ entry_values at (item_of e) → Follows tables top term least e
     → Forms tables top at term least (drop i rows) → Forms tables top (at + 1) e.term (e.stamp + 1) (drop (i + 1) rows)
@@ -57,12 +62,6 @@ forms_rest tables top at term least i rows r e low is shown fits all =
     subst (λ x. Forms tables top (at + 1) x.term (x.stamp + 1) (drop (i + 1) rows)) same both_rows.3
 
 -- ---- the log that they form
-
-pub log_of : (tables : Language) (top at term least : ℕ) (rows : List Row) → Forms tables top at term least rows → (es : List Entry) × (rows ≡ shown_log at (items_of es)) × Go tables top term least es
-log_of tables top at term least [] forms = ([], refl, tt)
-log_of tables top at term least (r ∷ rs) forms =
-    let rest = log_of tables top (at + 1) (forms.0).term ((forms.0).stamp + 1) rs forms.3 in
-    (forms.0 ∷ rest.0, ap (λ x. x ∷ rs) forms.1 ∙ ap (λ xs. entry_values at (item_of forms.0) ∷ xs) rest.1, (forms.2, rest.2))
 
 pub forms_of : (tables : Language) (top at term least : ℕ) (rows : List Row) (es : List Entry) → rows ≡ shown_log at (items_of es) → Go tables top term least es → Forms tables top at term least rows
 forms_of tables top at term least [] [] is go = tt

@@ -1,6 +1,5 @@
 -- What an open finds, of tables that are there and of tables that are made.
-use Rattle.std.proofs.Common.{◌≡◌, ◌⊎◌, inl, inr, ℕ, zero, suc, Bool, true, false, true≢false, ◌&&◌, nat_lt, Option, Some, None, List, [], ◌∷◌, length, IsTrue, refl, sym, ap, subst, ◌∙◌}
-use Rattle.std.proofs.lemmas.List.{length-map}
+use Rattle.std.proofs.Common.{◌≡◌, ◌⊎◌, inl, inr, ℕ, zero, suc, Bool, true, false, true≢false, ◌&&◌, nat_lt, Option, Some, None, List, [], ◌∷◌, IsTrue, refl, sym, ap, subst, ◌∙◌}
 use Rattle.std.specs.List.{list_all}
 use Rattle.sqlite.specs.Effect.{Database}
 use Rattle.sqlite.specs.State.{State, HasCleanDisk, IsUnchanged, KeepsCommit}
@@ -97,8 +96,8 @@ keeps_offers old new d clean out it offer = record {
 
 -- ---- an open of tables that are there
 
-pub found_opens : (old new : State) (members : ℕ) (tables : Language) (n : ℕ) → HasCleanDisk old → old.in_transaction ≡ false → IsReady old → IsUnchanged old new → IsFound old.now members tables n → IsOpened old new members tables n
-found_opens old new members tables n clean out ready same found =
+pub found_opens : (old new : State) (members : ℕ) (tables : Language) (log : List Entry) → HasCleanDisk old → old.in_transaction ≡ false → IsReady old → IsUnchanged old new → IsFound old.now members tables log → IsOpened old new members tables log
+found_opens old new members tables log clean out ready same found =
     let d = found.d in
     let plain = log_plain members tables d found.forms in
     let has = subst (λ db. Holds db (contents_of d)) (sym same.0.now_is) found.holds in
@@ -120,11 +119,11 @@ found_opens old new members tables n clean out ready same found =
         found = inl (subst (λ x. Holds old.committed (contents_of x) × (durable_in (contents_of x) ≡ x)) (sym stored) (subst (λ db. Holds db (contents_of d)) was found.holds, plain));
       };
       forms = subst (IsLog members tables) (sym stored) found.forms;
-      counted = found.counted ∙ sym (ap (λ (c : Contents). length c.log) read ∙ length-map d.log item_of);
+      read = found.read ∙ sym (ap (λ (x : Durable). x.log) stored);
     }
 
-pub opened_from : (old mid new : State) (members : ℕ) (tables : Language) (n : ℕ) → ((d : Durable) → Offers mid d → Offers old d) → IsOpened mid new members tables n → IsOpened old new members tables n
-opened_from old mid new members tables n left it = record { settled = it.settled; offers = left _ it.offers; forms = it.forms; counted = it.counted }
+pub opened_from : (old mid new : State) (members : ℕ) (tables : Language) (log : List Entry) → ((d : Durable) → Offers mid d → Offers old d) → IsOpened mid new members tables log → IsOpened old new members tables log
+opened_from old mid new members tables log left it = record { settled = it.settled; offers = left _ it.offers; forms = it.forms; read = it.read }
 
 -- ---- where nothing is found
 

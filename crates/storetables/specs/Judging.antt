@@ -1,5 +1,5 @@
 -- When rows are those of a log, row by row.
-use Rattle.std.specs.Prelude.{◌≡◌, ℕ, ◌+◌, ◌<◌, ◌≤◌, true, Option, List, [], ◌∷◌, length}
+use Rattle.std.specs.Prelude.{◌≡◌, ℕ, ◌+◌, ◌<◌, ◌≤◌, true, Option, List, [], ◌∷◌}
 use Rattle.sqlite.specs.Order.{Row}
 use Rattle.model.specs.declared.entry.Entry.{Entry}
 use Rattle.model.specs.Stamps.{TIME_LAST}
@@ -51,10 +51,10 @@ HasNoHard db = (t v : ℕ) (f : Option ℕ) → db.trees 0 ≡ meta_row t v ∷ 
 abbrev pub IsNoLog : Database → ℕ → Language → Type 0
 IsNoLog db members tables = (d : Durable) → Holds db (contents_of d) → IsLog members tables d → AreTexts d.log → ⊥
 
--- the rows are those of a log of this length
-pub record IsFound (db : Database) (members : ℕ) (tables : Language) (count : ℕ) : Type 0 where
+-- the rows are those of this log
+pub record IsFound (db : Database) (members : ℕ) (tables : Language) (log : List Entry) : Type 0 where
   pub d : Durable
   pub holds : Holds db (contents_of d)
   pub forms : IsLog members tables d
   pub texts : AreTexts d.log
-  pub counted : count ≡ length d.log
+  pub read : log ≡ d.log

@@ -1,5 +1,5 @@
 -- What a database stores.
-use Rattle.std.specs.Prelude.{◌≡◌, ◌⊎◌, ℕ, ℤ, pos, negsuc, Option, Some, None, List, [], ◌∷◌, length, map, IsTrue, IsUtf8, false}
+use Rattle.std.specs.Prelude.{◌≡◌, ◌⊎◌, ℕ, ℤ, pos, negsuc, Option, Some, None, List, [], ◌∷◌, map, IsTrue, IsUtf8, false}
 use Rattle.std.specs.List.{AllByRecursion}
 use Rattle.sqlite.specs.declared.types.Value.{Value}
 use Rattle.sqlite.specs.declared.types.Value.TheVariants.{Null, Int, Real, Text as Words, Blob}
@@ -107,12 +107,12 @@ pub record IsStored (db : Database) : Type 0 where
 abbrev pub IsBad : State → ℕ → Language → Type 0
 IsBad s members tables = (d : Durable) → Offers s d → IsLog members tables d → ⊥
 
--- an open found a log of such a member with so many entries, and what an open had found before is that
-pub record IsOpened (old new : State) (members : ℕ) (tables : Language) (count : ℕ) : Type 0 where
+-- an open found this log of such a member, and what an open had found before is that
+pub record IsOpened (old new : State) (members : ℕ) (tables : Language) (log : List Entry) : Type 0 where
   pub settled : IsSettled new
   pub offers : Offers old (stored_in new.now)
   pub forms : IsLog members tables (stored_in new.now)
-  pub counted : count ≡ length (contents_in new.now).log
+  pub read : log ≡ (stored_in new.now).log
 
 -- the three tables are there, and nothing waits to be committed
 pub record IsReady (s : State) : Type 0 where

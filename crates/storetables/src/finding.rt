@@ -1,5 +1,5 @@
 //! What the tables hold: whether it forms a log, and what is read of it as a whole.
-ghost use Rattle.std.specs.Prelude.{◌≡◌, ◌+◌, ◌-◌, ◌<◌, ◌≤◌, ◌∷◌, [], Some, Option, List, ℕ, false, true, length, map, drop, IfOk, OnOk, IsTrue, MatchOption};
+ghost use Rattle.std.specs.Prelude.{◌≡◌, ◌+◌, ◌-◌, ◌<◌, ◌≤◌, ◌∷◌, [], Some, Option, List, ℕ, false, true, length, map, drop, vec_len, IfOk, OnOk, IsTrue, MatchOption};
 ghost use Rattle.std.specs.List.Sorted.{IsPermutation};
 ghost use Rattle.sqlite.specs.State.{HasCleanDisk, IsUnchanged, KeepsCommit};
 ghost use Rattle.sqlite.specs.Held.{state};
@@ -13,7 +13,7 @@ ghost use Rattle.storetables.specs.Rows.{Holds, meta_row, floor_row, shown_meta,
 ghost use Rattle.storetables.specs.Judging.{HasHard, HasNoHard, IsNoLog, IsFound};
 ghost use Rattle.storetables.specs.Stored.{IsBad, IsOpened, IsSound, Offers};
 
-use crate::judging::{Meta, floor_shown, forms_log, meta_shown};
+use crate::judging::{Meta, floor_shown, log_shown, meta_shown};
 use crate::opening::set_up;
 use crate::reading::find_entry;
 use crate::whole::Whole;
@@ -131,15 +131,15 @@ fn is_vote(members: usize, vote: Option<Member>) -> bool
     }
 }
 
-/// How long the log is that the tables hold, none where they hold no log.
+/// The log that the tables hold, none where they hold no log.
 fn judge<S: Alter>(
     alloc: Global,
     conn: &mut Connection<S>,
     members: usize,
     schema: &Schema,
-) -> Result<Option<usize>, Error>
-    ensures ok { HasCleanDisk (state S.Store conn.new) → IfOk result (λ o. (state S.Store conn.old).now.schema ≡ ours → MatchOption o (IsNoLog (state S.Store conn.old).now members (language_of schema.now)) (IsFound (state S.Store conn.old).now members (language_of schema.now))) }
-    ensures short { IfOk result (λ o. MatchOption o (Unit {0}) (λ n. n ≤ 100000)) }
+) -> Result<Option<Vec<Entry>>, Error>
+    ensures ok { HasCleanDisk (state S.Store conn.new) → IfOk result (λ o. (state S.Store conn.old).now.schema ≡ ours → MatchOption o (IsNoLog (state S.Store conn.old).now members (language_of schema.now)) (λ log. IsFound (state S.Store conn.old).now members (language_of schema.now) log.items)) }
+    ensures short { IfOk result (λ o. MatchOption o (Unit {0}) (λ log. vec_len log ≤ 100000)) }
     ensures same { HasCleanDisk (state S.Store conn.new) → OnOk result ((state S.Store conn.old).now.schema ≡ ours → IsUnchanged (state S.Store conn.old) (state S.Store conn.new)) }
     ensures keeps { HasCleanDisk (state S.Store conn.new) → (state S.Store conn.old).now.schema ≡ ours → KeepsCommit (state S.Store conn.old) (state S.Store conn.new) }
     ensures autocommit { conn.old.in_transaction ≡ false → conn.new.in_transaction ≡ false }
@@ -154,29 +154,25 @@ fn judge<S: Alter>(
         return Ok(None);
     }
     let rows = read_log(conn)?;
-    let count = rows.len();
-    if count > LOG_ROOM {
+    if rows.len() > LOG_ROOM {
         return Ok(None);
     }
-    let forms = forms_log(alloc, schema, hard.term, &rows)?;
-    if !forms {
-        return Ok(None);
-    }
-    Ok(Some(count))
+    let log = log_shown(alloc, schema, hard.term, &rows)?;
+    Ok(log)
 }
 
-/// Makes the tables that are missing, and tells how long the log is that is there then; none where no open
+/// Makes the tables that are missing, and gives the log that is there then; none where no open
 /// finds a log of such a member.
 pub fn find_log<S: Alter>(
     alloc: Global,
     conn: &mut Connection<S>,
     members: usize,
     schema: &Schema,
-) -> Result<Option<usize>, Error>
+) -> Result<Option<Vec<Entry>>, Error>
     requires out { conn.old.in_transaction ≡ false }
     requires settled { IsTrue (state S.Store conn.old).is_open → (state S.Store conn.old).now ≡ (state S.Store conn.old).committed }
-    ensures ok { HasCleanDisk (state S.Store conn.new) → IfOk result (λ o. MatchOption o (IsBad (state S.Store conn.new) members (language_of schema.now)) (IsOpened (state S.Store conn.old) (state S.Store conn.new) members (language_of schema.now))) }
-    ensures short { IfOk result (λ o. MatchOption o (Unit {0}) (λ n. n ≤ 100000)) }
+    ensures ok { HasCleanDisk (state S.Store conn.new) → IfOk result (λ o. MatchOption o (IsBad (state S.Store conn.new) members (language_of schema.now)) (λ log. IsOpened (state S.Store conn.old) (state S.Store conn.new) members (language_of schema.now) log.items)) }
+    ensures short { IfOk result (λ o. MatchOption o (Unit {0}) (λ log. vec_len log ≤ 100000)) }
     ensures autocommit { conn.new.in_transaction ≡ false }
     ensures clean { HasCleanDisk (state S.Store conn.new) → HasCleanDisk (state S.Store conn.old) }
     ensures limit { conn.new.step_limit ≡ conn.old.step_limit }

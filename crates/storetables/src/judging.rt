@@ -1,11 +1,11 @@
 //! Whether rows form a log.
-ghost use Rattle.std.specs.Prelude.{◌≡◌, ◌≢◌, ◌↔◌, ◌+◌, ◌<◌, ◌≤◌, ◌^◌, ◌∷◌, [], Some, None, Option, ℕ, false, true, pos, length, IfOk, OnOk, IsTrue, MatchOption};
+ghost use Rattle.std.specs.Prelude.{◌≡◌, ◌≢◌, ◌+◌, ◌<◌, ◌≤◌, ◌^◌, ◌∷◌, [], Some, None, Option, ℕ, false, true, pos, length, IfOk, OnOk, MatchOption};
 ghost use Rattle.model.specs.declared.entry.Entry.{Entry as Kept};
 ghost use Rattle.model.specs.Steps.{is_floor, spells, TERM_LAST};
 ghost use Rattle.sqlread.specs.Meaning.{language_of};
-ghost use Rattle.storetables.specs.Contents.{item_of, number_of_vote, number_of_floor, vote_in};
-ghost use Rattle.storetables.specs.Rows.{entry_values, floor_values, meta_values};
-ghost use Rattle.storetables.specs.Judging.{Follows, Forms};
+ghost use Rattle.storetables.specs.Contents.{item_of, items_of, number_of_vote, number_of_floor, vote_in};
+ghost use Rattle.storetables.specs.Rows.{entry_values, floor_values, meta_values, shown_log};
+ghost use Rattle.storetables.specs.Judging.{Follows, Forms, Go};
 
 use crate::reading::{entry_shown, integer_at, natural_at};
 use model::entry::{Entry, Request};
@@ -63,23 +63,30 @@ fn next_entry(
     Ok(Some(entry))
 }
 
-/// Whether the rows of the log form one, in a member of the term `top`.
-pub fn forms_log(alloc: Global, schema: &Schema, top: u64, rows: &[Row]) -> Result<bool, Error>
+/// The entries that the rows of the log show, where these form one, in a member of the term `top`.
+pub fn log_shown(
+    alloc: Global,
+    schema: &Schema,
+    top: u64,
+    rows: &[Row],
+) -> Result<Option<Vec<Entry>>, Error>
     requires { length rows.now ≤ 100000 }
-    ensures { IfOk result (λ b. IsTrue b ↔ Forms (language_of schema.now) top 1 0 0 rows.now) }
+    ensures { IfOk result (λ o. MatchOption o (Forms (language_of schema.now) top 1 0 0 rows.now → ⊥) (λ log. (rows.now ≡ shown_log 1 (items_of log.items)) × Go (language_of schema.now) top 0 0 log.items)) }
 {
+    let mut log = Vec::new(alloc);
     let mut at = 1;
     let mut term = 0;
     let mut least = 0;
     'each: for row in rows {
         let Some(entry) = next_entry(alloc, schema, top, at, term, least, row)? else {
-            return Ok(false);
+            return Ok(None);
         };
         at += 1;
         term = entry.term;
         least = entry.stamp.micros() + 1;
+        log.push(entry)?;
     }
-    Ok(true)
+    Ok(Some(log))
 }
 
 /// What the row of meta tells.

@@ -6,7 +6,7 @@ use Rattle.keep.specs.Log.{IsLog}
 use Rattle.storetables.specs.Stored.{contents_in, stored_in, IsSound, Offers}
 use Rattle.storetables.specs.Found.{offers_held}
 use Rattle.storetables.proofs.Settling.{log_plain}
-use Rattle.durable.specs.Saving.{IsHard}
+use Rattle.durable.specs.Saving.{IsBeginning, IsHard}
 use Rattle.durable.proofs.Settling.{saved_is, saved_stored, kept_sound, kept_same, kept_stored, stored_length, after_length, is_known}
 use Rattle.durable.proofs.keeper.SqlKeeperKeeper.save.Goals as goal
 
@@ -64,6 +64,13 @@ invariant_of-self-in-Ok g c =
           let forms = c.requires.log.1.1.1 was up in
           let all = saved_is old new c.args.change.now set (log_plain _ _ _ forms) (c.in-Ok.ensures.ok sound.clean) in
           ap (λ (d : Durable). d.hard) (sym all.1);
+      begun = λ _ sound.
+          let early : HasCleanDisk old = c.commit_change.ensures.clean sound.clean in
+          let set = c.args.self.now.settled up early in
+          let was : IsSound old = record { clean = early; is_open = set.is_open } in
+          let forms = c.requires.log.1.1.1 was up in
+          let all = saved_is old new c.args.change.now set (log_plain _ _ _ forms) (c.in-Ok.ensures.ok sound.clean) in
+          subst (λ (d : Durable). IsBeginning c.keep_read.new.read.items d.log) (sym all.1) (c.keep_read.ensures (stored_in old.committed).log (c.args.self.now.begun up was));
     }
 
 pub returns-in-Ok-clause-ok : goal.returns-in-Ok-clause-ok
@@ -165,5 +172,6 @@ invariant_of-self-in-Err-1 g c =
           let kept = c.in-Err.ensures.err sound.clean in
           kept_stored old new kept sound (c.args.self.now.held (kept_sound old new early kept sound));
       counted = λ is. absurd (cc is);
+      begun = λ is. absurd (cc is);
       remembered = λ _. subst (λ known. IsHard known (stored_in new.committed)) (sym c.take-known.ensures.after) tt;
     }

@@ -6,7 +6,7 @@ use Rattle.keep.specs.Durable.{tail_of}
 use Rattle.keep.specs.Log.{IsLog}
 use Rattle.storetables.specs.Stored.{contents_in, stored_in, IsSound, Offers}
 use Rattle.storetables.proofs.Settling.{keeps_offers}
-use Rattle.durable.proofs.Settling.{stored_length, same_settles, keeps_sound, keeps_same, keeps_stored, keeps_hard}
+use Rattle.durable.proofs.Settling.{stored_length, same_settles, keeps_sound, keeps_same, keeps_stored, keeps_hard, keeps_begun}
 use Rattle.durable.proofs.keeper.SqlKeeperKeeper.state.Goals as goal
 
 pub invariant_of-self : goal.invariant_of-self
@@ -36,6 +36,11 @@ invariant_of-self g c =
           let set = c.args.self.now.settled up early in
           let keeps = c.read_state.ensures.keeps sound.clean _ set.holds in
           keeps_hard old new c.args.self.now.known keeps sound (c.args.self.now.remembered (keeps_sound old new early keeps sound));
+      begun = λ _ sound.
+          let early : HasCleanDisk old = c.read_state.ensures.clean sound.clean in
+          let set = c.args.self.now.settled up early in
+          let keeps = c.read_state.ensures.keeps sound.clean _ set.holds in
+          keeps_begun old new c.args.self.now.read.items keeps sound (c.args.self.now.begun up (keeps_sound old new early keeps sound));
     }
 
 pub returns-in-Ok-clause-ok : goal.returns-in-Ok-clause-ok
@@ -173,4 +178,5 @@ invariant_of-self-in-Err-1 g c =
           let set = c.args.self.now.settled up early in
           let keeps = c.read_state.ensures.keeps sound.clean _ set.holds in
           keeps_hard old new c.args.self.now.known keeps sound (c.args.self.now.remembered (keeps_sound old new early keeps sound));
+      begun = λ is. absurd (cc is);
     }

@@ -1,9 +1,12 @@
 use Rattle.std.proofs.Common.{◌∙◌}
+use Rattle.store.specs.Pasts.{told_by}
+use Rattle.store.proofs.Closing.{opened_each}
 use Rattle.store.proofs.Opening.{are_opened}
 use Rattle.store.proofs.members.Members.open.Goals as goal
 
 pub returns : goal.returns
 returns g c = record {
-  count = c.start_seats.ensures.count ∙ c.in_ok-seats.ensures.all;
-  went = are_opened g.K.LogReader.is_honest g.K.LogReader.may_hold g.K.Keeper.holds c.args.schema c.args.images.items c.in_ok-seats.seats.items c.start_seats.new.seats.items c.in_ok-seats.ensures c.start_seats.ensures;
+  count = c.start_seats.ensures.starts.count ∙ c.in_ok-seats.ensures.all;
+  each = opened_each g.K.LogReader.is_honest (told_by c.args.past.now) c.args.images.items c.in_ok-seats.seats.items c.start_seats.new.seats.items c.in_ok-seats.ensures c.in_ok-start_seats.ensures.up;
+  went = are_opened g.K.LogReader.is_honest g.K.LogReader.may_hold g.K.Keeper.holds (told_by c.args.past.now) c.args.schema c.args.images.items c.in_ok-seats.seats.items c.start_seats.new.seats.items c.in_ok-seats.ensures c.start_seats.ensures.starts;
 }

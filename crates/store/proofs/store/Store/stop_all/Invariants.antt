@@ -1,5 +1,9 @@
+use Rattle.store.specs.Closing.{EachBecame, IsStillThere}
 use Rattle.store.specs.Going.{GoesOn}
 use Rattle.store.proofs.store.Store.stop_all.Given as goal
 
 abbrev pub invariant-loop-at : goal.invariant-loop-at
-invariant-loop-at g l = GoesOn g.K.LogReader.is_honest g.K.LogReader.may_hold g.K.Keeper.holds l.initial.self l.self
+invariant-loop-at g l = record {
+  there : EachBecame IsStillThere l.initial.self.seats.items l.self.seats.items;
+  goes : GoesOn g.K.LogReader.is_honest g.K.LogReader.may_hold g.K.Keeper.holds l.initial.self l.self;
+}

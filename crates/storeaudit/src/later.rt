@@ -1,9 +1,5 @@
 //! A folder whose first journals are away.
 use crate::auditing::found_in;
-use crate::databases::open_databases;
-use crate::form::Form;
-use crate::journals::tell_all;
-use crate::numbers::Journals;
 use durable::SqlKeeper;
 use journal::Summary;
 use model::member::Member;
@@ -13,7 +9,9 @@ use sqlite::{Alter, Connection};
 use std::alloc::Global;
 use store::announcing::Judging;
 use store::held::HeldLog;
+use store::known::KnownLog;
 use store::{Past, StoreRefusal};
+use storefolder::{Form, Journals, open_databases, tell_all};
 
 /// What an audit found of a folder whose first journals are away, and says yes of.
 #[derive(Debug, Drop)]
@@ -48,12 +46,13 @@ where
         found: Vec::new(alloc),
         logs: Vec::new(alloc),
     };
+    let mut known = KnownLog::new(alloc);
     let mut member: Member = 0;
     for database in databases {
         member = member.saturating_add(1);
         match database {
             Some(database) => {
-                let (found, log) = found_in::<K>(alloc, database, form, member)?;
+                let (found, log) = found_in::<K>(alloc, database, form, member, &mut known)?;
                 held.found.push(Some(found))?;
                 held.logs.push(Some(log))?;
             }

@@ -1,13 +1,8 @@
 //! The audit of a folder: its journals are played again, each database has to be what they give, and what they spell has to be one run.
 ghost use Rattle.std.specs.Prelude.{IfOk};
-ghost use Rattle.storefolder.specs.Audit.{IsUpheld};
+ghost use Rattle.storeaudit.specs.Audit.{IsUpheld};
 
-use crate::databases::open_databases;
-use crate::form::Form;
-use crate::journals::tell_all;
 use crate::later::{Later, audit_later};
-use crate::numbers::{Journals, find_journals};
-use crate::place::enter;
 use auditor::{AuditFault, judge};
 use durable::SqlKeeper;
 use fault::Refusal;
@@ -24,7 +19,9 @@ use sqlite::{Alter, Connection};
 use std::alloc::Global;
 use store::announcing::Judging;
 use store::held::HeldLog;
+use store::known::KnownLog;
 use store::{Past, StoreRefusal};
+use storefolder::{Form, Journals, enter, find_journals, open_databases, tell_all};
 
 /// What an audit that says yes found.
 #[derive(Drop)]
@@ -55,11 +52,12 @@ pub enum Verdict {
 fn held_by<K: Judging>(
     alloc: Global,
     node: &mut Node<K>,
+    known: &mut KnownLog,
 ) -> Result<(Summary, HeldLog), StoreRefusal>
 where
     K::Image: Drop,
 {
-    let log = HeldLog::new(alloc, node.entries()?)?;
+    let log = HeldLog::new(alloc, node.entries()?, known)?;
     Ok((log.summary(node.hard_state()), log))
 }
 
@@ -69,6 +67,7 @@ pub(crate) fn found_in<K: Judging>(
     database: K::Image,
     form: &Form,
     member: Member,
+    known: &mut KnownLog,
 ) -> Result<(Summary, HeldLog), StoreRefusal>
 where
     K::Image: Drop,
@@ -81,7 +80,7 @@ where
         Ok(node) => node,
         Err((error, _)) => return Err(refusal_of(Refusal::from(error), member)),
     };
-    let held = held_by(alloc, &mut node);
+    let held = held_by(alloc, &mut node, known);
     let _ = node.stop();
     held
 }
@@ -103,6 +102,7 @@ fn is_compared<K: Judging>(
     database: Option<K::Image>,
     form: &Form,
     member: Member,
+    known: &mut KnownLog,
     play: &mut Play,
 ) -> Result<bool, StoreRefusal>
 where
@@ -111,7 +111,7 @@ where
     let Some(database) = database else {
         return Ok(false);
     };
-    let (found, log) = found_in::<K>(alloc, database, form, member)?;
+    let (found, log) = found_in::<K>(alloc, database, form, member, known)?;
     play.check_found(member, &found, log.entries())?;
     Ok(true)
 }
@@ -127,10 +127,11 @@ where
     K::Image: Drop,
 {
     let mut missing = Vec::new(alloc);
+    let mut known = KnownLog::new(alloc);
     let mut member: Member = 0;
     for database in databases {
         member = member.saturating_add(1);
-        if !is_compared::<K>(alloc, database, form, member, play)? {
+        if !is_compared::<K>(alloc, database, form, member, &mut known, play)? {
             missing.push(member)?;
         }
     }

@@ -1,9 +1,5 @@
 //! What else the journals of a store give: its decided requests, and the flights of its members.
-use crate::faults::file_refusal;
-use crate::journals::tell_all;
 use crate::later::play_later;
-use crate::numbers::find_journals;
-use crate::place::enter;
 use answertext::outlet::WriteFault;
 use fault::{Refusal, Text};
 use flight::flight::{Flight, Version};
@@ -15,6 +11,7 @@ use std::alloc::Global;
 use std::fs;
 use std::fs::File;
 use store::StoreRefusal;
+use storefolder::{enter, file_refusal, find_journals, tell_all};
 
 /// The journals of the store in a folder, played: its requests that are decided, in the order of the log. What `audit` refuses, and
 /// each of its faults but 53 and, where all journals are there, 49. How many journals are played is told to who asks for it.
@@ -117,12 +114,4 @@ pub fn flights<Q: Progress>(
     let records = play.into_records()?;
     make_folder(rt, out)?;
     write_all(rt, alloc, out, &form.schema_text, records)
-}
-
-/// Whether this is the name of a file, which no folder has.
-pub fn is_file(rt: &HostRuntime, name: &str) -> bool {
-    match fs::metadata(rt, name) {
-        Ok(found) => found.is_file(),
-        Err(_) => false,
-    }
 }

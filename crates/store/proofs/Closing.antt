@@ -1,0 +1,94 @@
+-- Seats whose members are started or stopped, one after the other.
+use Rattle.std.proofs.Common.{◌≡◌, ◌∙◌, ◌↔◌, ℕ, ◌+◌, true, false, Bool, Option, Some, None, Result, Ok, Err, OnOk, List, MatchOption, slice_get, slice_set, refl, sym, subst, arith}
+use Rattle.std.specs.Prelude.{IsSome, IsTrue}
+use Rattle.std.proofs.lemmas.Option.{same_Some, slice_get_within}
+use Rattle.keep.specs.Durable.{Durable}
+use Rattle.sessions.proofs.Lists.{get_there}
+use Rattle.node.specs.declared.node.Node.{Node}
+use Rattle.store.specs.declared.seat.Seat.{Seat}
+use Rattle.store.specs.declared.tale.Tale.{Tale}
+use Rattle.store.specs.Closing.{Became, EachBecame, FitsTale, IsAtRest, IsMissing, IsStarted, IsStillThere, MayHold}
+use Rattle.store.specs.Opening.{AreLaid}
+use Rattle.store.specs.Tales.{Told, tale_of}
+use Rattle.store.proofs.Became.{FirstBecame, both_became, next_became, same_became}
+
+pub next_one : {A : Type 0} (turn : A → A → Type 0) (k : ℕ) (old mid new : List A) → FirstBecame turn k old mid → Became turn k mid new → FirstBecame turn (k + 1) old new
+next_one turn k old mid new F b = next_became turn k old mid new b.before b.after F b.there b.now b.turned
+
+pub not_up : {A : Type 0} (o : Option A) (b : Bool) → (IsSome o → IsTrue b) → b ≡ false → o ≡ None
+not_up None b up is = refl
+not_up (Some x) b up is = absurd (let there : false ≡ true = subst IsTrue is (up refl) in cc there)
+
+module _ {K J I : Type 0} {g : _} {s : _} {d : _} where
+  -- ---- started
+
+  pub still_missing : (honest : K → Type 0) (seat : Seat K J I g s d) → IsMissing seat → IsStarted honest seat seat
+  still_missing honest seat gone = (refl, (λ none. gone, λ m. m.0), λ node is. absurd (let none = gone.0 in cc (none, is)))
+
+  pub came_up : (honest : K → Type 0) (before after : Seat K J I g s d) → after.member ≡ before.member → (IsMissing before → ⊥) → IsSome after.node → FitsTale honest before.tale after → IsStarted honest before after
+  came_up honest before after same there up fits = (same, (λ none. absurd (cc (up, none)), λ gone. absurd (there gone)), fits)
+
+  -- where it was started
+  pub became_up : {A E : Type 0} (r : Result A E) (honest : K → Type 0) (old : List (Seat K J I g s d)) (at : ℕ) (before after : Seat K J I g s d) → slice_get old at ≡ Some before → after.member ≡ before.member → (IsMissing before → ⊥) →
+      OnOk r (IsSome after.node) → OnOk r (FitsTale honest before.tale after) → OnOk r (Became (IsStarted honest) at old (slice_set old at after))
+  became_up (Ok x) honest old at before after there same is up fits = record { before = before; after = after; there = there; now = refl; turned = came_up honest before after same is up fits }
+  became_up (Err e) honest old at before after there same is up fits = tt
+
+  -- each that was laid out and then started
+  pub opened_each : (honest : K → Type 0) (told : Told) (images : List (Option I)) (laid new : List (Seat K J I g s d)) → AreLaid told images laid → EachBecame (IsStarted honest) laid new →
+      (i : ℕ) (seat : Seat K J I g s d) (image : Option I) → slice_get new i ≡ Some seat → slice_get images i ≡ Some image → (seat.member ≡ i + 1) × ((seat.node ≡ None) ↔ (image ≡ None)) × FitsTale honest (tale_of told i) seat
+  opened_each honest told images laid new L E i seat image p q =
+      let within = slice_get_within images i image q in
+      let all = L.all in
+      let before = get_there laid i (omega (arith, within, all)) in
+      let l = L.each i before.0 image before.1 q in
+      let e = E.each i before.0 seat before.1 p in
+      (e.0 ∙ l.0, (λ none. sym l.2 ∙ (e.1.0 none).1, λ gone. e.1.1 (l.1, l.2 ∙ gone)), subst (λ (t : Tale). FitsTale honest t seat) l.3 e.2)
+
+  -- ---- still there
+
+  pub there_itself : (seat : Seat K J I g s d) → IsStillThere seat seat
+  there_itself seat = (λ m. m, λ m. m)
+
+  pub there_both : (x y z : Seat K J I g s d) → IsStillThere x y → IsStillThere y z → IsStillThere x z
+  there_both x y z one two = (λ m. one.0 (two.0 m), λ m. two.1 (one.1 m))
+
+  pub there_same : (old new : List (Seat K J I g s d)) → new ≡ old → EachBecame IsStillThere old new
+  there_same old new is = same_became IsStillThere there_itself old new is
+
+  pub there_after : (old mid new : List (Seat K J I g s d)) → EachBecame IsStillThere old mid → EachBecame IsStillThere mid new → EachBecame IsStillThere old new
+  there_after old mid new one two = both_became IsStillThere there_both old mid new one two
+
+module _ {K J I : Type 0} {g : _} {s : _} {d : _} (held : K → Durable → Type 0) (holds : I → Durable → Type 0) where
+  -- ---- at rest
+
+  may_hold : (seat : Seat K J I g s d) (image : I) (stored : Durable) → seat.node ≡ None → seat.image ≡ Some image → holds image stored ↔ MayHold held holds seat stored
+  may_hold seat image stored none some =
+      let Of : Option (Node K I g s) → Type 0 = λ o. MatchOption o (MatchOption seat.image ⊥ (λ i. holds i stored)) (λ node. held node.keeper stored) in
+      let In : Option I → Type 0 = λ o. MatchOption o ⊥ (λ i. holds i stored) in
+      (λ h. subst Of (sym none) (subst In (sym some) h), λ h. subst In some (subst Of none h))
+
+  pub rests_itself : (seat : Seat K J I g s d) → seat.node ≡ None → IsAtRest held holds seat seat
+  rests_itself seat none = record {
+    member = refl;
+    down = none;
+    there = (λ gone. (none, gone), λ m. m.1);
+    holds_it = λ image is stored. may_hold seat image stored none is;
+  }
+
+  -- one whose member was up
+  pub rests_stopped : (before after : Seat K J I g s d) (node : Node K I g s) (image : I) → before.node ≡ Some node → after.member ≡ before.member → after.node ≡ None → after.image ≡ Some image →
+      ((stored : Durable) → holds image stored → held node.keeper stored) → ((stored : Durable) → held node.keeper stored → holds image stored) → IsAtRest held holds before after
+  rests_stopped before after node image up member down is above below = record {
+    member = member;
+    down = down;
+    there = (λ gone. absurd (cc (is, gone)), λ m. absurd (let none = m.0 in cc (up, none)));
+    holds_it = λ found now stored.
+        let same : found ≡ image = same_Some found image (sym now ∙ is) in
+        let Of : Option (Node K I g s) → Type 0 = λ o. MatchOption o (MatchOption before.image ⊥ (λ i. holds i stored)) (λ n. held n.keeper stored) in
+        (λ h. subst Of (sym up) (above stored (subst (λ i. holds i stored) same h)), λ h. subst (λ i. holds i stored) (sym same) (below stored (subst Of up h)));
+  }
+
+  -- it is as missing as it was
+  pub rests_there : (before after : Seat K J I g s d) → IsAtRest held holds before after → IsStillThere before after
+  rests_there before after r = (λ m. r.there.0 m.1, λ m. (r.down, r.there.1 m))
