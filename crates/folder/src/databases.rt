@@ -9,9 +9,11 @@ use flight::Records;
 use sqlite::{Alter, Connection, Error, ErrorCode, File as DatabaseFile, FileStore};
 use std::alloc::Global;
 use std::fs::{File, OpenFile};
+use std::io::Write;
 use std::os::unix::fs::MetadataExt;
 use std::rt::Files;
 use std::{fs, io};
+use storetables::first_page::first_page;
 use storetables::opening::set_up;
 
 /// A connection to a node's database.
@@ -52,18 +54,29 @@ fn of_database<'a>(file: Name<'a>, tried: &'static str, error: Error) -> Trouble
     }
 }
 
-// Makes an empty file where there is none.
-fn make_file<'a, R: Files>(rt: &R, file: Name<'a>, path: &str) -> Result<Identity, Trouble<'a>> {
+// Writes these bytes into a new file. Which file it is.
+fn fill_file<F: OpenFile + Write>(file: &mut F, bytes: &[u8]) -> io::Result<Identity> {
+    file.write_all(bytes)?;
+    Ok(identity_of(&file.metadata()?))
+}
+
+// Makes a file with these bytes where there is none.
+fn make_file<'a, R: Files>(
+    rt: &R,
+    file: Name<'a>,
+    path: &str,
+    bytes: &[u8],
+) -> Result<Identity, Trouble<'a>> {
     let tried = "making the database";
-    let made = match File::create_new(rt, path) {
+    let mut made = match File::create_new(rt, path) {
         Ok(made) => made,
         Err(error) if error.kind() == io::ErrorKind::AlreadyExists => {
             return Err(there_already(file));
         }
         Err(error) => return Err(Trouble::of_system(file, tried, Refusal::StoreFault, error)),
     };
-    match made.metadata() {
-        Ok(found) => Ok(identity_of(&found)),
+    match fill_file(&mut made, bytes) {
+        Ok(identity) => Ok(identity),
         Err(error) => {
             let _ = fs::remove_file(rt, path);
             Err(Trouble::of_system(file, tried, Refusal::StoreFault, error))
@@ -130,7 +143,10 @@ impl<'a> Made<'a> {
         if self.files.reserve(1).is_err() {
             return Err(no_memory(file, "making the database"));
         }
-        let made = make_file(rt, file, path.as_str())?;
+        let Ok(page) = first_page(self.alloc) else {
+            return Err(no_memory(file, "making the database"));
+        };
+        let made = make_file(rt, file, path.as_str(), page.as_slice())?;
         self.files.push_reserved(made);
         fill(host, file, path.as_str())?;
         open(host, file, path.as_str())

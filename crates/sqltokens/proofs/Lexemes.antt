@@ -9,7 +9,6 @@ use Rattle.std.proofs.lemmas.Bool.{ne_eqb, le-leb, lt-leb, ltb-true, ltb-false}
 use Rattle.sqltokens.specs.declared.token.Sign.{Sign}
 use Rattle.sqltokens.specs.What.{Symbol, Digits, Text}
 use Rattle.sqltokens.specs.Lexing.{is_word_byte, word_what, closes, sign_of, one_sign, two_sign, token_of, IsLongest, BeginsNone, longest_text, IsOther}
-use Rattle.std.proofs.lemmas.Bool.Decides.{nat_tests}
 use Rattle.sqltokens.proofs.Texts.{decide, is_most, closing}
 
 pub all_true : (p : ℕ → Bool) (bs : List ℕ) (n : ℕ) → n ≤ length bs → ((k : ℕ) → k < n → p (get_or bs k 0) ≡ true) → list_all p (take n bs) ≡ true

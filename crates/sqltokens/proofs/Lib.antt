@@ -1,4 +1,5 @@
 pub mod Texts
+mod Letters
 pub mod Lexemes
 pub mod Ascii
 pub mod Cuts

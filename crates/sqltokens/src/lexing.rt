@@ -1,6 +1,6 @@
 //! A text cut into tokens.
 
-ghost use Rattle.std.specs.Prelude.{◌≡◌, ℕ, ◌+◌, ◌<◌, ◌≤◌, List, Bool, true, false, length, map, slice_index, take, drop, IsTrue, IfSome, IfNone, IfOk};
+ghost use Rattle.std.specs.Prelude.{◌≡◌, ◌∷◌, ℕ, ◌+◌, ◌<◌, ◌≤◌, List, Bool, true, false, length, map, slice_index, take, drop, IsTrue, IfSome, IfNone, IfOk};
 ghost use Rattle.std.specs.Char.{is_ascii_digit};
 ghost use Rattle.std.specs.Str.{IsAscii, str_eq_ignore_ascii_case};
 ghost use Rattle.std.specs.List.{list_all};
@@ -9,6 +9,9 @@ ghost use Rattle.sqltokens.specs.Lexing.{is_blank, is_word_byte, is_printable, k
 
 use crate::token::{Digits, KEYWORDS, Keyword, Kind, Quoted, Sign, Token};
 use std::alloc::{AllocError, Global};
+
+// How many tokens there is room for at once: as many as most texts have, in less than a kilobyte, which an allocator hands out fast.
+const FEW: usize = 31;
 
 fn is_blank(b: u8) -> bool
     ensures { result ≡ is_blank b }
@@ -46,12 +49,57 @@ fn keyword_in(mut table: &[(&[u8], Keyword)], word: &[u8]) -> Option<Keyword>
     None
 }
 
-/// A reserved word, or else a name.
+// The reserved words that begin with this letter, in either case; all of them where it is no letter.
+fn keywords_with(first: u8) -> &'static [(&'static [u8], Keyword)]
+    ensures { (rest : List ℕ) → keyword_in (map (λ k. (k.0.now, k.1)) result.now) (first ∷ rest) ≡ keyword_of (first ∷ rest) }
+{
+    match first.to_ascii_lowercase() {
+        b'a' => &KEYWORDS[0..3],
+        b'b' => &KEYWORDS[3..4],
+        b'c' => &KEYWORDS[4..6],
+        b'd' => &KEYWORDS[6..8],
+        b'e' => &KEYWORDS[8..10],
+        b'f' => &KEYWORDS[10..13],
+        b'g' => &KEYWORDS[13..14],
+        b'h' => &[],
+        b'i' => &KEYWORDS[14..18],
+        b'j' => &[],
+        b'k' => &KEYWORDS[18..19],
+        b'l' => &[],
+        b'm' => &[],
+        b'n' => &[],
+        b'o' => &KEYWORDS[19..21],
+        b'p' => &KEYWORDS[21..25],
+        b'q' => &[],
+        b'r' => &KEYWORDS[25..27],
+        b's' => &KEYWORDS[27..33],
+        b't' => &KEYWORDS[33..36],
+        b'u' => &KEYWORDS[36..37],
+        b'v' => &KEYWORDS[37..40],
+        b'w' => &KEYWORDS[40..43],
+        b'x' => &[],
+        b'y' => &[],
+        b'z' => &[],
+        _ => &KEYWORDS,
+    }
+}
+
+// The reserved word that this is, if it is one.
 #[tactic(auto, unfolding(crate::specs::Lexing::keyword_of))]
+fn keyword_of(word: &[u8]) -> Option<Keyword>
+    ensures { result ≡ keyword_of word.now }
+{
+    match word {
+        [first, ..] => keyword_in(keywords_with(*first), word),
+        [] => None,
+    }
+}
+
+/// A reserved word, or else a name.
 fn word_kind(word: &[u8]) -> Kind<'_>
     ensures { what_of result ≡ word_what word.now }
 {
-    match keyword_in(&KEYWORDS, word) {
+    match keyword_of(word) {
         Some(keyword) => Kind::Keyword(keyword),
         None => Kind::Name(word),
     }
@@ -220,7 +268,7 @@ fn token_at(bytes: &[u8]) -> Option<(Kind<'_>, usize)>
 pub fn tokens(alloc: Global, text: &[u8]) -> Result<Vec<Token<'_>>, AllocError>
     ensures { IfOk result (λ v. IsTokens text.now 0 (pieces v.items)) }
 {
-    let mut found = Vec::new(alloc);
+    let mut found = Vec::with_capacity(alloc, FEW)?;
     let mut at = 0;
     while at < text.len() {
         if is_blank(text[at]) {

@@ -1,4 +1,6 @@
 //! The databases of a store's members.
+use crate::faults::file_refusal;
+use crate::place::put_file;
 use fault::Refusal;
 use model::member::Member;
 use sqlite::{Connection, Error, ErrorCode, File as DatabaseFile, FileStore};
@@ -6,6 +8,7 @@ use std::alloc::Global;
 use std::fs;
 use store::past::Tale;
 use store::{Past, StoreRefusal};
+use storetables::first_page::first_page;
 
 /// A database in a file.
 pub type Database = Connection<FileStore<DatabaseFile>>;
@@ -17,6 +20,18 @@ fn refusal_of(error: &Error) -> StoreRefusal {
         Error::SqliteFailure(ErrorCode::DatabaseBusy) => StoreRefusal::InUse,
         _ => StoreRefusal::Refused(Refusal::StoreFault),
     }
+}
+
+// Makes the file of a database that holds nothing, in one step.
+fn make_database(
+    rt: &HostRuntime,
+    alloc: Global,
+    dir: &str,
+    path: &str,
+) -> Result<(), StoreRefusal> {
+    let new = format!(in alloc; "{path}.new")?;
+    let page = first_page(alloc)?;
+    put_file(rt, dir, new.as_str(), path, page.as_slice()).map_err(|error| file_refusal(&error))
 }
 
 // A member's database. One that is not there is made where nothing was ever stored in it; else it is missing.
@@ -32,8 +47,11 @@ fn open_database(
         Ok(is_there) => is_there,
         Err(_) => return Err(StoreRefusal::Refused(Refusal::StoreFault)),
     };
-    if !is_there && !tale.is_blank() {
-        return Ok(None);
+    if !is_there {
+        if !tale.is_blank() {
+            return Ok(None);
+        }
+        make_database(rt, alloc, dir, path.as_str())?;
     }
     match Connection::open(rt, path.as_str()) {
         Ok(database) => Ok(Some(database)),

@@ -64,10 +64,16 @@ pub(crate) fn sync_folder(rt: &HostRuntime, dir: &str) -> io::Result<()> {
     File::open(rt, dir)?.sync_all()
 }
 
-// Writes a form beside its place, and puts it there in one step.
-fn put_form(rt: &HostRuntime, dir: &str, new: &str, path: &str, text: &str) -> io::Result<()> {
+/// Writes a file beside its place, and puts it there in one step.
+pub(crate) fn put_file(
+    rt: &HostRuntime,
+    dir: &str,
+    new: &str,
+    path: &str,
+    bytes: &[u8],
+) -> io::Result<()> {
     let mut file = File::create(rt, new)?;
-    file.write_all(text.as_bytes())?;
+    file.write_all(bytes)?;
     file.sync_all()?;
     fs::rename(rt, new, path)?;
     sync_folder(rt, dir)
@@ -98,7 +104,7 @@ pub fn make(
     let path = form_path(alloc, dir)?;
     let new = format!(in alloc; "{dir}/form.new")?;
     let text = text_of_form(alloc, members, schema)?;
-    put_form(rt, dir, new.as_str(), path.as_str(), text.as_str()).map_err(|error| file_refusal(
+    put_file(rt, dir, new.as_str(), path.as_str(), text.as_bytes()).map_err(|error| file_refusal(
         &error,
     ))
 }

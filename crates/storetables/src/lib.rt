@@ -2,6 +2,7 @@
 #![tactic(auto)]
 
 pub mod finding;
+pub mod first_page;
 pub mod judging;
 pub mod opening;
 pub mod ours;

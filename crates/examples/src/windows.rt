@@ -1,12 +1,11 @@
-//! A program that hands in requests while two threads ask views of members what was believed. What they are answered is what the members
+//! Views of a store's members: requests are handed in while threads ask views what was believed. What they are answered is what the members
 //! themselves answer afterwards.
-#![tactic(auto)]
 
 mod reading;
 
+use crate::windows::reading::{QUESTIONS, Read, Reader, readers};
 use answertext::Lines;
 use anyhow::{Result, bail};
-use reading::{QUESTIONS, Read, Reader, readers};
 use schemaread::schemas::read_schema;
 use std::alloc::Global;
 use std::sync::Wait;
@@ -106,12 +105,7 @@ where
 }
 
 // Prints what a view answered, which has to be what its member answers.
-fn tell<K: Announces>(
-    rt: &HostRuntime,
-    alloc: Global,
-    pay: &mut Store<K>,
-    read: &Read,
-) -> Result<()>
+fn tell<K: Announces>(rt: &impl Print, alloc: Global, pay: &mut Store<K>, read: &Read) -> Result<()>
 where
     K::Image: Drop,
 {
@@ -126,13 +120,17 @@ where
     Ok(())
 }
 
-fn main(rt: HostRuntime) -> Result<()> {
+/// Hands in requests to a store in memory while views of its members are asked, and prints what these answered.
+pub(crate) fn run<R>(rt: &R) -> Result<()>
+where
+    R: AllocGlobal + Print + Threads + Wait + Clock + Sync,
+{
     let alloc: Global = rt.alloc();
     let schema = read_schema(alloc, SCHEMA)?;
     let mut pay = open_in_memory(alloc, 3, schema, JANUARY)?;
-    let answers = write_and_read(&rt, alloc, &mut pay)?;
+    let answers = write_and_read(rt, alloc, &mut pay)?;
     for read in &answers {
-        tell(&rt, alloc, &mut pay, read)?;
+        tell(rt, alloc, &mut pay, read)?;
     }
     Ok(())
 }

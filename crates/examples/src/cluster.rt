@@ -3,7 +3,6 @@
 //! The writer elects node 1, submits three requests to it, and brings each message to the node that it is for. Meanwhile each
 //! reader asks a view of a node what held at an instant, till that is closed there. What they are answered is printed once all
 //! are done: it is the same however the threads went.
-#![tactic(auto)]
 
 ghost use Rattle.std.specs.Prelude.{◌≡◌, ℕ, All, IfOk, vec_len};
 ghost use Rattle.model.specs.Transactions.{Language};
@@ -13,11 +12,11 @@ ghost use Rattle.keep.specs.Log.{IsLog};
 mod reading;
 mod writing;
 
+use crate::cluster::reading::{Reader, readers};
 use anyhow::Result;
 use nodes::{
     Cluster, Config, Gate, Lines, Marked, MemImage, MemKeeper, Member, Point, Schema, read_schema,
 };
-use reading::{Reader, readers};
 use std::alloc::{AllocError, Global};
 use std::sync::{Arc, Wait};
 use std::thread;
@@ -85,12 +84,16 @@ fn write_and_read<R: Threads + Wait + Clock + Sync>(
     Ok(all)
 }
 
-fn main(rt: HostRuntime) -> Result<()> {
+/// Has threads write and read while three nodes run, and prints what was read.
+pub(crate) fn run<R>(rt: &R) -> Result<()>
+where
+    R: AllocGlobal + Print + Wait + Threads + Clock + Sync + Copy + Send + Drop + 'static,
+{
     let alloc = rt.alloc();
     let schema = read_schema(alloc, SCHEMA)?;
-    let cluster = start(&rt, alloc, &schema)?;
-    let answers = write_and_read(&rt, alloc, &cluster, &schema);
-    let ended = cluster.stop(&rt);
+    let cluster = start(rt, alloc, &schema)?;
+    let answers = write_and_read(rt, alloc, &cluster, &schema);
+    let ended = cluster.stop(rt);
     for (node, marked) in &answers? {
         let lines = Lines(&marked.answer);
         print!(rt; "node {node}\n{lines}")?;

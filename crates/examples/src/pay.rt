@@ -1,6 +1,5 @@
-//! A program that keeps tables of its own: it makes a store in a folder, hands in requests, asks a member what was believed, and goes on
-//! with the folder the next month.
-#![tactic(auto)]
+//! Tables that are kept: a store is made in a folder, requests are handed in, a member is asked what was believed, and the folder is gone on
+//! with the next month.
 
 use answertext::Lines;
 use anyhow::Result;
@@ -99,9 +98,10 @@ impl Task for February {
     }
 }
 
-fn main(rt: HostRuntime) -> Result<()> {
+/// Makes the store in the folder `pay`, and works with it in January and in February.
+pub(crate) fn run(rt: &HostRuntime) -> Result<()> {
     let alloc: Global = rt.alloc();
-    storefolder::make(&rt, alloc, DIR, 3, SCHEMA)?;
-    with_store(&rt, alloc, DIR, true, JANUARY, January)??;
-    with_store(&rt, alloc, DIR, true, FEBRUARY, February)?
+    storefolder::make(rt, alloc, DIR, 3, SCHEMA)?;
+    with_store(rt, alloc, DIR, true, JANUARY, January)??;
+    with_store(rt, alloc, DIR, true, FEBRUARY, February)?
 }
