@@ -1,9 +1,11 @@
 -- Lists whose elements become others, one after the other.
 use Rattle.std.proofs.Common.{◌≡◌, ◌∙◌, ◌≢◌, ◌⊎◌, inl, inr, ℕ, zero, suc, ◌+◌, ◌≤◌, ◌<◌, Some, List, [], ◌∷◌, ◌++◌, take, length, slice_get, slice_set, refl, sym, ap, subst, add-one, arith}
 use Rattle.std.proofs.Math.Nat.{eq-or-lt_of_le}
-use Rattle.std.proofs.lemmas.List.{length_push}
+use Rattle.std.proofs.lemmas.List.{length-set, length_push}
 use Rattle.std.proofs.lemmas.Option.{same_Some, slice_get_within}
-use Rattle.store.specs.Closing.{EachBecame}
+use Rattle.sessions.proofs.Lists.{get_there}
+use Rattle.store.specs.Became.{EachBecame}
+use Rattle.store.proofs.Opening.{pushed}
 
 set_there : {A : Type 0} (xs : List A) (i : ℕ) (a x : A) → slice_get xs i ≡ Some x → slice_get (slice_set xs i a) i ≡ Some a
 set_there [] i a x e = absurd (cc e)
@@ -16,11 +18,6 @@ set_apart (y ∷ ys) zero zero a other = absurd (other refl)
 set_apart (y ∷ ys) zero (suc j) a other = refl
 set_apart (y ∷ ys) (suc i) zero a other = refl
 set_apart (y ∷ ys) (suc i) (suc j) a other = set_apart ys i j a (λ same. other (ap suc same))
-
-set_length : {A : Type 0} (xs : List A) (i : ℕ) (a : A) → length (slice_set xs i a) ≡ length xs
-set_length [] i a = refl
-set_length (y ∷ ys) zero a = refl
-set_length (y ∷ ys) (suc i) a = ap suc (set_length ys i a)
 
 same_or_other : (i j : ℕ) → (i ≡ j) ⊎ (i ≢ j)
 same_or_other zero zero = inl refl
@@ -44,7 +41,7 @@ module _ {A : Type 0} (turn : A → A → Type 0) where
   -- the next one too
   pub next_became : (k : ℕ) (old mid new : List A) (before after : A) → FirstBecame k old mid → slice_get mid k ≡ Some before → new ≡ slice_set mid k after → turn before after → FirstBecame (k + 1) old new
   next_became k old mid new before after F there is turned = record {
-    count = ap length is ∙ set_length mid k after ∙ F.count;
+    count = ap length is ∙ length-set mid k after ∙ F.count;
     each = λ i b a low p q.
         let at : i ≤ k = omega (arith, low) in
         let found : slice_get (slice_set mid k after) i ≡ Some a = sym (ap (λ (xs : List A). slice_get xs i) is) ∙ q in
@@ -72,7 +69,7 @@ module _ {A : Type 0} (turn : A → A → Type 0) where
     -- one of them alone
     pub one_became : (old new : List A) (at : ℕ) (before after : A) → slice_get old at ≡ Some before → new ≡ slice_set old at after → turn before after → EachBecame turn old new
     one_became old new at before after there is turned = record {
-      count = ap length is ∙ set_length old at after;
+      count = ap length is ∙ length-set old at after;
       each = λ i b a p q.
           let found : slice_get (slice_set old at after) i ≡ Some a = sym (ap (λ (xs : List A). slice_get xs i) is) ∙ q in
           elim (same_or_other i at) [
@@ -91,14 +88,15 @@ module _ {A : Type 0} (turn : A → A → Type 0) where
     each = λ i before after p q.
         let within = slice_get_within old i before p in
         let count = one.count in
-        let there = got mid i (omega (arith, within, count)) in
+        let there = get_there mid i (omega (arith, within, count)) in
         both before there.0 after (one.each i before there.0 p there.1) (two.each i there.0 after there.1 q);
   }
-    where
-      got : (xs : List A) (i : ℕ) → i < length xs → (x : A) × (slice_get xs i ≡ Some x)
-      got [] i low = absurd (omega (arith, low))
-      got (x ∷ xs) zero low = (x, refl)
-      got (x ∷ xs) (suc i) low = got xs i (omega (arith, low))
+
+-- one more of the first
+pub next_of : {C : Type 0} (xs : List C) (k : ℕ) (x : C) → slice_get xs k ≡ Some x → take (suc k) xs ≡ take k xs ++ x ∷ []
+next_of [] k x p = absurd (cc p)
+next_of (y ∷ ys) zero x p = ap (λ z. z ∷ []) (same_Some y x p)
+next_of (y ∷ ys) (suc k) x p = ap (λ zs. y ∷ zs) (next_of ys k x p)
 
 -- ---- of two kinds
 
@@ -106,34 +104,20 @@ module _ {A B : Type 0} (turn : A → B → Type 0) where
   pub none_begun : (xs : List A) (ys : List B) → ys ≡ [] → EachBecame turn (take 0 xs) ys
   none_begun xs ys none = record { count = ap length none; each = λ i x y p q. absurd (cc p) }
 
-  next_of : {C : Type 0} (xs : List C) (k : ℕ) (x : C) → slice_get xs k ≡ Some x → take (suc k) xs ≡ take k xs ++ x ∷ []
-  next_of [] k x p = absurd (cc p)
-  next_of (y ∷ ys) zero x p = ap (λ z. z ∷ []) (same_Some y x p)
-  next_of (y ∷ ys) (suc k) x p = ap (λ zs. y ∷ zs) (next_of ys k x p)
-
-  at_end : {C : Type 0} (xs : List C) (y z : C) (i : ℕ) → slice_get (xs ++ y ∷ []) i ≡ Some z → (slice_get xs i ≡ Some z) ⊎ ((i ≡ length xs) × (y ≡ z))
-  at_end [] y z zero e = inr (refl, same_Some y z e)
-  at_end [] y z (suc i) e = absurd (cc e)
-  at_end (x ∷ xs) y z zero e = inl e
-  at_end (x ∷ xs) y z (suc i) e = elim (at_end xs y z i e) [
-    | inl h ↦ inl h
-    | inr h ↦ inr (ap suc h.0, h.1)
-  ]
-
   -- one more at the end of both
   pub more_became : (xs : List A) (k : ℕ) (ys zs : List B) (x : A) (y : B) → EachBecame turn (take k xs) ys → slice_get xs k ≡ Some x → zs ≡ ys ++ y ∷ [] → turn x y → EachBecame turn (take (k + 1) xs) zs
   more_became xs k ys zs x y E there is turned =
       let T : List A → List B → Type 0 = λ old new. EachBecame turn old new in
       let grown : T (take k xs ++ x ∷ []) (ys ++ y ∷ []) = record {
         count = length_push ys y ∙ ap (λ n. n + 1) E.count ∙ sym (length_push (take k xs) x);
-        each = λ i a b p q. elim (at_end (take k xs) x a i p) [
-          | inl before ↦ elim (at_end ys y b i q) [
+        each = λ i a b p q. elim (pushed (take k xs) x a i p) [
+          | inl before ↦ elim (pushed ys y b i q) [
             | inl after ↦ E.each i a b before after
             | inr after ↦ let within = slice_get_within (take k xs) i a before in let count = E.count in let at = after.0 in absurd (omega (arith, within, count, at))
           ]
-          | inr before ↦ elim (at_end ys y b i q) [
+          | inr before ↦ elim (pushed ys y b i q) [
             | inl after ↦ let within = slice_get_within ys i b after in let count = E.count in let at = before.0 in absurd (omega (arith, within, count, at))
-            | inr after ↦ subst (λ (v : A). turn v b) before.1 (subst (λ (w : B). turn x w) after.1 turned)
+            | inr after ↦ subst (λ (v : A). turn v b) (sym before.1) (subst (λ (w : B). turn x w) (sym after.1) turned)
           ]
         ];
       } in

@@ -1,14 +1,17 @@
 -- Seats whose members are started or stopped, one after the other.
 use Rattle.std.proofs.Common.{◌≡◌, ◌∙◌, ◌↔◌, ℕ, ◌+◌, true, false, Bool, Option, Some, None, Result, Ok, Err, OnOk, List, MatchOption, slice_get, slice_set, refl, sym, subst, arith}
 use Rattle.std.specs.Prelude.{IsSome, IsTrue}
-use Rattle.std.proofs.lemmas.Option.{same_Some, slice_get_within}
+use Rattle.std.proofs.lemmas.Option.{slice_get_within}
 use Rattle.keep.specs.Durable.{Durable}
 use Rattle.sessions.proofs.Lists.{get_there}
 use Rattle.node.specs.declared.node.Node.{Node}
 use Rattle.store.specs.declared.seat.Seat.{Seat}
 use Rattle.store.specs.declared.tale.Tale.{Tale}
-use Rattle.store.specs.Closing.{Became, EachBecame, FitsTale, IsAtRest, IsMissing, IsStarted, IsStillThere, MayHold}
+use Rattle.store.specs.Became.{Became, EachBecame}
+use Rattle.store.specs.Closing.{IsAtRest, IsStillThere, MayHold}
 use Rattle.store.specs.Opening.{AreLaid}
+use Rattle.store.specs.Seats.{IsMissing}
+use Rattle.store.specs.Starting.{FitsTale, IsStarted}
 use Rattle.store.specs.Tales.{Told, tale_of}
 use Rattle.store.proofs.Became.{FirstBecame, both_became, next_became, same_became}
 
@@ -75,20 +78,3 @@ module _ {K J I : Type 0} {g : _} {s : _} {d : _} (held : K → Durable → Type
     there = (λ gone. (none, gone), λ m. m.1);
     holds_it = λ image is stored. may_hold seat image stored none is;
   }
-
-  -- one whose member was up
-  pub rests_stopped : (before after : Seat K J I g s d) (node : Node K I g s) (image : I) → before.node ≡ Some node → after.member ≡ before.member → after.node ≡ None → after.image ≡ Some image →
-      ((stored : Durable) → holds image stored → held node.keeper stored) → ((stored : Durable) → held node.keeper stored → holds image stored) → IsAtRest held holds before after
-  rests_stopped before after node image up member down is above below = record {
-    member = member;
-    down = down;
-    there = (λ gone. absurd (cc (is, gone)), λ m. absurd (let none = m.0 in cc (up, none)));
-    holds_it = λ found now stored.
-        let same : found ≡ image = same_Some found image (sym now ∙ is) in
-        let Of : Option (Node K I g s) → Type 0 = λ o. MatchOption o (MatchOption before.image ⊥ (λ i. holds i stored)) (λ n. held n.keeper stored) in
-        (λ h. subst Of (sym up) (above stored (subst (λ i. holds i stored) same h)), λ h. subst (λ i. holds i stored) (sym same) (below stored (subst Of up h)));
-  }
-
-  -- it is as missing as it was
-  pub rests_there : (before after : Seat K J I g s d) → IsAtRest held holds before after → IsStillThere before after
-  rests_there before after r = (λ m. r.there.0 m.1, λ m. (r.down, r.there.1 m))

@@ -5,6 +5,7 @@ pub mod Going
 pub mod Heard
 pub mod Helds
 pub mod Links
+pub mod Missing
 pub mod Opening
 pub mod Ranges
 pub mod Reading

@@ -28,7 +28,7 @@ use Rattle.store.specs.Tales.{Told, tale_of}
 use Rattle.store.proofs.Going.{all_at, all_back, world_with}
 
 -- what stands in a list with one more at its end
-pushed : {A : Type 0} (xs : List A) (y z : A) (i : ℕ) → slice_get (xs ++ y ∷ []) i ≡ Some z → (slice_get xs i ≡ Some z) ⊎ ((i ≡ length xs) × (z ≡ y))
+pub pushed : {A : Type 0} (xs : List A) (y z : A) (i : ℕ) → slice_get (xs ++ y ∷ []) i ≡ Some z → (slice_get xs i ≡ Some z) ⊎ ((i ≡ length xs) × (z ≡ y))
 pushed [] y z zero e = inr (refl, sym (same_Some y z e))
 pushed [] y z (suc i) e = absurd (cc e)
 pushed (x ∷ xs) y z zero e = inl e

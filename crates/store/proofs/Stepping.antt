@@ -1,5 +1,5 @@
 -- What came of a step of a node, and of a keeper that lost the voice.
-use Rattle.std.proofs.Common.{◌≡◌, ◌∙◌, ℕ, Bool, true, false, Option, Some, None, List, ◌++◌, take, MatchOption, Result, Ok, Err, IfOk, IfErr, OnOk, MatchBool, refl, sym, ap, subst, ⊎_elim, inr, if◌then◌else◌}
+use Rattle.std.proofs.Common.{◌≡◌, ◌∙◌, ℕ, Bool, true, false, Option, Some, None, List, ◌++◌, take, MatchOption, Result, Ok, Err, IfOk, IfErr, OnOk, MatchBool, refl, sym, ap, subst, ⊎_elim, inr}
 use Rattle.model.specs.Members as model
 use Rattle.model.specs.declared.entry.Entry.{Entry}
 use Rattle.model.specs.Kept.{node_after}
@@ -15,10 +15,10 @@ use Rattle.node.specs.declared.node.Node.{Node}
 use Rattle.node.specs.declared.node.Out.{Out}
 use Rattle.node.specs.declared.node.Fault.{Fault}
 use Rattle.node.specs.declared.node.Fault.TheVariants.{Kept, Down}
-use Rattle.node.specs.Member.{me_of, member_of, members_of, tables_of, IsSameSeat}
+use Rattle.node.specs.Member.{me_of, member_of, members_of, tables_of}
 use Rattle.node.specs.View.{durable_of, started_from, told_between, works, Gave, IsGiven, IsEmpty, IsSame, IsTorn, LeavesUp}
 use Rattle.node.specs.Work.{Work}
-use Rattle.runlaws.specs.Going.{after_stop, MayStart}
+use Rattle.runlaws.specs.Going.{MayStart}
 use Rattle.store.specs.Nodes.{rested, IsMember, IsNodeOf, Rests, StepsTo}
 
 left_old : (x : model.Node) (o : Effect) → node_left Old x o ≡ x
@@ -83,38 +83,9 @@ module _ (tables : Tables) (n m : ℕ) (work : Work) (x : model.Node) (up : x.up
 -- ---- seats
 
 module _ {K I : Type 0} {g : _} {s : _} (held : K → Durable → Type 0) where
-  -- a node that is stopped: what its database holds its keeper held
-  pub stop_rests : (node : Node K I g s) (x : model.Node) (holds : Durable → Type 0) → IsMember held node x → ((d : Durable) → holds d → held node.keeper d) → (node.is_up ≡ true → (d : Durable) → holds d → d ≡ durable_of (member_of node)) →
-      Rests holds (after_stop x)
-  stop_rests node x holds is may last = go node.is_up refl is
-    where
-      go : (b : Bool) → node.is_up ≡ b → MatchBool b (x ≡ member_of node) (Rests (held node.keeper) x) → Rests holds (after_stop x)
-      go true u same = subst (λ (z : model.Node). Rests holds (after_stop z)) (sym same) (refl, λ d h. sym (ap rested (last u d h)))
-      go false u rests = subst (λ (b : Bool). Rests holds (if b then stopped x else x)) (sym rests.0) (rests.0, λ d h. rests.1 d (may d h))
-
-  -- a node that is up is its member, and one that is not is down
+  -- a node that is up is its member
   pub member_up : (node : Node K I g s) (x : model.Node) → node.is_up ≡ true → IsMember held node x → x ≡ member_of node
   member_up node x u is = subst (λ (b : Bool). MatchBool b (x ≡ member_of node) (Rests (held node.keeper) x)) u is
-
-  pub member_down : (node : Node K I g s) (x : model.Node) → node.is_up ≡ false → IsMember held node x → x.up ≡ false
-  member_down node x u is =
-      let rests : Rests (held node.keeper) x = subst (λ (b : Bool). MatchBool b (x ≡ member_of node) (Rests (held node.keeper) x)) u is in
-      rests.0
-
-  -- what a step comes to at the member of a seat
-  pub step_there : (tables : Tables) (n m : ℕ) (work : Work) (old new : Node K I g s) (x : model.Node) (result : Result Out Fault) → IsNodeOf held tables n m old x → old.is_up ≡ true → IsSameSeat old new →
-      (y : model.Node) × (IsMember held new y × StepsTo (tables_of old) (members_of old) (me_of old) work (member_of old) y result) →
-      (y : model.Node) × (IsNodeOf held tables n m new y × StepsTo tables n m work x y result)
-  step_there tables n m work old new x result is u same (y, (there, steps)) =
-      let at = member_up old x u is.is in
-      let a : StepsTo tables (members_of old) (me_of old) work (member_of old) y result = subst (λ (t : Tables). StepsTo t (members_of old) (me_of old) work (member_of old) y result) is.tables_are steps in
-      let b : StepsTo tables n (me_of old) work (member_of old) y result = subst (λ (k : ℕ). StepsTo tables k (me_of old) work (member_of old) y result) is.members_are a in
-      let c : StepsTo tables n m work (member_of old) y result = subst (λ (k : ℕ). StepsTo tables n k work (member_of old) y result) is.me_is b in
-      (y, (record { tables_are = same.0 ∙ is.tables_are; members_are = same.1 ∙ is.members_are; me_is = same.2 ∙ is.me_is; is = there }, subst (λ (z : model.Node). StepsTo tables n m work z y result) (sym at) c))
-
--- one that is down refuses all
-pub refuses_down : (tables : Tables) (n m : ℕ) (work : Work) (x : model.Node) → x.up ≡ false → StepsTo tables n m work x x (Err (Kept NodeDown))
-refuses_down tables n m work x down = (refl, subst (λ (b : Bool). MatchBool b (Refuses NodeDown ≡ works tables n m work x) (NodeDown ≡ NodeDown)) (sym down) refl)
 
 -- a member that is started with what its database holds
 pub may_start : (x y : model.Node) (stored : Durable) → x ≡ rested stored → y ≡ started_from stored → MayStart x y

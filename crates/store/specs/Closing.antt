@@ -1,45 +1,16 @@
--- What a store's members and databases are once it is opened, and once it is closed.
-use Rattle.std.specs.Prelude.{◌≡◌, ◌↔◌, ℕ, true, Option, Some, None, List, map, length, slice_get, slice_set, MatchOption}
-use Rattle.std.specs.Option.{ForSome}
-use Rattle.journal.specs.Digests.{summary_of}
+-- What a store that is closed leaves.
+use Rattle.std.specs.Prelude.{◌≡◌, ◌↔◌, ℕ, Option, Some, None, List, map, length, slice_get, slice_set, MatchOption}
 use Rattle.keep.specs.Durable.{Durable}
-use Rattle.node.specs.Member.{member_of}
-use Rattle.node.specs.View.{durable_of}
 use Rattle.store.specs.declared.seat.Seat.{Seat}
 use Rattle.store.specs.declared.store.Store.{Store}
-use Rattle.store.specs.declared.tale.Tale.{Tale}
+use Rattle.store.specs.Became.{EachBecame}
 use Rattle.store.specs.Going.{GoesOn}
-use Rattle.store.specs.Tales.{IsFit}
-
--- for each of these there is one that stands so to it, and the others are none
-pub record EachBecame {A B : Type 0} (turn : A → B → Type 0) (old : List A) (new : List B) : Type 0 where
-  pub count : length new ≡ length old
-  pub each : (i : ℕ) (before : A) (after : B) → slice_get old i ≡ Some before → slice_get new i ≡ Some after → turn before after
-
--- one of these became another one, which stands so to it
-pub record Became {A : Type 0} (turn : A → A → Type 0) (at : ℕ) (old new : List A) : Type 0 where
-  pub before : A
-  pub after : A
-  pub there : slice_get old at ≡ Some before
-  pub now : new ≡ slice_set old at after
-  pub turned : turn before after
+use Rattle.store.specs.Seats.{IsMissing}
 
 module _ {K J I : Type 0} {g : _} {s : _} {d : _} where
-  -- a seat has no member that is up, and no database
-  abbrev pub IsMissing : Seat K J I g s d → Type 0
-  IsMissing seat = (seat.node ≡ None) × (seat.image ≡ None)
-
   -- what the database of a seat may hold
   abbrev pub MayHold : (held : K → Durable → Type 0) (holds : I → Durable → Type 0) → Seat K J I g s d → Durable → Type 0
   MayHold held holds seat stored = MatchOption seat.node (MatchOption seat.image ⊥ (λ image. holds image stored)) (λ node. held node.keeper stored)
-
-  -- what the member of a seat has stored, if it is up, is what is told of it
-  abbrev pub FitsTale : (honest : K → Type 0) → Tale → Seat K J I g s d → Type 0
-  FitsTale honest tale seat = ForSome seat.node (λ node. node.is_up ≡ true → honest node.keeper → IsFit tale (summary_of (durable_of (member_of node))))
-
-  -- the same seat; its member is up, unless its database is missing, and has stored what is told of it
-  abbrev pub IsStarted : (honest : K → Type 0) → Seat K J I g s d → Seat K J I g s d → Type 0
-  IsStarted honest before after = (after.member ≡ before.member) × ((after.node ≡ None) ↔ IsMissing before) × FitsTale honest before.tale after
 
   -- its database is missing then as it was
   abbrev pub IsStillThere : Seat K J I g s d → Seat K J I g s d → Type 0

@@ -1,6 +1,7 @@
 pub mod Announcing
 pub mod Applied
 pub mod Asking
+pub mod Became
 pub mod Chains
 pub mod Closing
 pub mod Fullness
@@ -13,6 +14,7 @@ pub mod Opening
 pub mod Pasts
 pub mod Refusals
 pub mod Seats
+pub mod Starting
 pub mod Statuses
 pub mod Tales
 pub mod Telling

@@ -1,6 +1,6 @@
 -- What a store is opened from.
-use Rattle.std.specs.Prelude.{◌≡◌, ◌+◌, ◌↔◌, ℕ, false, Option, Some, None, List, [], length, slice_get, MatchOption}
-use Rattle.std.specs.List.{All}
+use Rattle.std.specs.Prelude.{◌≡◌, ◌+◌, ◌<◌, ◌↔◌, ℕ, false, Option, Some, None, List, [], is_some, length, slice_get, MatchOption}
+use Rattle.std.specs.List.{All, count_by}
 use Rattle.model.specs.Members.{Node}
 use Rattle.model.specs.Worlds.{World, Event}
 use Rattle.keep.specs.Durable.{Durable}
@@ -11,11 +11,19 @@ use Rattle.runlaws.specs.Going.{AreSeated, Goes}
 use Rattle.store.specs.declared.members.Members.{Members}
 use Rattle.store.specs.declared.seat.Seat.{Seat}
 use Rattle.store.specs.declared.store.Store.{Store}
-use Rattle.store.specs.Closing.{FitsTale}
+use Rattle.store.specs.Starting.{FitsTale}
 use Rattle.store.specs.Nodes.{Rests}
 use Rattle.store.specs.Seats.{HasMember, IsClean}
 use Rattle.store.specs.Going.{AreClean, IsIn, IsRunOf}
 use Rattle.store.specs.Tales.{Told, tale_of}
+
+-- how many of these databases are there
+abbrev pub there_in : {I : Type 0} → List (Option I) → ℕ
+there_in images = count_by is_some images
+
+-- more than half of these databases are there
+abbrev pub AreMost : {I : Type 0} → List (Option I) → Type 0
+AreMost images = length images < there_in images + there_in images
 
 -- these members are down, and each has stored what its database holds, if it is there and holds anything
 abbrev pub AreFound : {I : Type 0} → (holds : I → Durable → Type 0) → List (Option I) → List Node → Type 0

@@ -1,5 +1,5 @@
 -- The members that a store's seats have.
-use Rattle.std.specs.Prelude.{◌≡◌, ◌⊎◌, ℕ, false, MatchOption}
+use Rattle.std.specs.Prelude.{◌≡◌, ◌⊎◌, ◌&&◌, ℕ, false, None, List, filter, is_none, map, MatchOption}
 use Rattle.model.specs.Members as model
 use Rattle.keep.specs.Durable.{Durable}
 use Rattle.sqlchecks.specs.Columns.{Tables}
@@ -12,6 +12,14 @@ abbrev pub MayFall : model.Node → model.Node → Type 0
 MayFall x y = (y ≡ x) ⊎ (y ≡ after_stop x)
 
 module _ {K J I : Type 0} {g : _} {s : _} {d : _} where
+  -- a seat has no member that is up, and no database
+  abbrev pub IsMissing : Seat K J I g s d → Type 0
+  IsMissing seat = (seat.node ≡ None) × (seat.image ≡ None)
+
+  -- the members of these seats whose database is missing, in their order
+  abbrev pub missing_in : List (Seat K J I g s d) → List ℕ
+  missing_in seats = map (λ (seat : Seat K J I g s d). seat.member) (filter (λ (seat : Seat K J I g s d). is_none seat.node && is_none seat.image) seats)
+
   -- a seat's node took nothing wrong as true, or its database holds something
   abbrev pub IsClean : (honest : K → Type 0) (holds : I → Durable → Type 0) → Seat K J I g s d → Type 0
   IsClean honest holds seat = MatchOption seat.node (MatchOption seat.image (Unit {0}) (λ image. (stored : Durable) × holds image stored)) (λ node. honest node.keeper)

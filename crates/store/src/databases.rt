@@ -1,6 +1,7 @@
 //! What a store that is closed leaves.
 ghost use Rattle.std.specs.Prelude.{◌≡◌, ◌⊎◌, ◌+◌, ◌<◌, ℕ, None, length};
-ghost use Rattle.store.specs.Closing.{EachBecame, IsAtRest, IsTaken};
+ghost use Rattle.store.specs.Became.{EachBecame};
+ghost use Rattle.store.specs.Closing.{IsAtRest, IsTaken};
 
 use crate::announcing::Announces;
 use crate::seat::Seat;

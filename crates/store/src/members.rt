@@ -1,11 +1,13 @@
 //! The members of a store as it is opened: what each database holds has to be what the journal says.
-ghost use Rattle.std.specs.Prelude.{◌≡◌, ◌<◌, IfOk, IsSome, OnOk, length};
+ghost use Rattle.std.specs.Prelude.{◌≡◌, ◌≢◌, ◌⊎◌, ◌<◌, Err, IfErr, IfOk, IsSome, OnOk, length};
 ghost use Rattle.model.specs.Members.{Node as TheNode};
 ghost use Rattle.runlaws.specs.Going.{MayStart};
-ghost use Rattle.store.specs.Closing.{Became, EachBecame, FitsTale, IsStarted};
-ghost use Rattle.store.specs.Opening.{AreLaid, AreOpened, Starts};
+ghost use Rattle.store.specs.Became.{Became, EachBecame};
+ghost use Rattle.store.specs.Opening.{AreLaid, AreMost, AreOpened, Starts, there_in};
 ghost use Rattle.store.specs.Pasts.{told_by};
-ghost use Rattle.store.specs.Seats.{HasMember, IsClean};
+ghost use Rattle.store.specs.Refusals.{no_memory};
+ghost use Rattle.store.specs.Seats.{HasMember, IsClean, missing_in};
+ghost use Rattle.store.specs.Starting.{FitsTale, IsStarted};
 
 use crate::announcing::Announces;
 use crate::known::KnownLog;
@@ -51,6 +53,7 @@ where
     ensures up { OnOk result (IsSome seat.new.node) }
     ensures same { seat.new.member ≡ seat.old.member }
     ensures fits { OnOk result (FitsTale K.is_honest seat.old.tale seat.new) }
+    ensures other { result ≢ Err StoreRefusal.TooFew }
     ensures clean { IsClean K.is_honest K.holds seat.new → IsClean K.is_honest K.holds seat.old }
     ensures starts { IsClean K.is_honest K.holds seat.new → (x : TheNode) → HasMember K.may_hold K.holds schema members seat.old.member seat.old x → (y : TheNode) × (HasMember K.may_hold K.holds schema members seat.old.member seat.new y × MayStart x y) }
 {
@@ -82,7 +85,9 @@ fn seats_of<K: Announces>(
 ) -> Result<(Vec<Seat<K>>, usize), StoreRefusal>
 where
     K::Image: Drop,
-    ensures { IfOk result (λ p. AreLaid (told_by past.now) images.items p.0.items) }
+    ensures laid { IfOk result (λ p. AreLaid (told_by past.now) images.items p.0.items) }
+    ensures there { IfOk result (λ p. p.1 ≡ there_in images.items) }
+    ensures want { IfErr result (λ r. r ≡ no_memory) }
 {
     let mut seats = Vec::new(alloc);
     let mut there = 0usize;
@@ -107,6 +112,7 @@ where
     K::Image: Drop,
     requires { at < length seats.old.items }
     ensures up { OnOk result (Became (IsStarted K.is_honest) at seats.old.items seats.new.items) }
+    ensures other { result ≢ Err StoreRefusal.TooFew }
     ensures starts { Starts K.is_honest K.may_hold K.holds schema.now (length seats.old.items) seats.old.items seats.new.items }
 {
     let count = seats.len();
@@ -127,6 +133,7 @@ fn start_seats<K: Announces>(
 where
     K::Image: Drop,
     ensures up { OnOk result (EachBecame (IsStarted K.is_honest) seats.old.items seats.new.items) }
+    ensures other { result ≢ Err StoreRefusal.TooFew }
     ensures starts { Starts K.is_honest K.may_hold K.holds schema.now (length seats.old.items) seats.old.items seats.new.items }
 {
     let mut known = KnownLog::new(alloc);
@@ -150,7 +157,10 @@ where
         images: Vec<Option<K::Image>>,
         past: &Past,
     ) -> Result<Members<K>, StoreRefusal>
-        ensures { IfOk result (AreOpened K.is_honest K.may_hold K.holds (told_by past.now) images.items) }
+        ensures opened { IfOk result (AreOpened K.is_honest K.may_hold K.holds (told_by past.now) images.items) }
+        ensures most { OnOk result (AreMost images.items) }
+        ensures few { result ≡ Err StoreRefusal.TooFew → AreMost images.items → ⊥ }
+        ensures refused { (AreMost images.items → ⊥) → (result ≡ Err StoreRefusal.TooFew) ⊎ (result ≡ Err no_memory) }
     {
         let count = images.len();
         let (mut seats, there) = seats_of::<K>(alloc, images, past)?;
@@ -166,7 +176,10 @@ where
     }
 
     /// The members whose database is missing, in their order. The error is want of memory.
-    pub fn missing(&self) -> Result<Vec<Member>, StoreRefusal> {
+    pub fn missing(&self) -> Result<Vec<Member>, StoreRefusal>
+        ensures all { IfOk result (λ missing. missing.items ≡ missing_in self.now.seats.items) }
+        ensures want { IfErr result (λ r. r ≡ no_memory) }
+    {
         let mut missing = Vec::new(self.alloc);
         for seat in &self.seats {
             if seat.is_missing() {

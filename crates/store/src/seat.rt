@@ -1,5 +1,5 @@
 //! A member's seat: what a store has of it.
-ghost use Rattle.std.specs.Prelude.{◌≡◌, ◌≤◌, ◌⊎◌, ℕ, true, false, Some, None, Err, IsTrue, IsSome, IfOk, IfErr, OnOk, OnErr, MatchOption, ◌↔◌};
+ghost use Rattle.std.specs.Prelude.{◌≡◌, ◌≢◌, ◌≤◌, ◌⊎◌, ℕ, true, false, Some, None, Err, IsTrue, IsSome, IfOk, IfErr, OnOk, OnErr, MatchOption, ◌↔◌};
 ghost use Rattle.std.specs.Option.{ForSome};
 ghost use Rattle.keep.specs.Durable.{Durable};
 ghost use Rattle.model.specs.Members.{Node as TheNode};
@@ -54,6 +54,7 @@ where
     K::Image: Drop,
     ensures links { IfOk result (λ chain. K.is_honest node.new.keeper → chain.links.items ≡ links_of (member_of node.new).log) }
     ensures up { OnOk result (node.new.is_up ≡ true) }
+    ensures other { result ≢ Err StoreRefusal.TooFew }
     ensures group { IsSameSeat node.old node.new }
     ensures honest { K.is_honest node.new.keeper → K.is_honest node.old.keeper }
     ensures member { OnOk result (K.is_honest node.new.keeper → member_of node.new ≡ member_of node.old) }
@@ -83,6 +84,7 @@ where
     ensures back { IfErr result (λ e. (d : Durable) → K.holds e.1 d → K.holds image d) }
     ensures links { IfOk result (λ p. K.is_honest p.0.keeper → p.1.links.items ≡ links_of (member_of p.0).log) }
     ensures up { IfOk result (λ p. p.0.is_up ≡ true) }
+    ensures other { IfErr result (λ e. e.0 ≢ StoreRefusal.TooFew) }
 {
     let mut node = match Node::start(alloc, image, schema, members, member) {
         Ok(node) => node,
@@ -140,6 +142,7 @@ where
     ) -> Result<(), StoreRefusal>
         ensures up { OnOk result (IsSome self.new.node) }
         ensures err { OnErr result (self.new.node ≡ None) }
+        ensures other { result ≢ Err StoreRefusal.TooFew }
         ensures still { IsSome self.old.node → self.new ≡ self.old }
         ensures missing { self.old.node ≡ None → self.old.image ≡ None → result ≡ Err (StoreRefusal.Refused Refusal.NodeDown) }
         ensures clean { IsClean K.is_honest K.holds self.new → IsClean K.is_honest K.holds self.old }

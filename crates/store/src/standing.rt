@@ -1,6 +1,7 @@
 //! How members stand, and are stopped and started.
 ghost use Rattle.std.specs.Prelude.{◌≡◌, ◌≢◌, ◌⊎◌, ◌-◌, ℕ, IfOk, IsErr, OnErr, slice_get, if◌then◌else◌};
-ghost use Rattle.store.specs.Closing.{EachBecame, IsStillThere};
+ghost use Rattle.store.specs.Became.{EachBecame};
+ghost use Rattle.store.specs.Closing.{IsStillThere};
 ghost use Rattle.store.specs.Going.{GoesOn};
 ghost use Rattle.store.specs.Journals.{IsSpent};
 ghost use Rattle.store.specs.Statuses.{IsStatus, leads};

@@ -1,6 +1,7 @@
 //! Steps of the members, and what comes of them.
 ghost use Rattle.std.specs.Prelude.{◌≡◌, ◌≢◌, ◌<◌, ◌+◌, ◌-◌, ℕ, Some, [], ◌∷◌, IfOk, IfErr, OnOk, OnErr, length, slice_get};
-ghost use Rattle.store.specs.Closing.{EachBecame, IsStillThere};
+ghost use Rattle.store.specs.Became.{EachBecame};
+ghost use Rattle.store.specs.Closing.{IsStillThere};
 ghost use Rattle.store.specs.Going.{Anywhere, GoesOn, GoesOnSo, HasSent, HasStepped, Hears, IsAmong, IsBrought, MayHaveStepped, Publishes, SaysWhy};
 ghost use Rattle.store.specs.Journals.{IsSpent, HasLast};
 ghost use Rattle.store.specs.Refusals.{IsOfJournal};

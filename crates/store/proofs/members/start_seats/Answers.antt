@@ -1,5 +1,5 @@
 use Rattle.std.proofs.Common.{◌≡◌, ℕ, arith, length, rules, subst}
-use Rattle.store.specs.Closing.{IsStarted}
+use Rattle.store.specs.Starting.{IsStarted}
 use Rattle.store.specs.Opening.{Starts}
 use Rattle.store.proofs.Became.{all_became, none_became}
 use Rattle.store.proofs.Closing.{next_one}

@@ -1,5 +1,5 @@
 use Rattle.std.proofs.Common.{length}
-use Rattle.store.specs.Closing.{IsStarted}
+use Rattle.store.specs.Starting.{IsStarted}
 use Rattle.store.specs.Opening.{Starts}
 use Rattle.store.proofs.Became.{FirstBecame}
 use Rattle.store.proofs.members.start_seats.Given as goal

@@ -1,7 +1,7 @@
 use Rattle.std.proofs.Common.{◌≡◌, Some, ap, arith, length, refl, slice_get, subst}
 use Rattle.std.proofs.lemmas.List.{take_all}
 use Rattle.std.proofs.lemmas.Option.{slice_get_read}
-use Rattle.store.specs.Closing.{EachBecame}
+use Rattle.store.specs.Became.{EachBecame}
 use Rattle.store.specs.Statuses.{IsStatus}
 use Rattle.store.proofs.Became.{more_became, none_begun}
 use Rattle.store.proofs.store.Store.status.Goals as goal

@@ -1,5 +1,5 @@
 use Rattle.std.proofs.Common.{take}
-use Rattle.store.specs.Closing.{EachBecame}
+use Rattle.store.specs.Became.{EachBecame}
 use Rattle.store.specs.Statuses.{IsStatus}
 use Rattle.store.proofs.store.Store.status.Given as goal
 

@@ -1,4 +1,5 @@
-use Rattle.store.specs.Closing.{EachBecame, IsStillThere}
+use Rattle.store.specs.Became.{EachBecame}
+use Rattle.store.specs.Closing.{IsStillThere}
 use Rattle.store.specs.Going.{GoesOn}
 use Rattle.store.proofs.store.Store.stop_all.Given as goal
 
