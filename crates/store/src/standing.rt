@@ -1,9 +1,10 @@
 //! How members stand, and are stopped and started.
-ghost use Rattle.std.specs.Prelude.{◌≡◌, ◌≢◌, ◌⊎◌, ◌-◌, ℕ, IfOk, IsErr, OnErr, slice_get, if◌then◌else◌};
+ghost use Rattle.std.specs.Prelude.{◌≡◌, ◌≢◌, ◌⊎◌, ◌-◌, ℕ, IfErr, IfOk, IsErr, OnErr, OnOk, slice_get, if◌then◌else◌};
 ghost use Rattle.store.specs.Became.{EachBecame};
 ghost use Rattle.store.specs.Closing.{IsStillThere};
 ghost use Rattle.store.specs.Going.{GoesOn};
-ghost use Rattle.store.specs.Journals.{IsSpent};
+ghost use Rattle.store.specs.Journals.{IsAllOn, IsLonger, IsPartOn, IsSpent, device_in};
+ghost use Rattle.store.specs.Refusals.{IsOfJournal};
 ghost use Rattle.store.specs.Statuses.{IsStatus, leads};
 
 use crate::announcing::Announces;
@@ -173,6 +174,10 @@ where
 
     // Stops each member that is up.
     pub(crate) fn stop_all(&mut self) -> Result<(), StoreRefusal>
+        ensures all { OnOk result (IsAllOn K.Journal.contents self.old.scribe (device_in self.new.scribe)) }
+        ensures part { OnErr result (IsPartOn K.Journal.contents self.old.scribe (device_in self.new.scribe)) }
+        ensures why { IfErr result IsOfJournal }
+        ensures live { OnOk result (IsSpent self.old.scribe → ⊥) }
         ensures there { EachBecame IsStillThere self.old.seats.items self.new.seats.items }
         ensures goes { GoesOn K.is_honest K.may_hold K.holds self.old self.new }
     {
@@ -184,6 +189,10 @@ where
 
     // Stops a member, if it is up.
     fn end(&mut self, member: Member) -> Result<(), StoreRefusal>
+        ensures longer { OnOk result (IsLonger self.old.scribe self.new.scribe) }
+        ensures device { OnErr result (device_in self.new.scribe ≡ device_in self.old.scribe) }
+        ensures why { IfErr result IsOfJournal }
+        ensures spent { OnOk result (IsSpent self.old.scribe → IsSpent self.new.scribe) }
         ensures there { EachBecame IsStillThere self.old.seats.items self.new.seats.items }
         ensures goes { GoesOn K.is_honest K.may_hold K.holds self.old self.new }
     {

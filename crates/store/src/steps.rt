@@ -249,6 +249,7 @@ where
 
     // Stops a member's node.
     fn stop_node(&mut self, member: Member)
+        ensures scribe { self.new.scribe ≡ self.old.scribe }
         ensures there { EachBecame IsStillThere self.old.seats.items self.new.seats.items }
         ensures others { (at : ℕ) → at ≢ member - 1 → slice_get self.new.seats.items at ≡ slice_get self.old.seats.items at }
         ensures goes { GoesOn K.is_honest K.may_hold K.holds self.old self.new }
@@ -262,6 +263,7 @@ where
 
     // A member is down.
     pub(crate) fn fall(&mut self, member: Member)
+        ensures scribe { self.new.scribe ≡ self.old.scribe }
         ensures there { EachBecame IsStillThere self.old.seats.items self.new.seats.items }
         ensures others { (at : ℕ) → at ≢ member - 1 → slice_get self.new.seats.items at ≡ slice_get self.old.seats.items at }
         ensures goes { GoesOn K.is_honest K.may_hold K.holds self.old self.new }

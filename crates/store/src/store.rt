@@ -3,7 +3,7 @@ ghost use Rattle.std.specs.Prelude.{◌≡◌, ◌↔◌, ◌⊎◌, ◌<◌, �
 ghost use Rattle.store.specs.Closing.{IsClosed};
 ghost use Rattle.store.specs.Going.{GoesOn, Publishes};
 ghost use Rattle.store.specs.Opening.{Begins};
-ghost use Rattle.store.specs.Journals.{IsSpent, IsAdded, IsLonger, IsFlushed, IsOpened};
+ghost use Rattle.store.specs.Journals.{IsSpent, IsAdded, IsLonger, IsFlushed, IsOpened, IsAllOn, IsPartOn, device_in};
 ghost use Rattle.store.specs.Refusals.{IsOfJournal};
 
 use crate::announcing::Announces;
@@ -148,6 +148,7 @@ where
         ensures why { IfErr result IsOfJournal }
         ensures fails { OnErr result (IsSpent self.new.scribe) }
         ensures live { OnOk result (IsSpent self.old.scribe → ⊥) }
+        ensures device { device_in self.new.scribe ≡ device_in self.old.scribe }
         ensures same { self.new ≡ record self.old { scribe = self.new.scribe } }
         ensures passes { Publishes self.old self.new [] [] }
         ensures goes { GoesOn K.is_honest K.may_hold K.holds self.old self.new }
@@ -161,6 +162,7 @@ where
     // Writes the journal's buffer to its device.
     pub(crate) fn flush(&mut self) -> Result<(), StoreRefusal>
         ensures ok { OnOk result (IsFlushed K.Journal.contents self.old.scribe self.new.scribe) }
+        ensures part { OnErr result (IsPartOn K.Journal.contents self.old.scribe (device_in self.new.scribe)) }
         ensures why { IfErr result IsOfJournal }
         ensures fails { OnErr result (IsSpent self.new.scribe) }
         ensures live { OnOk result (IsSpent self.old.scribe → ⊥) }
@@ -259,7 +261,11 @@ where
     /// Stops every member, and gives the databases back, and the journal's device. What could not be written to the journal is its
     /// refusal; the databases hold what was stored all the same.
     pub fn close(mut self) -> (Databases<K>, Option<K::Journal>, Result<(), StoreRefusal>)
-        ensures { IsClosed K.is_honest K.may_hold K.holds self result.0.seats.items }
+        ensures closed { IsClosed K.is_honest K.may_hold K.holds self result.0.seats.items }
+        ensures all { OnOk result.2 (IsAllOn K.Journal.contents self.scribe result.1) }
+        ensures part { OnErr result.2 (IsPartOn K.Journal.contents self.scribe result.1) }
+        ensures why { IfErr result.2 IsOfJournal }
+        ensures live { OnOk result.2 (IsSpent self.scribe → ⊥) }
     {
         let stopped = self.stop_all();
         let Store { seats, scribe, .. } = self;
