@@ -105,6 +105,10 @@ impl<S: Alter + Drop> LogReader for SqlKeeper<S> {
 
     ghost serves = { λ k members tables. IsSound (state S.Store k.conn) → IsLog members tables (stored_in (state S.Store k.conn).committed) };
 
+    ghost Origin = { Unit {0} };
+
+    ghost came_from = { λ _ _. Unit {0} };
+
     ghost only_honest = { λ _ _ h. record { clean = h.clean; is_open = h.is_open } };
 
     ghost only_stored = { λ k d h. offers_held _ d (k.held (record { clean = h.clean; is_open = h.is_open })) h };

@@ -23,6 +23,9 @@ use std::alloc::Global;
 /// a store that failed may answer nothing more till it is opened anew. One that is honest after a
 /// call was so before it. What an open finds once an honest reader is closed is what is stored, neither
 /// more nor less, whether the reader is up or down.
+///
+/// What else a reader carries, as a journal that is lent to it, its own calls alone change, and each in
+/// the same ways: what it came from stays.
 pub trait LogReader: Drop {
     /// What is stored. It says something of a reader that is honest.
     ghost stored: { Self → Durable };
@@ -51,6 +54,12 @@ pub trait LogReader: Drop {
     /// It was opened for a member of a group of so many, over these tables.
     ghost serves: { Self → ℕ → Language → Type 0 };
 
+    /// What it carries besides its store, as it was at some time.
+    ghost Origin: { Type 0 };
+
+    /// What it carries besides its store is that still, or came of it by its own calls alone.
+    ghost came_from: { Self → Origin → Type 0 };
+
     /// Reads the entry that has `i` others before it, none past the end of the log, and changes
     /// nothing. `NodeDown` where the reader is down, `StoreFault` where the store fails, `NoMemory`
     /// where memory is refused.
@@ -61,6 +70,7 @@ pub trait LogReader: Drop {
         ensures honest { is_honest self.new → is_honest self.old }
         ensures left { (d : Durable) → may_hold self.new d → may_hold self.old d }
         ensures serves { (members : ℕ) (language : Language) → serves self.old members language → serves self.new members language }
+        ensures came { (o : Origin) → came_from self.old o → came_from self.new o }
         ensures asks { asks self.new ≡ one_more (asks self.old) }
         ensures saves { saves self.new ≡ saves self.old }
         ensures limit { limit self.new ≡ limit self.old };
@@ -154,6 +164,7 @@ pub trait Keeper: LogReader {
         ensures honest { Self.LogReader.is_honest self.new → Self.LogReader.is_honest self.old }
         ensures left { (d : Durable) → Self.LogReader.may_hold self.new d → Self.LogReader.may_hold self.old d }
         ensures serves { (members : ℕ) (language : Language) → Self.LogReader.serves self.old members language → Self.LogReader.serves self.new members language }
+        ensures came { (o : Self.LogReader.Origin) → Self.LogReader.came_from self.old o → Self.LogReader.came_from self.new o }
         ensures asks { Self.LogReader.asks self.new ≡ Self.LogReader.asks self.old }
         ensures saves { Self.LogReader.saves self.new ≡ Self.LogReader.saves self.old }
         ensures limit { Self.LogReader.limit self.new ≡ Self.LogReader.limit self.old };
@@ -174,6 +185,7 @@ pub trait Keeper: LogReader {
         ensures still { Self.LogReader.is_up self.old ≡ false → Self.LogReader.is_honest self.new → Self.LogReader.stored self.new ≡ Self.LogReader.stored self.old }
         ensures late { Self.LogReader.is_up self.old ≡ false → (d : Durable) → Self.LogReader.may_hold self.new d → Self.LogReader.may_hold self.old d }
         ensures serves { (members : ℕ) (language : Language) → Self.LogReader.serves self.old members language → (Self.LogReader.is_honest self.old → Self.LogReader.is_up self.old ≡ true → IsLog members language (after change.now (Self.LogReader.stored self.old))) → Self.LogReader.serves self.new members language }
+        ensures came { (o : Self.LogReader.Origin) → Self.LogReader.came_from self.old o → Self.LogReader.came_from self.new o }
         ensures asks { Self.LogReader.asks self.new ≡ Self.LogReader.asks self.old }
         ensures saves { Self.LogReader.saves self.new ≡ one_more (Self.LogReader.saves self.old) }
         ensures limit { Self.LogReader.limit self.new ≡ Self.LogReader.limit self.old };

@@ -185,6 +185,10 @@ impl LogReader for MemKeeper {
 
     ghost serves = { λ k members language. IsLog members language (stored_in k.image) };
 
+    ghost Origin = { Unit {0} };
+
+    ghost came_from = { λ _ _. Unit {0} };
+
     ghost only_honest = { λ _ _ _. tt };
 
     ghost only_stored = { λ _ _ h. h };

@@ -48,6 +48,7 @@ impl<K: Keeper> Node<K> {
         ensures member { OnOk result (K.is_honest self.new.keeper → member_of self.new ≡ member_of self.old) }
         ensures group { IsSameSeat self.old self.new }
         ensures honest { K.is_honest self.new.keeper → K.is_honest self.old.keeper }
+        ensures came { (o : K.Origin) → K.came_from self.old.keeper o → K.came_from self.new.keeper o }
         ensures left { (d : Durable) → K.may_hold self.new.keeper d → K.may_hold self.old.keeper d }
         ensures held { self.old.is_up ≡ true → (d : Durable) → K.may_hold self.new.keeper d → d ≡ durable_of (member_of self.old) }
         ensures asks { K.asks self.new.keeper ≤ K.asks self.old.keeper + 1 }

@@ -102,6 +102,7 @@ pub(crate) fn store<K: Keeper>(
     ensures ok { OnOk result (K.is_honest keeper.new → K.stored keeper.new ≡ after_change change.now (K.stored keeper.old)) }
     ensures up { OnOk result (K.is_up keeper.new ≡ true) }
     ensures honest { K.is_honest keeper.new → K.is_honest keeper.old }
+    ensures came { (o : K.Origin) → K.came_from keeper.old o → K.came_from keeper.new o }
     ensures torn { OnErr result ((d : Durable) → K.may_hold keeper.new d → IsBeforeOrAfter (K.stored keeper.old) (after_change change.now (K.stored keeper.old)) d) }
     ensures cause { IfErr result (IsCause (K.failed keeper.old) (K.failed keeper.new)) }
     ensures counts { K.failed keeper.old ≤ K.failed keeper.new }
@@ -151,6 +152,7 @@ pub(crate) fn finish<K: Keeper>(
     ensures ok { OnOk result (K.is_honest keeper.new → K.stored keeper.new ≡ after_change taken.change (K.stored keeper.old)) }
     ensures up { OnOk result (K.is_up keeper.new ≡ true) }
     ensures honest { K.is_honest keeper.new → K.is_honest keeper.old }
+    ensures came { (o : K.Origin) → K.came_from keeper.old o → K.came_from keeper.new o }
     ensures torn { OnErr result ((d : Durable) → K.may_hold keeper.new d → IsBeforeOrAfter (K.stored keeper.old) (after_change taken.change (K.stored keeper.old)) d) }
     ensures cause { IfErr result (IsCauseOr (K.is_honest keeper.new) (K.failed keeper.old) (K.failed keeper.new)) }
     ensures asks { IfOk result (λ out. K.asks keeper.new ≤ K.asks keeper.old + length out.applied.items) }
@@ -201,6 +203,7 @@ fn take_step<K: Keeper>(
     ensures spares { K.is_honest keeper.new → spares_memory core.old.members core.old.me work (node_of core.old (K.stored keeper.old).log) ≡ true → IsOk result }
     ensures torn { OnErr result ((d : Durable) → K.may_hold keeper.new d → IsBeforeOrAfter (durable_of (node_of core.old (K.stored keeper.old).log)) (durable_of (node_after (node_of core.old (K.stored keeper.old).log) (works core.old.schema core.old.members core.old.me work (node_of core.old (K.stored keeper.old).log)))) d) }
     ensures honest { K.is_honest keeper.new → K.is_honest keeper.old }
+    ensures came { (o : K.Origin) → K.came_from keeper.old o → K.came_from keeper.new o }
     ensures cause { IfErr result (IsCauseOr (K.is_honest keeper.new) (K.failed keeper.old) (K.failed keeper.new)) }
     ensures asks { IfOk result (λ e. K.asks keeper.new ≤ K.asks keeper.old + (65 * (brought work + sent_in e) + 1 + applied_in e)) }
     ensures saves { OnOk result (K.is_honest keeper.new → IsSavedOnce (durable_of (node_of core.old (K.stored keeper.old).log)) (durable_of (node_of core.new (K.stored keeper.new).log)) (K.saves keeper.old) (K.saves keeper.new)) }
@@ -331,6 +334,7 @@ impl<K: Keeper> Node<K> {
         ensures cause { IfErr result (HasCauseOr (K.is_honest self.new.keeper) (K.failed self.old.keeper) (K.failed self.new.keeper)) }
         ensures group { IsSameSeat self.old self.new }
         ensures honest { K.is_honest self.new.keeper → K.is_honest self.old.keeper }
+        ensures came { (o : K.Origin) → K.came_from self.old.keeper o → K.came_from self.new.keeper o }
         ensures asks { IfOk result (λ out. K.asks self.new.keeper ≤ K.asks self.old.keeper + (65 * (brought work + length out.messages.items) + 1 + length out.applied.items)) }
         ensures saves { IfOk result (λ out. K.is_honest self.new.keeper → IsSavedOnce (durable_of (member_of self.old)) (durable_of (member_of self.new)) (K.saves self.old.keeper) (K.saves self.new.keeper)) }
         ensures saves_most { IsSavedAtMostOnce (K.saves self.old.keeper) (K.saves self.new.keeper) }
@@ -454,6 +458,7 @@ impl<K: Keeper> Node<K> {
         ensures group { IsSameSeat self.old self.new }
         ensures member { OnOk result (K.is_honest self.new.keeper → member_of self.new ≡ member_of self.old) }
         ensures honest { K.is_honest self.new.keeper → K.is_honest self.old.keeper }
+        ensures came { (o : K.Origin) → K.came_from self.old.keeper o → K.came_from self.new.keeper o }
         ensures left { (d : Durable) → K.may_hold self.new.keeper d → K.may_hold self.old.keeper d }
         ensures held { self.old.is_up ≡ true → (d : Durable) → K.may_hold self.new.keeper d → d ≡ durable_of (member_of self.old) }
     {

@@ -53,7 +53,7 @@ pub(crate) fn all_entries<S: LogReader>(
     requires up { S.is_up reader.old ≡ true }
     requires stored { S.is_honest reader.old → IsInStep core.now (S.stored reader.old) }
     ensures ok { IfOk result (λ log. S.is_honest reader.new → log.items ≡ (S.stored reader.old).log) }
-    ensures reader { IsRead (S.is_honest reader.old) (S.is_honest reader.new) (S.stored reader.old) (S.stored reader.new) (S.may_hold reader.old) (S.may_hold reader.new) (S.serves reader.old) (S.serves reader.new) (S.failed reader.old) (S.failed reader.new) (S.saves reader.old) (S.saves reader.new) }
+    ensures reader { IsRead (S.is_honest reader.old) (S.is_honest reader.new) (S.stored reader.old) (S.stored reader.new) (S.may_hold reader.old) (S.may_hold reader.new) (S.serves reader.old) (S.serves reader.new) (S.failed reader.old) (S.failed reader.new) (S.saves reader.old) (S.saves reader.new) (S.came_from reader.old) (S.came_from reader.new) }
     ensures up { OnOk result (S.is_up reader.new ≡ true) }
     ensures not_down { IfErr result (λ e. e ≡ StoreError.NodeDown → ⊥) }
     ensures bad { IfErr result (λ e. e ≡ StoreError.BadStore → S.is_honest reader.new → ⊥) }

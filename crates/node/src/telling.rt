@@ -116,7 +116,7 @@ fn fetch_after<S: LogReader>(
     ensures entries { IfOk result (λ es. S.is_honest reader.new → es.items ≡ slice_range (S.stored reader.old).log before core.now.commit) }
     ensures count { IfOk result (λ es. before ≤ core.now.commit → before + length es.items ≡ core.now.commit) }
     ensures room { IfOk result (λ es. before + length es.items ≤ 18446744073709551615) }
-    ensures reader { IsRead (S.is_honest reader.old) (S.is_honest reader.new) (S.stored reader.old) (S.stored reader.new) (S.may_hold reader.old) (S.may_hold reader.new) (S.serves reader.old) (S.serves reader.new) (S.failed reader.old) (S.failed reader.new) (S.saves reader.old) (S.saves reader.new) }
+    ensures reader { IsRead (S.is_honest reader.old) (S.is_honest reader.new) (S.stored reader.old) (S.stored reader.new) (S.may_hold reader.old) (S.may_hold reader.new) (S.serves reader.old) (S.serves reader.new) (S.failed reader.old) (S.failed reader.new) (S.saves reader.old) (S.saves reader.new) (S.came_from reader.old) (S.came_from reader.new) }
     ensures up { OnOk result (S.is_up reader.new ≡ true) }
     ensures cause { IfErr result (IsCauseOr (S.is_honest reader.new) (S.failed reader.old) (S.failed reader.new)) }
     ensures asks { IfOk result (λ es. S.asks reader.new ≤ S.asks reader.old + length es.items) }
@@ -148,7 +148,7 @@ pub(crate) fn apply_after<S: LogReader>(
     ensures applied { IfOk result (λ a. S.is_honest reader.new → AreApplied core.now.schema (S.stored reader.old).log before core.now.commit a.entries.items a.told.items tables.new) }
     ensures noted { OnOk result (AreNoted core.now.schema tables.new notes.new) }
     ensures made { OnOk result (AreMade core.now.schema tables.old → AreMade core.now.schema tables.new) }
-    ensures reader { IsRead (S.is_honest reader.old) (S.is_honest reader.new) (S.stored reader.old) (S.stored reader.new) (S.may_hold reader.old) (S.may_hold reader.new) (S.serves reader.old) (S.serves reader.new) (S.failed reader.old) (S.failed reader.new) (S.saves reader.old) (S.saves reader.new) }
+    ensures reader { IsRead (S.is_honest reader.old) (S.is_honest reader.new) (S.stored reader.old) (S.stored reader.new) (S.may_hold reader.old) (S.may_hold reader.new) (S.serves reader.old) (S.serves reader.new) (S.failed reader.old) (S.failed reader.new) (S.saves reader.old) (S.saves reader.new) (S.came_from reader.old) (S.came_from reader.new) }
     ensures up { OnOk result (S.is_up reader.new ≡ true) }
     ensures cause { IfErr result (IsCauseOr (S.is_honest reader.new) (S.failed reader.old) (S.failed reader.new)) }
     ensures asks { IfOk result (λ a. S.asks reader.new ≤ S.asks reader.old + length a.entries.items) }

@@ -6,14 +6,16 @@ use Rattle.keep.specs.declared.error.StoreError.{StoreError}
 use Rattle.keep.specs.declared.error.StoreError.TheVariants.{NoMemory, StoreFault}
 
 -- Of a reader before and after: whether it is honest, what it stores, what a next open may find, whom it serves, how often
--- it has failed, and how often a save was asked of it. Nothing of it changed but what a failure changes.
-pub record IsRead (is is' : Type 0) (d d' : Durable) (holds holds' : Durable → Type 0) (serving serving' : ℕ → Language → Type 0) (failed failed' saves saves' : ℕ) : Type 0 where
+-- it has failed, how often a save was asked of it, and where what else it carries came from. Nothing of it changed but what
+-- a failure changes, and what else it carries by its own calls alone.
+pub record IsRead (is is' : Type 0) (d d' : Durable) (holds holds' : Durable → Type 0) (serving serving' : ℕ → Language → Type 0) (failed failed' saves saves' : ℕ) {Origin : Type 0} (coming coming' : Origin → Type 0) : Type 0 where
   pub honest : is' → is
   pub same : is' → d' ≡ d
   pub left : (x : Durable) → holds' x → holds x
   pub serves : (members : ℕ) (tables : Language) → serving members tables → serving' members tables
   pub counts : failed ≤ failed'
   pub unsaved : saves' ≡ saves
+  pub came : (o : Origin) → coming o → coming' o
 
 -- the cause is want of memory, or that the store failed just now
 abbrev pub IsCause : ℕ → ℕ → StoreError → Type 0

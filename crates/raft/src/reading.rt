@@ -21,7 +21,7 @@ impl Core {
     ) -> Result<Option<Entry>, StoreError>
         requires up { S.is_up reader.old ≡ true }
         ensures ok { IfOk result (λ found. S.is_honest reader.new → Reaches self.now (S.stored reader.old).log → found ≡ nth (log_of self.now (S.stored reader.old).log) index) }
-        ensures reader { IsRead (S.is_honest reader.old) (S.is_honest reader.new) (S.stored reader.old) (S.stored reader.new) (S.may_hold reader.old) (S.may_hold reader.new) (S.serves reader.old) (S.serves reader.new) (S.failed reader.old) (S.failed reader.new) (S.saves reader.old) (S.saves reader.new) }
+        ensures reader { IsRead (S.is_honest reader.old) (S.is_honest reader.new) (S.stored reader.old) (S.stored reader.new) (S.may_hold reader.old) (S.may_hold reader.new) (S.serves reader.old) (S.serves reader.new) (S.failed reader.old) (S.failed reader.new) (S.saves reader.old) (S.saves reader.new) (S.came_from reader.old) (S.came_from reader.new) }
         ensures up { OnOk result (S.is_up reader.new ≡ true) }
         ensures cause { IfErr result (IsCause (S.failed reader.old) (S.failed reader.new)) }
         ensures asks { S.asks reader.new ≤ S.asks reader.old + 1 }
@@ -48,7 +48,7 @@ impl Core {
         requires up { S.is_up reader.old ≡ true }
         requires reaches { S.is_honest reader.old → Reaches self.now (S.stored reader.old).log }
         ensures ok { IfOk result (λ term. S.is_honest reader.new → term ≡ term_at (log_of self.now (S.stored reader.old).log) index) }
-        ensures reader { IsRead (S.is_honest reader.old) (S.is_honest reader.new) (S.stored reader.old) (S.stored reader.new) (S.may_hold reader.old) (S.may_hold reader.new) (S.serves reader.old) (S.serves reader.new) (S.failed reader.old) (S.failed reader.new) (S.saves reader.old) (S.saves reader.new) }
+        ensures reader { IsRead (S.is_honest reader.old) (S.is_honest reader.new) (S.stored reader.old) (S.stored reader.new) (S.may_hold reader.old) (S.may_hold reader.new) (S.serves reader.old) (S.serves reader.new) (S.failed reader.old) (S.failed reader.new) (S.saves reader.old) (S.saves reader.new) (S.came_from reader.old) (S.came_from reader.new) }
         ensures up { OnOk result (S.is_up reader.new ≡ true) }
         ensures cause { IfErr result (IsCause (S.failed reader.old) (S.failed reader.new)) }
         ensures asks { S.asks reader.new ≤ S.asks reader.old + 1 }
@@ -71,7 +71,7 @@ impl Core {
         requires reaches { S.is_honest reader.old → Reaches self.now (S.stored reader.old).log }
         requires few { most ≤ 65 }
         ensures ok { IfOk result (λ window. S.is_honest reader.new → window.items ≡ take most (drop before (log_of self.now (S.stored reader.old).log))) }
-        ensures reader { IsRead (S.is_honest reader.old) (S.is_honest reader.new) (S.stored reader.old) (S.stored reader.new) (S.may_hold reader.old) (S.may_hold reader.new) (S.serves reader.old) (S.serves reader.new) (S.failed reader.old) (S.failed reader.new) (S.saves reader.old) (S.saves reader.new) }
+        ensures reader { IsRead (S.is_honest reader.old) (S.is_honest reader.new) (S.stored reader.old) (S.stored reader.new) (S.may_hold reader.old) (S.may_hold reader.new) (S.serves reader.old) (S.serves reader.new) (S.failed reader.old) (S.failed reader.new) (S.saves reader.old) (S.saves reader.new) (S.came_from reader.old) (S.came_from reader.new) }
         ensures up { OnOk result (S.is_up reader.new ≡ true) }
         ensures cause { IfErr result (IsCauseOr (S.is_honest reader.new) (S.failed reader.old) (S.failed reader.new)) }
         ensures asks { S.asks reader.new ≤ S.asks reader.old + most }

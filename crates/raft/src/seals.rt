@@ -37,7 +37,7 @@ impl Core {
         requires up { S.is_up reader.old ≡ true }
         requires reaches { S.is_honest reader.old → Reaches self.now (S.stored reader.old).log }
         ensures ok { IfOk result (λ yes. S.is_honest reader.new → yes ≡ is_applied (node_of self.now (S.stored reader.old).log) seal) }
-        ensures reader { IsRead (S.is_honest reader.old) (S.is_honest reader.new) (S.stored reader.old) (S.stored reader.new) (S.may_hold reader.old) (S.may_hold reader.new) (S.serves reader.old) (S.serves reader.new) (S.failed reader.old) (S.failed reader.new) (S.saves reader.old) (S.saves reader.new) }
+        ensures reader { IsRead (S.is_honest reader.old) (S.is_honest reader.new) (S.stored reader.old) (S.stored reader.new) (S.may_hold reader.old) (S.may_hold reader.new) (S.serves reader.old) (S.serves reader.new) (S.failed reader.old) (S.failed reader.new) (S.saves reader.old) (S.saves reader.new) (S.came_from reader.old) (S.came_from reader.new) }
         ensures up { OnOk result (S.is_up reader.new ≡ true) }
         ensures cause { IfErr result (IsCause (S.failed reader.old) (S.failed reader.new)) }
         ensures asks { S.asks reader.new ≤ S.asks reader.old + 1 }
@@ -64,7 +64,7 @@ impl Core {
         ensures log { self.new.log ≡ self.old.log }
         ensures hard { (self.new.term ≡ self.old.term) × (self.new.vote ≡ self.old.vote) }
         ensures commit { self.new.commit ≡ self.old.commit }
-        ensures reader { IsRead (S.is_honest reader.old) (S.is_honest reader.new) (S.stored reader.old) (S.stored reader.new) (S.may_hold reader.old) (S.may_hold reader.new) (S.serves reader.old) (S.serves reader.new) (S.failed reader.old) (S.failed reader.new) (S.saves reader.old) (S.saves reader.new) }
+        ensures reader { IsRead (S.is_honest reader.old) (S.is_honest reader.new) (S.stored reader.old) (S.stored reader.new) (S.may_hold reader.old) (S.may_hold reader.new) (S.serves reader.old) (S.serves reader.new) (S.failed reader.old) (S.failed reader.new) (S.saves reader.old) (S.saves reader.new) (S.came_from reader.old) (S.came_from reader.new) }
         ensures up { OnOk result (S.is_up reader.new ≡ true) }
         ensures cause { IfErr result (IsCause (S.failed reader.old) (S.failed reader.new)) }
         ensures asks { S.asks reader.new ≤ S.asks reader.old + 1 }
@@ -87,7 +87,7 @@ impl Core {
         ensures log { self.new.log ≡ self.old.log }
         ensures hard { (self.new.term ≡ self.old.term) × (self.new.vote ≡ self.old.vote) }
         ensures commit { self.new.commit ≡ self.old.commit }
-        ensures reader { IsRead (S.is_honest reader.old) (S.is_honest reader.new) (S.stored reader.old) (S.stored reader.new) (S.may_hold reader.old) (S.may_hold reader.new) (S.serves reader.old) (S.serves reader.new) (S.failed reader.old) (S.failed reader.new) (S.saves reader.old) (S.saves reader.new) }
+        ensures reader { IsRead (S.is_honest reader.old) (S.is_honest reader.new) (S.stored reader.old) (S.stored reader.new) (S.may_hold reader.old) (S.may_hold reader.new) (S.serves reader.old) (S.serves reader.new) (S.failed reader.old) (S.failed reader.new) (S.saves reader.old) (S.saves reader.new) (S.came_from reader.old) (S.came_from reader.new) }
         ensures up { OnOk result (S.is_up reader.new ≡ true) }
         ensures cause { IfErr result (IsCause (S.failed reader.old) (S.failed reader.new)) }
         ensures asks { S.asks reader.new ≤ S.asks reader.old + 1 }

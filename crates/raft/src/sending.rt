@@ -43,7 +43,7 @@ impl Core {
         requires up { S.is_up reader.old ≡ true }
         requires reaches { S.is_honest reader.old → Reaches self.now (S.stored reader.old).log }
         ensures ok { IfOk result (λ m. S.is_honest reader.new → m ≡ append_to (node_of self.now (S.stored reader.old).log) self.now.me to) }
-        ensures reader { IsRead (S.is_honest reader.old) (S.is_honest reader.new) (S.stored reader.old) (S.stored reader.new) (S.may_hold reader.old) (S.may_hold reader.new) (S.serves reader.old) (S.serves reader.new) (S.failed reader.old) (S.failed reader.new) (S.saves reader.old) (S.saves reader.new) }
+        ensures reader { IsRead (S.is_honest reader.old) (S.is_honest reader.new) (S.stored reader.old) (S.stored reader.new) (S.may_hold reader.old) (S.may_hold reader.new) (S.serves reader.old) (S.serves reader.new) (S.failed reader.old) (S.failed reader.new) (S.saves reader.old) (S.saves reader.new) (S.came_from reader.old) (S.came_from reader.new) }
         ensures up { OnOk result (S.is_up reader.new ≡ true) }
         ensures cause { IfErr result (IsCauseOr (S.is_honest reader.new) (S.failed reader.old) (S.failed reader.new)) }
         ensures asks { S.asks reader.new ≤ S.asks reader.old + 65 }
@@ -69,7 +69,7 @@ impl Core {
         requires up { S.is_up reader.old ≡ true }
         requires reaches { S.is_honest reader.old → Reaches self.now (S.stored reader.old).log }
         ensures ok { IfOk result (λ ms. S.is_honest reader.new → ms.items ≡ append_to (node_of self.now (S.stored reader.old).log) self.now.me to ∷ []) }
-        ensures reader { IsRead (S.is_honest reader.old) (S.is_honest reader.new) (S.stored reader.old) (S.stored reader.new) (S.may_hold reader.old) (S.may_hold reader.new) (S.serves reader.old) (S.serves reader.new) (S.failed reader.old) (S.failed reader.new) (S.saves reader.old) (S.saves reader.new) }
+        ensures reader { IsRead (S.is_honest reader.old) (S.is_honest reader.new) (S.stored reader.old) (S.stored reader.new) (S.may_hold reader.old) (S.may_hold reader.new) (S.serves reader.old) (S.serves reader.new) (S.failed reader.old) (S.failed reader.new) (S.saves reader.old) (S.saves reader.new) (S.came_from reader.old) (S.came_from reader.new) }
         ensures up { OnOk result (S.is_up reader.new ≡ true) }
         ensures cause { IfErr result (IsCauseOr (S.is_honest reader.new) (S.failed reader.old) (S.failed reader.new)) }
         ensures asks { IfOk result (λ ms. S.asks reader.new ≤ S.asks reader.old + 65 * length ms.items) }
@@ -84,7 +84,7 @@ impl Core {
         requires up { S.is_up reader.old ≡ true }
         requires reaches { S.is_honest reader.old → Reaches self.now (S.stored reader.old).log }
         ensures ok { IfOk result (λ ms. S.is_honest reader.new → ms.items ≡ append_to_all self.now.members (node_of self.now (S.stored reader.old).log) self.now.me) }
-        ensures reader { IsRead (S.is_honest reader.old) (S.is_honest reader.new) (S.stored reader.old) (S.stored reader.new) (S.may_hold reader.old) (S.may_hold reader.new) (S.serves reader.old) (S.serves reader.new) (S.failed reader.old) (S.failed reader.new) (S.saves reader.old) (S.saves reader.new) }
+        ensures reader { IsRead (S.is_honest reader.old) (S.is_honest reader.new) (S.stored reader.old) (S.stored reader.new) (S.may_hold reader.old) (S.may_hold reader.new) (S.serves reader.old) (S.serves reader.new) (S.failed reader.old) (S.failed reader.new) (S.saves reader.old) (S.saves reader.new) (S.came_from reader.old) (S.came_from reader.new) }
         ensures up { OnOk result (S.is_up reader.new ≡ true) }
         ensures cause { IfErr result (IsCauseOr (S.is_honest reader.new) (S.failed reader.old) (S.failed reader.new)) }
         ensures asks { IfOk result (λ ms. S.asks reader.new ≤ S.asks reader.old + 65 * length ms.items) }
@@ -137,7 +137,7 @@ impl Core {
         ensures ok { IfOk result (λ index. S.is_honest reader.new → index ≡ (commits self.now.members self.now.me (node_of self.now (S.stored reader.old).log)).commit) }
         ensures low { IfOk result (λ index. self.now.commit ≤ index) }
         ensures within { IfOk result (λ index. index ≤ self.now.log.elsewhere + vec_len self.now.log.tail) }
-        ensures reader { IsRead (S.is_honest reader.old) (S.is_honest reader.new) (S.stored reader.old) (S.stored reader.new) (S.may_hold reader.old) (S.may_hold reader.new) (S.serves reader.old) (S.serves reader.new) (S.failed reader.old) (S.failed reader.new) (S.saves reader.old) (S.saves reader.new) }
+        ensures reader { IsRead (S.is_honest reader.old) (S.is_honest reader.new) (S.stored reader.old) (S.stored reader.new) (S.may_hold reader.old) (S.may_hold reader.new) (S.serves reader.old) (S.serves reader.new) (S.failed reader.old) (S.failed reader.new) (S.saves reader.old) (S.saves reader.new) (S.came_from reader.old) (S.came_from reader.new) }
         ensures up { OnOk result (S.is_up reader.new ≡ true) }
         ensures cause { IfErr result (IsCauseOr (S.is_honest reader.new) (S.failed reader.old) (S.failed reader.new)) }
         ensures asks { S.asks reader.new ≤ S.asks reader.old + 1 }
@@ -169,7 +169,7 @@ impl Core {
         ensures log { self.new.log ≡ self.old.log }
         ensures hard { (self.new.term ≡ self.old.term) × (self.new.vote ≡ self.old.vote) }
         ensures low { self.old.commit ≤ self.new.commit }
-        ensures reader { IsRead (S.is_honest reader.old) (S.is_honest reader.new) (S.stored reader.old) (S.stored reader.new) (S.may_hold reader.old) (S.may_hold reader.new) (S.serves reader.old) (S.serves reader.new) (S.failed reader.old) (S.failed reader.new) (S.saves reader.old) (S.saves reader.new) }
+        ensures reader { IsRead (S.is_honest reader.old) (S.is_honest reader.new) (S.stored reader.old) (S.stored reader.new) (S.may_hold reader.old) (S.may_hold reader.new) (S.serves reader.old) (S.serves reader.new) (S.failed reader.old) (S.failed reader.new) (S.saves reader.old) (S.saves reader.new) (S.came_from reader.old) (S.came_from reader.new) }
         ensures up { OnOk result (S.is_up reader.new ≡ true) }
         ensures cause { IfErr result (IsCauseOr (S.is_honest reader.new) (S.failed reader.old) (S.failed reader.new)) }
         ensures asks { IfOk result (λ ms. S.asks reader.new ≤ S.asks reader.old + (65 * length ms.items + 2)) }
@@ -200,7 +200,7 @@ impl Core {
         ensures log { self.new.log ≡ self.old.log }
         ensures hard { (self.new.term ≡ self.old.term) × (self.new.vote ≡ self.old.vote) }
         ensures low { self.old.commit ≤ self.new.commit }
-        ensures reader { IsRead (S.is_honest reader.old) (S.is_honest reader.new) (S.stored reader.old) (S.stored reader.new) (S.may_hold reader.old) (S.may_hold reader.new) (S.serves reader.old) (S.serves reader.new) (S.failed reader.old) (S.failed reader.new) (S.saves reader.old) (S.saves reader.new) }
+        ensures reader { IsRead (S.is_honest reader.old) (S.is_honest reader.new) (S.stored reader.old) (S.stored reader.new) (S.may_hold reader.old) (S.may_hold reader.new) (S.serves reader.old) (S.serves reader.new) (S.failed reader.old) (S.failed reader.new) (S.saves reader.old) (S.saves reader.new) (S.came_from reader.old) (S.came_from reader.new) }
         ensures up { OnOk result (S.is_up reader.new ≡ true) }
         ensures cause { IfErr result (IsCauseOr (S.is_honest reader.new) (S.failed reader.old) (S.failed reader.new)) }
         ensures asks { IfOk result (λ ms. S.asks reader.new ≤ S.asks reader.old + (65 * length ms.items + settling sending)) }

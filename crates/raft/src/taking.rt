@@ -27,7 +27,7 @@ impl Core {
         requires reaches { S.is_honest reader.old → Reaches self.now (S.stored reader.old).log }
         ensures ok { IfOk result (λ window. S.is_honest reader.new → LooksAt work.now (log_of self.now (S.stored reader.old).log) window.items) }
         ensures part { IfOk result (λ window. S.is_honest reader.new → list_all (is_entry (language_of self.now.schema)) (log_of self.now (S.stored reader.old).log) ≡ true → list_all (is_entry (language_of self.now.schema)) window.items ≡ true) }
-        ensures reader { IsRead (S.is_honest reader.old) (S.is_honest reader.new) (S.stored reader.old) (S.stored reader.new) (S.may_hold reader.old) (S.may_hold reader.new) (S.serves reader.old) (S.serves reader.new) (S.failed reader.old) (S.failed reader.new) (S.saves reader.old) (S.saves reader.new) }
+        ensures reader { IsRead (S.is_honest reader.old) (S.is_honest reader.new) (S.stored reader.old) (S.stored reader.new) (S.may_hold reader.old) (S.may_hold reader.new) (S.serves reader.old) (S.serves reader.new) (S.failed reader.old) (S.failed reader.new) (S.saves reader.old) (S.saves reader.new) (S.came_from reader.old) (S.came_from reader.new) }
         ensures up { OnOk result (S.is_up reader.new ≡ true) }
         ensures cause { IfErr result (IsCauseOr (S.is_honest reader.new) (S.failed reader.old) (S.failed reader.new)) }
         ensures asks { S.asks reader.new ≤ S.asks reader.old + looks work.now }
@@ -85,7 +85,7 @@ impl Core {
         ensures seat { IsSameSeat self.old self.new }
         ensures lower { self.new.log.elsewhere ≤ self.old.log.elsewhere }
         ensures short { vec_len self.new.log.tail ≤ 1024 }
-        ensures reader { IsRead (S.is_honest reader.old) (S.is_honest reader.new) (S.stored reader.old) (S.stored reader.new) (S.may_hold reader.old) (S.may_hold reader.new) (S.serves reader.old) (S.serves reader.new) (S.failed reader.old) (S.failed reader.new) (S.saves reader.old) (S.saves reader.new) }
+        ensures reader { IsRead (S.is_honest reader.old) (S.is_honest reader.new) (S.stored reader.old) (S.stored reader.new) (S.may_hold reader.old) (S.may_hold reader.new) (S.serves reader.old) (S.serves reader.new) (S.failed reader.old) (S.failed reader.new) (S.saves reader.old) (S.saves reader.new) (S.came_from reader.old) (S.came_from reader.new) }
         ensures up { OnOk result (S.is_up reader.new ≡ true) }
         ensures cause { IfErr result (IsCauseOr (S.is_honest reader.new) (S.failed reader.old) (S.failed reader.new)) }
         ensures asks { IfOk result (λ e. S.asks reader.new ≤ S.asks reader.old + (65 * (brought work + sent_by e) + 1)) }
@@ -141,7 +141,7 @@ impl Core {
         ensures short { OnOk result (vec_len self.new.log.tail ≤ 1024) }
         ensures ok { OnOk result ((self.old.is_spent ≡ false) × (self.new.is_spent ≡ false)) }
         ensures err { OnErr result (self.new.is_spent ≡ true) }
-        ensures reader { IsRead (S.is_honest reader.old) (S.is_honest reader.new) (S.stored reader.old) (S.stored reader.new) (S.may_hold reader.old) (S.may_hold reader.new) (S.serves reader.old) (S.serves reader.new) (S.failed reader.old) (S.failed reader.new) (S.saves reader.old) (S.saves reader.new) }
+        ensures reader { IsRead (S.is_honest reader.old) (S.is_honest reader.new) (S.stored reader.old) (S.stored reader.new) (S.may_hold reader.old) (S.may_hold reader.new) (S.serves reader.old) (S.serves reader.new) (S.failed reader.old) (S.failed reader.new) (S.saves reader.old) (S.saves reader.new) (S.came_from reader.old) (S.came_from reader.new) }
         ensures up { OnOk result (S.is_up reader.new ≡ true) }
         ensures cause { IfErr result (IsCauseOr (S.is_honest reader.new) (S.failed reader.old) (S.failed reader.new)) }
         ensures asks { IfOk result (λ e. S.asks reader.new ≤ S.asks reader.old + (65 * (brought work + sent_by e) + 1)) }

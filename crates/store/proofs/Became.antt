@@ -82,8 +82,8 @@ module _ {A : Type 0} (turn : A → A → Type 0) where
     }
 
   -- what became something that became something
-  pub both_became : ((x y z : A) → turn x y → turn y z → turn x z) → (old mid new : List A) → EachBecame turn old mid → EachBecame turn mid new → EachBecame turn old new
-  both_became both old mid new one two = record {
+  pub both_became : (first then : A → A → Type 0) → ((x y z : A) → first x y → then y z → turn x z) → (old mid new : List A) → EachBecame first old mid → EachBecame then mid new → EachBecame turn old new
+  both_became first then both old mid new one two = record {
     count = two.count ∙ one.count;
     each = λ i before after p q.
         let within = slice_get_within old i before p in

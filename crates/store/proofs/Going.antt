@@ -1,5 +1,5 @@
 -- A store that goes on.
-use Rattle.std.proofs.Common.{◌≡◌, ◌∙◌, ℕ, zero, suc, ◌+◌, ◌⊎◌, ⊎_elim, inl, inr, Option, Some, None, Result, Ok, Err, List, [], ◌∷◌, ◌++◌, IfSome, OnOk, OnErr, length, slice_get, slice_set, refl, sym, ap, subst, append-nil, append_assoc, arith}
+use Rattle.std.proofs.Common.{◌≡◌, ◌∙◌, ℕ, zero, suc, ◌+◌, ◌⊎◌, ⊎_elim, inl, inr, Option, Some, None, Result, Ok, Err, List, [], ◌∷◌, ◌++◌, IfSome, length, slice_get, slice_set, refl, sym, ap, subst, append-nil, append_assoc, arith}
 use Rattle.std.specs.List.{All}
 use Rattle.std.proofs.lemmas.List.{length_push}
 use Rattle.std.proofs.lemmas.List.Elements.{All-push, All-nil, All-cons, All-head, All-tail, Contains-append_left, Contains-append_right}
@@ -24,9 +24,11 @@ use Rattle.store.specs.declared.steps.Letter.{Letter}
 use Rattle.store.specs.declared.steps.Watched.{Watched}
 use Rattle.store.specs.declared.outcome.Outcome.{Outcome}
 use Rattle.store.specs.declared.outcome.Outcome.TheVariants.{Accepted, Refused, Unanswered}
+use Rattle.store.specs.Continuing.{IsContinued}
 use Rattle.store.specs.Journals.{IsSpent}
 use Rattle.store.specs.Seats.{HasMember, IsClean}
 use Rattle.node.specs.Work.{Work}
+use Rattle.store.proofs.Continuing.{continued_same, continued_is, continued_both}
 use Rattle.store.specs.Going.{Anywhere, AreClean, AreUnderWay, Changes, ComesOf, GoesOn, GoesOnSo, HasSent, Heard, Hears, IsAmong, IsBrought, IsIn, IsOutcome, Publishes, WentOn}
 
 -- ---- what is heard
@@ -97,11 +99,6 @@ module _ (one two : List (List Output)) where
   comes_then client number (Refused reason) c = ⊎_elim (λ t. inl (tells_then client number (Err reason) t)) (λ (m, h). inr (m, given_then one two (Refuses m reason) h)) c
   comes_then client number Unanswered c = tt
 
-  pub outcome_before : (v : Option Watched) (o : Outcome) → IsOutcome v o one → IsOutcome v o (one ++ two)
-  outcome_before v (Accepted stamp) c = heard_more (WasTold one) (WasTold (one ++ two)) tells_before v (Ok stamp) c
-  outcome_before v (Refused reason) c = ⊎_elim (λ t. inl (heard_more (WasTold one) (WasTold (one ++ two)) tells_before v (Err reason) t)) (λ (m, h). inr (m, given_before one two (Refuses m reason) h)) c
-  outcome_before v Unanswered c = tt
-
   pub outcome_then : (old mid : Option Watched) (o : Outcome) → Hears (WasTold one) old mid → IsOutcome mid o two → IsOutcome old o (one ++ two)
   outcome_then old mid (Accepted stamp) h c = heard_on (WasTold one) (WasTold two) (WasTold (one ++ two)) tells_before tells_then old mid (Ok stamp) h c
   outcome_then old mid (Refused reason) h c = ⊎_elim
@@ -166,23 +163,18 @@ sent_one letters count number message sent is u =
     long : (xs : List Message) → length (xs ++ message ∷ []) ≡ length xs + 1
     long xs = length_push xs message
 
--- after an error it is so, and before a success it was not
-pub spends : {A E : Type 0} (r : Result A E) (P Q : Type 0) → OnOk r (P → ⊥) → OnErr r Q → P → Q
-spends (Ok x) P Q live fails was = absurd (live was)
-spends (Err e) P Q live fails was = fails
-
-module _ {K J I : Type 0} {g : _} {s : _} {d : _} (honest : K → Type 0) (held : K → Durable → Type 0) (holds : I → Durable → Type 0) where
-  abbrev On : Store K J I g s d → Store K J I g s d → Type 0
-  On = GoesOn honest held holds
+module _ {K J I : Type 0} {an : _} {g : _} {s : _} {d : _} (contents : J → Option (List ℕ)) (honest : K → Type 0) (held : K → Durable → Type 0) (holds : I → Durable → Type 0) where
+  abbrev On : Store K J I an g s d → Store K J I an g s d → Type 0
+  On = GoesOn contents honest held holds
 
   -- ---- a store that goes on goes on
 
   -- a run that went on, and then went on
-  pub record WentBoth (a b c : Store K J I g s d) (w : World) (x : WentOn held holds a b w) (y : WentOn held holds b c x.world) : Type 0 where
+  pub record WentBoth (a b c : Store K J I an g s d) (w : World) (x : WentOn held holds a b w) (y : WentOn held holds b c x.world) : Type 0 where
     pub went : WentOn held holds a c w
     pub gave : went.goes.gave ≡ x.goes.gave ++ y.goes.gave
 
-  pub went_both : (a b c : Store K J I g s d) → b.schema ≡ a.schema → length b.seats.items ≡ length a.seats.items → (w : World) (x : WentOn held holds a b w) (y : WentOn held holds b c x.world) → WentBoth a b c w x y
+  pub went_both : (a b c : Store K J I an g s d) → b.schema ≡ a.schema → length b.seats.items ≡ length a.seats.items → (w : World) (x : WentOn held holds a b w) (y : WentOn held holds b c x.world) → WentBoth a b c w x y
   went_both a b c schema count w x y =
       let both = goes_both (language_of a.schema) (language_of b.schema) (length a.seats.items) (length b.seats.items) w x.world y.world (ap language_of schema) count x.goes y.goes in
       let hears : Hears (WasTold (x.goes.gave ++ y.goes.gave)) a.watched c.watched =
@@ -192,18 +184,20 @@ module _ {K J I : Type 0} {g : _} {s : _} {d : _} (honest : K → Type 0) (held 
         gave = both.gave_is;
       }
 
-  pub stays : (t : Store K J I g s d) → On t t
+  pub stays : (t : Store K J I an g s d) → On t t
   stays t = record {
     schema = refl;
     count = refl;
+    journal = continued_same contents t.scribe;
     clean = λ c. c;
     went = λ c w i. record { world = w; goes = goes_nowhere (language_of t.schema) (length t.seats.items) w; is_in = i; hears = hears_same (WasTold (goes_nowhere (language_of t.schema) (length t.seats.items) w).gave) t.watched t.watched refl };
   }
 
-  pub goes_on : (a b c : Store K J I g s d) → On a b → On b c → On a c
+  pub goes_on : (a b c : Store K J I an g s d) → On a b → On b c → On a c
   goes_on a b c x y = record {
     schema = y.schema ∙ x.schema;
     count = y.count ∙ x.count;
+    journal = continued_both contents a.scribe b.scribe c.scribe x.journal y.journal;
     clean = λ k. x.clean (y.clean k);
     went = λ k w i.
         let one = x.went (y.clean k) w i in
@@ -212,10 +206,11 @@ module _ {K J I : Type 0} {g : _} {s : _} {d : _} (honest : K → Type 0) (held 
   }
 
   -- what is said of a run that goes on before that, or after it
-  pub so_then : (P : World → Type 0) (Q R : List (List Output) → Type 0) (a b c : Store K J I g s d) → ((one two : List (List Output)) → Q one → R (one ++ two)) → GoesOnSo honest held holds P Q a b → On b c → GoesOnSo honest held holds P R a c
+  pub so_then : (P : World → Type 0) (Q R : List (List Output) → Type 0) (a b c : Store K J I an g s d) → ((one two : List (List Output)) → Q one → R (one ++ two)) → GoesOnSo contents honest held holds P Q a b → On b c → GoesOnSo contents honest held holds P R a c
   so_then P Q R a b c later x y = record {
     schema = y.schema ∙ x.schema;
     count = y.count ∙ x.count;
+    journal = continued_both contents a.scribe b.scribe c.scribe x.journal y.journal;
     clean = λ k. x.clean (y.clean k);
     went = λ k w i p.
         let one = x.went (y.clean k) w i p in
@@ -224,10 +219,11 @@ module _ {K J I : Type 0} {g : _} {s : _} {d : _} (honest : K → Type 0) (held 
         (both.went, subst R (sym both.gave) (later one.0.goes.gave two.goes.gave one.1));
   }
 
-  pub then_so : (Q R : List (List Output) → Type 0) (a b c : Store K J I g s d) → ((one two : List (List Output)) → Hears (WasTold one) a.watched b.watched → Q two → R (one ++ two)) → On a b → GoesOnSo honest held holds Anywhere Q b c → GoesOnSo honest held holds Anywhere R a c
+  pub then_so : (Q R : List (List Output) → Type 0) (a b c : Store K J I an g s d) → ((one two : List (List Output)) → Hears (WasTold one) a.watched b.watched → Q two → R (one ++ two)) → On a b → GoesOnSo contents honest held holds Anywhere Q b c → GoesOnSo contents honest held holds Anywhere R a c
   then_so Q R a b c later x y = record {
     schema = y.schema ∙ x.schema;
     count = y.count ∙ x.count;
+    journal = continued_both contents a.scribe b.scribe c.scribe x.journal y.journal;
     clean = λ k. x.clean (y.clean k);
     went = λ k w i p.
         let one = x.went (y.clean k) w i in
@@ -237,130 +233,133 @@ module _ {K J I : Type 0} {g : _} {s : _} {d : _} (honest : K → Type 0) (held 
   }
 
   -- what is said of it is left out, or is always so
-  pub so_goes : (P : World → Type 0) (Q : List (List Output) → Type 0) (a b : Store K J I g s d) → ((w : World) → IsIn held holds a w → P w) → GoesOnSo honest held holds P Q a b → On a b
-  so_goes P Q a b from x = record { schema = x.schema; count = x.count; clean = x.clean; went = λ k w i. let on = x.went k w i (from w i) in on.0 }
+  pub so_goes : (P : World → Type 0) (Q : List (List Output) → Type 0) (a b : Store K J I an g s d) → ((w : World) → IsIn held holds a w → P w) → GoesOnSo contents honest held holds P Q a b → On a b
+  so_goes P Q a b from x = record { schema = x.schema; count = x.count; journal = x.journal; clean = x.clean; went = λ k w i. let on = x.went k w i (from w i) in on.0 }
 
-  pub goes_so : (P : World → Type 0) (Q : List (List Output) → Type 0) (a b : Store K J I g s d) → ((gave : List (List Output)) → Q gave) → On a b → GoesOnSo honest held holds P Q a b
-  goes_so P Q a b all x = record { schema = x.schema; count = x.count; clean = x.clean; went = λ k w i p. let on = x.went k w i in (on, all on.goes.gave) }
+  pub goes_so : (P : World → Type 0) (Q : List (List Output) → Type 0) (a b : Store K J I an g s d) → ((gave : List (List Output)) → Q gave) → On a b → GoesOnSo contents honest held holds P Q a b
+  goes_so P Q a b all x = record { schema = x.schema; count = x.count; journal = x.journal; clean = x.clean; went = λ k w i p. let on = x.went k w i in (on, all on.goes.gave) }
 
-  pub so_weaker : (P R : World → Type 0) (Q S : List (List Output) → Type 0) (a b : Store K J I g s d) → ((w : World) → R w → P w) → ((gave : List (List Output)) → Q gave → S gave) → GoesOnSo honest held holds P Q a b → GoesOnSo honest held holds R S a b
-  so_weaker P R Q S a b from gives x = record { schema = x.schema; count = x.count; clean = x.clean; went = λ k w i p. let on = x.went k w i (from w p) in (on.0, gives on.0.goes.gave on.1) }
+  pub so_weaker : (P R : World → Type 0) (Q S : List (List Output) → Type 0) (a b : Store K J I an g s d) → ((w : World) → R w → P w) → ((gave : List (List Output)) → Q gave → S gave) → GoesOnSo contents honest held holds P Q a b → GoesOnSo contents honest held holds R S a b
+  so_weaker P R Q S a b from gives x = record { schema = x.schema; count = x.count; journal = x.journal; clean = x.clean; went = λ k w i p. let on = x.went k w i (from w p) in (on.0, gives on.0.goes.gave on.1) }
 
   -- ---- the members stay, and maybe letters come under way
 
-  pub passes : (a b : Store K J I g s d) (messages : List Message) (told : List Told) → Publishes a b messages told → (tells : ℕ → ℕ → Result ℕ Reason → Type 0) → TellsLess (IsAmong told) tells → Hears tells a.watched b.watched
+  pub passes : (a b : Store K J I an g s d) (messages : List Message) (told : List Told) → Publishes contents a b messages told → (tells : ℕ → ℕ → Result ℕ Reason → Type 0) → TellsLess (IsAmong told) tells → Hears tells a.watched b.watched
   passes a b messages told p tells less = hears_more (IsAmong told) tells less a.watched b.watched p.hears
 
-  pub publishes_both : (a b c : Store K J I g s d) (one two : List Message) (early late : List Told) → Publishes a b one early → Publishes b c two late → Publishes a c (one ++ two) (early ++ late)
+  pub publishes_both : (a b c : Store K J I an g s d) (one two : List Message) (early late : List Told) → Publishes contents a b one early → Publishes contents b c two late → Publishes contents a c (one ++ two) (early ++ late)
   publishes_both a b c one two early late x y = record {
     schema = y.schema ∙ x.schema;
     seats = y.seats ∙ x.seats;
+    journal = continued_both contents a.scribe b.scribe c.scribe x.journal y.journal;
     spent = λ k. y.spent (x.spent k);
     letters = λ live sent u. subst (AreUnderWay c.queue.items c.sent) (append_assoc sent one two) (y.letters live (sent ++ one) (x.letters (λ k. live (y.spent k)) sent u));
     hears = hears_both (IsAmong early) (IsAmong late) (IsAmong (early ++ late)) (among_left early late) (among_right early late) a.watched b.watched c.watched x.hears y.hears;
   }
 
   -- first nothing, then these
-  pub then_publishes : (a b c : Store K J I g s d) (messages : List Message) (told : List Told) → Publishes a b [] [] → Publishes b c messages told → Publishes a c messages told
+  pub then_publishes : (a b c : Store K J I an g s d) (messages : List Message) (told : List Told) → Publishes contents a b [] [] → Publishes contents b c messages told → Publishes contents a c messages told
   then_publishes a b c messages told x y = publishes_both a b c [] messages [] told x y
 
   -- first the messages, then what is told
-  pub publishes_then : (a b c : Store K J I g s d) (messages : List Message) (told : List Told) → Publishes a b messages [] → Publishes b c [] told → Publishes a c messages told
-  publishes_then a b c messages told x y = subst (λ (ms : List Message). Publishes a c ms told) (append-nil messages) (publishes_both a b c messages [] [] told x y)
+  pub publishes_then : (a b c : Store K J I an g s d) (messages : List Message) (told : List Told) → Publishes contents a b messages [] → Publishes contents b c [] told → Publishes contents a c messages told
+  publishes_then a b c messages told x y = subst (λ (ms : List Message). Publishes contents a c ms told) (append-nil messages) (publishes_both a b c messages [] [] told x y)
 
   -- in a spent store nothing comes under way, whatever was to
-  pub spent_publishes : (a b : Store K J I g s d) (messages : List Message) (told : List Told) → b.schema ≡ a.schema → b.seats ≡ a.seats → b.watched ≡ a.watched → IsSpent b.scribe → Publishes a b messages told
-  spent_publishes a b messages told schema seats watched spent = record {
+  pub spent_publishes : (a b : Store K J I an g s d) (messages : List Message) (told : List Told) → b.schema ≡ a.schema → b.seats ≡ a.seats → b.watched ≡ a.watched → IsContinued contents a.scribe b.scribe → IsSpent b.scribe → Publishes contents a b messages told
+  spent_publishes a b messages told schema seats watched journal spent = record {
     schema = schema;
     seats = ap (λ v. v.items) seats;
+    journal = journal;
     spent = λ k. spent;
     letters = λ live sent u. absurd (live spent);
     hears = hears_same (IsAmong told) a.watched b.watched watched;
   }
 
   -- the same where some were to come under way before
-  pub spent_any : (a b : Store K J I g s d) (some messages : List Message) (told : List Told) → Publishes a b some [] → IsSpent b.scribe → Publishes a b messages told
+  pub spent_any : (a b : Store K J I an g s d) (some messages : List Message) (told : List Told) → Publishes contents a b some [] → IsSpent b.scribe → Publishes contents a b messages told
   spent_any a b some messages told p spent = record {
     schema = p.schema;
     seats = p.seats;
+    journal = p.journal;
     spent = λ k. spent;
     letters = λ live sent u. absurd (live spent);
     hears = hears_more (IsAmong []) (IsAmong told) (nobody (IsAmong told)) a.watched b.watched p.hears;
   }
 
   -- it was spent in the midst of it
-  pub spent_same : (a mid b : Store K J I g s d) (messages : List Message) (told : List Told) → mid.schema ≡ a.schema → mid.seats ≡ a.seats → mid.watched ≡ a.watched → b ≡ record mid { scribe = b.scribe } → IsSpent b.scribe → Publishes a b messages told
-  spent_same a mid b messages told schema seats watched is spent =
-      spent_publishes a b messages told (ap (λ t. t.schema) is ∙ schema) (ap (λ t. t.seats) is ∙ seats) (ap (λ t. t.watched) is ∙ watched) spent
+  pub spent_same : (a mid b : Store K J I an g s d) (messages : List Message) (told : List Told) → mid.schema ≡ a.schema → mid.seats ≡ a.seats → mid.watched ≡ a.watched → IsContinued contents a.scribe b.scribe → b ≡ record mid { scribe = b.scribe } → IsSpent b.scribe → Publishes contents a b messages told
+  spent_same a mid b messages told schema seats watched journal is spent =
+      spent_publishes a b messages told (ap (λ t. t.schema) is ∙ schema) (ap (λ t. t.seats) is ∙ seats) (ap (λ t. t.watched) is ∙ watched) journal spent
 
   -- a letter came under way
-  pub posted : (a b : Store K J I g s d) (number : ℕ) (message : Message) → number ≡ a.sent + 1 → b.queue.items ≡ a.queue.items ++ record { number = number; message = message } ∷ [] → b.sent ≡ number →
-      b.schema ≡ a.schema → b.seats ≡ a.seats → b.scribe ≡ a.scribe → b.watched ≡ a.watched → Publishes a b (message ∷ []) []
+  pub posted : (a b : Store K J I an g s d) (number : ℕ) (message : Message) → number ≡ a.sent + 1 → b.queue.items ≡ a.queue.items ++ record { number = number; message = message } ∷ [] → b.sent ≡ number →
+      b.schema ≡ a.schema → b.seats ≡ a.seats → b.scribe ≡ a.scribe → b.watched ≡ a.watched → Publishes contents a b (message ∷ []) []
   posted a b number message next queue sent schema seats scribe watched = record {
     schema = schema;
     seats = ap (λ v. v.items) seats;
+    journal = continued_is contents a.scribe b.scribe scribe;
     spent = λ k. subst IsSpent (sym scribe) k;
     letters = λ live before u. under_same (a.queue.items ++ record { number = number; message = message } ∷ []) b.queue.items number b.sent (before ++ message ∷ []) queue sent (sent_one a.queue.items a.sent number message before next u);
     hears = hears_same (IsAmong []) a.watched b.watched watched;
   }
 
   -- a store by another name
-  pub publishes_at : (a b t : Store K J I g s d) (messages : List Message) (told : List Told) → t ≡ b → Publishes a b messages told → Publishes a t messages told
-  publishes_at a b t messages told is p = subst (λ (x : Store K J I g s d). Publishes a x messages told) (sym is) p
+  pub publishes_at : (a b t : Store K J I an g s d) (messages : List Message) (told : List Told) → t ≡ b → Publishes contents a b messages told → Publishes contents a t messages told
+  publishes_at a b t messages told is p = subst (λ (x : Store K J I an g s d). Publishes contents a x messages told) (sym is) p
 
   -- nothing that is looked at here is another
-  pub same_publishes : (a b : Store K J I g s d) → b.schema ≡ a.schema → b.seats ≡ a.seats → b.queue ≡ a.queue → b.sent ≡ a.sent → b.watched ≡ a.watched → (IsSpent a.scribe → IsSpent b.scribe) → Publishes a b [] []
-  same_publishes a b schema seats queue sent watched spent = record {
+  pub same_publishes : (a b : Store K J I an g s d) → b.schema ≡ a.schema → b.seats ≡ a.seats → b.queue ≡ a.queue → b.sent ≡ a.sent → b.watched ≡ a.watched → IsContinued contents a.scribe b.scribe → (IsSpent a.scribe → IsSpent b.scribe) → Publishes contents a b [] []
+  same_publishes a b schema seats queue sent watched journal spent = record {
     schema = schema;
     seats = ap (λ v. v.items) seats;
+    journal = journal;
     spent = spent;
     letters = λ live sent_before u. subst (AreUnderWay b.queue.items b.sent) (sym (append-nil sent_before)) (under_same a.queue.items b.queue.items a.sent b.sent sent_before (ap (λ q. q.items) queue) sent u);
     hears = hears_same (IsAmong []) a.watched b.watched watched;
   }
 
   -- nothing but the journal is another
-  pub only_scribe : (old new : Store K J I g s d) → new ≡ record old { scribe = new.scribe } → (IsSpent old.scribe → IsSpent new.scribe) → Publishes old new [] []
-  only_scribe old new is spent = same_publishes old new (ap (λ t. t.schema) is) (ap (λ t. t.seats) is) (ap (λ t. t.queue) is) (ap (λ t. t.sent) is) (ap (λ t. t.watched) is) spent
-
-  -- a call that writes: after an error the store is spent, and before a success it was not
-  pub writes : {A E : Type 0} (r : Result A E) (old new : Store K J I g s d) → new ≡ record old { scribe = new.scribe } → OnOk r (IsSpent old.scribe → ⊥) → OnErr r (IsSpent new.scribe) → Publishes old new [] []
-  writes r old new is live fails = only_scribe old new is (spends r (IsSpent old.scribe) (IsSpent new.scribe) live fails)
+  pub only_scribe : (old new : Store K J I an g s d) → new ≡ record old { scribe = new.scribe } → IsContinued contents old.scribe new.scribe → (IsSpent old.scribe → IsSpent new.scribe) → Publishes contents old new [] []
+  only_scribe old new is journal spent = same_publishes old new (ap (λ t. t.schema) is) (ap (λ t. t.seats) is) (ap (λ t. t.queue) is) (ap (λ t. t.sent) is) (ap (λ t. t.watched) is) journal spent
 
   -- the same seats
-  pub seats_as : (a b : Store K J I g s d) → b.schema ≡ a.schema → b.seats.items ≡ a.seats.items → (w : World) → IsIn held holds a w → AreSeated (λ m seat x. HasMember held holds b.schema (length b.seats.items) m seat x) b.seats.items w.nodes
+  pub seats_as : (a b : Store K J I an g s d) → b.schema ≡ a.schema → b.seats.items ≡ a.seats.items → (w : World) → IsIn held holds a w → AreSeated (λ m seat x. HasMember held holds b.schema (length b.seats.items) m seat x) b.seats.items w.nodes
   seats_as a b schema seats w i =
       subst (λ (t : Tables). AreSeated (λ m seat x. HasMember held holds t (length b.seats.items) m seat x) b.seats.items w.nodes) (sym schema)
-      (subst (λ (xs : List (Seat K J I g s d)). AreSeated (λ m seat x. HasMember held holds a.schema (length xs) m seat x) xs w.nodes) (sym seats) i.seated)
+      (subst (λ (xs : List (Seat K J I an g s d)). AreSeated (λ m seat x. HasMember held holds a.schema (length xs) m seat x) xs w.nodes) (sym seats) i.seated)
 
   -- a store whose members stay, and in which nothing comes under way, is in the same world
-  pub same_in : (a b : Store K J I g s d) (told : List Told) → Publishes a b [] told → (w : World) → IsIn held holds a w → IsIn held holds b w
+  pub same_in : (a b : Store K J I an g s d) (told : List Told) → Publishes contents a b [] told → (w : World) → IsIn held holds a w → IsIn held holds b w
   same_in a b told p w i = record {
     seated = seats_as a b p.schema p.seats w i;
     under_way = λ live. subst (AreUnderWay b.queue.items b.sent) (append-nil w.sent) (p.letters live w.sent (i.under_way (λ k. live (p.spent k))));
   }
 
   -- nothing but up to where outcomes are written is another
-  pub only_noted : (old new : Store K J I g s d) → new ≡ record old { noted = new.noted } → Publishes old new [] []
-  only_noted old new is = same_publishes old new (ap (λ t. t.schema) is) (ap (λ t. t.seats) is) (ap (λ t. t.queue) is) (ap (λ t. t.sent) is) (ap (λ t. t.watched) is) (λ k. subst IsSpent (sym (ap (λ t. t.scribe) is)) k)
+  pub only_noted : (old new : Store K J I an g s d) → new ≡ record old { noted = new.noted } → Publishes contents old new [] []
+  only_noted old new is = same_publishes old new (ap (λ t. t.schema) is) (ap (λ t. t.seats) is) (ap (λ t. t.queue) is) (ap (λ t. t.sent) is) (ap (λ t. t.watched) is) (continued_is contents old.scribe new.scribe (ap (λ t. t.scribe) is)) (λ k. subst IsSpent (sym (ap (λ t. t.scribe) is)) k)
 
   -- nothing but what the queue is made of is another
-  pub only_queue : (old new : Store K J I g s d) → new ≡ record old { queue = new.queue } → new.queue.items ≡ old.queue.items → Publishes old new [] []
+  pub only_queue : (old new : Store K J I an g s d) → new ≡ record old { queue = new.queue } → new.queue.items ≡ old.queue.items → Publishes contents old new [] []
   only_queue old new is queue = record {
     schema = ap (λ t. t.schema) is;
     seats = ap (λ t. t.seats.items) is;
+    journal = continued_is contents old.scribe new.scribe (ap (λ t. t.scribe) is);
     spent = λ k. subst IsSpent (sym (ap (λ t. t.scribe) is)) k;
     letters = λ live before u. subst (AreUnderWay new.queue.items new.sent) (sym (append-nil before)) (under_same old.queue.items new.queue.items old.sent new.sent before queue (ap (λ t. t.sent) is) u);
     hears = hears_same (IsAmong []) old.watched new.watched (ap (λ t. t.watched) is);
   }
 
   -- nothing comes of nothing
-  pub publishes_none : (t : Store K J I g s d) → Publishes t t [] []
-  publishes_none t = same_publishes t t refl refl refl refl refl (λ k. k)
+  pub publishes_none : (t : Store K J I an g s d) → Publishes contents t t [] []
+  publishes_none t = same_publishes t t refl refl refl refl refl (continued_same contents t.scribe) (λ k. k)
 
-  pub publishes_on : (a b : Store K J I g s d) → Publishes a b [] [] → On a b
+  pub publishes_on : (a b : Store K J I an g s d) → Publishes contents a b [] [] → On a b
   publishes_on a b p = record {
     schema = p.schema;
     count = ap length p.seats;
+    journal = p.journal;
     clean = λ k. subst (All (IsClean honest holds)) p.seats k;
     went = λ k w i.
         let goes = goes_nowhere (language_of a.schema) (length a.seats.items) w in
@@ -368,44 +367,30 @@ module _ {K J I : Type 0} {g : _} {s : _} {d : _} (honest : K → Type 0) (held 
   }
 
   -- nothing but who leads is another
-  pub only_leader : (old new : Store K J I g s d) → new ≡ record old { leader = new.leader } → On old new
-  only_leader old new is = publishes_on old new (same_publishes old new (ap (λ t. t.schema) is) (ap (λ t. t.seats) is) (ap (λ t. t.queue) is) (ap (λ t. t.sent) is) (ap (λ t. t.watched) is) (λ k. subst IsSpent (sym (ap (λ t. t.scribe) is)) k))
+  pub only_leader : (old new : Store K J I an g s d) → new ≡ record old { leader = new.leader } → On old new
+  only_leader old new is = publishes_on old new (same_publishes old new (ap (λ t. t.schema) is) (ap (λ t. t.seats) is) (ap (λ t. t.queue) is) (ap (λ t. t.sent) is) (ap (λ t. t.watched) is) (continued_is contents old.scribe new.scribe (ap (λ t. t.scribe) is)) (λ k. subst IsSpent (sym (ap (λ t. t.scribe) is)) k))
 
   -- what is waited for is another, and nothing is waited for at the end
-  pub waited : (Q : List (List Output) → Type 0) (a b : Store K J I g s d) (watched : Option Watched) → GoesOnSo honest held holds Anywhere Q (record a { watched = watched }) b → GoesOnSo honest held holds Anywhere Q a (record b { watched = None })
+  pub waited : (Q : List (List Output) → Type 0) (a b : Store K J I an g s d) (watched : Option Watched) → GoesOnSo contents honest held holds Anywhere Q (record a { watched = watched }) b → GoesOnSo contents honest held holds Anywhere Q a (record b { watched = None })
   waited Q a b watched x = record {
     schema = x.schema;
     count = x.count;
+    journal = x.journal;
     clean = x.clean;
     went = λ k w i p.
         let on = x.went k w (record { seated = i.seated; under_way = i.under_way }) tt in
         (record { world = on.0.world; goes = on.0.goes; is_in = record { seated = on.0.is_in.seated; under_way = on.0.is_in.under_way }; hears = tt }, on.1);
   }
 
-  -- the outcome is taken out
-  pub taken_out : (old new : Store K J I g s d) (v : Watched) (o : Result ℕ Reason) → old.watched ≡ Some v → v.outcome ≡ Some o → new ≡ record old { watched = Some (record v { outcome = None }) } →
-      GoesOnSo honest held holds Anywhere (λ gave. Heard (WasTold gave) old.watched o) old new
-  taken_out old new v o was told is =
-      let next : Store K J I g s d = record old { watched = Some (record v { outcome = None }) } in
-      let there : (tells : ℕ → ℕ → Result ℕ Reason → Type 0) → Heard tells old.watched o = λ tells. subst (λ (x : Option Watched). Heard tells x o) (sym was) (inl told) in
-      subst (GoesOnSo honest held holds Anywhere (λ gave. Heard (WasTold gave) old.watched o) old) (sym is) (record {
-        schema = refl;
-        count = refl;
-        clean = λ k. k;
-        went = λ k w i p.
-            let goes = goes_nowhere (language_of old.schema) (length old.seats.items) w in
-            let hears : Hears (WasTold goes.gave) (Some v) next.watched = (refl, refl, tt) in
-            (record { world = w; goes = goes; is_in = record { seated = i.seated; under_way = i.under_way }; hears = subst (λ (x : Option Watched). Hears (WasTold goes.gave) x next.watched) (sym was) hears }, there (WasTold goes.gave));
-      })
-
   -- ---- a letter that is taken out
 
-  pub popped : (old mid new : Store K J I g s d) (letter : Letter) → mid ≡ record old { queue = mid.queue } → old.queue.items ≡ letter ∷ mid.queue.items → GoesOnSo honest held holds (HasSent mid letter) (λ gave. Unit {0}) mid new → On old new
+  pub popped : (old mid new : Store K J I an g s d) (letter : Letter) → mid ≡ record old { queue = mid.queue } → old.queue.items ≡ letter ∷ mid.queue.items → GoesOnSo contents honest held holds (HasSent mid letter) (λ gave. Unit {0}) mid new → On old new
   popped old mid new letter is queue x =
-      let y = subst (λ (m : Store K J I g s d). GoesOnSo honest held holds (HasSent m letter) (λ gave. Unit {0}) m new) is x in
+      let y = subst (λ (m : Store K J I an g s d). GoesOnSo contents honest held holds (HasSent m letter) (λ gave. Unit {0}) m new) is x in
       record {
         schema = y.schema;
         count = y.count;
+        journal = y.journal;
         clean = y.clean;
         went = λ k w i.
             let rest : (IsSpent old.scribe → ⊥) → AreUnderWay (letter ∷ mid.queue.items) old.sent w.sent = λ live. subst (λ (q : List Letter). AreUnderWay q old.sent w.sent) queue (i.under_way live) in
@@ -417,13 +402,14 @@ module _ {K J I : Type 0} {g : _} {s : _} {d : _} (honest : K → Type 0) (held 
 
   -- ---- a step that is begun
 
-  pub begun : (m : ℕ) (work : Work) (Q : List (List Output) → Type 0) (old mid new : Store K J I g s d) → mid ≡ record old { scribe = mid.scribe } → (IsSpent old.scribe → ⊥) → GoesOnSo honest held holds (IsBrought mid m work) Q mid new →
-      GoesOnSo honest held holds (IsBrought old m work) Q old new
-  begun m work Q old mid new is live x =
-      let y = subst (λ (t : Store K J I g s d). GoesOnSo honest held holds (IsBrought t m work) Q t new) is x in
+  pub begun : (m : ℕ) (work : Work) (Q : List (List Output) → Type 0) (old mid new : Store K J I an g s d) → mid ≡ record old { scribe = mid.scribe } → (IsSpent old.scribe → ⊥) → IsContinued contents old.scribe mid.scribe → GoesOnSo contents honest held holds (IsBrought mid m work) Q mid new →
+      GoesOnSo contents honest held holds (IsBrought old m work) Q old new
+  begun m work Q old mid new is live journal x =
+      let y = subst (λ (t : Store K J I an g s d). GoesOnSo contents honest held holds (IsBrought t m work) Q t new) is x in
       record {
         schema = y.schema;
         count = y.count;
+        journal = continued_both contents old.scribe mid.scribe new.scribe journal y.journal;
         clean = y.clean;
         went = λ k w i p.
             let on = y.went k w (record { seated = i.seated; under_way = λ other. i.under_way live }) (λ other. p live) in
@@ -432,8 +418,8 @@ module _ {K J I : Type 0} {g : _} {s : _} {d : _} (honest : K → Type 0) (held 
 
   -- ---- a seat whose member is stopped or started
 
-  module _ (old new : Store K J I g s d) (at : ℕ) (before after : Seat K J I g s d) (C : Changes honest holds old new at before after) where
-    abbrev Has : ℕ → Seat K J I g s d → model.Node → Type 0
+  module _ (old new : Store K J I an g s d) (at : ℕ) (before after : Seat K J I an g s d) (C : Changes contents honest holds old new at before after) where
+    abbrev Has : ℕ → Seat K J I an g s d → model.Node → Type 0
     Has m seat x = HasMember held holds old.schema (length old.seats.items) m seat x
 
     pub same_count : length new.seats.items ≡ length old.seats.items
@@ -455,7 +441,7 @@ module _ {K J I : Type 0} {g : _} {s : _} {d : _} (honest : K → Type 0) (held 
         let nodes = with_nth w.nodes (at + 1) y in
         let anew : AreSeated Has (with_nth old.seats.items (at + 1) after) nodes = seated_anew Has old.seats.items w.nodes i.seated (at + 1) after y h in
         let seats : with_nth old.seats.items (at + 1) after ≡ new.seats.items = sym (C.seats ∙ set_next old.seats.items (at + 1) at after refl) in
-        let there : AreSeated Has new.seats.items nodes = subst (λ (xs : List (Seat K J I g s d)). AreSeated Has xs nodes) seats anew in
+        let there : AreSeated Has new.seats.items nodes = subst (λ (xs : List (Seat K J I an g s d)). AreSeated Has xs nodes) seats anew in
         let named : AreSeated (λ m seat x. HasMember held holds new.schema (length old.seats.items) m seat x) new.seats.items nodes =
         subst (λ (t : Tables). AreSeated (λ m seat x. HasMember held holds t (length old.seats.items) m seat x) new.seats.items nodes) (sym C.schema) there in
         record {
@@ -469,6 +455,7 @@ module _ {K J I : Type 0} {g : _} {s : _} {d : _} (honest : K → Type 0) (held 
     one_seat spent turn = record {
       schema = C.schema;
       count = same_count;
+      journal = C.journal;
       clean = was_tidy;
       went = λ k w i.
           let x = sits w i in
@@ -479,7 +466,7 @@ module _ {K J I : Type 0} {g : _} {s : _} {d : _} (honest : K → Type 0) (held 
     }
 
   -- a seat that may have been started, by the seat's own words
-  pub started_seat : (before after : Seat K J I g s d) (schema named : Tables) (n k m : ℕ) → named ≡ schema → k ≡ n →
+  pub started_seat : (before after : Seat K J I an g s d) (schema named : Tables) (n k m : ℕ) → named ≡ schema → k ≡ n →
       ((x : model.Node) → HasMember held holds named k before.member before x → (y : model.Node) × (HasMember held holds named k before.member after y × MayStart x y)) →
       (x : model.Node) → HasMember held holds schema n m before x → (y : model.Node) × (HasMember held holds schema n m after y × MayStart x y)
   started_seat before after schema named n k m tables count starts x has =

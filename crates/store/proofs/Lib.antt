@@ -1,5 +1,6 @@
 pub mod Became
 pub mod Closing
+pub mod Continuing
 pub mod Fullness
 pub mod Going
 pub mod Heard

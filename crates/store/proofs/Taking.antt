@@ -1,5 +1,5 @@
 -- A step of a member of a store, as events of a run.
-use Rattle.std.proofs.Common.{◌≡◌, ◌∙◌, ℕ, ◌+◌, ◌⊎◌, ⊎_elim, inl, inr, Bool, true, false, Some, Result, Ok, Err, IsErr, MatchBool, List, [], length, refl, sym, ap, subst, arith}
+use Rattle.std.proofs.Common.{◌≡◌, ◌∙◌, ℕ, ◌+◌, ◌⊎◌, ⊎_elim, inl, inr, Bool, true, false, Option, Some, Result, Ok, Err, IsErr, MatchBool, List, [], length, refl, sym, ap, subst, arith}
 use Rattle.std.specs.List.{All, Contains}
 use Rattle.std.specs.Option.{option_map_or}
 use Rattle.std.proofs.lemmas.Bool.{eq-eqb}
@@ -35,6 +35,7 @@ use Rattle.store.specs.Journals.{IsSpent}
 use Rattle.store.specs.Nodes.{StepsTo}
 use Rattle.store.specs.Seats.{IsClean}
 use Rattle.store.specs.Going.{GoesOn, GoesOnSo, HasSent, HasStepped, Hears, IsAmong, IsBrought, Publishes, SaysWhy}
+use Rattle.store.proofs.Continuing.{continued_same, continued_both}
 use Rattle.store.proofs.Going.{TellsLess, hears_more, same_count, seat_in, seats_as, sits, so_then, so_weaker, publishes_none, spent_publishes, tidy, was_tidy, world_with}
 
 -- what a step sends, and what it tells
@@ -101,34 +102,35 @@ module _ (tables : Tables) (n m : ℕ) (work : Work) (w : World) (x : model.Node
 
 -- ---- one step of a store
 
-module _ {K J I : Type 0} {g : _} {s : _} {d : _} (honest : K → Type 0) (held : K → Durable → Type 0) (holds : I → Durable → Type 0) where
-  abbrev So : (World → Type 0) → (List (List Output) → Type 0) → Store K J I g s d → Store K J I g s d → Type 0
-  So = GoesOnSo honest held holds
+module _ {K J I : Type 0} {an : _} {g : _} {s : _} {d : _} (contents : J → Option (List ℕ)) (honest : K → Type 0) (held : K → Durable → Type 0) (holds : I → Durable → Type 0) where
+  abbrev So : (World → Type 0) → (List (List Output) → Type 0) → Store K J I an g s d → Store K J I an g s d → Type 0
+  So = GoesOnSo contents honest held holds
 
   -- a member took a step, what it sent came under way, and what it told was heard
-  pub step_on : (old mid new : Store K J I g s d) (at : ℕ) (work : Work) (result : Result Out Fault) → HasStepped honest held holds old mid at work result → (IsSpent old.scribe → ⊥) → Publishes mid new (messages_of result) (told_of result) →
+  pub step_on : (old mid new : Store K J I an g s d) (at : ℕ) (work : Work) (result : Result Out Fault) → HasStepped contents honest held holds old mid at work result → (IsSpent old.scribe → ⊥) → Publishes contents mid new (messages_of result) (told_of result) →
       So (IsBrought old (at + 1) work) (Says (at + 1) result) old new
   step_on old mid new at work result h live p =
       let C = h.changes in
       let m = at + 1 in
       record {
         schema = p.schema ∙ C.schema;
-        count = ap length p.seats ∙ same_count honest held holds old mid at h.before h.after C;
-        clean = λ k. was_tidy honest held holds old mid at h.before h.after C (subst (All (IsClean honest holds)) p.seats k);
+        count = ap length p.seats ∙ same_count contents honest held holds old mid at h.before h.after C;
+        journal = continued_both contents old.scribe mid.scribe new.scribe C.journal p.journal;
+        clean = λ k. was_tidy contents honest held holds old mid at h.before h.after C (subst (All (IsClean honest holds)) p.seats k);
         went = λ k w i brought.
             let neat = subst (All (IsClean honest holds)) p.seats k in
-            let sat = sits honest held holds old mid at h.before h.after C w i in
-            let t = h.steps (tidy honest held holds old mid at h.before h.after C neat) sat.0 sat.2 in
+            let sat = sits contents honest held holds old mid at h.before h.after C w i in
+            let t = h.steps (tidy contents honest held holds old mid at h.before h.after C neat) sat.0 sat.2 in
             let b = brought live in
             let turned = turn old.schema (length old.seats.items) m work w sat.0 sat.1 b.0 b.1 b.2 t.0 result t.1.1 in
-            let there = seat_in honest held holds old mid at h.before h.after C (λ was. absurd (live was)) w t.0 i t.1.0 in
+            let there = seat_in contents honest held holds old mid at h.before h.after C (λ was. absurd (live was)) w t.0 i t.1.0 in
             let less : TellsLess (IsAmong (told_of result)) (WasTold turned.goes.gave) = λ client number o one. record { member = m; told = one.0; client_is = one.2; number_is = one.3; outcome_is = one.4; given = turned.tells one.0 one.1 } in
             let hears = hears_more (IsAmong (told_of result)) (WasTold turned.goes.gave) less mid.watched new.watched p.hears in (
               record {
                 world = with_node w m t.0 (messages_of result);
                 goes = turned.goes;
                 is_in = record {
-                  seated = seats_as honest held holds mid new p.schema p.seats (world_with (with_nth w.nodes m t.0) w.sent) there;
+                  seated = seats_as contents honest held holds mid new p.schema p.seats (world_with (with_nth w.nodes m t.0) w.sent) there;
                   under_way = λ up. p.letters up w.sent (there.under_way (λ was. up (p.spent was)));
                 };
                 hears = subst (λ v. Hears (WasTold turned.goes.gave) v new.watched) C.watched hears;
@@ -138,33 +140,33 @@ module _ {K J I : Type 0} {g : _} {s : _} {d : _} (honest : K → Type 0) (held 
       }
 
   -- the same of a member by its number
-  pub stepped : (old mid new : Store K J I g s d) (at m : ℕ) (work : Work) (result : Result Out Fault) → m ≡ at + 1 → HasStepped honest held holds old mid at work result → (IsSpent old.scribe → ⊥) → Publishes mid new (messages_of result) (told_of result) →
+  pub stepped : (old mid new : Store K J I an g s d) (at m : ℕ) (work : Work) (result : Result Out Fault) → m ≡ at + 1 → HasStepped contents honest held holds old mid at work result → (IsSpent old.scribe → ⊥) → Publishes contents mid new (messages_of result) (told_of result) →
       So (IsBrought old m work) (Says m result) old new
   stepped old mid new at m work result is h live p = subst (λ (k : ℕ). So (IsBrought old k work) (Says k result) old new) (sym is) (step_on old mid new at work result h live p)
 
   -- the store was spent in the midst of it
-  pub stepped_last : (old mid : Store K J I g s d) (at m : ℕ) (work : Work) → m ≡ at + 1 → ((result : Result Out Fault) × HasStepped honest held holds old mid at work result) → (IsSpent old.scribe → ⊥) → IsSpent mid.scribe →
+  pub stepped_last : (old mid : Store K J I an g s d) (at m : ℕ) (work : Work) → m ≡ at + 1 → ((result : Result Out Fault) × HasStepped contents honest held holds old mid at work result) → (IsSpent old.scribe → ⊥) → IsSpent mid.scribe →
       So (IsBrought old m work) (λ gave. Unit {0}) old mid
   stepped_last old mid at m work is h live spent =
-      so_weaker honest held holds (IsBrought old m work) (IsBrought old m work) (Says m h.0) (λ gave. Unit {0}) old mid (λ w b. b) (λ gave says. tt)
-      (stepped old mid mid at m work h.0 is h.1 live (spent_publishes honest held holds mid mid (messages_of h.0) (told_of h.0) refl refl refl spent))
+      so_weaker contents honest held holds (IsBrought old m work) (IsBrought old m work) (Says m h.0) (λ gave. Unit {0}) old mid (λ w b. b) (λ gave says. tt)
+      (stepped old mid mid at m work h.0 is h.1 live (spent_publishes contents honest held holds mid mid (messages_of h.0) (told_of h.0) refl refl refl (continued_same contents mid.scribe) spent))
 
   -- the member went down, and was stopped
-  pub stepped_down : (old mid new : Store K J I g s d) (at m : ℕ) (work : Work) (result : Result Out Fault) → m ≡ at + 1 → HasStepped honest held holds old mid at work result → (IsSpent old.scribe → ⊥) → messages_of result ≡ [] → told_of result ≡ [] →
-      GoesOn honest held holds mid new → So (IsBrought old m work) (λ gave. Unit {0}) old new
+  pub stepped_down : (old mid new : Store K J I an g s d) (at m : ℕ) (work : Work) (result : Result Out Fault) → m ≡ at + 1 → HasStepped contents honest held holds old mid at work result → (IsSpent old.scribe → ⊥) → messages_of result ≡ [] → told_of result ≡ [] →
+      GoesOn contents honest held holds mid new → So (IsBrought old m work) (λ gave. Unit {0}) old new
   stepped_down old mid new at m work result is h live none nobody_told on =
-      let quiet : Publishes mid mid (messages_of result) (told_of result) =
-      subst (λ (ms : List Message). Publishes mid mid ms (told_of result)) (sym none) (subst (λ (ts : List Told). Publishes mid mid [] ts) (sym nobody_told) (publishes_none honest held holds mid)) in
-      so_then honest held holds (IsBrought old m work) (Says m result) (λ gave. Unit {0}) old mid new (λ one two says. tt) (stepped old mid mid at m work result is h live quiet) on
+      let quiet : Publishes contents mid mid (messages_of result) (told_of result) =
+      subst (λ (ms : List Message). Publishes contents mid mid ms (told_of result)) (sym none) (subst (λ (ts : List Told). Publishes contents mid mid [] ts) (sym nobody_told) (publishes_none contents honest held holds mid)) in
+      so_then contents honest held holds (IsBrought old m work) (Says m result) (λ gave. Unit {0}) old mid new (λ one two says. tt) (stepped old mid mid at m work result is h live quiet) on
 
   -- ---- what a step is in the events
 
   -- an input is handed to a member
-  pub hands : (store : Store K J I g s d) (m : ℕ) (input : Input) (w : World) → IsBrought store m (Local input) w
+  pub hands : (store : Store K J I an g s d) (m : ℕ) (input : Input) (w : World) → IsBrought store m (Local input) w
   hands store m input w live = (TheLocal input, refl, λ x. refl)
 
   -- a letter is delivered
-  pub delivers : (store : Store K J I g s d) (letter : Letter) (reading : ℤ) (w : World) → HasSent store letter w → IsBrought store letter.message.addressee (Delivered reading letter.message) w
+  pub delivers : (store : Store K J I an g s d) (letter : Letter) (reading : ℤ) (w : World) → HasSent store letter w → IsBrought store letter.message.addressee (Delivered reading letter.message) w
   delivers store letter reading w sent live =
       let there = sent live in (
         Delivery letter.number reading,

@@ -1,14 +1,17 @@
 -- What is written to a journal.
 use Rattle.std.proofs.Common.{◌≡◌, ◌≢◌, ◌∙◌, ℕ, Option, Some, None, List, [], ◌∷◌, ◌++◌, refl, sym, ap, subst, append-nil, append_assoc, string_bytes, Result, Ok, Err, OnOk, OnErr}
+use Rattle.std.specs.Prelude.{IsSome}
 use Rattle.std.specs.Io.KnownBytes.{append_known}
+use Rattle.std.proofs.lemmas.Option.{same_Some}
 use Rattle.flight.specs.Additions.{Adds}
 use Rattle.journal.specs.Blocks.{block_text}
 use Rattle.journal.specs.Spelling.{line_text}
 use Rattle.journal.specs.declared.line.Line.{Line}
 use Rattle.journal.specs.declared.line.Line.TheVariants.{Opens, Rests, Life, Clock, Takes, Saves, Made, Ends, Answer, Printed}
+use Rattle.store.specs.declared.device.DeviceError.{DeviceError}
 use Rattle.store.specs.declared.scribe.Scribe.{Scribe}
 use Rattle.store.specs.Writing.{AppendsPart, IsWritten, IsLastWritten, with_line}
-use Rattle.store.specs.Journals.{IsAdded, IsFlushed, EndsWith, IsLonger, IsOpened}
+use Rattle.store.specs.Journals.{IsAdded, IsAllOn, IsFlushed, EndsWith, IsLonger, IsOpened, IsPartOn, device_in}
 
 -- a beginning of a block that was made of this buffer
 pub part_of_block : (old new : Option (List ℕ)) (sum : ℕ) (buffer text none block made : List ℕ) → text ≡ buffer → none ≡ [] → block ≡ made → Adds none made (block_text sum text)
@@ -116,3 +119,52 @@ on_opened {J = D} contents (Ok x) s t u v first journal sum marks same sums adde
     let b = subst (λ (n : ℕ). IsAdded (Some first) t (Opens journal n marks)) sums a in
     subst (λ (w : Option (Scribe D)). IsOpened contents w v journal marks) (sym same) (opened contents first t u v journal marks b longer flushed)
 on_opened contents (Err e) s t u v first journal sum marks same sums added longer flushed = tt
+
+-- ---- a journal that ends
+
+pub then_ok : {A E P Q : Type 0} (r : Result A E) → (P → Q) → OnOk r P → OnOk r Q
+then_ok (Ok x) f p = f p
+then_ok (Err e) f p = tt
+
+pub then_err : {A E P Q : Type 0} (r : Result A E) → (P → Q) → OnErr r P → OnErr r Q
+then_err (Ok x) f p = tt
+then_err (Err e) f p = f p
+
+pub all_on : {J : Type 0} (contents : J → Option (List ℕ)) (s t u : Option (Scribe J)) → IsLonger s t → IsFlushed contents t u → IsAllOn contents s (device_in u)
+all_on {J = D} contents None t u longer flushed = absurd (subst (λ (x : Option (Scribe D)). IsFlushed contents x u) longer flushed)
+all_on contents (Some s) None u longer flushed = absurd longer
+all_on contents (Some s) (Some t) None longer flushed = absurd flushed
+all_on contents (Some s) (Some t) (Some u) longer flushed =
+    let a = subst (λ (x : List ℕ). IsWritten (contents t.device) (contents u.device) t.sum x) longer.1 flushed.0 in
+    let b = subst (λ (n : ℕ). IsWritten (contents t.device) (contents u.device) n (string_bytes s.buffer ++ longer.0)) longer.3 a in
+    (longer.0, subst (λ (x : Option (List ℕ)). IsWritten x (contents u.device) s.sum (string_bytes s.buffer ++ longer.0)) (ap contents longer.2) b)
+
+-- part of what went to the buffer since then
+pub part_on : {J : Type 0} (contents : J → Option (List ℕ)) (s t : Option (Scribe J)) (device : Option J) → IsLonger s t → IsPartOn contents t device → IsPartOn contents s device
+part_on {J = D} contents None t device longer part = subst (λ (x : Option (Scribe D)). IsPartOn contents x device) longer part
+part_on contents (Some s) None device longer part = absurd longer
+part_on contents (Some s) (Some t) None longer part = absurd part
+part_on contents (Some s) (Some t) (Some device) longer part =
+    let whole : string_bytes t.buffer ++ part.0 ≡ string_bytes s.buffer ++ (longer.0 ++ part.0) = ap (λ (x : List ℕ). x ++ part.0) longer.1 ∙ append_assoc (string_bytes s.buffer) longer.0 part.0 in
+    let a = subst (λ (x : List ℕ). AppendsPart (contents t.device) (contents device) (block_text t.sum x [])) whole part.1 in
+    let b = subst (λ (n : ℕ). AppendsPart (contents t.device) (contents device) (block_text n (string_bytes s.buffer ++ (longer.0 ++ part.0)) [])) longer.3 a in
+    (longer.0 ++ part.0, subst (λ (x : Option (List ℕ)). AppendsPart x (contents device) (block_text s.sum (string_bytes s.buffer ++ (longer.0 ++ part.0)) [])) (ap contents longer.2) b)
+
+append_nothing : (held : Option (List ℕ)) → append_known held [] ≡ held
+append_nothing None = refl
+append_nothing (Some xs) = ap Some (append-nil xs)
+
+-- nothing went to the device
+pub same_on : {J : Type 0} (contents : J → Option (List ℕ)) (s : Option (Scribe J)) (device : Option J) → device ≡ device_in s → IsPartOn contents s device
+same_on contents None device is = is
+same_on contents (Some s) None is = absurd (cc is)
+same_on contents (Some s) (Some device) is =
+    ([], ([], block_text s.sum (string_bytes s.buffer ++ []) [], refl, ap contents (same_Some device s.device is) ∙ sym (append_nothing (contents s.device))))
+
+-- a flush that fails
+pub part_flushed : {J : Type 0} (contents : J → Option (List ℕ)) (s t : Scribe J) → (s.failure ≡ None → AppendsPart (contents s.device) (contents t.device) (block_text s.sum (string_bytes s.buffer) [])) → (IsSome s.failure → t ≡ s) → IsPartOn contents (Some s) (Some t.device)
+part_flushed contents s t part spent = go s.failure refl
+  where
+    go : (o : Option DeviceError) → s.failure ≡ o → IsPartOn contents (Some s) (Some t.device)
+    go None is = ([], subst (λ (x : List ℕ). AppendsPart (contents s.device) (contents t.device) (block_text s.sum x [])) (sym (append-nil (string_bytes s.buffer))) (part is))
+    go (Some e) is = same_on contents (Some s) (Some t.device) (ap (λ x. Some x.device) (spent (subst IsSome (sym is) refl)))

@@ -2,7 +2,9 @@
 use Rattle.std.specs.Prelude.{◌≡◌, ℕ, Option, Some, None, List, [], string_bytes}
 use Rattle.journal.specs.declared.stored.Summary.{Summary}
 use Rattle.journal.specs.declared.line.Line.TheVariants.{Saves}
+use Rattle.store.specs.declared.scribe.Scribe.{Scribe}
 use Rattle.store.specs.declared.voice.Voice.{Voice}
+use Rattle.store.specs.Continuing.{Continues}
 use Rattle.store.specs.Writing.{IsWritten, with_line}
 
 module _ {J : Type 0} where
@@ -10,3 +12,8 @@ module _ {J : Type 0} where
   abbrev pub HasAnnounced : (J → Option (List ℕ)) → Voice J → Option (Voice J) → Summary → Type 0
   HasAnnounced contents v None s = ⊥
   HasAnnounced contents v (Some w) s = IsWritten (contents v.scribe.device) (contents w.scribe.device) v.scribe.sum (with_line (string_bytes v.scribe.buffer) (Saves v.member s)) × (string_bytes w.scribe.buffer ≡ [])
+
+  -- a voice is there, whose journal went on from this one
+  abbrev pub HasContinued : (J → Option (List ℕ)) → Scribe J → Option (Voice J) → Type 0
+  HasContinued contents s None = ⊥
+  HasContinued contents s (Some v) = Continues contents s v.scribe

@@ -26,6 +26,7 @@ use Rattle.store.specs.declared.steps.Watched.{Watched}
 use Rattle.store.specs.declared.outcome.Outcome.{Outcome}
 use Rattle.store.specs.declared.outcome.Outcome.TheVariants.{Accepted, Refused, Unanswered}
 use Rattle.store.specs.declared.refusal.StoreRefusal.{StoreRefusal}
+use Rattle.store.specs.Continuing.{IsContinued}
 use Rattle.store.specs.Journals.{IsSpent}
 use Rattle.store.specs.Nodes.{StepsTo}
 use Rattle.store.specs.Seats.{HasMember, IsClean}
@@ -74,78 +75,82 @@ SaysWhy m (Ok (stepped.Refused reason)) gave = HasGiven gave (Refuses m reason)
 SaysWhy m (Ok stepped.Fell) gave = Unit {0}
 SaysWhy m (Err refusal) gave = Unit {0}
 
-module _ {K J I : Type 0} {g : _} {s : _} {d : _} where
+module _ {K J I : Type 0} {an : _} {g : _} {s : _} {d : _} where
   -- nothing wrong was taken as true, and each database that is at rest holds something
-  abbrev pub AreClean : (honest : K → Type 0) (holds : I → Durable → Type 0) → Store K J I g s d → Type 0
+  abbrev pub AreClean : (honest : K → Type 0) (holds : I → Durable → Type 0) → Store K J I an g s d → Type 0
   AreClean honest holds store = All (IsClean honest holds) store.seats.items
 
   -- The members and the letters of a store are those of a world. Of a spent store only the members are.
-  pub record IsIn (held : K → Durable → Type 0) (holds : I → Durable → Type 0) (store : Store K J I g s d) (w : World) : Type 0 where
+  pub record IsIn (held : K → Durable → Type 0) (holds : I → Durable → Type 0) (store : Store K J I an g s d) (w : World) : Type 0 where
     pub seated : AreSeated (λ m seat x. HasMember held holds store.schema (length store.seats.items) m seat x) store.seats.items w.nodes
     pub under_way : (IsSpent store.scribe → ⊥) → AreUnderWay store.queue.items store.sent w.sent
 
   -- a store is the run of these events from what its databases held when it was opened
-  abbrev pub IsRunOf : (held : K → Durable → Type 0) (holds : I → Durable → Type 0) → List Node → List Event → Store K J I g s d → Type 0
+  abbrev pub IsRunOf : (held : K → Durable → Type 0) (holds : I → Durable → Type 0) → List Node → List Event → Store K J I an g s d → Type 0
   IsRunOf held holds found events store = IsIn held holds store (run (language_of store.schema) (length store.seats.items) (opened found) events)
 
   -- a store was in this world, and is where events lead from there
-  pub record WentOn (held : K → Durable → Type 0) (holds : I → Durable → Type 0) (old new : Store K J I g s d) (w : World) : Type 0 where
+  pub record WentOn (held : K → Durable → Type 0) (holds : I → Durable → Type 0) (old new : Store K J I an g s d) (w : World) : Type 0 where
     pub world : World
     pub goes : Goes (language_of old.schema) (length old.seats.items) w world
     pub is_in : IsIn held holds new world
     pub hears : Hears (WasTold goes.gave) old.watched new.watched
 
-  -- the run of a store goes on
-  pub record GoesOn (honest : K → Type 0) (held : K → Durable → Type 0) (holds : I → Durable → Type 0) (old new : Store K J I g s d) : Type 0 where
+  -- the run of a store goes on, and so does its journal
+  pub record GoesOn (contents : J → Option (List ℕ)) (honest : K → Type 0) (held : K → Durable → Type 0) (holds : I → Durable → Type 0) (old new : Store K J I an g s d) : Type 0 where
     pub schema : new.schema ≡ old.schema
     pub count : length new.seats.items ≡ length old.seats.items
+    pub journal : IsContinued contents old.scribe new.scribe
     pub clean : AreClean honest holds new → AreClean honest holds old
     pub went : AreClean honest holds new → (w : World) → IsIn held holds old w → WentOn held holds old new w
 
   -- the run goes on from each world of which this holds, by events that gave what this holds of
-  pub record GoesOnSo (honest : K → Type 0) (held : K → Durable → Type 0) (holds : I → Durable → Type 0) (from : World → Type 0) (gives : List (List Output) → Type 0) (old new : Store K J I g s d) : Type 0 where
+  pub record GoesOnSo (contents : J → Option (List ℕ)) (honest : K → Type 0) (held : K → Durable → Type 0) (holds : I → Durable → Type 0) (from : World → Type 0) (gives : List (List Output) → Type 0) (old new : Store K J I an g s d) : Type 0 where
     pub schema : new.schema ≡ old.schema
     pub count : length new.seats.items ≡ length old.seats.items
+    pub journal : IsContinued contents old.scribe new.scribe
     pub clean : AreClean honest holds new → AreClean honest holds old
     pub went : AreClean honest holds new → (w : World) → IsIn held holds old w → from w → (on : WentOn held holds old new w) × gives on.goes.gave
 
   -- ---- the parts of a step
 
   -- The members stay. These messages come under way, but in a spent store, and this is heard.
-  pub record Publishes (old new : Store K J I g s d) (messages : List Message) (told : List Told) : Type 0 where
+  pub record Publishes (contents : J → Option (List ℕ)) (old new : Store K J I an g s d) (messages : List Message) (told : List Told) : Type 0 where
     pub schema : new.schema ≡ old.schema
     pub seats : new.seats.items ≡ old.seats.items
+    pub journal : IsContinued contents old.scribe new.scribe
     pub spent : IsSpent old.scribe → IsSpent new.scribe
     pub letters : (IsSpent new.scribe → ⊥) → (sent : List Message) → AreUnderWay old.queue.items old.sent sent → AreUnderWay new.queue.items new.sent (sent ++ messages)
     pub hears : Hears (IsAmong told) old.watched new.watched
 
   -- the seat of one member is another; nothing else is, but for the journal
-  pub record Changes (honest : K → Type 0) (holds : I → Durable → Type 0) (old new : Store K J I g s d) (at : ℕ) (before after : Seat K J I g s d) : Type 0 where
+  pub record Changes (contents : J → Option (List ℕ)) (honest : K → Type 0) (holds : I → Durable → Type 0) (old new : Store K J I an g s d) (at : ℕ) (before after : Seat K J I an g s d) : Type 0 where
     pub there : slice_get old.seats.items at ≡ Some before
     pub seats : new.seats.items ≡ slice_set old.seats.items at after
     pub schema : new.schema ≡ old.schema
+    pub journal : IsContinued contents old.scribe new.scribe
     pub queue : new.queue ≡ old.queue
     pub sent : new.sent ≡ old.sent
     pub watched : new.watched ≡ old.watched
     pub clean : IsClean honest holds after → IsClean honest holds before
 
   -- the member at a seat took a step with this result
-  pub record HasStepped (honest : K → Type 0) (held : K → Durable → Type 0) (holds : I → Durable → Type 0) (old new : Store K J I g s d) (at : ℕ) (work : Work) (result : Result Out Fault) : Type 0 where
-    pub before : Seat K J I g s d
-    pub after : Seat K J I g s d
-    pub changes : Changes honest holds old new at before after
+  pub record HasStepped (contents : J → Option (List ℕ)) (honest : K → Type 0) (held : K → Durable → Type 0) (holds : I → Durable → Type 0) (old new : Store K J I an g s d) (at : ℕ) (work : Work) (result : Result Out Fault) : Type 0 where
+    pub before : Seat K J I an g s d
+    pub after : Seat K J I an g s d
+    pub changes : Changes contents honest holds old new at before after
     pub steps : IsClean honest holds after → (x : Node) → HasMember held holds old.schema (length old.seats.items) (at + 1) before x →
         (y : Node) × (HasMember held holds old.schema (length old.seats.items) (at + 1) after y × StepsTo old.schema (length old.seats.items) (at + 1) work x y result)
 
   -- the same with a result that nobody looks at
-  abbrev pub MayHaveStepped : (honest : K → Type 0) (held : K → Durable → Type 0) (holds : I → Durable → Type 0) (old new : Store K J I g s d) (at : ℕ) (work : Work) → Type 0
-  MayHaveStepped honest held holds old new at work = (result : Result Out Fault) × HasStepped honest held holds old new at work result
+  abbrev pub MayHaveStepped : (contents : J → Option (List ℕ)) (honest : K → Type 0) (held : K → Durable → Type 0) (holds : I → Durable → Type 0) (old new : Store K J I an g s d) (at : ℕ) (work : Work) → Type 0
+  MayHaveStepped contents honest held holds old new at work = (result : Result Out Fault) × HasStepped contents honest held holds old new at work result
 
   -- work is what a job is in this world, where the store is not spent
-  abbrev pub IsBrought : Store K J I g s d → ℕ → Work → World → Type 0
+  abbrev pub IsBrought : Store K J I an g s d → ℕ → Work → World → Type 0
   IsBrought store m work w = (IsSpent store.scribe → ⊥) → (job : Job) × (is_for w m job ≡ true) ×
       ((x : Node) → effect (language_of store.schema) (length store.seats.items) w m job x ≡ works store.schema (length store.seats.items) m work x)
 
   -- a letter is under way there
-  abbrev pub HasSent : Store K J I g s d → Letter → World → Type 0
+  abbrev pub HasSent : Store K J I an g s d → Letter → World → Type 0
   HasSent store letter w = (IsSpent store.scribe → ⊥) → nth w.sent letter.number ≡ Some letter.message

@@ -9,7 +9,8 @@ use Rattle.store.specs.declared.refusal.StoreRefusal.{StoreRefusal}
 use Rattle.store.specs.declared.refusal.StoreRefusal.TheVariants.{Refused}
 use Rattle.journal.specs.Spelling.{line_text}
 use Rattle.store.specs.declared.scribe.Scribe.{Scribe}
-use Rattle.store.specs.Writing.{IsWritten, IsLastWritten, with_line}
+use Rattle.journal.specs.Blocks.{block_text}
+use Rattle.store.specs.Writing.{AppendsPart, IsWritten, IsLastWritten, with_line}
 
 module _ {J : Type 0} where
   -- it can't be written any more
@@ -45,6 +46,23 @@ module _ {J : Type 0} where
   IsFlushed contents None new = ⊥
   IsFlushed contents (Some s) None = ⊥
   IsFlushed contents (Some s) (Some t) = IsWritten (contents s.device) (contents t.device) s.sum (string_bytes s.buffer) × (string_bytes t.buffer ≡ [])
+
+  -- the device of a journal
+  abbrev pub device_in : Option (Scribe J) → Option J
+  device_in None = None
+  device_in (Some s) = Some s.device
+
+  -- what was in the buffer, and more behind it, is on this device
+  abbrev pub IsAllOn : (J → Option (List ℕ)) → Option (Scribe J) → Option J → Type 0
+  IsAllOn contents None device = ⊥
+  IsAllOn contents (Some s) None = ⊥
+  IsAllOn contents (Some s) (Some device) = (more : List ℕ) × IsWritten (contents s.device) (contents device) s.sum (string_bytes s.buffer ++ more)
+
+  -- a beginning at most of the block of that is on this device
+  abbrev pub IsPartOn : (J → Option (List ℕ)) → Option (Scribe J) → Option J → Type 0
+  IsPartOn contents None device = device ≡ None
+  IsPartOn contents (Some s) None = ⊥
+  IsPartOn contents (Some s) (Some device) = (more : List ℕ) × AppendsPart (contents s.device) (contents device) (block_text s.sum (string_bytes s.buffer ++ more) [])
 
   -- the last line that is on the device is this one, and nothing is left in the buffer
   abbrev pub EndsWith : (J → Option (List ℕ)) → Option (Scribe J) → Line → Type 0

@@ -4,6 +4,7 @@ pub mod Asking
 pub mod Became
 pub mod Chains
 pub mod Closing
+pub mod Continuing
 pub mod Fullness
 pub mod Going
 pub mod Held

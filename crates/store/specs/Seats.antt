@@ -11,19 +11,19 @@ use Rattle.store.specs.Nodes.{IsNodeOf, Rests}
 abbrev pub MayFall : model.Node → model.Node → Type 0
 MayFall x y = (y ≡ x) ⊎ (y ≡ after_stop x)
 
-module _ {K J I : Type 0} {g : _} {s : _} {d : _} where
+module _ {K J I : Type 0} {an : _} {g : _} {s : _} {d : _} where
   -- a seat has no member that is up, and no database
-  abbrev pub IsMissing : Seat K J I g s d → Type 0
+  abbrev pub IsMissing : Seat K J I an g s d → Type 0
   IsMissing seat = (seat.node ≡ None) × (seat.image ≡ None)
 
   -- the members of these seats whose database is missing, in their order
-  abbrev pub missing_in : List (Seat K J I g s d) → List ℕ
-  missing_in seats = map (λ (seat : Seat K J I g s d). seat.member) (filter (λ (seat : Seat K J I g s d). is_none seat.node && is_none seat.image) seats)
+  abbrev pub missing_in : List (Seat K J I an g s d) → List ℕ
+  missing_in seats = map (λ (seat : Seat K J I an g s d). seat.member) (filter (λ (seat : Seat K J I an g s d). is_none seat.node && is_none seat.image) seats)
 
   -- a seat's node took nothing wrong as true, or its database holds something
-  abbrev pub IsClean : (honest : K → Type 0) (holds : I → Durable → Type 0) → Seat K J I g s d → Type 0
+  abbrev pub IsClean : (honest : K → Type 0) (holds : I → Durable → Type 0) → Seat K J I an g s d → Type 0
   IsClean honest holds seat = MatchOption seat.node (MatchOption seat.image (Unit {0}) (λ image. (stored : Durable) × holds image stored)) (λ node. honest node.keeper)
 
   -- the seat of member m of n has this member
-  abbrev pub HasMember : (held : K → Durable → Type 0) (holds : I → Durable → Type 0) → Tables → (n m : ℕ) → Seat K J I g s d → model.Node → Type 0
+  abbrev pub HasMember : (held : K → Durable → Type 0) (holds : I → Durable → Type 0) → Tables → (n m : ℕ) → Seat K J I an g s d → model.Node → Type 0
   HasMember held holds tables n m seat x = (seat.member ≡ m) × MatchOption seat.node (MatchOption seat.image (x.up ≡ false) (λ image. Rests (holds image) x)) (λ node. IsNodeOf held tables n m node x)

@@ -21,9 +21,9 @@ resting m how = record { member = m; standing = how; term = 0; entries = 0; appl
 abbrev pub taking_part : ℕ → Standing → model.Node → Status
 taking_part m how x = record { member = m; standing = how; term = x.term; entries = length x.log; applied = x.commit; closed = closed_time x }
 
-module _ {K J I : Type 0} {g : _} {s : _} {d : _} where
+module _ {K J I : Type 0} {an : _} {g : _} {s : _} {d : _} where
   -- this is how the member of a seat stands, if it is not up or took nothing wrong as true
-  abbrev pub IsStatus : (honest : K → Type 0) → Option ℕ → Seat K J I g s d → Status → Type 0
+  abbrev pub IsStatus : (honest : K → Type 0) → Option ℕ → Seat K J I an g s d → Status → Type 0
   IsStatus honest leader seat status =
       MatchOption seat.node (status ≡ resting seat.member (if is_none seat.image then Missing else Down))
       (λ node. node.is_up ≡ true → honest node.keeper → status ≡ taking_part seat.member (if leads leader seat.member then Leads else Follows) (member_of node))

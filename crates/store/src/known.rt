@@ -30,21 +30,10 @@ fn same_first(some: &[Entry], others: &[Entry]) -> usize
     most
 }
 
-fn copy_of(entry: &Entry) -> Result<Entry, AllocError>
-    ensures { IfOk result (λ copy. copy ≡ entry.now) }
-{
-    entry.clone()
-}
-
 fn copies_of(alloc: Global, entries: &[Entry]) -> Result<Vec<Entry>, AllocError>
     ensures { IfOk result (λ copies. copies.items ≡ entries.now) }
 {
-    let mut copies = Vec::new(alloc);
-    copies.reserve(entries.len())?;
-    for entry in entries {
-        copies.push(copy_of(entry)?)?;
-    }
-    Ok(copies)
+    entries.to_vec(alloc)
 }
 
 impl KnownLog {

@@ -29,10 +29,11 @@ where
     }
 
     // Has a member stand for election, if it is up, its log is so long, and nobody leads.
+    #[tactic(auto, using(crate::proofs::Continuing::continued_same))]
     fn elect(&mut self, member: Member, least: usize, reading: i64) -> Result<(), StoreRefusal>
         ensures why { IfErr result IsOfJournal }
         ensures fails { OnErr result (IsSpent self.new.scribe) }
-        ensures goes { GoesOn K.is_honest K.may_hold K.holds self.old self.new }
+        ensures goes { GoesOn K.Journal.contents K.is_honest K.may_hold K.holds self.old self.new }
     {
         let stands = match self.seat(member) {
             Some(seat) => seat.is_up() && seat.chain.len() >= least,
@@ -49,7 +50,7 @@ where
     fn elect_any(&mut self, least: usize, reading: i64) -> Result<(), StoreRefusal>
         ensures why { IfErr result IsOfJournal }
         ensures fails { OnErr result (IsSpent self.new.scribe) }
-        ensures goes { GoesOn K.is_honest K.may_hold K.holds self.old self.new }
+        ensures goes { GoesOn K.Journal.contents K.is_honest K.may_hold K.holds self.old self.new }
     {
         for at in 0..self.seats.len() {
             self.elect(at.saturating_add(1), least, reading)?;
@@ -59,10 +60,11 @@ where
 
     /// The leader; one is elected where none is known and a majority is up: first a member with the longest log stands. None where there is
     /// none. 38, 40 and 43 where the journal can't be written; of a store that was spent before nothing changes then.
+    #[tactic(auto, using(crate::proofs::Continuing::continued_same))]
     pub fn lead(&mut self, reading: i64) -> Result<Option<Member>, StoreRefusal>
         ensures why { IfErr result IsOfJournal }
         ensures fails { OnErr result (IsSpent self.new.scribe) }
-        ensures goes { GoesOn K.is_honest K.may_hold K.holds self.old self.new }
+        ensures goes { GoesOn K.Journal.contents K.is_honest K.may_hold K.holds self.old self.new }
         ensures spent { IsSpent self.old.scribe → IsErr result × (self.new ≡ self.old) }
     {
         self.check()?;

@@ -75,7 +75,7 @@ where
     fn close_time(&mut self, reading: i64) -> Result<(), StoreRefusal>
         ensures why { IfErr result IsOfJournal }
         ensures fails { OnErr result (IsSpent self.new.scribe) }
-        ensures goes { GoesOn K.is_honest K.may_hold K.holds self.old self.new }
+        ensures goes { GoesOn K.Journal.contents K.is_honest K.may_hold K.holds self.old self.new }
     {
         let Some(leader) = self.lead(reading)? else {
             return Ok(());
@@ -85,6 +85,7 @@ where
     }
 
     // The answer from what a member has applied, asked again once time is closed where it is not yet.
+    #[tactic(auto, using(crate::proofs::Continuing::continued_same))]
     fn ask_closed(
         &mut self,
         reading: i64,
@@ -93,7 +94,7 @@ where
     ) -> Result<Result<Answer, Refusal>, StoreRefusal>
         ensures why { IfErr result IsOfJournal }
         ensures fails { OnErr result (IsSpent self.new.scribe) }
-        ensures goes { GoesOn K.is_honest K.may_hold K.holds self.old self.new }
+        ensures goes { GoesOn K.Journal.contents K.is_honest K.may_hold K.holds self.old self.new }
         ensures asked { IfOk result (λ r. IfOk r (λ a. MatchOption (slice_get self.new.seats.items (member - 1)) ⊥ (λ seat. MatchOption seat.node ⊥ (λ n. IsAnswerOf K.is_honest n self.new.schema text.now a)))) }
     {
         match self.ask_once(member, text) {
@@ -111,7 +112,7 @@ where
         ensures told { OnOk result (EndsWith K.Journal.contents self.new.scribe (Line.Answer member query.now (string_bytes words))) }
         ensures why { IfErr result IsOfJournal }
         ensures fails { OnErr result (IsSpent self.new.scribe) }
-        ensures goes { GoesOn K.is_honest K.may_hold K.holds self.old self.new }
+        ensures goes { GoesOn K.Journal.contents K.is_honest K.may_hold K.holds self.old self.new }
         ensures same { self.new ≡ record self.old { scribe = self.new.scribe } }
     {
         let Ok(line) = answer_line(self.alloc, member, query, words) else {
@@ -126,11 +127,12 @@ where
     ///
     /// 10 to 17 where the text is no question; 33 where its last instant is not closed, which is in the journal too; 41 where the
     /// member is not up. 38, 40 and 43 where the journal can't be written; of a store that was spent before nothing changes then.
+    #[tactic(auto, using(crate::proofs::Continuing::continued_same))]
     pub fn ask(&mut self, reading: i64, member: Member, text: &str) -> Result<Answer, StoreRefusal>
         ensures told { IfOk result (λ a. EndsWith K.Journal.contents self.new.scribe (Line.Answer member text.now (answer_text a))) }
         ensures asked { IfOk result (λ a. MatchOption (slice_get self.new.seats.items (member - 1)) ⊥ (λ seat. MatchOption seat.node ⊥ (λ n. IsAnswerOf K.is_honest n self.new.schema text.now a))) }
         ensures unclosed { IfErr result (IsUnclosed K.Journal.contents self.new.scribe member text.now) }
-        ensures goes { GoesOn K.is_honest K.may_hold K.holds self.old self.new }
+        ensures goes { GoesOn K.Journal.contents K.is_honest K.may_hold K.holds self.old self.new }
         ensures spent { IsSpent self.old.scribe → IsErr result × (self.new ≡ self.old) }
     {
         self.check()?;
@@ -154,7 +156,7 @@ where
     /// Asks the leader, or where none is known the first member that is up: who was asked, and what `ask` gives.
     pub fn ask_any(&mut self, reading: i64, text: &str) -> Result<(Member, Answer), StoreRefusal>
         ensures told { IfOk result (λ p. EndsWith K.Journal.contents self.new.scribe (Line.Answer p.0 text.now (answer_text p.1))) }
-        ensures goes { GoesOn K.is_honest K.may_hold K.holds self.old self.new }
+        ensures goes { GoesOn K.Journal.contents K.is_honest K.may_hold K.holds self.old self.new }
         ensures spent { IsSpent self.old.scribe → IsErr result × (self.new ≡ self.old) }
     {
         let member = self.first_asked();

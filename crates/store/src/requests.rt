@@ -53,7 +53,7 @@ where
     ) -> Result<Option<Outcome>, StoreRefusal>
         ensures why { IfErr result IsOfJournal }
         ensures fails { OnErr result (IsSpent self.new.scribe) }
-        ensures goes { GoesOnSo K.is_honest K.may_hold K.holds Anywhere (λ gave. IfOk result (λ r. IfSome r (λ o. IsOutcome self.old.watched o gave))) self.old self.new }
+        ensures goes { GoesOnSo K.Journal.contents K.is_honest K.may_hold K.holds Anywhere (λ gave. IfOk result (λ r. IfSome r (λ o. IsOutcome self.old.watched o gave))) self.old self.new }
     {
         let Ok(copy) = request.clone() else {
             return Err(self.spend());
@@ -74,8 +74,9 @@ where
     }
 
     // What was told of the request that is waited for.
+    #[tactic(auto, using(crate::proofs::Continuing::continued_same))]
     fn take_outcome(&mut self) -> Option<Outcome>
-        ensures { GoesOnSo K.is_honest K.may_hold K.holds Anywhere (λ gave. IfSome result (λ o. IsOutcome self.old.watched o gave)) self.old self.new }
+        ensures { GoesOnSo K.Journal.contents K.is_honest K.may_hold K.holds Anywhere (λ gave. IfSome result (λ o. IsOutcome self.old.watched o gave)) self.old self.new }
     {
         match &mut self.watched {
             Some(watched) => match watched.outcome.take() {
@@ -97,7 +98,7 @@ where
     ) -> Result<Outcome, StoreRefusal>
         ensures why { IfErr result IsOfJournal }
         ensures fails { OnErr result (IsSpent self.new.scribe) }
-        ensures goes { GoesOnSo K.is_honest K.may_hold K.holds Anywhere (λ gave. IfOk result (λ o. IsOutcome self.old.watched o gave)) self.old self.new }
+        ensures goes { GoesOnSo K.Journal.contents K.is_honest K.may_hold K.holds Anywhere (λ gave. IfOk result (λ o. IsOutcome self.old.watched o gave)) self.old self.new }
     {
         for _ in 0..TRIES {
             let Some(leader) = self.lead(reading)? else {
@@ -129,7 +130,7 @@ where
         ensures told { OnOk result (EndsWith K.Journal.contents self.new.scribe (Line.Printed client number (words_of outcome.now))) }
         ensures why { IfErr result IsOfJournal }
         ensures fails { OnErr result (IsSpent self.new.scribe) }
-        ensures goes { GoesOn K.is_honest K.may_hold K.holds self.old self.new }
+        ensures goes { GoesOn K.Journal.contents K.is_honest K.may_hold K.holds self.old self.new }
         ensures same { self.new ≡ record self.old { scribe = self.new.scribe } }
     {
         let Ok(line) = printed_line(self.alloc, client, number, outcome) else {
@@ -150,7 +151,7 @@ where
         ensures told { IfOk result (λ o. EndsWith K.Journal.contents self.new.scribe (Line.Printed client number (words_of o))) }
         ensures why { IfErr result IsOfJournal }
         ensures fails { OnErr result (IsSpent self.new.scribe ⊎ (self.new ≡ self.old)) }
-        ensures goes { GoesOnSo K.is_honest K.may_hold K.holds Anywhere (λ gave. IfOk result (λ o. ComesOf client number o gave)) self.old self.new }
+        ensures goes { GoesOnSo K.Journal.contents K.is_honest K.may_hold K.holds Anywhere (λ gave. IfOk result (λ o. ComesOf client number o gave)) self.old self.new }
     {
         let text = Text::new(self.alloc, text)?;
         self.watched = Some(Watched {
@@ -187,7 +188,7 @@ where
         ensures room { result ≡ Err log_full → (99000 ≤ longest self.old.seats.items (λ seat. entries_of seat.node seat.chain.links.items)) × (self.new ≡ self.old) }
         ensures why { IfErr result (λ r. IsOfJournal r ⊎ (r ≡ log_full)) }
         ensures fails { OnErr result (IsSpent self.new.scribe ⊎ (self.new ≡ self.old)) }
-        ensures goes { GoesOnSo K.is_honest K.may_hold K.holds Anywhere (λ gave. IfOk result (λ o. ComesOf client number o gave)) self.old self.new }
+        ensures goes { GoesOnSo K.Journal.contents K.is_honest K.may_hold K.holds Anywhere (λ gave. IfOk result (λ o. ComesOf client number o gave)) self.old self.new }
         ensures spent { IsSpent self.old.scribe → IsErr result × (self.new ≡ self.old) }
     {
         self.check()?;
@@ -197,10 +198,11 @@ where
 
     /// The number that the next request of the store's own client has: one more than the last one in the leader's log, or in the
     /// longest log where no majority is up.
+    #[tactic(auto, using(crate::proofs::Continuing::continued_same))]
     pub fn next_number(&mut self, reading: i64) -> Result<u64, StoreRefusal>
         ensures why { IfErr result IsOfJournal }
         ensures fails { OnErr result (IsSpent self.new.scribe) }
-        ensures goes { GoesOn K.is_honest K.may_hold K.holds self.old self.new }
+        ensures goes { GoesOn K.Journal.contents K.is_honest K.may_hold K.holds self.old self.new }
         ensures spent { IsSpent self.old.scribe → IsErr result × (self.new ≡ self.old) }
     {
         self.check()?;
@@ -239,7 +241,7 @@ where
         ensures told { IfOk result (λ r. EndsWith K.Journal.contents self.new.scribe (Line.Printed 65535 r.0 (words_of r.1))) }
         ensures full { ¬ IsSpent self.old.scribe → 99000 ≤ longest self.old.seats.items (λ seat. entries_of seat.node seat.chain.links.items) → (result ≡ Err log_full) × (self.new ≡ self.old) }
         ensures room { result ≡ Err log_full → (99000 ≤ longest self.old.seats.items (λ seat. entries_of seat.node seat.chain.links.items)) × (self.new ≡ self.old) }
-        ensures goes { GoesOnSo K.is_honest K.may_hold K.holds Anywhere (λ gave. IfOk result (λ r. ComesOf 65535 r.0 r.1 gave)) self.old self.new }
+        ensures goes { GoesOnSo K.Journal.contents K.is_honest K.may_hold K.holds Anywhere (λ gave. IfOk result (λ r. ComesOf 65535 r.0 r.1 gave)) self.old self.new }
         ensures spent { IsSpent self.old.scribe → IsErr result × (self.new ≡ self.old) }
     {
         self.check()?;

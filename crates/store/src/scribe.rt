@@ -3,6 +3,7 @@ ghost use Rattle.std.specs.Prelude.{◌≡◌, ◌≢◌, Some, None, [], ◌++�
 ghost use Rattle.flight.specs.Additions.{Adds};
 ghost use Rattle.journal.specs.Blocks.{block_text};
 ghost use Rattle.journal.specs.Spelling.{line_text};
+ghost use Rattle.store.specs.Continuing.{Continues};
 ghost use Rattle.store.specs.Writing.{AppendsPart, IsSummed, IsWritten, with_line};
 
 use crate::device::{Device, DeviceError};
@@ -60,6 +61,7 @@ impl<J: Device> Scribe<J> {
         ensures spent { IsSome self.new.failure }
         ensures first { IsSome self.old.failure → self.new ≡ self.old }
         ensures same { (self.new.device ≡ self.old.device) × (self.new.buffer ≡ self.old.buffer) × (self.new.sum ≡ self.old.sum) }
+        ensures continues { Continues J.contents self.old self.new }
     {
         if self.failure.is_none() {
             self.failure = Some(failure);
@@ -85,6 +87,7 @@ impl<J: Device> Scribe<J> {
         ensures err { IfErr result (λ e. self.new.failure ≡ Some e) }
         ensures spent { IsSome self.old.failure → IsErr result × (self.new ≡ self.old) }
         ensures same { (self.new.device ≡ self.old.device) × (self.new.sum ≡ self.old.sum) × (self.new.reading ≡ self.old.reading) }
+        ensures continues { Continues J.contents self.old self.new }
     {
         self.check()?;
         match put_line(self.alloc, line, &mut self.buffer) {
@@ -104,6 +107,7 @@ impl<J: Device> Scribe<J> {
         ensures up { OnOk result (self.new.failure ≡ self.old.failure) }
         ensures err { IfErr result (λ e. self.new.failure ≡ Some e) }
         ensures same { (self.new.device ≡ self.old.device) × (self.new.sum ≡ self.old.sum) }
+        ensures continues { Continues J.contents self.old self.new }
     {
         if self.reading == Some(reading) {
             return Ok(());
@@ -142,6 +146,7 @@ impl<J: Device> Scribe<J> {
         ensures part { OnErr result (self.old.failure ≡ None → AppendsPart (J.contents self.old.device) (J.contents self.new.device) (block_text self.old.sum (string_bytes self.old.buffer) [])) }
         ensures err { IfErr result (λ e. self.new.failure ≡ Some e) }
         ensures spent { IsSome self.old.failure → IsErr result × (self.new ≡ self.old) }
+        ensures continues { Continues J.contents self.old self.new }
     {
         self.check()?;
         if self.buffer.is_empty() {
@@ -161,6 +166,7 @@ impl<J: Device> Scribe<J> {
         ensures ok { OnOk result (IsWritten (J.contents self.old.device) (J.contents self.new.device) self.old.sum (with_line (string_bytes self.old.buffer) line.now)) }
         ensures empty { OnOk result (string_bytes self.new.buffer ≡ []) }
         ensures spent { IsSome self.old.failure → IsErr result × (self.new ≡ self.old) }
+        ensures continues { Continues J.contents self.old self.new }
     {
         self.add(line)?;
         self.flush()

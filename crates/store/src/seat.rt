@@ -8,7 +8,9 @@ ghost use Rattle.node.specs.Member.{me_of, member_of, members_of, tables_of, IsS
 ghost use Rattle.node.specs.View.{durable_of, started_from};
 ghost use Rattle.store.specs.Nodes.{IsMember, StepsTo};
 ghost use Rattle.journal.specs.Digests.{summary_of};
+ghost use Rattle.store.specs.Announcing.{HasContinued};
 ghost use Rattle.store.specs.Chains.{links_of};
+ghost use Rattle.store.specs.Continuing.{IsContinued};
 
 use crate::announcing::Announces;
 use crate::chain::Chain;
@@ -222,7 +224,8 @@ where
         }
     }
 
-    /// Takes a step, with the journal lent to it. The journal comes back, but where the keeper lost it; 41 where it is not up.
+    /// Takes a step, with the journal lent to it, which comes back as it was or gone on; 41 where it is not up.
+    #[tactic(auto, using(crate::proofs::Continuing::continues_same))]
     pub fn step(
         &mut self,
         scribe: Scribe<K::Journal>,
@@ -231,6 +234,7 @@ where
         ensures clean { IsClean K.is_honest K.holds self.new → IsClean K.is_honest K.holds self.old }
         ensures steps { IsClean K.is_honest K.holds self.new → (tables : Tables) (n m : ℕ) (x : TheNode) → HasMember K.may_hold K.holds tables n m self.old x → (y : TheNode) × (HasMember K.may_hold K.holds tables n m self.new y × StepsTo tables n m work x y result.1) }
         ensures same { (self.new.member ≡ self.old.member) × (self.new.tale ≡ self.old.tale) }
+        ensures continues { IsContinued K.Journal.contents (Some scribe) result.0 }
     {
         let Some(node) = &mut self.node else {
             return (Some(scribe), Err(Fault::Kept(Refusal::NodeDown)));
@@ -270,6 +274,7 @@ where
     ensures group { IsSameSeat node.old node.new }
     ensures honest { K.is_honest node.new.keeper → K.is_honest node.old.keeper }
     ensures steps { K.is_honest node.new.keeper → (y : TheNode) × (IsMember K.may_hold node.new y × StepsTo (tables_of node.old) (members_of node.old) (me_of node.old) work (member_of node.old) y result.1) }
+    ensures continues { HasContinued K.Journal.contents voice.scribe result.0 }
 {
     node.keeper.lend(voice);
     let result = node.step(work);

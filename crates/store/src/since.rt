@@ -183,7 +183,7 @@ where
         ensures kept { OnOk result (IsKept K.is_honest (found self.old.seats.items at (λ seat. seat.node)) (found self.new.seats.items at (λ seat. seat.node))) }
         ensures others { (i : ℕ) → i ≢ at → slice_get self.new.seats.items i ≡ slice_get self.old.seats.items i }
         ensures same { self.new ≡ record self.old { seats = self.new.seats } }
-        ensures goes { GoesOn K.is_honest K.may_hold K.holds self.old self.new }
+        ensures goes { GoesOn K.Journal.contents K.is_honest K.may_hold K.holds self.old self.new }
         ensures why { IfErr result (λ refusal. SaysDown refusal → ⊥) }
     {
         let seat = &mut self.seats[at];
@@ -196,6 +196,7 @@ where
     ///
     /// 40 and 43 where an entry can't be read: the member is down then, and the journal says so. 43 for want of memory otherwise. 38, 40
     /// and 43 where the journal can't be written; of a store that was spent before nothing changes then.
+    #[tactic(auto, using(crate::proofs::Continuing::continued_same))]
     pub fn applied_since(
         &mut self,
         member: Member,
@@ -206,7 +207,7 @@ where
         ensures kept { IfOk result (λ r. OnSome r (IsKept K.is_honest (found self.old.seats.items (member - 1) (λ seat. seat.node)) (found self.new.seats.items (member - 1) (λ seat. seat.node)))) }
         ensures others { (i : ℕ) → i ≢ member - 1 → slice_get self.new.seats.items i ≡ slice_get self.old.seats.items i }
         ensures same { OnOk result (self.new ≡ record self.old { seats = self.new.seats }) }
-        ensures goes { GoesOn K.is_honest K.may_hold K.holds self.old self.new }
+        ensures goes { GoesOn K.Journal.contents K.is_honest K.may_hold K.holds self.old self.new }
         ensures why { IfErr result (λ refusal. SaysDown refusal → ⊥) }
         ensures spent { IsSpent self.old.scribe → IsErr result × (self.new ≡ self.old) }
     {
@@ -236,9 +237,10 @@ where
 
     // Where a member's database failed as it was read, the member goes down, and the journal says so; where that can't be written the
     // store is spent.
+    #[tactic(auto, using(crate::proofs::Continuing::continued_same))]
     fn end_failed(&mut self, at: usize, member: Member)
         ensures others { (i : ℕ) → i ≢ member - 1 → slice_get self.new.seats.items i ≡ slice_get self.old.seats.items i }
-        ensures goes { GoesOn K.is_honest K.may_hold K.holds self.old self.new }
+        ensures goes { GoesOn K.Journal.contents K.is_honest K.may_hold K.holds self.old self.new }
     {
         if !self.has_failed(at) {
             return;

@@ -1,9 +1,10 @@
 //! How members stand, and are stopped and started.
-ghost use Rattle.std.specs.Prelude.{◌≡◌, ◌≢◌, ◌⊎◌, ◌-◌, ℕ, IfOk, IsErr, OnErr, slice_get, if◌then◌else◌};
+ghost use Rattle.std.specs.Prelude.{◌≡◌, ◌≢◌, ◌⊎◌, ◌-◌, ℕ, IfErr, IfOk, IsErr, OnErr, OnOk, slice_get, if◌then◌else◌};
 ghost use Rattle.store.specs.Became.{EachBecame};
-ghost use Rattle.store.specs.Closing.{IsStillThere};
+ghost use Rattle.store.specs.Closing.{MayRest};
 ghost use Rattle.store.specs.Going.{GoesOn};
-ghost use Rattle.store.specs.Journals.{IsSpent};
+ghost use Rattle.store.specs.Journals.{IsAllOn, IsLonger, IsPartOn, IsSpent, device_in};
+ghost use Rattle.store.specs.Refusals.{IsOfJournal};
 ghost use Rattle.store.specs.Statuses.{IsStatus, leads};
 
 use crate::announcing::Announces;
@@ -34,10 +35,11 @@ where
     K::Image: Drop,
 {
     /// A member goes down, and keeps what it has stored. 41 where it is not up.
+    #[tactic(auto, using(crate::proofs::Continuing::continued_same))]
     pub fn stop(&mut self, member: Member) -> Result<(), StoreRefusal>
         ensures others { (at : ℕ) → at ≢ member - 1 → slice_get self.new.seats.items at ≡ slice_get self.old.seats.items at }
         ensures fails { OnErr result (IsSpent self.new.scribe ⊎ (self.new ≡ self.old)) }
-        ensures goes { GoesOn K.is_honest K.may_hold K.holds self.old self.new }
+        ensures goes { GoesOn K.Journal.contents K.is_honest K.may_hold K.holds self.old self.new }
         ensures spent { IsSpent self.old.scribe → IsErr result × (self.new ≡ self.old) }
     {
         self.check()?;
@@ -51,8 +53,9 @@ where
     }
 
     // Starts a member's node. Whether it was not up before.
+    #[tactic(auto, using(crate::proofs::Continuing::continued_same))]
     fn start_node(&mut self, member: Member) -> Result<bool, StoreRefusal>
-        ensures { GoesOn K.is_honest K.may_hold K.holds self.old self.new }
+        ensures { GoesOn K.Journal.contents K.is_honest K.may_hold K.holds self.old self.new }
     {
         let members = self.seats.len();
         let schema = self.schema.clone()?;
@@ -70,8 +73,9 @@ where
 
     /// A member comes up again, and is brought what it lacks; one that is up stays so. 41 where its database was missing as the store
     /// was opened, 40, 43 and 44 where its database is refused: it stays down then.
+    #[tactic(auto, using(crate::proofs::Continuing::continued_same))]
     pub fn start(&mut self, reading: i64, member: Member) -> Result<(), StoreRefusal>
-        ensures goes { GoesOn K.is_honest K.may_hold K.holds self.old self.new }
+        ensures goes { GoesOn K.Journal.contents K.is_honest K.may_hold K.holds self.old self.new }
         ensures spent { IsSpent self.old.scribe → IsErr result × (self.new ≡ self.old) }
     {
         self.check()?;
@@ -85,7 +89,7 @@ where
 
     // Each member is brought what it lacks, where one leads.
     fn bring(&mut self, reading: i64) -> Result<(), StoreRefusal>
-        ensures { GoesOn K.is_honest K.may_hold K.holds self.old self.new }
+        ensures { GoesOn K.Journal.contents K.is_honest K.may_hold K.holds self.old self.new }
     {
         let Some(leader) = self.lead(reading)? else {
             return Ok(());
@@ -95,8 +99,9 @@ where
     }
 
     // A life of a member that is up begins.
+    #[tactic(auto, using(crate::proofs::Continuing::continued_same))]
     fn write_life(&mut self, member: Member) -> Result<(), StoreRefusal>
-        ensures { GoesOn K.is_honest K.may_hold K.holds self.old self.new }
+        ensures { GoesOn K.Journal.contents K.is_honest K.may_hold K.holds self.old self.new }
     {
         let stored = match self.seat(member) {
             Some(seat) => seat.stored(),
@@ -173,8 +178,11 @@ where
 
     // Stops each member that is up.
     pub(crate) fn stop_all(&mut self) -> Result<(), StoreRefusal>
-        ensures there { EachBecame IsStillThere self.old.seats.items self.new.seats.items }
-        ensures goes { GoesOn K.is_honest K.may_hold K.holds self.old self.new }
+        ensures all { OnOk result (IsAllOn K.Journal.contents self.old.scribe (device_in self.new.scribe)) }
+        ensures part { OnErr result (IsPartOn K.Journal.contents self.old.scribe (device_in self.new.scribe)) }
+        ensures why { IfErr result IsOfJournal }
+        ensures live { OnOk result (IsSpent self.old.scribe → ⊥) }
+        ensures rests { EachBecame (MayRest K.may_hold K.holds) self.old.seats.items self.new.seats.items }
     {
         for at in 0..self.seats.len() {
             self.end(at.saturating_add(1))?;
@@ -184,8 +192,11 @@ where
 
     // Stops a member, if it is up.
     fn end(&mut self, member: Member) -> Result<(), StoreRefusal>
-        ensures there { EachBecame IsStillThere self.old.seats.items self.new.seats.items }
-        ensures goes { GoesOn K.is_honest K.may_hold K.holds self.old self.new }
+        ensures longer { OnOk result (IsLonger self.old.scribe self.new.scribe) }
+        ensures device { OnErr result (device_in self.new.scribe ≡ device_in self.old.scribe) }
+        ensures why { IfErr result IsOfJournal }
+        ensures spent { OnOk result (IsSpent self.old.scribe → IsSpent self.new.scribe) }
+        ensures rests { EachBecame (MayRest K.may_hold K.holds) self.old.seats.items self.new.seats.items }
     {
         if !self.is_up(member) {
             return Ok(());

@@ -1,7 +1,8 @@
 //! Steps of the members, and what comes of them.
 ghost use Rattle.std.specs.Prelude.{◌≡◌, ◌≢◌, ◌<◌, ◌+◌, ◌-◌, ℕ, Some, [], ◌∷◌, IfOk, IfErr, OnOk, OnErr, length, slice_get};
 ghost use Rattle.store.specs.Became.{EachBecame};
-ghost use Rattle.store.specs.Closing.{IsStillThere};
+ghost use Rattle.store.specs.Closing.{MayRest};
+ghost use Rattle.store.specs.Continuing.{IsContinued};
 ghost use Rattle.store.specs.Going.{Anywhere, GoesOn, GoesOnSo, HasSent, HasStepped, Hears, IsAmong, IsBrought, MayHaveStepped, Publishes, SaysWhy};
 ghost use Rattle.store.specs.Journals.{IsSpent, HasLast};
 ghost use Rattle.store.specs.Refusals.{IsOfJournal};
@@ -75,6 +76,7 @@ where
     K::Image: Drop,
 {
     // A step of a member that is up. An error where the store is spent.
+    #[tactic(auto, using(crate::proofs::Continuing::continued_same))]
     pub(crate) fn step(
         &mut self,
         member: Member,
@@ -84,7 +86,7 @@ where
     ) -> Result<Stepped, StoreRefusal>
         ensures why { IfErr result IsOfJournal }
         ensures fails { OnErr result (IsSpent self.new.scribe) }
-        ensures goes { GoesOnSo K.is_honest K.may_hold K.holds (IsBrought self.old member work) (SaysWhy member result) self.old self.new }
+        ensures goes { GoesOnSo K.Journal.contents K.is_honest K.may_hold K.holds (IsBrought self.old member work) (SaysWhy member result) self.old self.new }
     {
         let Some(at) = self.place_of(member) else {
             return Ok(Stepped::Fell);
@@ -98,6 +100,7 @@ where
         ensures why { IfErr result IsOfJournal }
         ensures fails { OnErr result (IsSpent self.new.scribe) }
         ensures live { OnOk result ((IsSpent self.old.scribe → ⊥) × (IsSpent self.new.scribe → ⊥)) }
+        ensures continues { IsContinued K.Journal.contents self.old.scribe self.new.scribe }
         ensures same { self.new ≡ record self.old { scribe = self.new.scribe } }
     {
         match &mut self.scribe {
@@ -116,7 +119,7 @@ where
         requires live { IsSpent self.old.scribe → ⊥ }
         ensures why { IfErr result IsOfJournal }
         ensures fails { OnErr result (IsSpent self.new.scribe) }
-        ensures goes { GoesOnSo K.is_honest K.may_hold K.holds (IsBrought self.old member work) (SaysWhy member result) self.old self.new }
+        ensures goes { GoesOnSo K.Journal.contents K.is_honest K.may_hold K.holds (IsBrought self.old member work) (SaysWhy member result) self.old self.new }
     {
         match self.lend(at, work)? {
             Ok(out) => {
@@ -142,8 +145,8 @@ where
         ensures why { IfErr result IsOfJournal }
         ensures fails { OnErr result (IsSpent self.new.scribe) }
         ensures live { OnOk result (IsSpent self.new.scribe → ⊥) }
-        ensures stepped { IfOk result (HasStepped K.is_honest K.may_hold K.holds self.old self.new at work) }
-        ensures lost { OnErr result (MayHaveStepped K.is_honest K.may_hold K.holds self.old self.new at work) }
+        ensures stepped { IfOk result (HasStepped K.Journal.contents K.is_honest K.may_hold K.holds self.old self.new at work) }
+        ensures lost { OnErr result (MayHaveStepped K.Journal.contents K.is_honest K.may_hold K.holds self.old self.new at work) }
     {
         let Some(scribe) = self.scribe.take() else {
             return Err(spent());
@@ -159,7 +162,7 @@ where
     fn end_step(&mut self, member: Member, out: Out) -> Result<(), StoreRefusal>
         ensures why { IfErr result IsOfJournal }
         ensures fails { OnErr result (IsSpent self.new.scribe) }
-        ensures passes { Publishes self.old self.new out.messages.items out.told.items }
+        ensures passes { Publishes K.Journal.contents self.old self.new out.messages.items out.told.items }
     {
         let Out {
             messages,
@@ -195,7 +198,7 @@ where
     fn send_all(&mut self, member: Member, messages: Vec<Message>) -> Result<(), StoreRefusal>
         ensures why { IfErr result IsOfJournal }
         ensures fails { OnErr result (IsSpent self.new.scribe) }
-        ensures passes { Publishes self.old self.new messages.items [] }
+        ensures passes { Publishes K.Journal.contents self.old self.new messages.items [] }
     {
         for message in messages {
             self.send(member, message)?;
@@ -206,7 +209,7 @@ where
     fn send(&mut self, member: Member, message: Message) -> Result<(), StoreRefusal>
         ensures why { IfErr result IsOfJournal }
         ensures fails { OnErr result (IsSpent self.new.scribe) }
-        ensures passes { Publishes self.old self.new (message ∷ []) [] }
+        ensures passes { Publishes K.Journal.contents self.old self.new (message ∷ []) [] }
     {
         if matches!(message.body, Body::Append { .. }) {
             self.leader = Some(member);
@@ -217,7 +220,7 @@ where
     fn post(&mut self, message: Message) -> Result<(), StoreRefusal>
         ensures why { IfErr result IsOfJournal }
         ensures fails { OnErr result (IsSpent self.new.scribe) }
-        ensures passes { Publishes self.old self.new (message ∷ []) [] }
+        ensures passes { Publishes K.Journal.contents self.old self.new (message ∷ []) [] }
     {
         let Some(number) = self.sent.checked_add(1) else {
             return Err(self.spend());
@@ -231,7 +234,7 @@ where
 
     // What a member told in a step is heard.
     fn hear_all(&mut self, told: Vec<Told>)
-        ensures { Publishes self.old self.new [] told.items }
+        ensures { Publishes K.Journal.contents self.old self.new [] told.items }
     {
         for one in told {
             self.hear(one);
@@ -239,7 +242,7 @@ where
     }
 
     fn hear(&mut self, told: Told)
-        ensures { Publishes self.old self.new [] (told ∷ []) }
+        ensures { Publishes K.Journal.contents self.old self.new [] (told ∷ []) }
     {
         self.heard = self.heard.max(told.index);
         if let Some(watched) = &mut self.watched {
@@ -248,10 +251,12 @@ where
     }
 
     // Stops a member's node.
+    #[tactic(auto, using(crate::proofs::Continuing::continued_same))]
     fn stop_node(&mut self, member: Member)
-        ensures there { EachBecame IsStillThere self.old.seats.items self.new.seats.items }
+        ensures scribe { self.new.scribe ≡ self.old.scribe }
+        ensures rests { EachBecame (MayRest K.may_hold K.holds) self.old.seats.items self.new.seats.items }
         ensures others { (at : ℕ) → at ≢ member - 1 → slice_get self.new.seats.items at ≡ slice_get self.old.seats.items at }
-        ensures goes { GoesOn K.is_honest K.may_hold K.holds self.old self.new }
+        ensures goes { GoesOn K.Journal.contents K.is_honest K.may_hold K.holds self.old self.new }
     {
         let Some(at) = self.place_of(member) else {
             return;
@@ -262,9 +267,10 @@ where
 
     // A member is down.
     pub(crate) fn fall(&mut self, member: Member)
-        ensures there { EachBecame IsStillThere self.old.seats.items self.new.seats.items }
+        ensures scribe { self.new.scribe ≡ self.old.scribe }
+        ensures rests { EachBecame (MayRest K.may_hold K.holds) self.old.seats.items self.new.seats.items }
         ensures others { (at : ℕ) → at ≢ member - 1 → slice_get self.new.seats.items at ≡ slice_get self.old.seats.items at }
-        ensures goes { GoesOn K.is_honest K.may_hold K.holds self.old self.new }
+        ensures goes { GoesOn K.Journal.contents K.is_honest K.may_hold K.holds self.old self.new }
     {
         self.stop_node(member);
         if self.leader == Some(member) {
@@ -282,7 +288,7 @@ where
     ) -> Result<Stepped, StoreRefusal>
         ensures why { IfErr result IsOfJournal }
         ensures fails { OnErr result (IsSpent self.new.scribe) }
-        ensures goes { GoesOnSo K.is_honest K.may_hold K.holds Anywhere (SaysWhy member result) self.old self.new }
+        ensures goes { GoesOnSo K.Journal.contents K.is_honest K.may_hold K.holds Anywhere (SaysWhy member result) self.old self.new }
     {
         self.step(member, reading, taken, Work::Local(input))
     }
@@ -292,7 +298,7 @@ where
     pub(crate) fn deliver_all(&mut self, reading: i64) -> Result<(), StoreRefusal>
         ensures why { IfErr result IsOfJournal }
         ensures fails { OnErr result (IsSpent self.new.scribe) }
-        ensures goes { GoesOn K.is_honest K.may_hold K.holds self.old self.new }
+        ensures goes { GoesOn K.Journal.contents K.is_honest K.may_hold K.holds self.old self.new }
     {
         for _ in 0..DELIVERIES_MOST {
             let Some(letter) = self.queue.pop_front() else {
@@ -303,10 +309,11 @@ where
         Ok(())
     }
 
+    #[tactic(auto, using(crate::proofs::Continuing::continued_same))]
     fn deliver(&mut self, reading: i64, letter: Letter) -> Result<(), StoreRefusal>
         ensures why { IfErr result IsOfJournal }
         ensures fails { OnErr result (IsSpent self.new.scribe) }
-        ensures goes { GoesOnSo K.is_honest K.may_hold K.holds (HasSent self.old letter) (λ gave. Unit {0}) self.old self.new }
+        ensures goes { GoesOnSo K.Journal.contents K.is_honest K.may_hold K.holds (HasSent self.old letter) (λ gave. Unit {0}) self.old self.new }
     {
         let Letter { number, message } = letter;
         let member = message.addressee;

@@ -1,9 +1,10 @@
 //! The open store.
 ghost use Rattle.std.specs.Prelude.{◌≡◌, ◌↔◌, ◌⊎◌, ◌<◌, ◌+◌, ◌-◌, [], Some, IsTrue, IfSome, IfNone, IfOk, IfErr, OnOk, OnErr, length, slice_get};
 ghost use Rattle.store.specs.Closing.{IsClosed};
+ghost use Rattle.store.specs.Continuing.{HasBegun};
 ghost use Rattle.store.specs.Going.{GoesOn, Publishes};
 ghost use Rattle.store.specs.Opening.{Begins};
-ghost use Rattle.store.specs.Journals.{IsSpent, IsAdded, IsLonger, IsFlushed, IsOpened};
+ghost use Rattle.store.specs.Journals.{IsSpent, IsAdded, IsLonger, IsFlushed, IsOpened, IsAllOn, IsPartOn, device_in};
 ghost use Rattle.store.specs.Refusals.{IsOfJournal};
 
 use crate::announcing::Announces;
@@ -27,8 +28,9 @@ use std::collections::VecDeque;
 /// decided and written to the journal, or says that it isn't.
 ///
 /// Every step is in the journal before its member's save can reach a database, and an outcome or an answer is there before it is
-/// given out. Once the journal can't be written the store is spent: each later call answers so, and changes nothing. What was told by
-/// then is not lost: an open of what the databases and the journal hold has it.
+/// given out. A call, whatever it returns, leaves on the journal's device what was there and whole blocks more, and after an error a
+/// beginning of one more at most. Once the journal can't be written the store is spent: each later call answers so, and changes
+/// nothing. What was told by then is not lost: an open of what the databases and the journal hold has it.
 #[derive(Drop)]
 pub struct Store<K: Announces>
 where
@@ -61,8 +63,8 @@ impl<K: Announces> Store<K>
 where
     K::Image: Drop,
 {
-    /// Begins a session: the journal of this number, in which so many marks were given out before it, with its first line, what each
-    /// member has, and a life of each that is up. Then one of them is elected, if they are a majority. The scribe stands at the
+    /// Begins a session: the journal of this number, in which so many marks were given out before it, with its first line, which names
+    /// the sum of the block before it, what each member has, and a life of each that is up. Then one of them is elected, if they are a majority. The scribe stands at the
     /// beginning of the journal; the clock shows `reading`, in microseconds since 1970.
     ///
     /// 38, 40 and 43 where the journal can't be written.
@@ -73,7 +75,8 @@ where
         marks: u64,
         reading: i64,
     ) -> Result<Store<K>, StoreRefusal>
-        ensures { IfOk result (Begins K.is_honest K.may_hold K.holds members) }
+        ensures begins { IfOk result (Begins K.is_honest K.may_hold K.holds members) }
+        ensures journal { IfOk result (λ store. HasBegun K.Journal.contents scribe store.scribe journal marks) }
     {
         let Members {
             alloc,
@@ -101,7 +104,7 @@ where
     // The first block of the journal.
     fn write_head(&mut self, journal: u64, marks: u64) -> Result<(), StoreRefusal>
         ensures opens { OnOk result (IsOpened K.Journal.contents self.old.scribe self.new.scribe journal marks) }
-        ensures goes { GoesOn K.is_honest K.may_hold K.holds self.old self.new }
+        ensures goes { GoesOn K.Journal.contents K.is_honest K.may_hold K.holds self.old self.new }
     {
         let sum = match &self.scribe {
             Some(scribe) => scribe.sum(),
@@ -121,7 +124,7 @@ where
     // What a member begins the journal with.
     fn write_seat(&mut self, at: usize) -> Result<(), StoreRefusal>
         ensures longer { OnOk result (IsLonger self.old.scribe self.new.scribe) }
-        ensures goes { GoesOn K.is_honest K.may_hold K.holds self.old self.new }
+        ensures goes { GoesOn K.Journal.contents K.is_honest K.may_hold K.holds self.old self.new }
     {
         let Some(seat) = self.seats.get(at) else {
             return Ok(());
@@ -148,9 +151,10 @@ where
         ensures why { IfErr result IsOfJournal }
         ensures fails { OnErr result (IsSpent self.new.scribe) }
         ensures live { OnOk result (IsSpent self.old.scribe → ⊥) }
+        ensures device { device_in self.new.scribe ≡ device_in self.old.scribe }
         ensures same { self.new ≡ record self.old { scribe = self.new.scribe } }
-        ensures passes { Publishes self.old self.new [] [] }
-        ensures goes { GoesOn K.is_honest K.may_hold K.holds self.old self.new }
+        ensures passes { Publishes K.Journal.contents self.old self.new [] [] }
+        ensures goes { GoesOn K.Journal.contents K.is_honest K.may_hold K.holds self.old self.new }
     {
         match &mut self.scribe {
             Some(scribe) => Ok(scribe.add(line)?),
@@ -161,11 +165,12 @@ where
     // Writes the journal's buffer to its device.
     pub(crate) fn flush(&mut self) -> Result<(), StoreRefusal>
         ensures ok { OnOk result (IsFlushed K.Journal.contents self.old.scribe self.new.scribe) }
+        ensures part { OnErr result (IsPartOn K.Journal.contents self.old.scribe (device_in self.new.scribe)) }
         ensures why { IfErr result IsOfJournal }
         ensures fails { OnErr result (IsSpent self.new.scribe) }
         ensures live { OnOk result (IsSpent self.old.scribe → ⊥) }
         ensures same { self.new ≡ record self.old { scribe = self.new.scribe } }
-        ensures goes { GoesOn K.is_honest K.may_hold K.holds self.old self.new }
+        ensures goes { GoesOn K.Journal.contents K.is_honest K.may_hold K.holds self.old self.new }
     {
         match &mut self.scribe {
             Some(scribe) => Ok(scribe.flush()?),
@@ -193,8 +198,8 @@ where
         ensures why { IsOfJournal result }
         ensures fails { IsSpent self.new.scribe }
         ensures same { self.new ≡ record self.old { scribe = self.new.scribe } }
-        ensures passes { Publishes self.old self.new [] [] }
-        ensures goes { GoesOn K.is_honest K.may_hold K.holds self.old self.new }
+        ensures passes { Publishes K.Journal.contents self.old self.new [] [] }
+        ensures goes { GoesOn K.Journal.contents K.is_honest K.may_hold K.holds self.old self.new }
     {
         if let Some(scribe) = &mut self.scribe {
             scribe.spend(DeviceError::NoMemory);
@@ -259,7 +264,11 @@ where
     /// Stops every member, and gives the databases back, and the journal's device. What could not be written to the journal is its
     /// refusal; the databases hold what was stored all the same.
     pub fn close(mut self) -> (Databases<K>, Option<K::Journal>, Result<(), StoreRefusal>)
-        ensures { IsClosed K.is_honest K.may_hold K.holds self result.0.seats.items }
+        ensures closed { IsClosed K.may_hold K.holds self result.0.seats.items }
+        ensures all { OnOk result.2 (IsAllOn K.Journal.contents self.scribe result.1) }
+        ensures part { OnErr result.2 (IsPartOn K.Journal.contents self.scribe result.1) }
+        ensures why { IfErr result.2 IsOfJournal }
+        ensures live { OnOk result.2 (IsSpent self.scribe → ⊥) }
     {
         let stopped = self.stop_all();
         let Store { seats, scribe, .. } = self;

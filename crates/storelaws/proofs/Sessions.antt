@@ -40,7 +40,7 @@ use Rattle.store.specs.Seats.{HasMember, IsClean}
 use Rattle.store.specs.Going.{Anywhere, AreClean, GoesOn, GoesOnSo, IsIn, IsRunOf}
 use Rattle.store.specs.Opening.{AreFound}
 use Rattle.store.specs.Closing.{AreLeft, IsClosed, MayHold, images_in}
-use Rattle.storelaws.specs.Sessions.{AreAfter, Answers, Came, Further, HasAnswered, HasEnded, IsListed, session_of}
+use Rattle.storelaws.specs.Sessions.{AreAfter, Answers, Came, Further, HasAnswered, IsListed, session_of}
 
 -- what a member told in a session is in the list that explains it
 pub listed : (language : Language) (sessions : List Session) (list : List Entry) → ExplainsSessions language sessions list → (i : ℕ) (s : Session) → nth sessions i ≡ Some s → (client number : ℕ) (outcome : Result ℕ Refusal) → WasTold s.gave client number outcome →
@@ -117,11 +117,11 @@ module _ {K I : Type 0} {g : _} {s : _} (held : K → Durable → Type 0) where
       go true u same = (refl, λ d h. ap stopped same ∙ sym (ap rested (keeps u d (less d h))))
       go false u rests = (refl, λ d h. ap stopped (rests.1 d (less d h)))
 
-module _ {K J I : Type 0} {g : _} {s : _} {d : _} (held : K → Durable → Type 0) (holds : I → Durable → Type 0) where
+module _ {K J I : Type 0} {an : _} {g : _} {s : _} {d : _} (held : K → Durable → Type 0) (holds : I → Durable → Type 0) where
   -- ---- what a store leaves
 
   -- the database of a seat
-  seat_rests : ((node : Node K I g s) → Keeps held node) → (tables : Tables) (n m : ℕ) (seat : Seat K J I g s d) (x : model.Node) → HasMember held holds tables n m seat x → (image : I) → ((stored : Durable) → holds image stored → MayHold held holds seat stored) → Rests (holds image) (stopped x)
+  seat_rests : ((node : Node K I g s) → Keeps held node) → (tables : Tables) (n m : ℕ) (seat : Seat K J I an g s d) (x : model.Node) → HasMember held holds tables n m seat x → (image : I) → ((stored : Durable) → holds image stored → MayHold held holds seat stored) → Rests (holds image) (stopped x)
   seat_rests keeps tables n m seat x has image less = go seat.node has.1 less
     where
       at_rest : (o : Option I) → MatchOption o (x.up ≡ false) (λ i. Rests (holds i) x) → ((stored : Durable) → holds image stored → MatchOption o ⊥ (λ i. holds i stored)) → Rests (holds image) (stopped x)
@@ -133,10 +133,10 @@ module _ {K J I : Type 0} {g : _} {s : _} {d : _} (held : K → Durable → Type
       go None rests some = at_rest seat.image rests some
       go (Some node) is some = node_rests held holds node (keeps node) x is.is image some
 
-  pub leaves : ((node : Node K I g s) → Keeps held node) → (store : Store K J I g s d) (w : World) → IsIn held holds store w → (images : List (Option I)) → AreLeft held holds store images → AreFound holds images (durable w)
+  pub leaves : ((node : Node K I g s) → Keeps held node) → (store : Store K J I an g s d) (w : World) → IsIn held holds store w → (images : List (Option I)) → AreLeft held holds store images → AreFound holds images (durable w)
   leaves keeps store w i images L = record { all = length-map w.nodes stopped ∙ i.seated.all ∙ sym L.count; each = go }
     where
-      rests : (o : Option I) (i : ℕ) (seat : Seat K J I g s d) (x : model.Node) → slice_get store.seats.items i ≡ Some seat → slice_get images i ≡ Some o → HasMember held holds store.schema (length store.seats.items) (suc i) seat x →
+      rests : (o : Option I) (i : ℕ) (seat : Seat K J I an g s d) (x : model.Node) → slice_get store.seats.items i ≡ Some seat → slice_get images i ≡ Some o → HasMember held holds store.schema (length store.seats.items) (suc i) seat x →
           MatchOption o ((stopped x).up ≡ false) (λ image. Rests (holds image) (stopped x))
       rests None i seat x p q has = refl
       rests (Some image) i seat x p q has = seat_rests keeps store.schema (length store.seats.items) (suc i) seat x has image (λ stored h. L.each i seat image stored p q h)
@@ -151,15 +151,24 @@ module _ {K J I : Type 0} {g : _} {s : _} {d : _} (held : K → Durable → Type
           subst (λ (z : model.Node). MatchOption image (z.up ≡ false) (λ i. Rests (holds i) z)) x.2
           (rests image k seat.0 x.0 seat.1 p (i.seated.each (suc k) seat.0 x.0 seat.1 x.1))
 
+  -- of one that is closed
+  pub is_left : (store : Store K J I an g s d) (seats : List (Seat K J I an g s d)) → IsClosed held holds store seats → AreLeft held holds store (images_in seats)
+  is_left store seats C = record {
+    count = length-map seats (λ (seat : Seat K J I an g s d). seat.image) ∙ C.count;
+    each = λ i seat image stored p q h.
+        let after = of_map (λ (seat : Seat K J I an g s d). seat.image) seats i (Some image) q in
+        ((C.each i seat after.0 p after.1).holds_it image after.2 stored).0 h;
+  }
+
   -- ---- how its session goes on
 
-  pub came : (found : List model.Node) (store : Store K J I g s d) → (events : List Event) × IsRunOf held holds found events store → Came held holds found store
+  pub came : (found : List model.Node) (store : Store K J I an g s d) → (events : List Event) × IsRunOf held holds found events store → Came held holds found store
   came found store ran = record { world = run (language_of store.schema) (length store.seats.items) (opened found) ran.0; goes = unasked (language_of store.schema) (length store.seats.items) ran.0 (opened found); is_in = ran.1 }
 
-  pub goes_on : (honest : K → Type 0) (gives : List (List Output) → Type 0) (found : List model.Node) (old new : Store K J I g s d) (before : Came held holds found old) → GoesOnSo honest held holds Anywhere gives old new → AreClean honest holds new →
+  pub goes_on : (contents : J → Option (List ℕ)) (honest : K → Type 0) (gives : List (List Output) → Type 0) (found : List model.Node) (old new : Store K J I an g s d) (before : Came held holds found old) → GoesOnSo contents honest held holds Anywhere gives old new → AreClean honest holds new →
       (after : Came held holds found new) × Further gives before after
   unfolding joined
-  goes_on honest gives found old new before x k =
+  goes_on contents honest gives found old new before x k =
       let on = x.went k before.world before.is_in tt in
       let all = joined (language_of old.schema) (length old.seats.items) (opened found) before.world on.0.world before.goes on.0.goes in
       let goes : Goes (language_of new.schema) (length new.seats.items) (opened found) on.0.world = record {
@@ -172,7 +181,7 @@ module _ {K J I : Type 0} {g : _} {s : _} {d : _} (held : K → Durable → Type
 
   -- ---- one session more
 
-  pub next : ((node : Node K I g s) → Keeps held node) → (sessions : List Session) (store : Store K J I g s d) (c : Came held holds (found_after (new_databases (length store.seats.items)) sessions) store) → AreSessions (language_of store.schema) (length store.seats.items) (new_databases (length store.seats.items)) sessions →
+  pub next : ((node : Node K I g s) → Keeps held node) → (sessions : List Session) (store : Store K J I an g s d) (c : Came held holds (found_after (new_databases (length store.seats.items)) sessions) store) → AreSessions (language_of store.schema) (length store.seats.items) (new_databases (length store.seats.items)) sessions →
       (left : List (Option I)) → AreLeft held holds store left → AreAfter holds (language_of store.schema) (length store.seats.items) (sessions ++ session_of c ∷ []) left
   next keeps sessions store c A left L =
       let language = language_of store.schema in
@@ -184,7 +193,7 @@ module _ {K J I : Type 0} {g : _} {s : _} {d : _} (held : K → Durable → Type
   -- ---- what is answered
 
   -- an event more, in which nothing changes
-  asked : (found : List model.Node) (store : Store K J I g s d) (before : Came held holds found store) (m : ℕ) (q : Select) (a : model_answers.Answer) → IsGivenAt (language_of store.schema) m q (nth before.world.nodes m) (Answered m a ∷ []) →
+  asked : (found : List model.Node) (store : Store K J I an g s d) (before : Came held holds found store) (m : ℕ) (q : Select) (a : model_answers.Answer) → IsGivenAt (language_of store.schema) m q (nth before.world.nodes m) (Answered m a ∷ []) →
       (after : Came held holds found store) × Further (λ gave. gave ≡ (Answered m a ∷ []) ∷ []) before after × IsAnswered (after.goes.events ++ []) after.goes.gave (length before.goes.events + 1) m q a
   unfolding joined
   asked found store before m q a gives =
@@ -201,16 +210,16 @@ module _ {K J I : Type 0} {g : _} {s : _} {d : _} (held : K → Durable → Type
         ),
       )
 
-  pub answers : (honest : K → Type 0) (found : List model.Node) (store : Store K J I g s d) (before : Came held holds found store) (at : ℕ) (text : List ℕ) (a : Rows) → AreClean honest holds store → HasAnswered honest store at text a → Answers held holds found store before (at + 1) text a
+  pub answers : (honest : K → Type 0) (found : List model.Node) (store : Store K J I an g s d) (before : Came held holds found store) (at : ℕ) (text : List ℕ) (a : Rows) → AreClean honest holds store → HasAnswered honest store at text a → Answers held holds found store before (at + 1) text a
   answers honest found store before at text a clean has = by_seat (slice_get store.seats.items at) refl has
     where
       n : ℕ
       n = length store.seats.items
 
-      by_node : (seat : Seat K J I g s d) (o : Option (Node K I g s)) → slice_get store.seats.items at ≡ Some seat → seat.node ≡ o → MatchOption o ⊥ (λ node. IsAnswerOf honest node store.schema text a) → Answers held holds found store before (at + 1) text a
+      by_node : (seat : Seat K J I an g s d) (o : Option (Node K I g s)) → slice_get store.seats.items at ≡ Some seat → seat.node ≡ o → MatchOption o ⊥ (λ node. IsAnswerOf honest node store.schema text a) → Answers held holds found store before (at + 1) text a
       by_node seat None there e none = absurd none
       by_node seat (Some node) there e (q, spelled, up, says) =
-          let Has : ℕ → Seat K J I g s d → model.Node → Type 0 = λ m seat x. HasMember held holds store.schema n m seat x in
+          let Has : ℕ → Seat K J I an g s d → model.Node → Type 0 = λ m seat x. HasMember held holds store.schema n m seat x in
           let sits = seated Has store.seats.items before.world.nodes before.is_in.seated (at + 1) seat (nth_next store.seats.items (at + 1) at refl ∙ there) in
           let is : IsNodeOf held store.schema n (at + 1) node sits.0 = subst (λ (o : Option (Node K I g s)). MatchOption o (MatchOption seat.image (sits.0.up ≡ false) (λ i. Rests (holds i) sits.0)) (λ node. IsNodeOf held store.schema n (at + 1) node sits.0)) e sits.2.1 in
           let same : sits.0 ≡ member_of node = subst (λ (b : Bool). MatchBool b (sits.0 ≡ member_of node) (Rests (held node.keeper) sits.0)) up is.is in
@@ -227,24 +236,10 @@ module _ {K J I : Type 0} {g : _} {s : _} {d : _} (held : K → Durable → Type
             answered = came.2;
           }
 
-      by_seat : (o : Option (Seat K J I g s d)) → slice_get store.seats.items at ≡ o → MatchOption o ⊥ (λ seat. MatchOption seat.node ⊥ (λ node. IsAnswerOf honest node store.schema text a)) → Answers held holds found store before (at + 1) text a
+      by_seat : (o : Option (Seat K J I an g s d)) → slice_get store.seats.items at ≡ o → MatchOption o ⊥ (λ seat. MatchOption seat.node ⊥ (λ node. IsAnswerOf honest node store.schema text a)) → Answers held holds found store before (at + 1) text a
       by_seat None there none = absurd none
       by_seat (Some seat) there some = by_node seat seat.node there refl some
 
   -- a call of which no more is said
-  pub so : (honest : K → Type 0) (old new : Store K J I g s d) → GoesOn honest held holds old new → GoesOnSo honest held holds Anywhere (λ gave. Unit {0}) old new
-  so honest old new x = record { schema = x.schema; count = x.count; clean = x.clean; went = λ k w i p. (x.went k w i, tt) }
-
--- what is left of a store that is closed
-module _ {K J I : Type 0} {g : _} {s : _} {d : _} (honest : K → Type 0) (held : K → Durable → Type 0) (holds : I → Durable → Type 0) where
-  pub ended : (store : Store K J I g s d) (seats : List (Seat K J I g s d)) → IsClosed honest held holds store seats → HasEnded honest held holds store (images_in seats)
-  ended store seats C = record {
-    last = C.last;
-    goes = C.goes;
-    left = record {
-      count = length-map seats (λ (seat : Seat K J I g s d). seat.image) ∙ C.rests.count;
-      each = λ i seat image stored p q h.
-          let after = of_map (λ (seat : Seat K J I g s d). seat.image) seats i (Some image) q in
-          ((C.rests.each i seat after.0 p after.1).holds_it image after.2 stored).0 h;
-    };
-  }
+  pub so : (contents : J → Option (List ℕ)) (honest : K → Type 0) (old new : Store K J I an g s d) → GoesOn contents honest held holds old new → GoesOnSo contents honest held holds Anywhere (λ gave. Unit {0}) old new
+  so contents honest old new x = record { schema = x.schema; count = x.count; journal = x.journal; clean = x.clean; went = λ k w i p. (x.went k w i, tt) }

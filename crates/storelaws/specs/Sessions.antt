@@ -20,8 +20,7 @@ use Rattle.sqlread.specs.Texts.{query_in}
 use Rattle.runlaws.specs.Going.{Goes}
 use Rattle.store.specs.Asking.{IsAnswerOf}
 use Rattle.store.specs.declared.store.Store.{Store}
-use Rattle.store.specs.Closing.{AreLeft}
-use Rattle.store.specs.Going.{GoesOn, IsIn}
+use Rattle.store.specs.Going.{IsIn}
 use Rattle.store.specs.Opening.{AreFound}
 
 -- these sessions followed one another, the first one over members that were never started, and these databases hold what they left
@@ -32,25 +31,19 @@ AreAfter holds language n sessions images = AreSessions language n (new_database
 abbrev pub IsListed : Language → List Entry → (client number : ℕ) → Result ℕ Refusal → Type 0
 IsListed language list client number outcome = (told : Told) × (told.client ≡ client) × (told.number ≡ number) × (told.outcome ≡ outcome) × IsTold language list told
 
-module _ {K J I : Type 0} {g : _} {s : _} {d : _} where
-  -- a store went on to its last step, and these databases are left of it then
-  pub record HasEnded (honest : K → Type 0) (held : K → Durable → Type 0) (holds : I → Durable → Type 0) (store : Store K J I g s d) (images : List (Option I)) : Type 0 where
-    pub last : Store K J I g s d
-    pub goes : GoesOn honest held holds store last
-    pub left : AreLeft held holds last images
-
+module _ {K J I : Type 0} {an : _} {g : _} {s : _} {d : _} where
   -- how a store came to where it is: by events, from members with this stored
-  pub record Came (held : K → Durable → Type 0) (holds : I → Durable → Type 0) (found : List Node) (store : Store K J I g s d) : Type 0 where
+  pub record Came (held : K → Durable → Type 0) (holds : I → Durable → Type 0) (found : List Node) (store : Store K J I an g s d) : Type 0 where
     pub world : World
     pub goes : Goes (language_of store.schema) (length store.seats.items) (opened found) world
     pub is_in : IsIn held holds store world
 
   -- it as a session that ends now, between two calls
-  abbrev pub session_of : {held : K → Durable → Type 0} {holds : I → Durable → Type 0} {found : List Node} {store : Store K J I g s d} → Came held holds found store → Session
+  abbrev pub session_of : {held : K → Durable → Type 0} {holds : I → Durable → Type 0} {found : List Node} {store : Store K J I an g s d} → Came held holds found store → Session
   session_of came = record { filed = came.goes.events; moment = Between []; gave = came.goes.gave; left = durable came.world }
 
   -- the same session further on, by events more, which gave what this holds of
-  pub record Further {held : K → Durable → Type 0} {holds : I → Durable → Type 0} {found : List Node} {old new : Store K J I g s d} (gives : List (List Output) → Type 0) (before : Came held holds found old) (after : Came held holds found new) : Type 0 where
+  pub record Further {held : K → Durable → Type 0} {holds : I → Durable → Type 0} {found : List Node} {old new : Store K J I an g s d} (gives : List (List Output) → Type 0) (before : Came held holds found old) (after : Came held holds found new) : Type 0 where
     pub events : List Event
     pub gave : List (List Output)
     pub events_are : after.goes.events ≡ before.goes.events ++ events
@@ -58,11 +51,11 @@ module _ {K J I : Type 0} {g : _} {s : _} {d : _} where
     pub gives_so : gives gave
 
   -- the member of the seat that has so many before it is up, and answers the question of this text so
-  abbrev pub HasAnswered : (honest : K → Type 0) → Store K J I g s d → ℕ → List ℕ → Answer → Type 0
+  abbrev pub HasAnswered : (honest : K → Type 0) → Store K J I an g s d → ℕ → List ℕ → Answer → Type 0
   HasAnswered honest store at text a = MatchOption (slice_get store.seats.items at) ⊥ (λ seat. MatchOption seat.node ⊥ (λ node. IsAnswerOf honest node store.schema text a))
 
   -- it was an event more of the session that the member was asked, and gave this answer
-  pub record Answers (held : K → Durable → Type 0) (holds : I → Durable → Type 0) (found : List Node) (store : Store K J I g s d) (before : Came held holds found store) (m : ℕ) (text : List ℕ) (a : Answer) : Type 0 where
+  pub record Answers (held : K → Durable → Type 0) (holds : I → Durable → Type 0) (found : List Node) (store : Store K J I an g s d) (before : Came held holds found store) (m : ℕ) (text : List ℕ) (a : Answer) : Type 0 where
     pub query : QueryShape
     pub spelled : query_in store.schema text ≡ Ok query
     pub after : Came held holds found store

@@ -19,7 +19,7 @@ ghost use Rattle.store.specs.Closing.{AreLeft, IsClosed, images_in};
 ghost use Rattle.store.specs.Going.{Anywhere, AreClean, ComesOf, GoesOn, GoesOnSo, IsIn};
 ghost use Rattle.store.specs.declared.outcome.Outcome.{Outcome};
 ghost use Rattle.store.specs.Opening.{AreFound, IsRunFrom};
-ghost use Rattle.storelaws.specs.Sessions.{Answers, AreAfter, Came, Further, HasAnswered, HasEnded, IsListed, session_of};
+ghost use Rattle.storelaws.specs.Sessions.{Answers, AreAfter, Came, Further, HasAnswered, IsListed, session_of};
 
 use store::announcing::Announces;
 use store::{Databases, Store};
@@ -43,18 +43,18 @@ where
 pub fn goes_on<K: Announces>(old: &Store<K>, new: &Store<K>)
 where
     K::Image: Drop,
-    ensures goes { (found : List Node) (before : Came K.may_hold K.holds found old.now) → GoesOn K.is_honest K.may_hold K.holds old.now new.now → AreClean K.is_honest K.holds new.now →
+    ensures goes { (found : List Node) (before : Came K.may_hold K.holds found old.now) → GoesOn K.Journal.contents K.is_honest K.may_hold K.holds old.now new.now → AreClean K.is_honest K.holds new.now →
         (after : Came K.may_hold K.holds found new.now) × Further (λ gave. Unit {0}) before after }
-    ensures tells { (found : List Node) (before : Came K.may_hold K.holds found old.now) (client number : ℕ) (outcome : Outcome) → GoesOnSo K.is_honest K.may_hold K.holds Anywhere (ComesOf client number outcome) old.now new.now → AreClean K.is_honest K.holds new.now →
+    ensures tells { (found : List Node) (before : Came K.may_hold K.holds found old.now) (client number : ℕ) (outcome : Outcome) → GoesOnSo K.Journal.contents K.is_honest K.may_hold K.holds Anywhere (ComesOf client number outcome) old.now new.now → AreClean K.is_honest K.holds new.now →
         (after : Came K.may_hold K.holds found new.now) × Further (ComesOf client number outcome) before after }
 {}
 
-/// A store that is closed goes on to its last step, as with each call, and what its databases hold then is what that step leaves: so
-/// `goes_on` and `next_session` say of it what they say of a store whose process is killed.
+/// What a store gives back when it is closed is what is left of it where its process is killed instead: so `leaves` and `next_session` say
+/// of the one what they say of the other.
 pub fn closes<K: Announces>(store: &Store<K>, databases: &Databases<K>)
 where
     K::Image: Drop,
-    ensures { IsClosed K.is_honest K.may_hold K.holds store.now databases.now.seats.items → HasEnded K.is_honest K.may_hold K.holds store.now (images_in databases.now.seats.items) }
+    ensures { IsClosed K.may_hold K.holds store.now databases.now.seats.items → AreLeft K.may_hold K.holds store.now (images_in databases.now.seats.items) }
 {}
 
 /// The next session. Where a store came from what some sessions left, they and its own are sessions one after the other, and whatever is

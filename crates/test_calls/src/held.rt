@@ -118,6 +118,10 @@ impl<K: Keeper> LogReader for HeldKeeper<K> {
 
     ghost serves = { λ k members language. K.serves k.keeper members language };
 
+    ghost Origin = { K.Origin };
+
+    ghost came_from = { λ k origin. K.came_from k.keeper origin };
+
     ghost only_honest = { λ k d h. K.only_honest k.keeper d h };
 
     ghost only_stored = { λ k d h. K.only_stored k.keeper d h };

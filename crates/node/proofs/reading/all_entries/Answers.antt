@@ -23,7 +23,7 @@ loop-before-preserved g c =
           let got = fetched core here i e c.in_ok-entry.field-0 step (c.in_ok-entry.ensures.ok honest (reached core here step)) c.in-Some.is in
           let found = subst (λ (d : Durable). slice_get d.log i ≡ Some e) same got in
           c.in_ok-push.ensures.items ∙ ap (λ xs. xs ++ e ∷ []) (inv.read was) ∙ sym (take_more first.log i e found);
-      reader = read_both _ _ _ _ _ _ _ _ _ _ _ _ _ _ _ _ _ _ inv.reader c.entry.ensures.reader;
+      reader = read_both _ _ _ _ _ _ _ _ _ _ _ _ _ _ _ _ _ _ _ _ _ inv.reader c.entry.ensures.reader;
       up = c.in_ok-entry.ensures.up;
       asks = omega (arith, c.entry.ensures.asks, inv.asks);
     }

@@ -12,7 +12,7 @@ loop-place-init g c = record {
   entries = λ honest. c.new-entries.ensures.items ∙ sym (range_none (g.S.LogReader.stored c.args.reader.now).log c.args.before c.args.before (omega arith));
   count = let none : length c.new-entries.result.items ≡ 0 = ap length c.new-entries.ensures.items in omega (arith, none);
   room = let none : length c.new-entries.result.items ≡ 0 = ap length c.new-entries.ensures.items in omega (arith, none, c.ranges.before.fits);
-  reader = read_none _ _ _ _ _ _;
+  reader = read_none _ _ _ _ _ _ _;
   up = c.requires.up;
   asks = omega arith;
 }
@@ -36,7 +36,7 @@ loop-place-preserved g c =
           c.in_ok-push.ensures.items ∙ ap (λ xs. xs ++ e ∷ []) (inv.entries was) ∙ sym (range_next first.log c.args.before i e (omega arith) found);
       count = omega (arith, longer, inv.count);
       room = omega (arith, longer, inv.count);
-      reader = read_both _ _ _ _ _ _ _ _ _ _ _ _ _ _ _ _ _ _ inv.reader c.entry.ensures.reader;
+      reader = read_both _ _ _ _ _ _ _ _ _ _ _ _ _ _ _ _ _ _ _ _ _ inv.reader c.entry.ensures.reader;
       up = c.in_ok-entry.ensures.up;
       asks = omega (arith, c.entry.ensures.asks, inv.asks, longer);
     }

@@ -23,7 +23,7 @@ returns-clause-starts g c =
     let count : c.len-count.result ≡ length old = search rules in
     starts_one g.K.LogReader.is_honest g.K.LogReader.may_hold g.K.Keeper.holds c.args.schema.now (length old) old _ c.args.at before c.start_seat.new.seat
     (slice_get_read old (length old) c.args.at before refl c.requires c.index_mut-seat.ensures.value) refl c.start_seat.ensures.clean
-    (λ neat x has. started_seat g.K.LogReader.is_honest g.K.LogReader.may_hold g.K.Keeper.holds before c.start_seat.new.seat c.args.schema.now c.in_ok-schema.schema (length old) c.len-count.result (c.args.at + 1) named count (c.start_seat.ensures.starts neat) x has)
+    (λ neat x has. started_seat g.K.Journal.Device.contents g.K.LogReader.is_honest g.K.LogReader.may_hold g.K.Keeper.holds before c.start_seat.new.seat c.args.schema.now c.in_ok-schema.schema (length old) c.len-count.result (c.args.at + 1) named count (c.start_seat.ensures.starts neat) x has)
 
 pub returns-then-is_missing-clause-up : goal.returns-then-is_missing-clause-up
 returns-then-is_missing-clause-up g c =

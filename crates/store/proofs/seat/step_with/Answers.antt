@@ -9,6 +9,7 @@ use Rattle.keep.specs.declared.error.StoreError.TheVariants.{StoreFault}
 use Rattle.node.specs.declared.node.Fault.TheVariants.{Down}
 use Rattle.node.specs.Member.{me_of, member_of, members_of, tables_of}
 use Rattle.node.specs.View.{durable_of}
+use Rattle.store.specs.Announcing.{HasContinued}
 use Rattle.store.specs.Nodes.{StepsTo}
 use Rattle.store.proofs.Stepping.{came, given_back, lost, member_with, seen_down, what_stays}
 use Rattle.store.proofs.seat.step_with.Goals as goal
@@ -69,3 +70,9 @@ returns-in-None-clause-steps g c = λ late.
         subst (λ (z : model.Node). StepsTo (tables_of first) (members_of first) (me_of first) c.args.work z (stopped r.0) (Err (Down StoreFault))) same l.1,
       ),
     )
+
+pub returns-in-None-clause-continues : goal.returns-in-None-clause-continues
+returns-in-None-clause-continues g c =
+    let scribe = c.args.voice.scribe in
+    let carried = g.met.K.Announces.carries_on c.lend.new.self c.step-result.new.self.keeper scribe c.step-result.ensures.came c.lend.ensures.carries in
+    subst (HasContinued g.K.Journal.Device.contents scribe) c.in-None.is (c.take_back.ensures.continues scribe carried)

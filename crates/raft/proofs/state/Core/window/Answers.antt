@@ -22,7 +22,7 @@ loop-place-preserved g c =
           let got : nth (log_of core (g.S.LogReader.stored c.args.reader.now).log) (c.loop-place.place + 1) ≡ Some c.in-Some.entry =
           subst (λ (d : Durable). nth (log_of core d.log) (c.loop-place.place + 1) ≡ Some c.in-Some.entry) same (sym found ∙ c.in-Some.is) in
           items ∙ ap (λ (es : List Entry). es ++ c.in-Some.entry ∷ []) (inv.seen was) ∙ sym (seen_more (log_of core (g.S.LogReader.stored c.args.reader.now).log) c.min-first.result c.loop-place.place c.in-Some.entry (omega arith) got);
-      reader = read_both _ _ _ _ _ _ _ _ _ _ _ _ _ _ _ _ _ _ inv.reader one.reader;
+      reader = read_both _ _ _ _ _ _ _ _ _ _ _ _ _ _ _ _ _ _ _ _ _ inv.reader one.reader;
       up = one.up;
       asks = omega (arith, inv.asks, one.asks);
     }

@@ -7,21 +7,21 @@ use Rattle.store.proofs.store.Store.execute.Goals as goal
 pub returns-in_err-check-clause-goes : goal.returns-in_err-check-clause-goes
 returns-in_err-check-clause-goes g c =
     let err : IsErr c.from_residual.result = search rules in
-    goes_so g.K.LogReader.is_honest g.K.LogReader.may_hold g.K.Keeper.holds Anywhere _ c.args.self.now c.args.self.now (λ gave. IfOk-from_err c.from_residual.result (λ r. ComesOf 65535 r.0 r.1 gave) err) (stays g.K.LogReader.is_honest g.K.LogReader.may_hold g.K.Keeper.holds c.args.self.now)
+    goes_so g.K.Journal.Device.contents g.K.LogReader.is_honest g.K.LogReader.may_hold g.K.Keeper.holds Anywhere _ c.args.self.now c.args.self.now (λ gave. IfOk-from_err c.from_residual.result (λ r. ComesOf 65535 r.0 r.1 gave) err) (stays g.K.Journal.Device.contents g.K.LogReader.is_honest g.K.LogReader.may_hold g.K.Keeper.holds c.args.self.now)
 
 pub returns-in_err-check_room-clause-goes : goal.returns-in_err-check_room-clause-goes
 returns-in_err-check_room-clause-goes g c =
     let err : IsErr c.from_residual-in_err-check_room.result = search rules in
-    goes_so g.K.LogReader.is_honest g.K.LogReader.may_hold g.K.Keeper.holds Anywhere _ c.args.self.now c.args.self.now (λ gave. IfOk-from_err c.from_residual-in_err-check_room.result (λ r. ComesOf 65535 r.0 r.1 gave) err) (stays g.K.LogReader.is_honest g.K.LogReader.may_hold g.K.Keeper.holds c.args.self.now)
+    goes_so g.K.Journal.Device.contents g.K.LogReader.is_honest g.K.LogReader.may_hold g.K.Keeper.holds Anywhere _ c.args.self.now c.args.self.now (λ gave. IfOk-from_err c.from_residual-in_err-check_room.result (λ r. ComesOf 65535 r.0 r.1 gave) err) (stays g.K.Journal.Device.contents g.K.LogReader.is_honest g.K.LogReader.may_hold g.K.Keeper.holds c.args.self.now)
 
 pub returns-in_err-next-clause-goes : goal.returns-in_err-next-clause-goes
 returns-in_err-next-clause-goes g c =
     let err : IsErr c.from_residual-in_err-next.result = search rules in
-    goes_so g.K.LogReader.is_honest g.K.LogReader.may_hold g.K.Keeper.holds Anywhere _ c.args.self.now c.next_number.new.self (λ gave. IfOk-from_err c.from_residual-in_err-next.result (λ r. ComesOf 65535 r.0 r.1 gave) err) c.next_number.ensures.goes
+    goes_so g.K.Journal.Device.contents g.K.LogReader.is_honest g.K.LogReader.may_hold g.K.Keeper.holds Anywhere _ c.args.self.now c.next_number.new.self (λ gave. IfOk-from_err c.from_residual-in_err-next.result (λ r. ComesOf 65535 r.0 r.1 gave) err) c.next_number.ensures.goes
 
 pub returns-in_default-clause-goes : goal.returns-in_default-clause-goes
 returns-in_default-clause-goes g c =
-    goes_so g.K.LogReader.is_honest g.K.LogReader.may_hold g.K.Keeper.holds Anywhere _ c.args.self.now c.next_number.new.self (λ gave. tt) c.next_number.ensures.goes
+    goes_so g.K.Journal.Device.contents g.K.LogReader.is_honest g.K.LogReader.may_hold g.K.Keeper.holds Anywhere _ c.args.self.now c.next_number.new.self (λ gave. tt) c.next_number.ensures.goes
 
 pub returns-in_err-outcome-clause-goes : goal.returns-in_err-outcome-clause-goes
 returns-in_err-outcome-clause-goes g c =
@@ -29,8 +29,8 @@ returns-in_err-outcome-clause-goes g c =
     let mid = c.next_number.new.self in
     let new = c.hand_in.new.self in
     let err : IsErr c.from_residual-in_err-outcome.result = search rules in
-    goes_so g.K.LogReader.is_honest g.K.LogReader.may_hold g.K.Keeper.holds Anywhere _ old new (λ gave. IfOk-from_err c.from_residual-in_err-outcome.result (λ r. ComesOf 65535 r.0 r.1 gave) err)
-    (goes_on g.K.LogReader.is_honest g.K.LogReader.may_hold g.K.Keeper.holds old mid new c.next_number.ensures.goes (so_goes g.K.LogReader.is_honest g.K.LogReader.may_hold g.K.Keeper.holds Anywhere _ mid new (λ w i. tt) c.hand_in.ensures.goes))
+    goes_so g.K.Journal.Device.contents g.K.LogReader.is_honest g.K.LogReader.may_hold g.K.Keeper.holds Anywhere _ old new (λ gave. IfOk-from_err c.from_residual-in_err-outcome.result (λ r. ComesOf 65535 r.0 r.1 gave) err)
+    (goes_on g.K.Journal.Device.contents g.K.LogReader.is_honest g.K.LogReader.may_hold g.K.Keeper.holds old mid new c.next_number.ensures.goes (so_goes g.K.Journal.Device.contents g.K.LogReader.is_honest g.K.LogReader.may_hold g.K.Keeper.holds Anywhere _ mid new (λ w i. tt) c.hand_in.ensures.goes))
 
 pub returns-clause-goes : goal.returns-clause-goes
 returns-clause-goes g c =
@@ -38,5 +38,5 @@ returns-clause-goes g c =
     let mid = c.next_number.new.self in
     let new = c.hand_in.new.self in
     let client : c.in-Some-Some.client ≡ 65535 = search rules in
-    then_so g.K.LogReader.is_honest g.K.LogReader.may_hold g.K.Keeper.holds _ _ old mid new
+    then_so g.K.Journal.Device.contents g.K.LogReader.is_honest g.K.LogReader.may_hold g.K.Keeper.holds _ _ old mid new
     (λ one two hears said. comes_then one two 65535 c.in-Some-Some.number c.in_ok-outcome.outcome (subst (λ k. ComesOf k c.in-Some-Some.number c.in_ok-outcome.outcome two) client said)) c.next_number.ensures.goes c.in_ok-outcome.ensures.goes

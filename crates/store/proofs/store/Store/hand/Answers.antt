@@ -8,5 +8,5 @@ pub returns-clause-goes : goal.returns-clause-goes
 returns-clause-goes g c =
     let old = c.args.self.now in
     let says = SaysWhy c.args.member c.step.result in
-    so_weaker g.K.LogReader.is_honest g.K.LogReader.may_hold g.K.Keeper.holds (IsBrought old c.args.member (Local c.args.input)) Anywhere says says old c.step.new.self
-    (λ w any. hands g.K.LogReader.is_honest g.K.LogReader.may_hold g.K.Keeper.holds old c.args.member c.args.input w) (λ gave s. s) c.step.ensures.goes
+    so_weaker g.K.Journal.Device.contents g.K.LogReader.is_honest g.K.LogReader.may_hold g.K.Keeper.holds (IsBrought old c.args.member (Local c.args.input)) Anywhere says says old c.step.new.self
+    (λ w any. hands g.K.Journal.Device.contents g.K.LogReader.is_honest g.K.LogReader.may_hold g.K.Keeper.holds old c.args.member c.args.input w) (λ gave s. s) c.step.ensures.goes

@@ -3,4 +3,4 @@ use Rattle.store.specs.Going.{Publishes}
 use Rattle.store.proofs.store.Store.hear_all.Given as goal
 
 abbrev pub invariant-loop-one : goal.invariant-loop-one
-invariant-loop-one g l = Publishes l.initial.self l.self [] l.yielded
+invariant-loop-one g l = Publishes g.K.Journal.Device.contents l.initial.self l.self [] l.yielded

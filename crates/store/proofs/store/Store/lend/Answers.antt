@@ -1,5 +1,6 @@
-use Rattle.std.proofs.Common.{◌+◌, length, refl}
+use Rattle.std.proofs.Common.{◌≡◌, ◌+◌, Some, length, refl, rules, subst}
 use Rattle.std.proofs.lemmas.Option.{slice_get_read}
+use Rattle.store.specs.Continuing.{IsContinued}
 use Rattle.store.proofs.Written.{on_err}
 use Rattle.store.proofs.store.Store.lend.Goals as goal
 
@@ -7,12 +8,13 @@ pub returns-in_err-check-clause-lost : goal.returns-in_err-check-clause-lost
 returns-in_err-check-clause-lost g c =
     let old = c.args.self.now in
     let before = c.index_mut-seat.result.now in
+    let lent : Some c.in-Some.scribe ≡ old.scribe = search rules in
     on_err c.from_residual.result (
       c.step-scribe.result.1,
       record {
         before = before;
         after = c.step-scribe.new.self;
-        changes = record { there = slice_get_read old.seats.items (length old.seats.items) c.args.at before refl c.requires.there c.index_mut-seat.ensures.value; seats = refl; schema = refl; queue = refl; sent = refl; watched = refl; clean = c.step-scribe.ensures.clean };
+        changes = record { there = slice_get_read old.seats.items (length old.seats.items) c.args.at before refl c.requires.there c.index_mut-seat.ensures.value; seats = refl; schema = refl; queue = refl; sent = refl; watched = refl; journal = subst (λ s. IsContinued g.K.Journal.Device.contents s c.step-scribe.result.0) lent c.step-scribe.ensures.continues; clean = c.step-scribe.ensures.clean };
         steps = λ neat x has. c.step-scribe.ensures.steps neat old.schema (length old.seats.items) (c.args.at + 1) x has;
       },
     )
@@ -21,9 +23,10 @@ pub returns-clause-stepped : goal.returns-clause-stepped
 returns-clause-stepped g c =
     let old = c.args.self.now in
     let before = c.index_mut-seat.result.now in
+    let lent : Some c.in-Some.scribe ≡ old.scribe = search rules in
     record {
       before = before;
       after = c.step-scribe.new.self;
-      changes = record { there = slice_get_read old.seats.items (length old.seats.items) c.args.at before refl c.requires.there c.index_mut-seat.ensures.value; seats = refl; schema = refl; queue = refl; sent = refl; watched = refl; clean = c.step-scribe.ensures.clean };
+      changes = record { there = slice_get_read old.seats.items (length old.seats.items) c.args.at before refl c.requires.there c.index_mut-seat.ensures.value; seats = refl; schema = refl; queue = refl; sent = refl; watched = refl; journal = subst (λ s. IsContinued g.K.Journal.Device.contents s c.step-scribe.result.0) lent c.step-scribe.ensures.continues; clean = c.step-scribe.ensures.clean };
       steps = λ neat x has. c.step-scribe.ensures.steps neat old.schema (length old.seats.items) (c.args.at + 1) x has;
     }

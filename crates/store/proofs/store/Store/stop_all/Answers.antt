@@ -1,28 +1,44 @@
 use Rattle.std.proofs.Common.{ap, refl}
-use Rattle.store.proofs.Closing.{there_after, there_same}
-use Rattle.store.proofs.Going.{goes_on, stays}
+use Rattle.store.proofs.Closing.{rest_after, rest_same}
+use Rattle.store.proofs.Written.{all_on, longer_more, longer_none, on_err, part_on, same_on, then_err, then_ok}
 use Rattle.store.proofs.store.Store.stop_all.Goals as goal
 
 pub loop-at-init : goal.loop-at-init
 loop-at-init g c = record {
-  there = there_same c.args.self.now.seats.items c.args.self.now.seats.items refl;
-  goes = stays g.K.LogReader.is_honest g.K.LogReader.may_hold g.K.Keeper.holds c.args.self.now;
+  rests = rest_same g.K.LogReader.may_hold g.K.Keeper.holds c.args.self.now.seats.items c.args.self.now.seats.items refl;
+  longer = longer_none c.args.self.now.scribe;
+  spent = λ spent. spent;
 }
 
 pub loop-at-preserved : goal.loop-at-preserved
 loop-at-preserved g c = record {
-  there = there_after c.args.self.now.seats.items c.loop-at.self.seats.items c.end.new.self.seats.items c.loop-at.invariant.there c.end.ensures.there;
-  goes = goes_on g.K.LogReader.is_honest g.K.LogReader.may_hold g.K.Keeper.holds c.args.self.now c.loop-at.self c.end.new.self c.loop-at.invariant.goes c.end.ensures.goes;
+  rests = rest_after g.K.LogReader.may_hold g.K.Keeper.holds c.args.self.now.seats.items c.loop-at.self.seats.items c.end.new.self.seats.items c.loop-at.invariant.rests c.end.ensures.rests;
+  longer = longer_more c.args.self.now.scribe c.loop-at.self.scribe c.end.new.self.scribe c.loop-at.invariant.longer c.in_ok-end.ensures.longer;
+  spent = λ spent. c.in_ok-end.ensures.spent (c.loop-at.invariant.spent spent);
 }
 
-pub returns-in_err-end-clause-there : goal.returns-in_err-end-clause-there
-returns-in_err-end-clause-there g c = there_after c.args.self.now.seats.items c.loop-at.self.seats.items c.end.new.self.seats.items c.loop-at.invariant.there c.end.ensures.there
+pub returns-in_err-end-clause-part : goal.returns-in_err-end-clause-part
+returns-in_err-end-clause-part g c =
+    let first = c.args.self.now.scribe in
+    let mid = c.loop-at.self.scribe in
+    on_err c.from_residual.result (part_on g.K.Journal.Device.contents first mid _ c.loop-at.invariant.longer (same_on g.K.Journal.Device.contents mid _ c.in_err-end.ensures.device))
 
-pub returns-in_err-end-clause-goes : goal.returns-in_err-end-clause-goes
-returns-in_err-end-clause-goes g c = goes_on g.K.LogReader.is_honest g.K.LogReader.may_hold g.K.Keeper.holds c.args.self.now c.loop-at.self c.end.new.self c.loop-at.invariant.goes c.end.ensures.goes
+pub returns-in_err-end-clause-rests : goal.returns-in_err-end-clause-rests
+returns-in_err-end-clause-rests g c = rest_after g.K.LogReader.may_hold g.K.Keeper.holds c.args.self.now.seats.items c.loop-at.self.seats.items c.end.new.self.seats.items c.loop-at.invariant.rests c.end.ensures.rests
 
-pub returns-clause-there : goal.returns-clause-there
-returns-clause-there g c = there_after c.args.self.now.seats.items c.loop-at.self.seats.items c.flush.new.self.seats.items c.loop-at.invariant.there (there_same c.loop-at.self.seats.items c.flush.new.self.seats.items (ap (λ t. t.seats.items) c.flush.ensures.same))
+pub returns-clause-all : goal.returns-clause-all
+returns-clause-all g c =
+    then_ok c.flush.result (all_on g.K.Journal.Device.contents c.args.self.now.scribe c.loop-at.self.scribe c.flush.new.self.scribe c.loop-at.invariant.longer) c.flush.ensures.ok
 
-pub returns-clause-goes : goal.returns-clause-goes
-returns-clause-goes g c = goes_on g.K.LogReader.is_honest g.K.LogReader.may_hold g.K.Keeper.holds c.args.self.now c.loop-at.self c.flush.new.self c.loop-at.invariant.goes c.flush.ensures.goes
+pub returns-clause-part : goal.returns-clause-part
+returns-clause-part g c =
+    then_err c.flush.result (part_on g.K.Journal.Device.contents c.args.self.now.scribe c.loop-at.self.scribe _ c.loop-at.invariant.longer) c.flush.ensures.part
+
+pub returns-clause-live : goal.returns-clause-live
+returns-clause-live g c = then_ok c.flush.result (λ live spent. live (c.loop-at.invariant.spent spent)) c.flush.ensures.live
+
+pub returns-clause-rests : goal.returns-clause-rests
+returns-clause-rests g c =
+    let mid = c.loop-at.self.seats.items in
+    let last = c.flush.new.self.seats.items in
+    rest_after g.K.LogReader.may_hold g.K.Keeper.holds c.args.self.now.seats.items mid last c.loop-at.invariant.rests (rest_same g.K.LogReader.may_hold g.K.Keeper.holds mid last (ap (λ t. t.seats.items) c.flush.ensures.same))

@@ -5,5 +5,5 @@ use Rattle.store.proofs.store.Store.write_head.Given as goal
 abbrev pub invariant-loop-at : goal.invariant-loop-at
 invariant-loop-at g l = record {
   longer : IsLonger l.initial.self.scribe l.self.scribe;
-  goes : GoesOn g.K.LogReader.is_honest g.K.LogReader.may_hold g.K.Keeper.holds l.initial.self l.self;
+  goes : GoesOn g.K.Journal.Device.contents g.K.LogReader.is_honest g.K.LogReader.may_hold g.K.Keeper.holds l.initial.self l.self;
 }

@@ -9,15 +9,15 @@ pub returns-in_default-clause-longer : goal.returns-in_default-clause-longer
 returns-in_default-clause-longer g c = longer_none c.args.self.now.scribe
 
 pub returns-in_default-clause-goes : goal.returns-in_default-clause-goes
-returns-in_default-clause-goes g c = stays g.K.LogReader.is_honest g.K.LogReader.may_hold g.K.Keeper.holds c.args.self.now
+returns-in_default-clause-goes g c = stays g.K.Journal.Device.contents g.K.LogReader.is_honest g.K.LogReader.may_hold g.K.Keeper.holds c.args.self.now
 
 pub returns-in_err-write-clause-goes : goal.returns-in_err-write-clause-goes
 returns-in_err-write-clause-goes g c =
     let old = c.args.self.now in
     let mid = record c.if-is_up.self { noted = c.max-self.result } in
     let same : mid ≡ record old { noted = mid.noted } = elim c.if-is_up.branch [ then-is_up w ↦ cc w.self-is | else-is_up w ↦ cc w.self-is ] in
-    let noted = publishes_on g.K.LogReader.is_honest g.K.LogReader.may_hold g.K.Keeper.holds old mid (only_noted g.K.LogReader.is_honest g.K.LogReader.may_hold g.K.Keeper.holds old mid same) in
-    let head = goes_on g.K.LogReader.is_honest g.K.LogReader.may_hold g.K.Keeper.holds old mid c.write.new.self noted c.write.ensures.goes in
+    let noted = publishes_on g.K.Journal.Device.contents g.K.LogReader.is_honest g.K.LogReader.may_hold g.K.Keeper.holds old mid (only_noted g.K.Journal.Device.contents g.K.LogReader.is_honest g.K.LogReader.may_hold g.K.Keeper.holds old mid same) in
+    let head = goes_on g.K.Journal.Device.contents g.K.LogReader.is_honest g.K.LogReader.may_hold g.K.Keeper.holds old mid c.write.new.self noted c.write.ensures.goes in
     head
 
 pub returns-in-Some-announced-clause-longer : goal.returns-in-Some-announced-clause-longer
@@ -34,9 +34,9 @@ returns-in-Some-announced-clause-goes g c =
     let old = c.args.self.now in
     let mid = record c.if-is_up.self { noted = c.max-self.result } in
     let same : mid ≡ record old { noted = mid.noted } = elim c.if-is_up.branch [ then-is_up w ↦ cc w.self-is | else-is_up w ↦ cc w.self-is ] in
-    let noted = publishes_on g.K.LogReader.is_honest g.K.LogReader.may_hold g.K.Keeper.holds old mid (only_noted g.K.LogReader.is_honest g.K.LogReader.may_hold g.K.Keeper.holds old mid same) in
-    let head = goes_on g.K.LogReader.is_honest g.K.LogReader.may_hold g.K.Keeper.holds old mid c.write.new.self noted c.write.ensures.goes in
-    goes_on g.K.LogReader.is_honest g.K.LogReader.may_hold g.K.Keeper.holds old c.write.new.self c.write-in-Some-announced.new.self head c.write-in-Some-announced.ensures.goes
+    let noted = publishes_on g.K.Journal.Device.contents g.K.LogReader.is_honest g.K.LogReader.may_hold g.K.Keeper.holds old mid (only_noted g.K.Journal.Device.contents g.K.LogReader.is_honest g.K.LogReader.may_hold g.K.Keeper.holds old mid same) in
+    let head = goes_on g.K.Journal.Device.contents g.K.LogReader.is_honest g.K.LogReader.may_hold g.K.Keeper.holds old mid c.write.new.self noted c.write.ensures.goes in
+    goes_on g.K.Journal.Device.contents g.K.LogReader.is_honest g.K.LogReader.may_hold g.K.Keeper.holds old c.write.new.self c.write-in-Some-announced.new.self head c.write-in-Some-announced.ensures.goes
 
 pub returns-clause-longer : goal.returns-clause-longer
 returns-clause-longer g c =
@@ -49,6 +49,6 @@ returns-clause-goes g c =
     let old = c.args.self.now in
     let mid = record c.if-is_up.self { noted = c.max-self.result } in
     let same : mid ≡ record old { noted = mid.noted } = elim c.if-is_up.branch [ then-is_up w ↦ cc w.self-is | else-is_up w ↦ cc w.self-is ] in
-    let noted = publishes_on g.K.LogReader.is_honest g.K.LogReader.may_hold g.K.Keeper.holds old mid (only_noted g.K.LogReader.is_honest g.K.LogReader.may_hold g.K.Keeper.holds old mid same) in
-    let head = goes_on g.K.LogReader.is_honest g.K.LogReader.may_hold g.K.Keeper.holds old mid c.write.new.self noted c.write.ensures.goes in
+    let noted = publishes_on g.K.Journal.Device.contents g.K.LogReader.is_honest g.K.LogReader.may_hold g.K.Keeper.holds old mid (only_noted g.K.Journal.Device.contents g.K.LogReader.is_honest g.K.LogReader.may_hold g.K.Keeper.holds old mid same) in
+    let head = goes_on g.K.Journal.Device.contents g.K.LogReader.is_honest g.K.LogReader.may_hold g.K.Keeper.holds old mid c.write.new.self noted c.write.ensures.goes in
     head

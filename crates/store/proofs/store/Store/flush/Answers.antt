@@ -1,0 +1,24 @@
+use Rattle.std.proofs.Common.{Some, refl, subst, sym}
+use Rattle.store.specs.Continuing.{IsContinued}
+use Rattle.store.specs.Journals.{IsFlushed, IsPartOn, IsSpent}
+use Rattle.store.proofs.Continuing.{none_some}
+use Rattle.store.proofs.Going.{only_scribe, publishes_on}
+use Rattle.store.proofs.Written.{on_err, part_flushed}
+use Rattle.store.proofs.store.Store.flush.Goals as goal
+
+pub returns-in_err-flush-in-Some-clause-part : goal.returns-in_err-flush-in-Some-clause-part
+returns-in_err-flush-in-Some-clause-part g c =
+    let contents = g.K.Journal.Device.contents in
+    on_err _ (subst (λ s. IsPartOn contents s (Some c.flush.new.self.device)) (sym c.in-Some.is) (part_flushed contents c.in-Some.scribe c.flush.new.self c.in_err-flush-in-Some.ensures.part (λ k. (c.flush.ensures.spent k).1)))
+
+pub returns-in_ok-flush-in-Some-clause-ok : goal.returns-in_ok-flush-in-Some-clause-ok
+returns-in_ok-flush-in-Some-clause-ok g c =
+    subst (λ s. IsFlushed g.K.Journal.Device.contents s (Some c.flush.new.self)) (sym c.in-Some.is) (c.in_ok-flush-in-Some.ensures.ok, c.in_ok-flush-in-Some.ensures.empty)
+
+pub returns-in_ok-flush-in-Some-clause-goes : goal.returns-in_ok-flush-in-Some-clause-goes
+returns-in_ok-flush-in-Some-clause-goes g c =
+    let contents = g.K.Journal.Device.contents in
+    let old = c.args.self.now in
+    publishes_on g.K.Journal.Device.contents g.K.LogReader.is_honest g.K.LogReader.may_hold g.K.Keeper.holds old _ (only_scribe g.K.Journal.Device.contents g.K.LogReader.is_honest g.K.LogReader.may_hold g.K.Keeper.holds old _ refl
+    (subst (λ s. IsContinued contents s (Some c.flush.new.self)) (sym c.in-Some.is) c.flush.ensures.continues)
+    (λ was. absurd (none_some c.in-Some.scribe.failure c.in_ok-flush-in-Some.ensures.up.0 (subst IsSpent c.in-Some.is was))))
