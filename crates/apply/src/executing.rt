@@ -18,6 +18,7 @@ ghost use Rattle.apply.specs.Executing.{IsTransacted, IsRefusedWhole, AreBack, I
 use current::{Current, Touched, laws};
 use fault::Refusal;
 use model::stamp::Stamp;
+use overlaps::Count;
 use retry::Outcome;
 use schema::Schema;
 use sqlread::statement::Statement;
@@ -65,7 +66,7 @@ pub(crate) fn transact(
         let tables = Vec::new(alloc);
         return Ok(Touched { tables });
     };
-    let touched = current.run(statement, t)?;
+    let touched = current.run(statement, t, &mut Count::new())?;
     let all = before.joined(alloc, &touched)?;
     match transact(alloc, current, rest, t, all) {
         Ok(later) => Ok(touched.then(alloc, later)?),

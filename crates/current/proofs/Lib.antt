@@ -18,6 +18,8 @@ pub mod Joined
 pub mod UndoTables
 pub mod OfKey
 pub mod Naming
+pub mod NamedKey
+pub mod Reading
 pub mod KeyCorrection
 pub mod Orphans
 pub mod Checked

@@ -1,9 +1,9 @@
 -- Which key conditions name, and that nothing becomes of the rows of others.
-use Rattle.std.proofs.Common.{◌≡◌, ℕ, zero, suc, ◌+◌, ◌<◌, ◌≤◌, Bool, true, false, ◌||◌, List, [], ◌∷◌, ◌++◌, filter, flat_map, length, take, get_or, Option, Some, None, refl, sym, ap, ◌∙◌, subst, inl, inr, arith, Bor}
+use Rattle.std.proofs.Common.{◌≡◌, ℕ, ◌+◌, ◌≤◌, true, false, ◌||◌, List, [], ◌∷◌, ◌++◌, filter, flat_map, length, get_or, Option, Some, None, refl, sym, ap, ◌∙◌, subst, inl, inr, arith, Bor}
 use Rattle.std.proofs.lemmas.Bool.{cases_Bool, and_parts}
 use Rattle.std.proofs.lemmas.List.{length-append}
 use Rattle.std.specs.Prelude.{slice_get}
-use Rattle.std.specs.List.{list_any, list_all}
+use Rattle.std.specs.List.{list_any}
 use Rattle.std.specs.Option.{option_map_or}
 use Rattle.std.specs.Ordering.{is_eq}
 use Rattle.std.specs.declared.cmp.Ordering.{Ordering}
@@ -57,24 +57,6 @@ unfolding compares kept_at
 said c place o f row h =
     let h2 : option_map_or (λ v. holds operator.Equal (value_cmp v c.value)) (kept_at row.key row.values (Key place)) false ≡ true = subst (λ x. option_map_or (λ v. holds operator.Equal (value_cmp v c.value)) (kept_at row.key row.values x) false ≡ true) f (subst (λ x. option_map_or (λ v. holds x (value_cmp v c.value)) (kept_at row.key row.values c.field) false ≡ true) o h) in
     value_there (slice_get row.key place) c.value h2
-
-pub all_at : {A : Type 0} (p : A → Bool) (xs : List A) (i : ℕ) (x : A) → i < length xs → x ≡ get_or xs i x → list_all p xs ≡ true → p x ≡ true
-all_at p [] i x l e h = absurd (omega arith)
-all_at p (y ∷ xs) zero x l e h = subst (λ z. p z ≡ true) (sym e) (and_parts _ _ h).0
-all_at p (y ∷ xs) (suc i) x l e h = all_at p xs i x (omega arith) e (and_parts _ _ h).1
-
-pub passes_each : (conditions : List Comparison) (i : ℕ) (c : Comparison) (row : Row) → i < length conditions → c ≡ get_or conditions i c → passes_all conditions row ≡ true → compares c row.key row.values ≡ true
-unfolding passes_all
-passes_each conditions i c row l e h = all_at (λ x. compares x row.key row.values) conditions i c l e h
-
--- one more place of a list
-pub one_more : (xs front : List Value) (i : ℕ) (v : Value) → take i xs ≡ front → slice_get xs i ≡ Some v → take (i + 1) xs ≡ front ++ v ∷ []
-one_more xs front i v h e = let more : i + 1 ≡ suc i = omega arith in ap (λ (n : ℕ). take n xs) more ∙ next xs i e ∙ ap (λ ys. ys ++ v ∷ []) h
-  where
-    next : (ys : List Value) (n : ℕ) → slice_get ys n ≡ Some v → take (suc n) ys ≡ take n ys ++ v ∷ []
-    next [] n g = cc
-    next (y ∷ ys) zero g = let same : y ≡ v = ap (λ o. option_map_or (λ (x : Value). x) o y) g in ap (λ z. z ∷ []) same
-    next (y ∷ ys) (suc n) g = ap (λ zs. y ∷ zs) (next ys n g)
 
 -- ---- rows that are not of the key
 

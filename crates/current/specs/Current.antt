@@ -1,8 +1,10 @@
 -- What a contract sees of the current rows of all tables.
-use Rattle.std.specs.Prelude.{ℕ, Bool, length}
+use Rattle.std.specs.Prelude.{ℕ, zero, suc, Bool, List, [], ◌∷◌, length}
 use Rattle.sqlchecks.specs.Columns.{Tables}
+use Rattle.sqlread.specs.Shapes.{StatementShape, Insert, Update, Delete}
 use Rattle.rowlaws.specs.Statements.{Rows}
 use Rattle.current.specs.declared.current.Current.{Current}
+use Rattle.current.specs.declared.table.TableRows.{TableRows}
 use Rattle.current.specs.Places.{rows_at}
 use Rattle.current.specs.Table.{rows_of_table}
 
@@ -21,3 +23,18 @@ table_count current = length current.schema
 -- an undo found no memory
 abbrev pub is_failed : Current → Bool
 is_failed current = current.failed
+
+abbrev pub columns_at : List TableRows → ℕ → ℕ
+columns_at [] n = 0
+columns_at (x ∷ xs) zero = x.columns
+columns_at (x ∷ xs) (suc n) = columns_at xs n
+
+-- no key of a row of the n-th table has had more columns
+abbrev pub most_columns : Current → ℕ → ℕ
+most_columns current = columns_at current.tables.items
+
+-- how many columns the key has that the statement inserts
+abbrev pub columns_of : StatementShape → ℕ
+columns_of (Insert s) = length s.key
+columns_of (Update s) = 0
+columns_of (Delete s) = 0

@@ -11,3 +11,5 @@ pub mod Places
 pub mod Orphans
 pub mod Suspects
 pub mod Laws
+pub mod Named
+pub mod Reads

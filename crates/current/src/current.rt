@@ -1,10 +1,10 @@
 //! The current rows of all tables.
-ghost use Rattle.std.specs.Prelude.{◌≡◌, ◌<◌, ◌≤◌, ◌++◌, ◌⊎◌, ℕ, [], true, false, Ok, Err, alloc_error, length, unwrap_or, OnOk, OnErr, IfOk, IfErr};
+ghost use Rattle.std.specs.Prelude.{◌≡◌, ◌<◌, ◌≤◌, ◌++◌, ◌⊎◌, ℕ, [], true, false, Ok, Err, alloc_error, length, unwrap_or, OnOk, OnErr, IfOk, IfErr, max};
 ghost use Rattle.std.specs.Option.{option_map};
 ghost use Rattle.fault.specs.declared.refusal.Refusal.TheVariants.{NoMemory, NoParent};
 ghost use Rattle.sqlread.specs.Shapes.{insert_of, update_of, delete_of, statement_of};
 ghost use Rattle.sqlread.specs.Shapes as shapes;
-ghost use Rattle.sqlread.specs.Meaning.{meaning, all_days, name_of, language_of};
+ghost use Rattle.sqlread.specs.Meaning.{meaning, table_of, all_days, name_of, language_of};
 ghost use Rattle.model.specs.Texts.{key_text, day_text};
 ghost use Rattle.model.specs.Transactions.{State, first_orphan, unless_orphan};
 ghost use Rattle.rowlaws.specs.Statements.{AllListed};
@@ -13,7 +13,8 @@ ghost use Rattle.current.specs.Table.{HaveSame};
 ghost use Rattle.rowlaws.specs.Touching.{rows_without};
 ghost use Rattle.current.specs.Touched.{removed_in, added_in};
 ghost use Rattle.model.specs.Periods.{period_of};
-ghost use Rattle.rowlaws.specs.Rows.{SameRows, RowCount};
+ghost use Rattle.model.specs.Tables.{Row as TableRow};
+ghost use Rattle.rowlaws.specs.Rows.{Has, SameRows, RowCount};
 ghost use Rattle.rowlaws.specs.Touching.{Untouched, TouchedBy};
 ghost use Rattle.rowlaws.specs.Changes.{new_row, ActionOnRows};
 ghost use Rattle.current.specs.Rows.{row_of};
@@ -30,7 +31,7 @@ use crate::touched::Touched;
 use fault::{Refusal, Text};
 use literals::{day_text, key_text};
 use model::stamp::Stamp;
-use overlaps::Key;
+use overlaps::{Count, Key};
 use period::{Day, Period};
 use schema::Schema;
 use sqlread::statement::{Assignment, Delete, Insert, Statement, Update};
@@ -64,13 +65,15 @@ fn action_laws()
 }
 
 impl Current {
-    ghost use Rattle.current.specs.Current.{rows_of, schema_in, table_count, is_failed};
+    ghost use Rattle.current.specs.Current.{rows_of, schema_in, table_count, is_failed, most_columns, columns_of};
+    ghost use Rattle.current.specs.Reads.{FewReads, FewIfNamed, NoMoreThanAll};
 
     /// The tables of a schema, without rows.
     pub fn new(alloc: Global, schema: &Schema) -> Result<Current, AllocError>
         ensures rows { IfOk result (λ current. (n : ℕ) → rows_of current n ≡ []) }
         ensures schema { IfOk result (λ current. schema_in current ≡ schema.now) }
         ensures up { IfOk result (λ current. is_failed current ≡ false) }
+        ensures columns { IfOk result (λ current. (n : ℕ) → most_columns current n ≡ 0) }
     {
         let schema = schema.clone()?;
         let mut tables = Vec::new(alloc);
@@ -86,7 +89,7 @@ impl Current {
     }
 
     // Runs an INSERT.
-    fn insert(&mut self, insert: &Insert, t: Stamp) -> Result<Touched, Refusal>
+    fn insert(&mut self, insert: &Insert, t: Stamp, count: &mut Count) -> Result<Touched, Refusal>
         requires { insert.now.table < table_count self.old }
         ensures ok { IfOk result (λ touched. IsRun t (meaning (shapes.Insert (insert_of insert.now))) (rows_of self.old) (rows_of self.new) (removed_in touched) (added_in touched)) }
         ensures err { IfErr result (λ refusal. IsRefused t (meaning (shapes.Insert (insert_of insert.now))) (rows_of self.old) refusal) }
@@ -94,20 +97,28 @@ impl Current {
         ensures schema { schema_in self.new ≡ schema_in self.old }
         ensures tables { IfOk result (λ touched. length touched.tables.items ≤ table_count self.old) }
         ensures failed { is_failed self.new ≡ is_failed self.old }
+        ensures few { FewReads (shapes.Insert (insert_of insert.now)) (most_columns self.old insert.now.table) (rows_of self.old insert.now.table) count.old count.new }
+        ensures columns { (n : ℕ) → most_columns self.new n ≤ max (most_columns self.old n) (length insert.now.key.items) }
+        ensures each { IfOk result (λ touched. (n : ℕ) → length (removed_in touched n) ≤ count.new) }
     {
         action_laws();
         let row = inserted_row(insert, t)?;
         let mut changes = Changes::none(self.alloc);
         changes.added.push(row.clone()?)?;
         let touched = Touched::none(self.alloc, insert.table)?;
-        match self.tables[insert.table].insert(row) {
+        match self.tables[insert.table].insert(row, count) {
             Ok(()) => Ok(touched.with(insert.table, changes)),
             Err(refusal) => Err(refusal),
         }
     }
 
     // Runs an UPDATE or a DELETE.
-    fn correct(&mut self, table: usize, correction: &Correction) -> Result<Touched, Refusal>
+    fn correct(
+        &mut self,
+        table: usize,
+        correction: &Correction,
+        count: &mut Count,
+    ) -> Result<Touched, Refusal>
         requires { table < table_count self.old }
         ensures ok { IfOk result (λ touched. IsRun correction.now.system_start (record { table = table; action = action_of_correction correction.now }) (rows_of self.old) (rows_of self.new) (removed_in touched) (added_in touched)) }
         ensures err { IfErr result (λ refusal. IsRefused correction.now.system_start (record { table = table; action = action_of_correction correction.now }) (rows_of self.old) refusal) }
@@ -115,17 +126,21 @@ impl Current {
         ensures schema { schema_in self.new ≡ schema_in self.old }
         ensures tables { IfOk result (λ touched. length touched.tables.items ≤ table_count self.old) }
         ensures failed { is_failed self.new ≡ is_failed self.old }
+        ensures named { FewIfNamed correction.now.conditions.now (period_of correction.now.portion) (most_columns self.old table) (rows_of self.old table) count.old count.new }
+        ensures all { NoMoreThanAll (rows_of self.old table) count.old count.new }
+        ensures columns { (n : ℕ) → most_columns self.new n ≡ most_columns self.old n }
+        ensures each { IfOk result (λ touched. (n : ℕ) → length (removed_in touched n) ≤ count.new) }
     {
         action_laws();
         let touched = Touched::none(self.alloc, table)?;
-        match self.tables[table].correct(correction) {
+        match self.tables[table].correct(correction, count) {
             Ok(changes) => Ok(touched.with(table, changes)),
             Err(refusal) => Err(refusal),
         }
     }
 
     // Runs an UPDATE.
-    fn update(&mut self, update: &Update, t: Stamp) -> Result<Touched, Refusal>
+    fn update(&mut self, update: &Update, t: Stamp, count: &mut Count) -> Result<Touched, Refusal>
         requires { update.now.table < table_count self.old }
         ensures ok { IfOk result (λ touched. IsRun t (meaning (shapes.Update (update_of update.now))) (rows_of self.old) (rows_of self.new) (removed_in touched) (added_in touched)) }
         ensures err { IfErr result (λ refusal. IsRefused t (meaning (shapes.Update (update_of update.now))) (rows_of self.old) refusal) }
@@ -133,6 +148,9 @@ impl Current {
         ensures schema { schema_in self.new ≡ schema_in self.old }
         ensures tables { IfOk result (λ touched. length touched.tables.items ≤ table_count self.old) }
         ensures failed { is_failed self.new ≡ is_failed self.old }
+        ensures few { FewReads (shapes.Update (update_of update.now)) (most_columns self.old update.now.table) (rows_of self.old update.now.table) count.old count.new }
+        ensures columns { (n : ℕ) → most_columns self.new n ≡ most_columns self.old n }
+        ensures each { IfOk result (λ touched. (n : ℕ) → length (removed_in touched n) ≤ count.new) }
     {
         let assignments: &[Assignment] = update.assignments.as_slice();
         let correction = Correction {
@@ -141,11 +159,11 @@ impl Current {
             assignments: Some(assignments),
             system_start: t,
         };
-        self.correct(update.table, &correction)
+        self.correct(update.table, &correction, count)
     }
 
     // Runs a DELETE.
-    fn delete(&mut self, delete: &Delete, t: Stamp) -> Result<Touched, Refusal>
+    fn delete(&mut self, delete: &Delete, t: Stamp, count: &mut Count) -> Result<Touched, Refusal>
         requires { delete.now.table < table_count self.old }
         ensures ok { IfOk result (λ touched. IsRun t (meaning (shapes.Delete (delete_of delete.now))) (rows_of self.old) (rows_of self.new) (removed_in touched) (added_in touched)) }
         ensures err { IfErr result (λ refusal. IsRefused t (meaning (shapes.Delete (delete_of delete.now))) (rows_of self.old) refusal) }
@@ -153,6 +171,9 @@ impl Current {
         ensures schema { schema_in self.new ≡ schema_in self.old }
         ensures tables { IfOk result (λ touched. length touched.tables.items ≤ table_count self.old) }
         ensures failed { is_failed self.new ≡ is_failed self.old }
+        ensures few { FewReads (shapes.Delete (delete_of delete.now)) (most_columns self.old delete.now.table) (rows_of self.old delete.now.table) count.old count.new }
+        ensures columns { (n : ℕ) → most_columns self.new n ≡ most_columns self.old n }
+        ensures each { IfOk result (λ touched. (n : ℕ) → length (removed_in touched n) ≤ count.new) }
     {
         let assignments: Option<&[Assignment]> = None;
         let correction = Correction {
@@ -161,7 +182,7 @@ impl Current {
             assignments,
             system_start: t,
         };
-        self.correct(delete.table, &correction)
+        self.correct(delete.table, &correction, count)
     }
 
     /// Runs a statement at an instant, and tells what it touched. Each refusal changes nothing.
@@ -170,7 +191,16 @@ impl Current {
     /// UPDATE where SET of a row that is met is out of range; then `RowLimit` where the table would
     /// have more than 20,000 rows; `NoMemory`, always once it has failed, and for a statement on a table
     /// that is not there, which only another schema has.
-    pub fn run(&mut self, statement: &Statement, t: Stamp) -> Result<Touched, Refusal>
+    ///
+    /// The count rises by the rows of the table that were read, and becomes at least how many go. An INSERT searches its
+    /// key's rows by halves. An UPDATE or DELETE that has `=` for each column of a key searches that key's rows by halves,
+    /// and reads those of them that have a day of its portion; one that does not reads all rows.
+    pub fn run(
+        &mut self,
+        statement: &Statement,
+        t: Stamp,
+        count: &mut Count,
+    ) -> Result<Touched, Refusal>
         ensures ok { IfOk result (λ touched. IsRun t (meaning (statement_of statement.now)) (rows_of self.old) (rows_of self.new) (removed_in touched) (added_in touched)) }
         ensures err { IfErr result (λ refusal. IsRefused t (meaning (statement_of statement.now)) (rows_of self.old) refusal) }
         ensures unchanged { OnErr result (rows_of self.new ≡ rows_of self.old) }
@@ -178,14 +208,17 @@ impl Current {
         ensures tables { IfOk result (λ touched. length touched.tables.items ≤ table_count self.old) }
         ensures failed { is_failed self.new ≡ is_failed self.old }
         ensures once_failed { is_failed self.old ≡ true → result ≡ Err NoMemory }
+        ensures few { FewReads (statement_of statement.now) (most_columns self.old (table_of (statement_of statement.now))) (rows_of self.old (table_of (statement_of statement.now))) count.old count.new }
+        ensures columns { (n : ℕ) → most_columns self.new n ≤ max (most_columns self.old n) (columns_of (statement_of statement.now)) }
+        ensures each { IfOk result (λ touched. (n : ℕ) → length (removed_in touched n) ≤ count.new) }
     {
         if self.failed || statement.table() >= self.tables.len() {
             return Err(Refusal::NoMemory);
         }
         match statement {
-            Statement::Insert(insert) => self.insert(insert, t),
-            Statement::Update(update) => self.update(update, t),
-            Statement::Delete(delete) => self.delete(delete, t),
+            Statement::Insert(insert) => self.insert(insert, t, count),
+            Statement::Update(update) => self.update(update, t, count),
+            Statement::Delete(delete) => self.delete(delete, t, count),
         }
     }
 
@@ -194,6 +227,7 @@ impl Current {
         requires { AllUndoable (rows_of self.old) (removed_in touched.now) (added_in touched.now) }
         ensures ok { OnOk result ((n : ℕ) → n < table_count self.old → HaveSame (rows_without (rows_of self.old n) (added_in touched.now n) ++ removed_in touched.now n) (rows_of self.new n)) }
         ensures schema { schema_in self.new ≡ schema_in self.old }
+        ensures columns { (n most : ℕ) → most_columns self.old n ≤ most → ((r : TableRow) → Has (removed_in touched.now n) r → length r.key ≤ most) → most_columns self.new n ≤ most }
     {
         for n in 0..self.tables.len() {
             self.tables[n].undo(touched.removed(n), touched.added(n))?;
@@ -212,6 +246,7 @@ impl Current {
         ensures up { OnOk result (is_failed self.new ≡ false) }
         ensures schema { schema_in self.new ≡ schema_in self.old }
         ensures once_failed { is_failed self.old ≡ true → result ≡ Err alloc_error }
+        ensures columns { (n most : ℕ) → most_columns self.old n ≤ most → ((r : TableRow) → Has (removed_in touched.now n) r → length r.key ≤ most) → most_columns self.new n ≤ most }
     {
         if self.failed {
             return Err(AllocError);

@@ -1,7 +1,9 @@
 //! The key that a WHERE names, so that only its rows need be looked at.
-ghost use Rattle.std.specs.Prelude.{◌≡◌, ◌≤◌, true, length, slice_get, IfOk, IfSome, Some};
+ghost use Rattle.std.specs.Prelude.{◌≡◌, ◌<◌, ◌≤◌, ℕ, true, length, IfOk, IfSome, None};
+ghost use Rattle.std.specs.Option.{option_copied};
 ghost use Rattle.model.specs.Tables.{Row};
-ghost use Rattle.sqlchecks.specs.Comparisons.{compares, passes_all};
+ghost use Rattle.sqlchecks.specs.Comparisons.{passes_all};
+ghost use Rattle.current.specs.Named.{equal_at, said_at, IsNamed};
 
 use model::value::Value;
 use overlaps::Key;
@@ -10,9 +12,9 @@ use sqlchecks::field::Field;
 use sqlsyntax::Operator;
 use std::alloc::{AllocError, Global};
 
-// The value that rows passing the condition have at this place of their keys, if it says so.
+// What the key column at this place is to be equal to, if the condition says so.
 fn said_by(condition: &Comparison, place: usize) -> Option<&Value>
-    ensures { IfSome result (λ value. (row : Row) → compares condition.now row.key row.values ≡ true → slice_get row.key place ≡ Some value.now) }
+    ensures { option_copied result ≡ equal_at place condition.now.operator condition.now.field condition.now.value }
 {
     let Operator::Equal = condition.operator else {
         return None;
@@ -23,9 +25,9 @@ fn said_by(condition: &Comparison, place: usize) -> Option<&Value>
     }
 }
 
-// And of rows that pass all conditions.
+// The same of all conditions: the first that says it counts.
 fn said_by_all(conditions: &[Comparison], place: usize) -> Option<&Value>
-    ensures { IfSome result (λ value. (row : Row) → passes_all conditions.now row ≡ true → slice_get row.key place ≡ Some value.now) }
+    ensures { option_copied result ≡ said_at place conditions.now }
 {
     for condition in conditions {
         if let Some(value) = said_by(condition, place) {
@@ -42,7 +44,9 @@ pub(crate) fn named_key(
     conditions: &[Comparison],
     columns: usize,
 ) -> Result<Option<Key>, AllocError>
-    ensures { IfOk result (λ found. IfSome found (λ key. (row : Row) → passes_all conditions.now row ≡ true → length row.key ≤ columns → row.key ≡ key)) }
+    ensures some { IfOk result (λ found. IfSome found (λ key. (length key ≡ columns) × IsNamed conditions.now key)) }
+    ensures none { IfOk result (λ found. found ≡ None → (place : ℕ) × (place < columns) × (said_at place conditions.now ≡ None)) }
+    ensures only { IfOk result (λ found. IfSome found (λ key. (row : Row) → passes_all conditions.now row ≡ true → length row.key ≤ columns → row.key ≡ key)) }
 {
     let mut values = Vec::new(alloc);
     for place in 0..columns {

@@ -68,11 +68,12 @@ impl Plan {
 
 /// What will become of a table's rows.
 ///
-/// `NumberRange` where a new value of a row that is met is out of range; `NoMemory`.
+/// `NumberRange` where a new value of a row that is met is out of range; `NoMemory`. It reads each row once.
 pub(crate) fn plan_correction(
     alloc: Global,
     correction: &Correction,
     strands: &Strands,
+    count: &mut Count,
 ) -> Result<Plan, Refusal>
     ensures strands { IfOk result (λ plan. ArePlanned (action_of_correction correction.now) correction.now.system_start (strands_of strands.now) plan.strands.items) }
     ensures count { IfOk result (λ plan. plan.count ≡ min (length (flat_map (kept (action_of_correction correction.now) correction.now.system_start) (rows_in strands.now.entries))) usize.MAX) }
@@ -80,6 +81,8 @@ pub(crate) fn plan_correction(
     ensures added { IfOk result (λ plan. map row_of plan.changes.added.items ≡ flat_map (added_at (action_of_correction correction.now) correction.now.system_start) (rows_in strands.now.entries)) }
     ensures in_range { IfOk result (λ plan. list_any (is_stuck (action_of_correction correction.now)) (rows_in strands.now.entries) ≡ false) }
     ensures err { IfErr result (λ refusal. (refusal ≡ NoMemory) ⊎ ((refusal ≡ NumberRange) × (list_any (is_stuck (action_of_correction correction.now)) (rows_in strands.now.entries) ≡ true))) }
+    ensures counted { count.new ≤ count.old + length (rows_in strands.now.entries) }
+    ensures each { IfOk result (λ plan. length plan.changes.removed.items ≤ count.new) }
 {
     let changes = Changes::none(alloc);
     let mut plan = Plan {
@@ -87,9 +90,8 @@ pub(crate) fn plan_correction(
         count: 0,
         changes,
     };
-    let mut count = Count::new();
     for (key, rows) in strands {
-        plan.add(alloc, correction, key, rows.all(&mut count))?;
+        plan.add(alloc, correction, key, rows.all(count))?;
     }
     Ok(plan)
 }

@@ -19,7 +19,7 @@ use crate::row::Row;
 use crate::suspects::{Lost, lost_with};
 use crate::table::TableRows;
 use fault::Refusal;
-use overlaps::Key;
+use overlaps::{Count, Key};
 use period::{Day, Period};
 use std::alloc::{AllocError, Global};
 
@@ -42,7 +42,7 @@ fn inserts_a_clash(rows: &mut TableRows, row: Row) -> Result<(), Refusal>
     requires { list_any (clashes row.key (period_of row.period)) (rows_of_table rows.old) ≡ true }
     ensures { IsErr result }
 {
-    rows.insert(row)
+    rows.insert(row, &mut Count::new())
 }
 
 /// A function that passes over a day without a row of the key, since the ends of the period have rows, does not meet the contract of `first_free_day`.

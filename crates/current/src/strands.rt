@@ -32,7 +32,10 @@ pub(crate) fn strand<'a>(strands: &'a Strands, key: &Key) -> &'a [Row]
 fn forget_if_empty(strands: &mut Strands, key: &Key)
     ensures { strands_of strands.new ≡ strands_of strands.old }
 {
-    if strand(strands, key).is_empty() {
+    let Some(strand) = strands.get(key) else {
+        return;
+    };
+    if strand.is_empty() {
         strands.remove(key);
     }
 }

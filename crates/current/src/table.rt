@@ -16,6 +16,7 @@ use crate::strand::{Changes, correct_strand};
 use crate::strands::{keys_in_order, put_row, strand, take_row};
 use fault::Refusal;
 use overlaps::{Count, Key, KeyIndex};
+use period::Period;
 use std::alloc::{AllocError, Global};
 
 /// How many current rows a table may have.
@@ -36,7 +37,7 @@ pub(crate) struct TableRows {
 }
 
 impl TableRows {
-    ghost use Rattle.std.specs.Prelude.{◌≡◌, ◌⊎◌, ◌+◌, ◌^◌, ◌<◌, ◌≤◌, ◌++◌, ◌∷◌, [], true, false, map, flat_map, min, OnOk, OnErr, IfOk, IfErr, length};
+    ghost use Rattle.std.specs.Prelude.{◌≡◌, ◌⊎◌, ◌+◌, ◌^◌, ◌<◌, ◌≤◌, ◌++◌, ◌∷◌, [], true, false, map, flat_map, min, max, OnOk, OnErr, IfOk, IfErr, length};
     ghost use Rattle.std.specs.List.{list_any};
     ghost use Rattle.fault.specs.declared.refusal.Refusal.TheVariants.{NoMemory, KeyOverlap, RowLimit, NumberRange};
     ghost use Rattle.rowlaws.specs.Changes.{clashes};
@@ -46,11 +47,15 @@ impl TableRows {
     ghost use Rattle.current.specs.Corrections.{action_of_correction, is_met};
     ghost use Rattle.current.specs.ByKey.{strands_of, strand_in};
     ghost use Rattle.model.specs.Periods.{period_of, StartInOrder};
+    ghost use Rattle.overlaps.specs.Index.{AreSharing};
+    ghost use Rattle.overlaps.specs.Items.{items_of};
     ghost use Rattle.rowlaws.specs.Covering.{periods_of};
+    ghost use Rattle.current.specs.Reads.{FewToFind, FewToCorrect, FewIfNamed, NoMoreThanAll};
 
     /// No rows. Takes no memory.
     pub(crate) fn new(alloc: Global) -> TableRows
-        ensures { rows_of_table result ≡ [] }
+        ensures rows { rows_of_table result ≡ [] }
+        ensures columns { result.columns ≡ 0 }
     {
         let index = KeyIndex::new(alloc);
         keys_in_order(&index);
@@ -67,7 +72,7 @@ impl TableRows {
     pub(crate) fn has_clash(&self, row: &Row, count: &mut Count) -> bool
         ensures strand { result ≡ list_any (clashes row.now.key (period_of row.now.period)) (strands_of self.now.index.strands row.now.key) }
         ensures rows { result ≡ list_any (clashes row.now.key (period_of row.now.period)) (rows_of_table self.now) }
-        ensures few { (digits : ℕ) → length (strands_of self.now.index.strands row.now.key) < 2 ^ digits → count.new ≤ count.old + digits + 1 }
+        ensures few { FewToFind row.now.key (rows_of_table self.now) count.old count.new }
     {
         overlaps::laws::sharing_is_overlap();
         self.index.find(&row.key, row.period, count).is_some()
@@ -87,6 +92,7 @@ impl TableRows {
         requires { list_any (clashes row.key (period_of row.period)) (strands_of self.old.index.strands row.key) ≡ false }
         ensures ok { OnOk result (IsWith (row_of row) (rows_of_table self.old) (rows_of_table self.new)) }
         ensures err { OnErr result (rows_of_table self.new ≡ rows_of_table self.old) }
+        ensures columns { self.new.columns ≤ max self.old.columns (length row.key) }
     {
         let Some(count) = self.count.checked_add(1) else {
             return Err(AllocError);
@@ -103,12 +109,14 @@ impl TableRows {
     /// Adds a row as INSERT does. Each refusal changes nothing.
     ///
     /// `KeyOverlap` where a row of its key has a day of its period; then `RowLimit` where there are
-    /// 20,000 rows; `NoMemory`.
-    pub(crate) fn insert(&mut self, row: Row) -> Result<(), Refusal>
+    /// 20,000 rows; `NoMemory`. A row that clashes is searched for by halves.
+    pub(crate) fn insert(&mut self, row: Row, count: &mut Count) -> Result<(), Refusal>
         ensures ok { IfOk result (λ u. IsInserted (row_of row) (rows_of_table self.old) (rows_of_table self.new)) }
         ensures err { IfErr result (λ refusal. (rows_of_table self.new ≡ rows_of_table self.old) × IsInsertRefused (row_of row) (rows_of_table self.old) refusal) }
+        ensures few { FewToFind row.key (rows_of_table self.old) count.old count.new }
+        ensures columns { self.new.columns ≤ max self.old.columns (length row.key) }
     {
-        if self.has_clash(&row, &mut Count::new()) {
+        if self.has_clash(&row, count) {
             return Err(Refusal::KeyOverlap);
         }
         if self.count >= ROWS_MOST {
@@ -118,22 +126,38 @@ impl TableRows {
         Ok(())
     }
 
+    // The rows of a key that have a day of the period, after the place at which the first of them stands, counted from 0.
+    fn sharing(&self, key: &Key, period: Period, count: &mut Count) -> (usize, &[Row])
+        ensures found { AreSharing (λ r. period_of r.period) (period_of period) (items_of self.now.index.strands key.now) result.0 result.1.now }
+        ensures few { FewToCorrect key.now (period_of period) (rows_of_table self.now) count.old count.new }
+        ensures each { length result.1.now ≤ count.new }
+    {
+        overlaps::laws::sharing_is_overlap();
+        self.index.sharing(key, period, count)
+    }
+
     // Corrects the rows of the one key that has rows that are met. Of its rows those that have a day in the portion are
     // looked at, and no others.
-    fn correct_key(&mut self, correction: &Correction, key: &Key) -> Result<Changes, Refusal>
+    fn correct_key(
+        &mut self,
+        correction: &Correction,
+        key: &Key,
+        count: &mut Count,
+    ) -> Result<Changes, Refusal>
         requires { (r : TableRow) → Has (rows_of_table self.old) r → is_met (action_of_correction correction.now) r ≡ true → r.key ≡ key.now }
         ensures ok { IfOk result (λ changes. IsCorrection (action_of_correction correction.now) correction.now.system_start (rows_of_table self.old) (rows_of_table self.new) (map row_of changes.removed.items) (map row_of changes.added.items)) }
         ensures err { IfErr result (λ refusal. (rows_of_table self.new ≡ rows_of_table self.old) × IsCorrectionRefused (action_of_correction correction.now) correction.now.system_start (rows_of_table self.old) refusal) }
+        ensures few { FewToCorrect key.now (period_of correction.now.portion) (rows_of_table self.old) count.old count.new }
+        ensures columns { self.new.columns ≡ self.old.columns }
+        ensures each { IfOk result (λ changes. length changes.removed.items ≤ count.new) }
     {
         overlaps::laws::sharing_is_overlap();
-        let (start, found) = self
-            .index
-            .sharing(key, correction.portion, &mut Count::new());
+        let (start, found) = self.sharing(key, correction.portion, count);
         let many = found.len();
         let mut changes = Changes::none(self.alloc);
         let rows = correct_strand(self.alloc, correction, found, &mut changes)?;
-        let count = (self.count - many).saturating_add(rows.len());
-        if count > ROWS_MOST {
+        let total = (self.count - many).saturating_add(rows.len());
+        if total > ROWS_MOST {
             return Err(Refusal::RowLimit);
         }
         if many == 0 {
@@ -142,27 +166,34 @@ impl TableRows {
         let replaced = self.index.replace(key, start, many, rows);
         keys_in_order(&self.index);
         replaced?;
-        self.count = count;
+        self.count = total;
         Ok(changes)
     }
 
     // Corrects the rows of all keys.
-    fn correct_all(&mut self, correction: &Correction) -> Result<Changes, Refusal>
+    fn correct_all(
+        &mut self,
+        correction: &Correction,
+        count: &mut Count,
+    ) -> Result<Changes, Refusal>
         ensures ok { IfOk result (λ changes. IsCorrection (action_of_correction correction.now) correction.now.system_start (rows_of_table self.old) (rows_of_table self.new) (map row_of changes.removed.items) (map row_of changes.added.items)) }
         ensures err { IfErr result (λ refusal. (rows_of_table self.new ≡ rows_of_table self.old) × IsCorrectionRefused (action_of_correction correction.now) correction.now.system_start (rows_of_table self.old) refusal) }
+        ensures counted { count.new ≤ count.old + length (rows_of_table self.old) }
+        ensures columns { self.new.columns ≡ self.old.columns }
+        ensures each { IfOk result (λ changes. length changes.removed.items ≤ count.new) }
     {
-        let plan = plan_correction(self.alloc, correction, &self.index.strands)?;
+        let plan = plan_correction(self.alloc, correction, &self.index.strands, count)?;
         if plan.count > ROWS_MOST {
             return Err(Refusal::RowLimit);
         }
         let Plan {
             strands,
-            count,
+            count: total,
             changes,
         } = plan;
         replace_strands(&mut self.index.strands, strands);
         keys_in_order(&self.index);
-        self.count = count;
+        self.count = total;
         Ok(changes)
     }
 
@@ -171,20 +202,28 @@ impl TableRows {
     ///
     /// `NumberRange` where a new value of a row that is met is out of range; then `RowLimit` where
     /// more than 20,000 rows would be left; `NoMemory`.
-    pub(crate) fn correct(&mut self, correction: &Correction) -> Result<Changes, Refusal>
+    pub(crate) fn correct(
+        &mut self,
+        correction: &Correction,
+        count: &mut Count,
+    ) -> Result<Changes, Refusal>
         ensures ok { IfOk result (λ changes. IsCorrection (action_of_correction correction.now) correction.now.system_start (rows_of_table self.old) (rows_of_table self.new) (map row_of changes.removed.items) (map row_of changes.added.items)) }
         ensures err { IfErr result (λ refusal. (rows_of_table self.new ≡ rows_of_table self.old) × IsCorrectionRefused (action_of_correction correction.now) correction.now.system_start (rows_of_table self.old) refusal) }
+        ensures named { FewIfNamed correction.now.conditions.now (period_of correction.now.portion) self.old.columns (rows_of_table self.old) count.old count.new }
+        ensures all { NoMoreThanAll (rows_of_table self.old) count.old count.new }
+        ensures columns { self.new.columns ≡ self.old.columns }
+        ensures each { IfOk result (λ changes. length changes.removed.items ≤ count.new) }
     {
         match named_key(self.alloc, correction.conditions, self.columns)? {
-            Some(key) => self.correct_key(correction, &key),
-            None => self.correct_all(correction),
+            Some(key) => self.correct_key(correction, &key, count),
+            None => self.correct_all(correction, count),
         }
     }
 
     /// Whether the row is there. It is searched for by halves, as `KeyIndex::find` does. Takes no memory.
     pub(crate) fn has(&self, row: &Row, count: &mut Count) -> bool
         ensures there { result ≡ list_any (same_row (row_of row.now)) (strands_of self.now.index.strands row.now.key) }
-        ensures few { (digits : ℕ) → length (strands_of self.now.index.strands row.now.key) < 2 ^ digits → count.new ≤ count.old + digits + 1 }
+        ensures few { FewToFind row.now.key (rows_of_table self.now) count.old count.new }
     {
         overlaps::laws::sharing_is_overlap();
         match self.index.find(&row.key, row.period, count) {
@@ -195,7 +234,8 @@ impl TableRows {
 
     // Takes a row out, if it is there.
     fn take(&mut self, row: &Row)
-        ensures { IsWithout (row_of row.now ∷ []) (rows_of_table self.old) (rows_of_table self.new) }
+        ensures rows { IsWithout (row_of row.now ∷ []) (rows_of_table self.old) (rows_of_table self.new) }
+        ensures columns { self.new.columns ≡ self.old.columns }
     {
         if !self.has(row, &mut Count::new()) {
             return;
@@ -207,7 +247,8 @@ impl TableRows {
 
     // Takes rows out, the last of them first: where all rows of a key go, none has to be moved then.
     fn take_all(&mut self, rows: &[Row])
-        ensures { IsWithout (map row_of rows.now) (rows_of_table self.old) (rows_of_table self.new) }
+        ensures rows { IsWithout (map row_of rows.now) (rows_of_table self.old) (rows_of_table self.new) }
+        ensures columns { self.new.columns ≡ self.old.columns }
     {
         let mut left = rows;
         while let Some((row, others)) = left.split_last() {
@@ -219,7 +260,8 @@ impl TableRows {
     // Puts rows back. Want of memory leaves some of them away.
     fn put_all(&mut self, rows: &[Row]) -> Result<(), AllocError>
         requires { CanPut (rows_of_table self.old) (map row_of rows.now) }
-        ensures { OnOk result (IsJoined (map row_of rows.now) (rows_of_table self.old) (rows_of_table self.new)) }
+        ensures rows { OnOk result (IsJoined (map row_of rows.now) (rows_of_table self.old) (rows_of_table self.new)) }
+        ensures columns { (most : ℕ) → self.old.columns ≤ most → ((r : TableRow) → Has (map row_of rows.now) r → length r.key ≤ most) → self.new.columns ≤ most }
     {
         for row in rows {
             self.put(row.clone()?)?;
@@ -231,7 +273,8 @@ impl TableRows {
     /// away.
     pub(crate) fn undo(&mut self, removed: &[Row], added: &[Row]) -> Result<(), AllocError>
         requires { CanUndo (rows_of_table self.old) (map row_of removed.now) (map row_of added.now) }
-        ensures { OnOk result (HaveSame (rows_without (rows_of_table self.old) (map row_of added.now) ++ map row_of removed.now) (rows_of_table self.new)) }
+        ensures rows { OnOk result (HaveSame (rows_without (rows_of_table self.old) (map row_of added.now) ++ map row_of removed.now) (rows_of_table self.new)) }
+        ensures columns { (most : ℕ) → self.old.columns ≤ most → ((r : TableRow) → Has (map row_of removed.now) r → length r.key ≤ most) → self.new.columns ≤ most }
     {
         self.take_all(added);
         self.put_all(removed)

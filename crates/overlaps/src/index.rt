@@ -65,6 +65,7 @@ impl<T: HasPeriod> KeyIndex<T> {
     pub fn sharing(&self, key: &Key, p: Period, count: &mut Count) -> (usize, &[T])
         ensures found { AreSharing T.period (period_of p) (items_of self.now.strands key.now) result.0 result.1.now }
         ensures few { (digits : ℕ) → length (items_of self.now.strands key.now) < 2 ^ digits → count.new ≤ count.old + digits + digits + 1 + length result.1.now }
+        ensures each { length result.1.now ≤ count.new }
         ensures grows { count.old ≤ count.new }
     {
         let Some(strand) = self.strands.get(key) else {

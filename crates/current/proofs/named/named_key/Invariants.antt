@@ -1,10 +1,10 @@
-use Rattle.std.proofs.Common.{◌≡◌, true, length, take}
-use Rattle.model.specs.Tables.{Row}
-use Rattle.sqlchecks.specs.Comparisons.{passes_all}
+use Rattle.std.proofs.Common.{◌≡◌, ℕ, ◌<◌, length}
+use Rattle.std.specs.Prelude.{slice_get}
+use Rattle.current.specs.Named.{said_at}
 use Rattle.current.proofs.named.named_key.Given as goal
 
 abbrev pub invariant-loop-place : goal.invariant-loop-place
 invariant-loop-place l = record {
   long : length l.values.items ≡ l.place;
-  begins : (row : Row) → passes_all l.conditions row ≡ true → take l.place row.key ≡ l.values.items;
+  named : (place : ℕ) → place < l.place → said_at place l.conditions ≡ slice_get l.values.items place;
 }

@@ -1,4 +1,5 @@
 use Rattle.std.proofs.Common.{◌≡◌, ◌++◌, ◌∷◌, map, ap, sym, subst, ◌∙◌, inl, inr, refl, length, flat_map, min, ◌+◌, arith, zero-add}
+use Rattle.std.proofs.lemmas.List.{length-append, length-map}
 use Rattle.std.specs.List.{list_any}
 use Rattle.std.specs.Map.Iter.{deref_pair}
 use Rattle.std.proofs.lemmas.Map.Iter.{rest_more, rest_all}
@@ -7,6 +8,7 @@ use Rattle.current.specs.Rows.{row_of}
 use Rattle.current.specs.Corrections.{action_of_correction, is_stuck, kept, removed_at, added_at}
 use Rattle.current.specs.ByKey.{rows_in}
 use Rattle.current.specs.Plans.{IsPlanned}
+use Rattle.current.proofs.Reading.{removed_few}
 use Rattle.current.proofs.Planning.{Entry, IsSettled, flat_entry, any_entry, length_entry, settled_first, planned_more, settled_more, settled_last}
 use Rattle.current.proofs.plan.plan_correction.Goals as goal
 
@@ -17,7 +19,12 @@ loop-key-init c =
     let m = c.args.strands.now in
     let it = c.into_iter-key-iterator.result in
     let whole : it ≡ m.entries = c.into_iter-key-iterator.ensures.into_iter_gives.0 in
+    let none = ap length c.none-changes.ensures.removed in
+    let none_long = length-map c.none-changes.result.removed.items row_of in
+    let length_whole = ap (λ es. length (rows_in es)) whole in
     record {
+      read = omega (arith, length_whole);
+      each = omega (arith, none, none_long);
       small = omega arith;
       count = ap (λ n. min n 18446744073709551615) (zero-add _) ∙ ap (λ es. min (length (flat_map (kept action t) (rows_in es))) 18446744073709551615) whole;
       removed = ap (λ xs. xs ++ flat_map (removed_at action t) (rows_in it)) c.none-changes.ensures.removed ∙ ap (λ es. flat_map (removed_at action t) (rows_in es)) whole;
@@ -47,7 +54,21 @@ loop-key-preserved c =
     let total : new.count ≡ min (old.count + length (flat_map (kept action t) (map row_of e.1))) 18446744073709551615 = subst (λ rs. new.count ≡ min (old.count + length (flat_map (kept action t) (map row_of rs))) 18446744073709551615) strand add.count in
     let long = length_entry (kept action t) e rest in
     let before = subst (λ es. min (old.count + length (flat_map (kept action t) (rows_in es))) 18446744073709551615 ≡ min (length (flat_map (kept action t) (rows_in m.entries))) 18446744073709551615) split inv.count in
+    let all = c.all.ensures.counted in
+    let left = ap (λ es. length (rows_in es)) split ∙ length-append (map row_of e.1) (rows_in rest) in
+    let one = length-map e.1 row_of in
+    let read = inv.read in
+    let before_gone = inv.each in
+    let went = ap length add.removed ∙ length-append (map row_of old.changes.removed.items) (flat_map (removed_at action t) (map row_of c.all.result.now)) in
+    let few = removed_few action t (map row_of c.all.result.now) in
+    let gone = length-map c.all.result.now row_of in
+    let stand = ap length c.all.ensures.items in
+    let long_old = length-map old.changes.removed.items row_of in
+    let long_new = length-map new.changes.removed.items row_of in
+    let fits = new.changes.removed.ok.0 in
     record {
+      read = omega (arith, all, left, one, read);
+      each = omega (arith, all, gone, before_gone, went, few, stand, long_old, long_new, fits);
       small = omega (arith, total);
       count = omega (arith, total, long, before);
       removed = flat_entry (removed_at action t) e rest (map row_of old.changes.removed.items) _ _ (add.removed ∙ ap (λ rs. map row_of old.changes.removed.items ++ flat_map (removed_at action t) (map row_of rs)) strand) (ap (λ es. map row_of old.changes.removed.items ++ flat_map (removed_at action t) (rows_in es)) (sym split) ∙ inv.removed);

@@ -15,6 +15,8 @@ invariant-loop-key l =
     let left = rows_in l.key-iterator in
     let all = rows_in l.strands.entries in
     record {
+      read : l.count + length left ≤ l.fn.count + length all;
+      each : length l.plan.changes.removed.items ≤ l.count;
       small : l.plan.count ≤ 18446744073709551615;
       count : min (l.plan.count + length (flat_map (kept action t) left)) 18446744073709551615 ≡ min (length (flat_map (kept action t) all)) 18446744073709551615;
       removed : map row_of l.plan.changes.removed.items ++ flat_map (removed_at action t) left ≡ flat_map (removed_at action t) all;

@@ -1,4 +1,4 @@
-use Rattle.std.proofs.Common.{◌≡◌, ℕ, ◌==◌, cond, [], ◌∷◌, ◌++◌, ap, ◌∙◌, subst, arith}
+use Rattle.std.proofs.Common.{◌≡◌, ℕ, ◌==◌, cond, [], ◌∷◌, ◌++◌, ap, ◌∙◌, subst, length, arith}
 use Rattle.model.specs.Tables.{Row}
 use Rattle.model.specs.Periods.{period_of}
 use Rattle.rowlaws.specs.Changes.{new_row}
@@ -8,6 +8,7 @@ use Rattle.current.specs.Table.{rows_of_table, IsInserted, IsInsertRefused}
 use Rattle.current.specs.Touched.{removed_of, added_of, removed_in, added_in}
 use Rattle.current.proofs.Lists.{pushed}
 use Rattle.current.proofs.Moves.{last_day}
+use Rattle.current.proofs.Reading.{find_at, columns_more, if_few}
 use Rattle.current.proofs.Statements.{insert_run, insert_refused, same_after}
 use Rattle.current.proofs.current.Current.insert.Goals as goal
 
@@ -42,3 +43,36 @@ pub returns-in-Err-clause-unchanged : goal.returns-in-Err-clause-unchanged
 returns-in-Err-clause-unchanged c =
     let laws = c.action_laws.ensures in
     same_after laws.on_rows laws.count laws.untouched laws.touched laws.same c.args.self.now.tables.items c.args.insert.now.table (omega (arith, c.requires, c.args.self.now.counted)) c.index_mut.result.now c.insert.new.self c.index_mut.ensures.value c.in-Err.ensures.err.0
+
+pub returns-in-Ok-clause-few : goal.returns-in-Ok-clause-few
+returns-in-Ok-clause-few c =
+    let key = ap (λ (r : Row). r.key) c.in_ok-row.ensures in
+    find_at c.args.self.now.tables.items c.args.insert.now.table (omega (arith, c.requires, c.args.self.now.counted)) c.index_mut.result.now c.index_mut.ensures.value c.in_ok-row.row.key c.args.insert.now.key.items c.args.count.now c.insert.new.count key c.insert.ensures.few
+
+pub returns-in-Err-clause-few : goal.returns-in-Err-clause-few
+returns-in-Err-clause-few c =
+    let key = ap (λ (r : Row). r.key) c.in_ok-row.ensures in
+    find_at c.args.self.now.tables.items c.args.insert.now.table (omega (arith, c.requires, c.args.self.now.counted)) c.index_mut.result.now c.index_mut.ensures.value c.in_ok-row.row.key c.args.insert.now.key.items c.args.count.now c.insert.new.count key c.insert.ensures.few
+
+pub returns-in-Ok-clause-columns : goal.returns-in-Ok-clause-columns
+returns-in-Ok-clause-columns c =
+    let key = ap (λ (r : Row). length r.key) c.in_ok-row.ensures in
+    let insert = c.args.insert.now in
+    let more = c.insert.ensures.columns in
+    columns_more c.args.self.now.tables.items insert.table c.index_mut.result.now c.insert.new.self (length insert.key.items) (omega (arith, c.requires, c.args.self.now.counted)) c.index_mut.ensures.value (omega (arith, more, key))
+
+pub returns-in-Err-clause-columns : goal.returns-in-Err-clause-columns
+returns-in-Err-clause-columns c =
+    let key = ap (λ (r : Row). length r.key) c.in_ok-row.ensures in
+    let insert = c.args.insert.now in
+    let more = c.insert.ensures.columns in
+    columns_more c.args.self.now.tables.items insert.table c.index_mut.result.now c.insert.new.self (length insert.key.items) (omega (arith, c.requires, c.args.self.now.counted)) c.index_mut.ensures.value (omega (arith, more, key))
+
+pub returns-in-Ok-clause-each : goal.returns-in-Ok-clause-each
+returns-in-Ok-clause-each c = λ m.
+    let n = c.args.insert.now.table in
+    let changes : Changes = record { removed = c.none-changes.result.removed; added = c.push.new.self } in
+    let went = ap length (c.with.ensures.removed m ∙ ap (λ rs. cond (m == n) (removed_of changes) rs) (c.in_ok-touched.ensures.removed m)) in
+    let none = ap length c.none-changes.ensures.removed in
+    let few = if_few (m == n) (removed_of changes) c.insert.new.count (omega (arith, none)) in
+    omega (arith, went, few)

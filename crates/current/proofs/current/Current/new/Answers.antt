@@ -2,6 +2,8 @@ use Rattle.std.proofs.Common.{◌∙◌, [], ◌∷◌, length, ap, arith}
 use Rattle.std.proofs.lemmas.List.{length-append}
 use Rattle.current.specs.Table.{rows_of_table}
 use Rattle.current.specs.Places.{rows_at}
+use Rattle.current.specs.Current.{columns_at}
+use Rattle.current.proofs.Reading.{none_more_columns}
 use Rattle.current.proofs.Tabled.{none_more}
 use Rattle.current.proofs.current.Current.new.Goals as goal
 
@@ -13,5 +15,6 @@ loop-preserved c =
     let was = c.loop.invariant.long in
     record {
       long = omega (arith, long, was);
-      rows = λ n. ap (λ xs. rows_at rows_of_table xs n) items ∙ none_more rows_of_table old c.new.result c.new.ensures c.loop.invariant.rows n;
+      columns = λ n. ap (λ xs. columns_at xs n) items ∙ none_more_columns old c.new.result c.new.ensures.columns c.loop.invariant.columns n;
+      rows = λ n. ap (λ xs. rows_at rows_of_table xs n) items ∙ none_more rows_of_table old c.new.result c.new.ensures.rows c.loop.invariant.rows n;
     }

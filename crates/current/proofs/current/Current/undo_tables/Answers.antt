@@ -1,11 +1,12 @@
 use Rattle.std.proofs.Common.{◌≡◌, ◌<◌, ◌++◌, ◌∙◌, map, sym, subst, arith, length}
 use Rattle.std.proofs.Math.ListN.{length-set}
-use Rattle.rowlaws.specs.Rows.{Lists}
+use Rattle.rowlaws.specs.Rows.{Has, Lists}
 use Rattle.rowlaws.specs.Touching.{rows_without, IsTouched}
 use Rattle.current.specs.Rows.{row_of}
 use Rattle.current.specs.Current.{rows_of}
 use Rattle.current.specs.Table.{rows_of_table, HaveSame}
 use Rattle.current.specs.Touched.{removed_in, added_in}
+use Rattle.current.proofs.Reading.{columns_each}
 use Rattle.current.proofs.UndoTables.{table_before, done_more, left_more}
 use Rattle.current.proofs.current.Current.undo_tables.Goals as goal
 
@@ -32,10 +33,12 @@ loop-n-preserved c =
     let below : n < length tables = omega (arith, c.loop-n-test.true, c.len-n-end.ensures, s.tables.ok.0, inv.long) in
     let is : rows_of_table x ≡ rows_of s n = table_before tables n x below c.index_mut.ensures.value ∙ inv.left n (omega arith) in
     let e : rows_without (rows_of_table x) (map row_of c.added.result.now) ++ map row_of c.removed.result.now ≡ rows_without (rows_of s n) (added n) ++ removed n = λ i. rows_without (is i) (c.added.ensures i) ++ c.removed.ensures i in
-    let here : HaveSame (rows_without (rows_of s n) (added n) ++ removed n) (rows_of_table y) = subst (λ rows. HaveSame rows (rows_of_table y)) e c.in_ok-undo.ensures in
+    let here : HaveSame (rows_without (rows_of s n) (added n) ++ removed n) (rows_of_table y) = subst (λ rows. HaveSame rows (rows_of_table y)) e c.in_ok-undo.ensures.rows in
     record {
       long = length-set tables n y ∙ inv.long;
       done = done_more s.tables.items tables n y removed added below inv.done here;
+      columns = λ m most before each. columns_each tables n x y below c.index_mut.ensures.value most m (c.loop-n.invariant.columns m most before each)
+          (λ e old. c.undo.ensures.columns most old (λ r h. each r (subst (λ k. Has (removed k) r) (sym e) (subst (λ rs. Has rs r) c.removed.ensures h))));
       schema = inv.schema;
       left = left_more s.tables.items tables n y removed added below inv.left;
     }
@@ -44,3 +47,16 @@ pub returns-clause-ok : goal.returns-clause-ok
 returns-clause-ok c n l =
     let s = c.args.self.now in
     c.loop-n.invariant.done n (omega (arith, l, s.counted, c.loop-n-test.false, c.len-n-end.ensures, s.tables.ok.0))
+
+pub returns-in_err-undo-clause-columns : goal.returns-in_err-undo-clause-columns
+returns-in_err-undo-clause-columns c = λ m most before each.
+    let s = c.args.self.now in
+    let n = c.loop-n.n in
+    let x = c.index_mut.result.now in
+    let y = c.undo.new.self in
+    let tables = c.loop-n.self.tables.items in
+    let removed = removed_in c.args.touched.now in
+    let inv = c.loop-n.invariant in
+    let below : n < length tables = omega (arith, c.loop-n-test.true, c.len-n-end.ensures, s.tables.ok.0, inv.long) in
+    columns_each tables n x y below c.index_mut.ensures.value most m (c.loop-n.invariant.columns m most before each)
+    (λ e old. c.undo.ensures.columns most old (λ r h. each r (subst (λ k. Has (removed k) r) (sym e) (subst (λ rs. Has rs r) c.removed.ensures h))))

@@ -8,6 +8,8 @@ use Rattle.current.specs.Corrections.{action_of_correction, is_stuck, kept, remo
 use Rattle.current.specs.ByKey.{strands_of, rows_in}
 use Rattle.current.specs.Table.{rows_of_table}
 use Rattle.current.proofs.KeyCorrection.{removed_found, added_found, stuck_found, found_within, short_found, new_count, found_apart, found_each, none_each, refused, if_err}
+use Rattle.std.proofs.lemmas.List.{length-map}
+use Rattle.current.proofs.Reading.{removed_few}
 use Rattle.current.proofs.Lists.{no_items}
 use Rattle.current.proofs.Naming.{correction_short}
 use Rattle.current.proofs.TableCorrection.{correction_strands, correction_same, correction_length, correction_portion}
@@ -39,8 +41,8 @@ overflow_sub-self c =
     let counted = s.counted in
     omega arith
 
-pub returns-then-count-gt-ROWS_MOST-clause-err : goal.returns-then-count-gt-ROWS_MOST-clause-err
-returns-then-count-gt-ROWS_MOST-clause-err c =
+pub returns-then-total-gt-ROWS_MOST-clause-err : goal.returns-then-total-gt-ROWS_MOST-clause-err
+returns-then-total-gt-ROWS_MOST-clause-err c =
     let correction = c.args.correction.now in
     let s = c.args.self.now in
     let m = s.index.strands in
@@ -52,8 +54,8 @@ returns-then-count-gt-ROWS_MOST-clause-err c =
     let rows = c.in_ok-rows.rows in
     let new : (s.count - length found) + rows.len ≡ length (flat_map (kept action t) (rows_in m.entries)) = new_count c.sharing_is_overlap.ensures correction m s.ordered s.in_strands k c.requires start found c.sharing-start.ensures.found s.count rows.len rows.items s.counted rows.ok.0 c.in_ok-rows.ensures.rows in
     let len = c.len.ensures in
-    let count = c.saturating_add-count.ensures in
-    let over = c.if-count-gt-ROWS_MOST.true in
+    let count = c.saturating_add-total.ensures in
+    let over = c.if-total-gt-ROWS_MOST.true in
     (refl, inr (inr (refl, sym (stuck_found c.sharing_is_overlap.ensures correction m s.ordered s.in_strands k c.requires start found c.sharing-start.ensures.found) ∙ c.in_ok-rows.ensures.in_range, omega arith)))
 
 pub returns-then-many-eq0-clause-ok : goal.returns-then-many-eq0-clause-ok
@@ -69,8 +71,8 @@ returns-then-many-eq0-clause-ok c =
     let rows = c.in_ok-rows.rows in
     let new : (s.count - length found) + rows.len ≡ length (flat_map (kept action t) (rows_in m.entries)) = new_count c.sharing_is_overlap.ensures correction m s.ordered s.in_strands k c.requires start found c.sharing-start.ensures.found s.count rows.len rows.items s.counted rows.ok.0 c.in_ok-rows.ensures.rows in
     let len = c.len.ensures in
-    let count = c.saturating_add-count.ensures in
-    let small = c.if-count-gt-ROWS_MOST.false in
+    let count = c.saturating_add-total.ensures in
+    let small = c.if-total-gt-ROWS_MOST.false in
     let each : (l : List Value) → strands_of m l ≡ flat_map (kept action t) (strands_of m l) = none_each c.sharing_is_overlap.ensures correction m s.ordered s.in_strands k c.requires start found c.sharing-start.ensures.found (no_items found c.if-many-eq0.true) in (
       sym (stuck_found c.sharing_is_overlap.ensures correction m s.ordered s.in_strands k c.requires start found c.sharing-start.ensures.found) ∙ c.in_ok-rows.ensures.in_range,
       omega arith,
@@ -112,10 +114,10 @@ invariant_of-self-2 c =
     let rows = c.in_ok-rows.rows in
     let new : (s.count - length found) + rows.len ≡ length (flat_map (kept action t) (rows_in m.entries)) = new_count c.sharing_is_overlap.ensures correction m s.ordered s.in_strands k c.requires start found c.sharing-start.ensures.found s.count rows.len rows.items s.counted rows.ok.0 c.in_ok-rows.ensures.rows in
     let len = c.len.ensures in
-    let count = c.saturating_add-count.ensures in
+    let count = c.saturating_add-total.ensures in
     let n = c.replace-replaced.new.self.strands in
     let each : (l : List Value) → strands_of n l ≡ flat_map (kept action t) (strands_of m l) = found_each c.sharing_is_overlap.ensures correction m s.ordered s.in_strands k c.requires start found c.sharing-start.ensures.found rows.items c.in_ok-rows.ensures.rows n c.in_ok-replaced.ensures.ok in
-    let small = c.if-count-gt-ROWS_MOST.false in
+    let small = c.if-total-gt-ROWS_MOST.false in
     let in' = correction_strands action t (correction_portion correction) m n s.ordered s.in_strands each in
     let long : length (rows_in n.entries) ≡ length (flat_map (kept action t) (rows_in m.entries)) = correction_length action t (correction_portion correction) m n s.ordered s.in_strands each c.keys_in_order.ensures in
     record {
@@ -138,13 +140,39 @@ returns-clause-ok c =
     let rows = c.in_ok-rows.rows in
     let new : (s.count - length found) + rows.len ≡ length (flat_map (kept action t) (rows_in m.entries)) = new_count c.sharing_is_overlap.ensures correction m s.ordered s.in_strands k c.requires start found c.sharing-start.ensures.found s.count rows.len rows.items s.counted rows.ok.0 c.in_ok-rows.ensures.rows in
     let len = c.len.ensures in
-    let count = c.saturating_add-count.ensures in
+    let count = c.saturating_add-total.ensures in
     let n = c.replace-replaced.new.self.strands in
     let each : (l : List Value) → strands_of n l ≡ flat_map (kept action t) (strands_of m l) = found_each c.sharing_is_overlap.ensures correction m s.ordered s.in_strands k c.requires start found c.sharing-start.ensures.found rows.items c.in_ok-rows.ensures.rows n c.in_ok-replaced.ensures.ok in
-    let small = c.if-count-gt-ROWS_MOST.false in (
+    let small = c.if-total-gt-ROWS_MOST.false in (
       sym (stuck_found c.sharing_is_overlap.ensures correction m s.ordered s.in_strands k c.requires start found c.sharing-start.ensures.found) ∙ c.in_ok-rows.ensures.in_range,
       omega arith,
       correction_same action t (correction_portion correction) m n s.ordered s.in_strands each c.keys_in_order.ensures,
       c.in_ok-rows.ensures.removed ∙ ap (λ rs. rs ++ flat_map (removed_at action t) (map row_of found)) c.none-changes.ensures.removed ∙ removed_found c.sharing_is_overlap.ensures correction m s.ordered s.in_strands k c.requires start found c.sharing-start.ensures.found,
       c.in_ok-rows.ensures.added ∙ ap (λ rs. rs ++ flat_map (added_at action t) (map row_of found)) c.none-changes.ensures.added ∙ added_found c.sharing_is_overlap.ensures correction m s.ordered s.in_strands k c.requires start found c.sharing-start.ensures.found,
     )
+
+pub returns-then-many-eq0-clause-each : goal.returns-then-many-eq0-clause-each
+returns-then-many-eq0-clause-each c =
+    let correction = c.args.correction.now in
+    let action = action_of_correction correction in
+    let found = c.sharing-start.result.1.now in
+    let went = c.in_ok-rows.ensures.removed ∙ ap (λ rs. rs ++ flat_map (removed_at action correction.system_start) (map row_of found)) c.none-changes.ensures.removed in
+    let many = ap length went in
+    let few = removed_few action correction.system_start (map row_of found) in
+    let all = length-map found row_of in
+    let items = length-map c.correct_strand.new.changes.removed.items row_of in
+    let read = c.sharing-start.ensures.each in
+    omega (arith, many, few, all, items, read)
+
+pub returns-clause-each : goal.returns-clause-each
+returns-clause-each c =
+    let correction = c.args.correction.now in
+    let action = action_of_correction correction in
+    let found = c.sharing-start.result.1.now in
+    let went = c.in_ok-rows.ensures.removed ∙ ap (λ rs. rs ++ flat_map (removed_at action correction.system_start) (map row_of found)) c.none-changes.ensures.removed in
+    let many = ap length went in
+    let few = removed_few action correction.system_start (map row_of found) in
+    let all = length-map found row_of in
+    let items = length-map c.correct_strand.new.changes.removed.items row_of in
+    let read = c.sharing-start.ensures.each in
+    omega (arith, many, few, all, items, read)

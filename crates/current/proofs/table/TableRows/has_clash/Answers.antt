@@ -1,15 +1,11 @@
-use Rattle.std.proofs.Common.{◌≡◌, ◌∙◌, ◌<◌, ◌^◌, length, ap, sym, subst}
-use Rattle.std.proofs.lemmas.List.{length-map}
-use Rattle.std.specs.BTreeMap.{get}
-use Rattle.model.specs.Values.{key_cmp}
-use Rattle.current.specs.Rows.{row_of}
+use Rattle.std.proofs.Common.{◌∙◌, ap, sym}
 use Rattle.std.specs.Prelude.{is_some}
 use Rattle.model.specs.Periods.{period_of}
 use Rattle.overlaps.specs.Index.{shares_day}
 use Rattle.overlaps.specs.Items.{items_of}
-use Rattle.current.specs.ByKey.{strands_of}
 use Rattle.current.proofs.Moves.{any_strand}
-use Rattle.current.proofs.Placed.{days_of_row, found_any, copied_some, strand_items, strand_clashes}
+use Rattle.current.proofs.Placed.{days_of_row, found_any, copied_some, strand_clashes}
+use Rattle.current.proofs.Reading.{few_to_find}
 use Rattle.current.proofs.table.TableRows.has_clash.Goals as goal
 
 pub returns-clause-strand : goal.returns-clause-strand
@@ -29,9 +25,4 @@ returns-clause-rows c =
     c.is_some.ensures ∙ copied_some c.find.result ∙ ap is_some c.find.ensures.item ∙ found_any (λ r. shares_day p (days_of_row r)) (items_of t.index.strands row.key) ∙ sym clashing ∙ any_strand t.index.strands t.ordered t.in_strands row.key p
 
 pub returns-clause-few : goal.returns-clause-few
-returns-clause-few c = λ digits short.
-    let t = c.args.self.now in
-    let row = c.args.row.now in
-    let e = strand_items (get key_cmp t.index.strands row.key) in
-    let long : length (strands_of t.index.strands row.key) ≡ length (items_of t.index.strands row.key) = ap length e ∙ length-map (items_of t.index.strands row.key) row_of in
-    c.find.ensures.few digits (subst (λ n. n < 2 ^ digits) long short)
+returns-clause-few c = let t = c.args.self.now in few_to_find t.index.strands t.ordered t.in_strands c.args.row.now.key c.args.count.now c.find.new.count c.find.ensures.few

@@ -18,5 +18,5 @@ invariant_of-result c =
       counted = sym (ap length none);
     }
 
-pub returns : goal.returns
-returns c = ap rows_in c.new-index.ensures.entries
+pub returns-clause-rows : goal.returns-clause-rows
+returns-clause-rows c = ap rows_in c.new-index.ensures.entries

@@ -1,4 +1,4 @@
-use Rattle.std.proofs.Common.{◌≡◌, ◌∙◌, drop, map, subst, sym, ◌+◌, ◌⊎◌, inl, inr, false}
+use Rattle.std.proofs.Common.{◌≡◌, ◌∙◌, drop, map, length, ap, arith, subst, sym, ◌+◌, ◌⊎◌, inl, inr, false}
 use Rattle.std.specs.List.{list_any}
 use Rattle.model.specs.Tables.{Row}
 use Rattle.rowlaws.specs.Rows.{Has}
@@ -7,12 +7,13 @@ use Rattle.current.specs.Rows.{row_of}
 use Rattle.current.specs.ByKey.{strands_of}
 use Rattle.current.specs.Table.{rows_of_table, CanPut, IsWith}
 use Rattle.current.proofs.Lists.{drop_here, drop_none}
+use Rattle.current.proofs.Reading.{has_at}
 use Rattle.current.proofs.Moves.{any_strand}
 use Rattle.current.proofs.Undoing.{put_clear, put_more, join_more}
 use Rattle.current.proofs.table.TableRows.put_all.Goals as goal
 
 pub loop-row-init : goal.loop-row-init
-loop-row-init c = record { fits = c.requires; joined = λ r. ((λ h. h), (λ h. h)) }
+loop-row-init c = record { columns = λ most old each. old; fits = c.requires; joined = λ r. ((λ h. h), (λ h. h)) }
 
 pub put-requires : goal.put-requires
 put-requires c =
@@ -39,10 +40,22 @@ loop-row-preserved c =
     let fits = subst (λ xs. CanPut now (map row_of xs)) here c.loop-row.invariant.fits in
     let joined = subst (λ xs. (r : Row) → ((Has now r ⊎ Has (map row_of xs) r) → (Has old r ⊎ Has (map row_of rows) r)) × ((Has old r ⊎ Has (map row_of rows) r) → (Has now r ⊎ Has (map row_of xs) r))) here c.loop-row.invariant.joined in
     let put : IsWith (row_of row) now more = subst (λ r. IsWith r now more) c.in_ok-clone.ensures.cases c.in_ok-put.ensures.ok in
-    record { fits = put_more (row_of row) rest now more fits put; joined = join_more (row_of row) rest now more old (map row_of rows) put joined }
+    let wide = c.put.ensures.columns in
+    let key = ap (λ (r : Row). length r.key) c.in_ok-clone.ensures.cases in
+    let among : Has (map row_of rows) (row_of row) = has_at row_of rows i row c.loop-row-test.true c.row-item.is in
+    record { columns = λ most before each. let was = c.loop-row.invariant.columns most before each in let mine = each (row_of row) among in omega (arith, wide, key, was, mine); fits = put_more (row_of row) rest now more fits put; joined = join_more (row_of row) rest now more old (map row_of rows) put joined }
 
-pub returns : goal.returns
-returns c = λ r.
+pub returns-clause-rows : goal.returns-clause-rows
+returns-clause-rows c = λ r.
     let left = drop_none c.args.rows.now c.loop-row.row-index c.loop-row-test.false in
     let inv = c.loop-row.invariant.joined r in
     ((λ h. inv.0 (inl h)), (λ h. elim (inv.1 h) [ inl a ↦ a | inr b ↦ absurd (subst (λ xs. Has (map row_of xs) r) left b) ]))
+
+pub returns-in_err-put-clause-columns : goal.returns-in_err-put-clause-columns
+returns-in_err-put-clause-columns c = λ most before each.
+    let row = c.row-item.result in
+    let wide = c.put.ensures.columns in
+    let key = ap (λ (r : Row). length r.key) c.in_ok-clone.ensures.cases in
+    let mine = each (row_of row) (has_at row_of c.args.rows.now c.loop-row.row-index row c.loop-row-test.true c.row-item.is) in
+    let was = c.loop-row.invariant.columns most before each in
+    omega (arith, wide, key, was, mine)

@@ -6,8 +6,8 @@ use Rattle.current.specs.ByKey.{strands_of, rows_in}
 use Rattle.current.proofs.Undoing.{not_there, not_in_strand, in_strand_there, take_in_strands, row_taken, length_taken}
 use Rattle.current.proofs.table.TableRows.take.Goals as goal
 
-pub returns-then-not-has : goal.returns-then-not-has
-returns-then-not-has c =
+pub returns-then-not-has-clause-rows : goal.returns-then-not-has-clause-rows
+returns-then-not-has-clause-rows c =
     let s = c.args.self.now in
     let row = row_of c.args.row.now in
     let test : list_any (same_row row) (strands_of s.index.strands row.key) ≡ c.has.result = sym c.has.ensures.there in
@@ -46,8 +46,8 @@ invariant_of-self c =
       counted = omega (arith, long, count);
     }
 
-pub returns : goal.returns
-returns c =
+pub returns-clause-rows : goal.returns-clause-rows
+returns-clause-rows c =
     let s = c.args.self.now in
     let row = row_of c.args.row.now in
     let n = c.take_row.new.index.strands in

@@ -1,4 +1,4 @@
-use Rattle.std.proofs.Common.{◌∙◌, ◌∷◌, [], map, ap, subst, sym}
+use Rattle.std.proofs.Common.{◌∙◌, ◌∷◌, [], map, ap, subst, sym, refl}
 use Rattle.rowlaws.specs.Rows.{Has}
 use Rattle.current.specs.Rows.{row_of}
 use Rattle.current.specs.Table.{rows_of_table}
@@ -8,17 +8,20 @@ use Rattle.current.proofs.Undoing.{take_more}
 use Rattle.current.proofs.table.TableRows.take_all.Goals as goal
 
 pub loop-row-init : goal.loop-row-init
-loop-row-init c = λ r. ((λ h. h), (λ h. h))
+loop-row-init c = record { rows = λ r. ((λ h. h), (λ h. h)); columns = refl }
 
 pub loop-row-preserved : goal.loop-row-preserved
 loop-row-preserved c =
     let row = c.in-Some.row.now in
     let others = c.in-Some.others.now in
     let parts = ap (map row_of) c.in-Some.ensures.cases.0 ∙ map_append row_of others (row ∷ []) in
-    take_more (row_of row) (map row_of c.loop-row.left.now) (map row_of others) (rows_of_table c.args.self.now) (rows_of_table c.loop-row.self) (rows_of_table c.take.new.self) (map row_of c.args.rows.now) parts c.take.ensures c.loop-row.invariant
+    record {
+      rows = take_more (row_of row) (map row_of c.loop-row.left.now) (map row_of others) (rows_of_table c.args.self.now) (rows_of_table c.loop-row.self) (rows_of_table c.take.new.self) (map row_of c.args.rows.now) parts c.take.ensures.rows c.loop-row.invariant.rows;
+      columns = c.take.ensures.columns ∙ c.loop-row.invariant.columns;
+    }
 
-pub returns : goal.returns
-returns c = λ r.
+pub returns-clause-rows : goal.returns-clause-rows
+returns-clause-rows c = λ r.
     let none = subst (λ xs. Has (map row_of xs) r → ⊥) (sym (no_items c.loop-row.left.now c.in_default.ensures.cases)) (λ h. h) in
-    let inv = c.loop-row.invariant r in
+    let inv = c.loop-row.invariant.rows r in
     ((λ h. inv.0 (h, none)), (λ h. (inv.1 h).0))

@@ -1,4 +1,4 @@
-use Rattle.std.proofs.Common.{map, length}
+use Rattle.std.proofs.Common.{◌≡◌, map, length}
 use Rattle.model.specs.Tables.{Row}
 use Rattle.rowlaws.specs.Rows.{Has}
 use Rattle.current.specs.Rows.{row_of}
@@ -6,9 +6,12 @@ use Rattle.current.specs.Table.{rows_of_table}
 use Rattle.current.proofs.table.TableRows.take_all.Given as goal
 
 abbrev pub invariant-loop-row : goal.invariant-loop-row
-invariant-loop-row l = (r : Row) →
-    ((Has (rows_of_table l.self) r × (Has (map row_of l.left) r → ⊥)) → (Has (rows_of_table l.fn.self) r × (Has (map row_of l.fn.rows) r → ⊥)))
-    × ((Has (rows_of_table l.fn.self) r × (Has (map row_of l.fn.rows) r → ⊥)) → (Has (rows_of_table l.self) r × (Has (map row_of l.left) r → ⊥)))
+invariant-loop-row l = record {
+  rows : (r : Row) →
+      ((Has (rows_of_table l.self) r × (Has (map row_of l.left) r → ⊥)) → (Has (rows_of_table l.fn.self) r × (Has (map row_of l.fn.rows) r → ⊥)))
+      × ((Has (rows_of_table l.fn.self) r × (Has (map row_of l.fn.rows) r → ⊥)) → (Has (rows_of_table l.self) r × (Has (map row_of l.left) r → ⊥)));
+  columns : l.self.columns ≡ l.fn.self.columns;
+}
 
 abbrev pub decreases-loop-row : goal.decreases-loop-row
 decreases-loop-row l = length l.left
