@@ -10,21 +10,22 @@ use storefolder::{Found, Task, reading_of, with_store};
 
 const DIR: &str = "pay";
 
-const SCHEMA: &str = "CREATE TABLE Pay (ENo INTEGER, PStart DATE, PEnd DATE, Salary INTEGER, \
+pub(crate) const SCHEMA: &str =
+    "CREATE TABLE Pay (ENo INTEGER, PStart DATE, PEnd DATE, Salary INTEGER, \
     SysStart TIMESTAMP(6) GENERATED ALWAYS AS ROW START, SysEnd TIMESTAMP(6) GENERATED ALWAYS AS ROW END, \
     PERIOD FOR Paid (PStart, PEnd), PERIOD FOR SYSTEM_TIME (SysStart, SysEnd), \
     PRIMARY KEY (ENo, Paid WITHOUT OVERLAPS)) WITH SYSTEM VERSIONING;";
 
 // What the clock is set to in January and in February, so that the program prints the same each time. With none set, `reading_of` reads
 // the system's clock.
-const JANUARY: i64 = 1_767_603_600_000_000;
+pub(crate) const JANUARY: i64 = 1_767_603_600_000_000;
 
-const FEBRUARY: i64 = 1_770_714_000_000_000;
+pub(crate) const FEBRUARY: i64 = 1_770_714_000_000_000;
 
-const HIRED: &str =
+pub(crate) const HIRED: &str =
     "INSERT INTO Pay (ENo, PStart, PEnd, Salary) VALUES (1, DATE '2026-01-01', DATE '2028-01-01', 5000);";
 
-const RAISED: &str =
+pub(crate) const RAISED: &str =
     "UPDATE Pay FOR PORTION OF Paid FROM DATE '2026-02-01' TO DATE '2028-01-01' SET Salary = Salary + 500 WHERE ENo = 1;";
 
 const THEN: &str =

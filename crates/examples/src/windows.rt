@@ -3,6 +3,7 @@
 
 mod reading;
 
+use crate::pay::{FEBRUARY, HIRED, JANUARY, RAISED, SCHEMA};
 use crate::windows::reading::{QUESTIONS, Read, Reader, readers};
 use answertext::Lines;
 use anyhow::{Result, bail};
@@ -17,28 +18,13 @@ use store::announcing::Announces;
 use storefolder::open_in_memory;
 use storeviews::Windows;
 
-const SCHEMA: &str = "CREATE TABLE Pay (ENo INTEGER, PStart DATE, PEnd DATE, Salary INTEGER, \
-    SysStart TIMESTAMP(6) GENERATED ALWAYS AS ROW START, SysEnd TIMESTAMP(6) GENERATED ALWAYS AS ROW END, \
-    PERIOD FOR Paid (PStart, PEnd), PERIOD FOR SYSTEM_TIME (SysStart, SysEnd), \
-    PRIMARY KEY (ENo, Paid WITHOUT OVERLAPS)) WITH SYSTEM VERSIONING;";
-
-// What the clock shows in January, February and April, so that the program prints the same each time.
-const JANUARY: i64 = 1_767_603_600_000_000;
-
-const FEBRUARY: i64 = 1_770_714_000_000_000;
-
+// What the clock shows in April; January and February are those of `pay`.
 const APRIL: i64 = 1_776_697_200_000_000;
 
 // What is handed in, and when.
 const REQUESTS: [(i64, &str); 3] = [
-    (
-        JANUARY,
-        "INSERT INTO Pay (ENo, PStart, PEnd, Salary) VALUES (1, DATE '2026-01-01', DATE '2028-01-01', 5000);",
-    ),
-    (
-        FEBRUARY,
-        "UPDATE Pay FOR PORTION OF Paid FROM DATE '2026-02-01' TO DATE '2028-01-01' SET Salary = Salary + 500 WHERE ENo = 1;",
-    ),
+    (JANUARY, HIRED),
+    (FEBRUARY, RAISED),
     (
         APRIL,
         "UPDATE Pay FOR PORTION OF Paid FROM DATE '2026-02-01' TO DATE '2026-03-01' SET Salary = Salary - 500 WHERE ENo = 1;",

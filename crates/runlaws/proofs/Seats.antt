@@ -1,14 +1,13 @@
 -- Seats, of which one is looked at or changed, and letters.
-use Rattle.std.proofs.Common.{◌≡◌, ◌∙◌, ℕ, zero, suc, ◌+◌, ◌<◌, Some, None, List, [], ◌∷◌, ◌++◌, length, slice_get, slice_set, refl, sym, ap, subst, arith, add-one}
+use Rattle.std.proofs.Common.{◌≡◌, ◌∙◌, ℕ, zero, suc, ◌+◌, Some, List, ◌∷◌, ◌++◌, length, slice_get, slice_set, refl, sym, ap, arith, add-one}
 use Rattle.std.specs.List.{All}
 use Rattle.std.proofs.lemmas.List.Elements.{All-weaker}
 use Rattle.model.specs.Lists.{nth, with_nth}
 use Rattle.model.specs.Members.{Node}
 use Rattle.model.specs.declared.message.Message.{Message}
-use Rattle.safety.proofs.Lists.{get_with, none_some, same_some}
-use Rattle.safety.proofs.Given.{nth_same}
+use Rattle.safety.proofs.Lists.{get_with, none_some}
 use Rattle.safety.proofs.Moments.{nth_other}
-use Rattle.sessions.proofs.Lists.{with_length, with_same, get_short, get_there, in_front, further}
+use Rattle.sessions.proofs.Lists.{with_length, get_short, get_there, in_front, further}
 use Rattle.runlaws.specs.Going.{AreSeated}
 
 pub nth_next : {A : Type 0} (xs : List A) (m at : ℕ) → m ≡ at + 1 → nth xs m ≡ slice_get xs at

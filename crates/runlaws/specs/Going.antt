@@ -1,11 +1,11 @@
 -- How a run goes on, as a process sees it that has the members at its seats and some of the messages under way.
-use Rattle.std.specs.Prelude.{◌≡◌, ℕ, ◌⊎◌, true, false, Some, Result, List, Contains, length, if◌then◌else◌}
+use Rattle.std.specs.Prelude.{◌≡◌, ℕ, Some, Result, List, length, if◌then◌else◌}
 use Rattle.fault.specs.declared.refusal.Refusal.{Refusal}
 use Rattle.model.specs.Lists.{nth}
 use Rattle.model.specs.Transactions.{Language}
 use Rattle.model.specs.declared.entry.Told.{Told}
 use Rattle.model.specs.Members.{Node}
-use Rattle.model.specs.Worlds.{World, Event, Output, run, GivesAll, started, stopped}
+use Rattle.model.specs.Worlds.{World, Event, Output, run, GivesAll, stopped}
 use Rattle.model.specs.Worlds.Output.{Applied}
 use Rattle.onelist.specs.Explained.{Gave}
 
@@ -37,7 +37,3 @@ pub record AreSeated {S : Type 0} (has : ℕ → S → Node → Type 0) (seats :
 -- a member after a stop, which does nothing to one that is down
 abbrev pub after_stop : Node → Node
 after_stop x = if x.up then stopped x else x
-
--- a member after it may have been started
-abbrev pub MayStart : Node → Node → Type 0
-MayStart x y = (y ≡ x) ⊎ ((x.up ≡ false) × (y ≡ started x))

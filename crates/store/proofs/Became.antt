@@ -7,7 +7,7 @@ use Rattle.sessions.proofs.Lists.{get_there}
 use Rattle.store.specs.Became.{EachBecame}
 use Rattle.store.proofs.Opening.{pushed}
 
-set_there : {A : Type 0} (xs : List A) (i : ℕ) (a x : A) → slice_get xs i ≡ Some x → slice_get (slice_set xs i a) i ≡ Some a
+pub set_there : {A : Type 0} (xs : List A) (i : ℕ) (a x : A) → slice_get xs i ≡ Some x → slice_get (slice_set xs i a) i ≡ Some a
 set_there [] i a x e = absurd (cc e)
 set_there (y ∷ ys) zero a x e = refl
 set_there (y ∷ ys) (suc i) a x e = set_there ys i a x e

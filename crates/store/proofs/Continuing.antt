@@ -1,17 +1,22 @@
 -- A journal that goes on.
-use Rattle.std.proofs.Common.{◌≡◌, ◌≢◌, ◌∙◌, ℕ, Option, Some, None, List, [], ◌∷◌, ◌++◌, refl, sym, ap, subst, append-nil, append_assoc, flat_map, string_bytes}
+use Rattle.std.proofs.Common.{◌≡◌, ◌≢◌, ◌∙◌, ℕ, ℤ, Option, Some, None, List, [], ◌∷◌, ◌++◌, refl, sym, ap, subst, append-nil, append_assoc, flat_map, map, string_bytes}
 use Rattle.std.specs.Prelude.{All, IsSome, decimal, length}
 use Rattle.std.specs.Io.KnownBytes.{append_known}
 use Rattle.std.proofs.lemmas.List.Elements.{All-nil, All-cons, All-head, All-tail}
 use Rattle.flight.specs.Additions.{Adds}
-use Rattle.flight.specs.Spelling.{each_text, number_text}
+use Rattle.flight.specs.Spelling.{number_text}
 use Rattle.journal.specs.Blocks.{sum_after, block_text, blocks_text, last_sum}
 use Rattle.journal.specs.Spelling.{line_text}
 use Rattle.journal.specs.declared.line.Line.{Line}
 use Rattle.store.specs.declared.device.DeviceError.{DeviceError}
 use Rattle.store.specs.declared.scribe.Scribe.{Scribe}
-use Rattle.store.specs.Continuing.{Continues, IsContinued}
-use Rattle.store.specs.Writing.{AppendsPart, IsWritten, IsSummed}
+use Rattle.store.specs.Continuing.{Continues, IsContinued, IsKeptOn, bodies_of, left_of, reading_in}
+use Rattle.store.specs.Journals.{IsSpent}
+use Rattle.store.specs.Recording.{IsSilent, last_reading, reading_after}
+use Rattle.store.specs.Writing.{AppendsPart, IsWritten, IsSummed, lines_text}
+use Rattle.store.proofs.Recording.{last_both as readings_both, silent_both, silent_one}
+use Rattle.store.proofs.Texts.{lines_both}
+use Rattle.store.proofs.Written.{append_nothing, line_added}
 
 -- ---- texts of blocks
 
@@ -44,14 +49,6 @@ blocks_both : (sum : ℕ) (one two : List (List ℕ)) (rest : List ℕ) → bloc
 blocks_both sum [] two rest = refl
 blocks_both sum (body ∷ one) two rest = ap (block_text sum body) (blocks_both (sum_after sum body) one two rest)
 
-each_both : (one two : List Line) (rest : List ℕ) → each_text line_text (one ++ two) rest ≡ each_text line_text one (each_text line_text two rest)
-each_both [] two rest = refl
-each_both (line ∷ one) two rest = ap (line_text line) (each_both one two rest)
-
-join_both : (one two : List (List ℕ)) → flat_map (λ (body : List ℕ). body) (one ++ two) ≡ flat_map (λ (body : List ℕ). body) one ++ flat_map (λ (body : List ℕ). body) two
-join_both [] two = refl
-join_both (body ∷ one) two = ap (λ (x : List ℕ). body ++ x) (join_both one two) ∙ sym (append_assoc body (flat_map (λ (body : List ℕ). body) one) (flat_map (λ (body : List ℕ). body) two))
-
 filled_both : (one two : List (List ℕ)) → All (λ (body : List ℕ). body ≢ []) one → All (λ (body : List ℕ). body ≢ []) two → All (λ (body : List ℕ). body ≢ []) (one ++ two)
 filled_both [] two a b = b
 filled_both (body ∷ one) two a b = All-cons (λ (body : List ℕ). body ≢ []) body (one ++ two) (All-head (λ (body : List ℕ). body ≢ []) body one a) (filled_both one two (All-tail (λ (body : List ℕ). body ≢ []) body one a) b)
@@ -60,183 +57,243 @@ known_both : (held : Option (List ℕ)) (a b : List ℕ) → append_known (appen
 known_both None a b = refl
 known_both (Some xs) a b = ap Some (append_assoc xs a b)
 
-known_nothing : (held : Option (List ℕ)) → append_known held [] ≡ held
-known_nothing None = refl
-known_nothing (Some xs) = ap Some (append-nil xs)
+-- ---- lines of two calls, in groups
+
+-- the rest of the first call is in the first block of the second
+abbrev joined : (one : List (List Line)) (rest : List Line) (two : List (List Line)) → List (List Line)
+joined [] rest [] = []
+joined [] rest (group ∷ two) = (rest ++ group) ∷ two
+joined (group ∷ one) rest two = group ∷ joined one rest two
+
+abbrev rest_of : (rest : List Line) (two : List (List Line)) (more : List Line) → List Line
+rest_of rest [] more = rest ++ more
+rest_of rest (group ∷ two) more = more
+
+lines_joined : (one : List (List Line)) (rest : List Line) (two : List (List Line)) (more : List Line)
+    → flat_map (λ (group : List Line). group) (joined one rest two) ++ rest_of rest two more ≡ (flat_map (λ (group : List Line). group) one ++ rest) ++ (flat_map (λ (group : List Line). group) two ++ more)
+lines_joined [] rest [] more = refl
+lines_joined [] rest (group ∷ two) more = append_assoc (rest ++ group) (flat_map (λ (group : List Line). group) two) more ∙ append_assoc rest group (flat_map (λ (group : List Line). group) two ++ more)
+    ∙ ap (λ (x : List Line). rest ++ x) (sym (append_assoc group (flat_map (λ (group : List Line). group) two) more))
+lines_joined (group ∷ one) rest two more =
+    append_assoc group (flat_map (λ (group : List Line). group) (joined one rest two)) (rest_of rest two more)
+    ∙ ap (λ (x : List Line). group ++ x) (lines_joined one rest two more)
+    ∙ sym (append_assoc group (flat_map (λ (group : List Line). group) one ++ rest) (flat_map (λ (group : List Line). group) two ++ more))
+    ∙ ap (λ (x : List Line). x ++ (flat_map (λ (group : List Line). group) two ++ more)) (sym (append_assoc group (flat_map (λ (group : List Line). group) one) rest))
+
+text_joined : (buffer : List ℕ) (one two : List Line) → buffer ++ lines_text (one ++ two) ≡ (buffer ++ lines_text one) ++ lines_text two
+text_joined buffer one two = ap (λ (x : List ℕ). buffer ++ x) (lines_both one two) ∙ sym (append_assoc buffer (lines_text one) (lines_text two))
+
+bodies_joined : (buffer : List ℕ) (one : List (List Line)) (rest : List Line) (two : List (List Line)) → bodies_of buffer (joined one rest two) ≡ bodies_of buffer one ++ bodies_of (left_of buffer one rest) two
+bodies_joined buffer [] rest [] = refl
+bodies_joined buffer [] rest (group ∷ two) = ap (λ (x : List ℕ). x ∷ bodies_of [] two) (text_joined buffer rest group)
+bodies_joined buffer (group ∷ one) rest two = ap (λ (x : List (List ℕ)). (buffer ++ lines_text group) ∷ x) (bodies_joined [] one rest two)
+
+left_joined : (buffer : List ℕ) (one : List (List Line)) (rest : List Line) (two : List (List Line)) (more : List Line) → left_of buffer (joined one rest two) (rest_of rest two more) ≡ left_of (left_of buffer one rest) two more
+left_joined buffer [] rest [] more = text_joined buffer rest more
+left_joined buffer [] rest (group ∷ two) more = refl
+left_joined buffer (group ∷ one) rest two more = left_joined [] one rest two more
+
+-- ---- of an empty buffer
+
+pub bodies_alone : (groups : List (List Line)) → bodies_of [] groups ≡ map lines_text groups
+bodies_alone [] = refl
+bodies_alone (group ∷ groups) = ap (λ (x : List (List ℕ)). lines_text group ∷ x) (bodies_alone groups)
+
+pub left_alone : (groups : List (List Line)) (rest : List Line) → left_of [] groups rest ≡ lines_text rest
+left_alone [] rest = refl
+left_alone (group ∷ groups) rest = left_alone groups rest
 
 module _ {J : Type 0} (contents : J → Option (List ℕ)) where
   -- ---- one call
 
-  pub continues_same : (s : Scribe J) → Continues contents s s
+  pub continues_same : (s : Scribe J) → Continues contents s s []
   continues_same s = record {
-    bodies = [];
-    left = string_bytes s.buffer;
-    lines = [];
+    groups = [];
+    rest = [];
     front = [];
-    back = block_text s.sum (string_bytes s.buffer) [];
+    back = block_text s.sum (string_bytes s.buffer ++ []) [];
+    lines_are = refl;
     filled = All-nil (λ (body : List ℕ). body ≢ []);
-    whole = λ rest. refl;
     torn = refl;
-    device = sym (known_nothing (contents s.device));
-    live = λ up. (refl, refl, refl);
-    spent = λ k. refl;
+    device = sym (append_nothing (contents s.device));
+    live = λ up. (refl, sym (append-nil (string_bytes s.buffer)), refl);
+    reading = refl;
+    spent = λ k. (refl, refl);
   }
 
-  pub continues_with : (s t : Scribe J) (line : Line) → s.failure ≡ None → Adds (string_bytes s.buffer) (string_bytes t.buffer) (line_text line) → t.device ≡ s.device → t.sum ≡ s.sum → Continues contents s t
-  continues_with s t line up added device sum = record {
-    bodies = [];
-    left = string_bytes t.buffer;
-    lines = line ∷ [];
+  pub continues_with : (s t : Scribe J) (line : Line) → s.failure ≡ None → Adds (string_bytes s.buffer) (string_bytes t.buffer) (line_text line) → t.device ≡ s.device → t.sum ≡ s.sum
+      → t.reading ≡ reading_after s.reading line → Continues contents s t (line ∷ [])
+  continues_with s t line up added device sum reading = record {
+    groups = [];
+    rest = line ∷ [];
     front = [];
-    back = block_text s.sum (string_bytes t.buffer) [];
+    back = block_text s.sum (string_bytes s.buffer ++ lines_text (line ∷ [])) [];
+    lines_are = refl;
     filled = All-nil (λ (body : List ℕ). body ≢ []);
-    whole = added;
     torn = refl;
-    device = ap contents device ∙ sym (known_nothing (contents s.device));
-    live = λ up. (refl, refl, sum);
-    spent = λ k. absurd (none_some s.failure up k);
-  }
-
-  -- nothing else that is looked at is another
-  pub continues_as : (s t u : Scribe J) → s.failure ≡ None → Continues contents s t → u.device ≡ t.device → u.buffer ≡ t.buffer → u.sum ≡ t.sum → u.failure ≡ t.failure → Continues contents s u
-  continues_as s t u up a device buffer sum failure = record {
-    bodies = a.bodies;
-    left = a.left;
-    lines = a.lines;
-    front = a.front;
-    back = a.back;
-    filled = a.filled;
-    whole = a.whole;
-    torn = a.torn;
-    device = ap contents device ∙ a.device;
-    live = λ live. let l = a.live (sym failure ∙ live) in (l.0, ap (λ b. string_bytes b) buffer ∙ l.1, sum ∙ l.2);
+    device = ap contents device ∙ sym (append_nothing (contents s.device));
+    live = λ up. (refl, line_added (string_bytes s.buffer) (string_bytes t.buffer) line added, sum);
+    reading = reading;
     spent = λ k. absurd (none_some s.failure up k);
   }
 
   -- an error that wrote nothing
-  pub continues_failed : (s t : Scribe J) → IsSome t.failure → t.device ≡ s.device → (IsSome s.failure → t ≡ s) → Continues contents s t
-  continues_failed s t failed device spent = record {
-    bodies = [];
-    left = string_bytes s.buffer;
-    lines = [];
+  pub continues_failed : (s t : Scribe J) → s.failure ≡ None → IsSome t.failure → t.device ≡ s.device → t.reading ≡ s.reading → Continues contents s t []
+  continues_failed s t up failed device reading = record {
+    groups = [];
+    rest = [];
     front = [];
-    back = block_text s.sum (string_bytes s.buffer) [];
+    back = block_text s.sum (string_bytes s.buffer ++ []) [];
+    lines_are = refl;
     filled = All-nil (λ (body : List ℕ). body ≢ []);
-    whole = λ rest. refl;
     torn = refl;
-    device = ap contents device ∙ sym (known_nothing (contents s.device));
+    device = ap contents device ∙ sym (append_nothing (contents s.device));
     live = λ up. absurd (none_some t.failure up failed);
-    spent = spent;
+    reading = reading;
+    spent = λ k. absurd (none_some s.failure up k);
   }
 
-  pub continues_written : (s t : Scribe J) → s.failure ≡ None → IsWritten (contents s.device) (contents t.device) s.sum (string_bytes s.buffer) → string_bytes t.buffer ≡ [] → IsSummed s.sum t.sum (string_bytes s.buffer) → Continues contents s t
-  continues_written s t up written empty summed = go (string_bytes s.buffer) refl
+  pub continues_written : (s t : Scribe J) → s.failure ≡ None → IsWritten (contents s.device) (contents t.device) s.sum (string_bytes s.buffer) → string_bytes t.buffer ≡ [] → IsSummed s.sum t.sum (string_bytes s.buffer)
+      → t.reading ≡ s.reading → Continues contents s t []
+  continues_written s t up written empty summed reading = go (string_bytes s.buffer) refl
     where
       some : (x : ℕ) (xs : List ℕ) → string_bytes s.buffer ≡ x ∷ xs → string_bytes s.buffer ≢ []
       some x xs is none = absurd (cc (is, none))
 
-      go : (buffer : List ℕ) → string_bytes s.buffer ≡ buffer → Continues contents s t
+      go : (buffer : List ℕ) → string_bytes s.buffer ≡ buffer → Continues contents s t []
       go [] is = record {
-        bodies = [];
-        left = [];
-        lines = [];
+        groups = [];
+        rest = [];
         front = [];
-        back = block_text s.sum [] [];
+        back = block_text s.sum (string_bytes s.buffer ++ []) [];
+        lines_are = refl;
         filled = All-nil (λ (body : List ℕ). body ≢ []);
-        whole = λ rest. ap (λ (x : List ℕ). x ++ rest) (sym is);
         torn = refl;
-        device = written.0 is ∙ sym (known_nothing (contents s.device));
-        live = λ up. (refl, empty, summed.0 is);
+        device = written.0 is ∙ sym (append_nothing (contents s.device));
+        live = λ up. (refl, empty ∙ sym is ∙ sym (append-nil (string_bytes s.buffer)), summed.0 is);
+        reading = reading;
         spent = λ k. absurd (none_some s.failure up k);
       }
       go (x ∷ xs) is = record {
-        bodies = string_bytes s.buffer ∷ [];
-        left = [];
-        lines = [];
+        groups = [] ∷ [];
+        rest = [];
         front = [];
-        back = block_text (sum_after s.sum (string_bytes s.buffer)) [] [];
-        filled = All-cons (λ (body : List ℕ). body ≢ []) (string_bytes s.buffer) [] (some x xs is) (All-nil (λ (body : List ℕ). body ≢ []));
-        whole = λ rest. ap (λ (x : List ℕ). x ++ rest) (append-nil (string_bytes s.buffer ++ []) ∙ append-nil (string_bytes s.buffer));
+        back = block_text (sum_after s.sum (string_bytes s.buffer ++ [])) [] [];
+        lines_are = refl;
+        filled = All-cons (λ (body : List ℕ). body ≢ []) (string_bytes s.buffer ++ []) [] (λ none. some x xs is (sym (append-nil (string_bytes s.buffer)) ∙ none)) (All-nil (λ (body : List ℕ). body ≢ []));
         torn = refl;
-        device = written.1 (some x xs is);
-        live = λ up. (refl, empty, summed.1 (some x xs is));
+        device = written.1 (some x xs is) ∙ ap (λ (text : List ℕ). append_known (contents s.device) (block_text s.sum text [])) (sym (append-nil (string_bytes s.buffer)));
+        live = λ up. (refl, empty, summed.1 (some x xs is) ∙ ap (sum_after s.sum) (sym (append-nil (string_bytes s.buffer))));
+        reading = reading;
         spent = λ k. absurd (none_some s.failure up k);
       }
 
   -- an error that may have written a beginning of a block
-  pub continues_torn : (s t : Scribe J) → IsSome t.failure → (s.failure ≡ None → AppendsPart (contents s.device) (contents t.device) (block_text s.sum (string_bytes s.buffer) [])) → (IsSome s.failure → t ≡ s) → Continues contents s t
-  continues_torn s t failed part spent = go s.failure refl
-    where
-      go : (o : Option DeviceError) → s.failure ≡ o → Continues contents s t
-      go None is =
-          let p = part is in
-          record {
-            bodies = [];
-            left = string_bytes s.buffer;
-            lines = [];
-            front = p.0;
-            back = p.1;
-            filled = All-nil (λ (body : List ℕ). body ≢ []);
-            whole = λ rest. refl;
-            torn = p.2;
-            device = p.3;
-            live = λ up. absurd (none_some t.failure up failed);
-            spent = spent;
-          }
-      go (Some e) is = subst (Continues contents s) (sym (spent (subst IsSome (sym is) refl))) (continues_same s)
+  pub continues_torn : (s t : Scribe J) → s.failure ≡ None → IsSome t.failure → AppendsPart (contents s.device) (contents t.device) (block_text s.sum (string_bytes s.buffer) []) → t.reading ≡ s.reading → Continues contents s t []
+  continues_torn s t up failed part reading = record {
+    groups = [];
+    rest = [];
+    front = part.0;
+    back = part.1;
+    lines_are = refl;
+    filled = All-nil (λ (body : List ℕ). body ≢ []);
+    torn = ap (λ (text : List ℕ). block_text s.sum text []) (append-nil (string_bytes s.buffer)) ∙ part.2;
+    device = part.3;
+    live = λ up. absurd (none_some t.failure up failed);
+    reading = reading;
+    spent = λ k. absurd (none_some s.failure up k);
+  }
 
   -- ---- calls one after another
 
-  pub continues_both : (s t u : Scribe J) → Continues contents s t → Continues contents t u → Continues contents s u
-  continues_both s t u a b = go t.failure refl
+  pub continues_both : (s t u : Scribe J) (a b : List Line) → Continues contents s t a → Continues contents t u b → Continues contents s u (a ++ b)
+  continues_both s t u a b c d = go t.failure refl
     where
-      go : (o : Option DeviceError) → t.failure ≡ o → Continues contents s u
-      go (Some e) is = subst (Continues contents s) (sym (b.spent (subst IsSome (sym is) refl))) a
+      go : (o : Option DeviceError) → t.failure ≡ o → Continues contents s u (a ++ b)
+      go (Some e) is =
+          let stays = d.spent (subst IsSome (sym is) refl) in
+          let none : a ++ b ≡ a = ap (λ (x : List Line). a ++ x) stays.1 ∙ append-nil a in
+          subst (λ (x : Scribe J). Continues contents s x (a ++ b)) (sym stays.0) (subst (Continues contents s t) (sym none) c)
       go None is =
-          let l = a.live is in
-          let sums : last_sum t.sum b.bodies ≡ last_sum s.sum (a.bodies ++ b.bodies) = ap (λ n. last_sum n b.bodies) l.2 ∙ sym (last_both s.sum a.bodies b.bodies) in
-          let one = flat_map (λ (body : List ℕ). body) a.bodies in
-          let two = flat_map (λ (body : List ℕ). body) b.bodies in
+          let l = c.live is in
+          let buffer = string_bytes s.buffer in
+          let one = bodies_of buffer c.groups in
+          let two = bodies_of (left_of buffer c.groups c.rest) d.groups in
+          let bodies : bodies_of buffer (joined c.groups c.rest d.groups) ≡ one ++ two = bodies_joined buffer c.groups c.rest d.groups in
+          let left = left_joined buffer c.groups c.rest d.groups d.rest in
+          let next : bodies_of (string_bytes t.buffer) d.groups ≡ two = ap (λ (x : List ℕ). bodies_of x d.groups) l.1 in
+          let behind : left_of (string_bytes t.buffer) d.groups d.rest ≡ left_of (left_of buffer c.groups c.rest) d.groups d.rest = ap (λ (x : List ℕ). left_of x d.groups d.rest) l.1 in
+          let sums : last_sum t.sum (bodies_of (string_bytes t.buffer) d.groups) ≡ last_sum s.sum (bodies_of buffer (joined c.groups c.rest d.groups)) =
+          ap (last_sum t.sum) next ∙ ap (λ n. last_sum n two) l.2 ∙ sym (last_both s.sum one two) ∙ ap (last_sum s.sum) (sym bodies) in
           record {
-            bodies = a.bodies ++ b.bodies;
-            left = b.left;
-            lines = a.lines ++ b.lines;
-            front = b.front;
-            back = b.back;
-            filled = filled_both a.bodies b.bodies a.filled b.filled;
-            whole = λ rest.
-                ap (λ (x : List ℕ). (x ++ b.left) ++ rest) (join_both a.bodies b.bodies)
-                ∙ ap (λ (x : List ℕ). x ++ rest) (append_assoc one two b.left)
-                ∙ append_assoc one (two ++ b.left) rest
-                ∙ ap (λ (x : List ℕ). one ++ x) (b.whole rest ∙ ap (λ (x : List ℕ). x ++ each_text line_text b.lines rest) l.1)
-                ∙ sym (append_assoc one a.left (each_text line_text b.lines rest))
-                ∙ a.whole (each_text line_text b.lines rest)
-                ∙ ap (λ (x : List ℕ). string_bytes s.buffer ++ x) (sym (each_both a.lines b.lines rest));
-            torn = ap (λ n. block_text n b.left []) (sym sums) ∙ b.torn;
+            groups = joined c.groups c.rest d.groups;
+            rest = rest_of c.rest d.groups d.rest;
+            front = d.front;
+            back = d.back;
+            lines_are = ap (λ (x : List Line). x ++ b) c.lines_are ∙ ap (λ (x : List Line). (flat_map (λ (group : List Line). group) c.groups ++ c.rest) ++ x) d.lines_are ∙ sym (lines_joined c.groups c.rest d.groups d.rest);
+            filled = subst (All (λ (body : List ℕ). body ≢ [])) (sym bodies) (filled_both one two c.filled (subst (All (λ (body : List ℕ). body ≢ [])) next d.filled));
+            torn = ap (λ n. block_text n (left_of buffer (joined c.groups c.rest d.groups) (rest_of c.rest d.groups d.rest)) []) (sym sums)
+                ∙ ap (λ (text : List ℕ). block_text (last_sum t.sum (bodies_of (string_bytes t.buffer) d.groups)) text []) (left ∙ sym behind)
+                ∙ d.torn;
             device =
-                b.device
-                ∙ ap (λ held. append_known held (blocks_text t.sum b.bodies b.front)) (a.device ∙ ap (λ (x : List ℕ). append_known (contents s.device) (blocks_text s.sum a.bodies x)) l.0)
-                ∙ known_both (contents s.device) (blocks_text s.sum a.bodies []) (blocks_text t.sum b.bodies b.front)
+                d.device
+                ∙ ap (λ (x : List (List ℕ)). append_known (contents t.device) (blocks_text t.sum x d.front)) next
+                ∙ ap (λ held. append_known held (blocks_text t.sum two d.front)) (c.device ∙ ap (λ (x : List ℕ). append_known (contents s.device) (blocks_text s.sum one x)) l.0)
+                ∙ known_both (contents s.device) (blocks_text s.sum one []) (blocks_text t.sum two d.front)
                 ∙ ap (append_known (contents s.device)) (
-                sym (blocks_rest s.sum a.bodies (blocks_text t.sum b.bodies b.front))
-                ∙ ap (λ n. blocks_text s.sum a.bodies (blocks_text n b.bodies b.front)) l.2
-                ∙ sym (blocks_both s.sum a.bodies b.bodies b.front)
+                sym (blocks_rest s.sum one (blocks_text t.sum two d.front))
+                ∙ ap (λ n. blocks_text s.sum one (blocks_text n two d.front)) l.2
+                ∙ sym (blocks_both s.sum one two d.front)
+                ∙ ap (λ (x : List (List ℕ)). blocks_text s.sum x d.front) (sym bodies)
                 );
-            live = λ up. let m = b.live up in (m.0, m.1, m.2 ∙ sums);
-            spent = λ k. let e = a.spent k in b.spent (subst (λ x. IsSome x.failure) (sym e) k) ∙ e;
+            live = λ up. let m = d.live up in (m.0, m.1 ∙ behind ∙ sym left, m.2 ∙ sums);
+            reading = d.reading ∙ ap (λ (r : Option ℤ). last_reading r b) c.reading ∙ sym (readings_both s.reading a b);
+            spent = λ k.
+                let first = c.spent k in
+                let second = d.spent (subst (λ x. IsSome x.failure) (sym first.0) k) in
+                (second.0 ∙ first.0, ap (λ (x : List Line). x ++ b) first.1 ∙ second.1);
           }
 
   -- ---- a journal that may be away
 
-  pub continued_same : (s : Option (Scribe J)) → IsContinued contents s s
-  continued_same None = refl
+  pub continued_same : (s : Option (Scribe J)) → IsContinued contents s s []
+  continued_same None = (refl, refl)
   continued_same (Some s) = continues_same s
 
-  pub continued_is : (s t : Option (Scribe J)) → t ≡ s → IsContinued contents s t
-  continued_is s t is = subst (IsContinued contents s) (sym is) (continued_same s)
+  pub continued_is : (s t : Option (Scribe J)) → t ≡ s → IsContinued contents s t []
+  continued_is s t is = subst (λ (x : Option (Scribe J)). IsContinued contents s x []) (sym is) (continued_same s)
 
-  pub continued_both : (s t u : Option (Scribe J)) → IsContinued contents s t → IsContinued contents t u → IsContinued contents s u
-  continued_both None t u a b = subst (λ (x : Option (Scribe J)). IsContinued contents x u) a b
-  continued_both (Some s) None u a b = absurd a
-  continued_both (Some s) (Some t) None a b = absurd b
-  continued_both (Some s) (Some t) (Some u) a b = continues_both s t u a b
+  pub continued_both : (s t u : Option (Scribe J)) (a b : List Line) → IsContinued contents s t a → IsContinued contents t u b → IsContinued contents s u (a ++ b)
+  continued_both None t u a b c d =
+      let e = subst (λ (x : Option (Scribe J)). IsContinued contents x u b) c.0 d in
+      (e.0, ap (λ (x : List Line). x ++ b) c.1 ∙ e.1)
+  continued_both (Some s) None u a b c d = absurd c
+  continued_both (Some s) (Some t) None a b c d = absurd d
+  continued_both (Some s) (Some t) (Some u) a b c d = continues_both s t u a b c d
+
+  pub continued_spent : (s t : Option (Scribe J)) (lines : List Line) → IsContinued contents s t lines → IsSpent s → (t ≡ s) × (lines ≡ [])
+  continued_spent None t lines c spent = c
+  continued_spent (Some s) None lines c spent = absurd c
+  continued_spent (Some s) (Some t) lines c spent = let stays = c.spent spent in (ap Some stays.0, stays.1)
+
+  pub continued_reading : (s t : Option (Scribe J)) (lines : List Line) → IsContinued contents s t lines → reading_in t ≡ last_reading (reading_in s) lines
+  continued_reading None t lines c = ap reading_in c.0 ∙ ap (last_reading None) (sym c.1)
+  continued_reading (Some s) None lines c = absurd c
+  continued_reading (Some s) (Some t) lines c = c.reading
+
+  -- ---- lines that record no event
+
+  pub kept_none : (s t : Option (Scribe J)) → IsContinued contents s t [] → IsKeptOn contents s t
+  kept_none s t c = ([], All-nil IsSilent, c)
+
+  pub kept_by : (s t : Option (Scribe J)) (line : Line) → IsSilent line → IsContinued contents s t (line ∷ []) → IsKeptOn contents s t
+  kept_by s t line silent c = (line ∷ [], silent_one line silent, c)
+
+  pub kept_same : (s : Option (Scribe J)) → IsKeptOn contents s s
+  kept_same s = kept_none s s (continued_same s)
+
+  pub kept_is : (s t : Option (Scribe J)) → t ≡ s → IsKeptOn contents s t
+  kept_is s t is = kept_none s t (continued_is s t is)
+
+  pub kept_both : (s t u : Option (Scribe J)) → IsKeptOn contents s t → IsKeptOn contents t u → IsKeptOn contents s u
+  kept_both s t u (a, quiet, c) (b, silent, d) = (a ++ b, silent_both a b quiet silent, continued_both s t u a b c d)

@@ -1,22 +1,23 @@
 -- A store that goes on.
-use Rattle.std.proofs.Common.{◌≡◌, ◌∙◌, ℕ, zero, suc, ◌+◌, ◌⊎◌, ⊎_elim, inl, inr, Option, Some, None, Result, Ok, Err, List, [], ◌∷◌, ◌++◌, IfSome, length, slice_get, slice_set, refl, sym, ap, subst, append-nil, append_assoc, arith}
+use Rattle.std.proofs.Common.{◌≡◌, ◌∙◌, ℕ, zero, suc, ◌+◌, ◌<◌, false, ◌⊎◌, ⊎_elim, inl, inr, Option, Some, None, Result, Ok, Err, List, [], ◌∷◌, ◌++◌, IfSome, length, slice_get, slice_set, refl, sym, ap, subst, append-nil, append_assoc, arith}
+use Rattle.std.specs.Prelude.{ℤ}
 use Rattle.std.specs.List.{All}
 use Rattle.std.proofs.lemmas.List.{length_push}
 use Rattle.std.proofs.lemmas.List.Elements.{All-push, All-nil, All-cons, All-head, All-tail, Contains-append_left, Contains-append_right}
-use Rattle.std.proofs.lemmas.Option.{IfSome_then}
+use Rattle.std.proofs.lemmas.Option.{IfSome_then, slice_get_past}
 use Rattle.fault.specs.declared.refusal.Refusal.{Refusal as Reason}
 use Rattle.model.specs.Lists.{nth, with_nth}
 use Rattle.model.specs.Members as model
 use Rattle.model.specs.declared.entry.Told.{Told}
 use Rattle.model.specs.declared.message.Message.{Message}
-use Rattle.model.specs.Worlds.{World, Output, with_node}
+use Rattle.model.specs.Worlds.{World, Event, Start, Stop, Output, started, with_node, starts as starts_of, stops as stops_of}
 use Rattle.model.specs.Worlds.Output.{Refused as Refuses}
 use Rattle.keep.specs.Durable.{Durable}
 use Rattle.sessions.proofs.Lists.{with_length}
 use Rattle.sqlchecks.specs.Columns.{Tables}
 use Rattle.sqlread.specs.Meaning.{language_of}
-use Rattle.runlaws.specs.Going.{AreSeated, Goes, MayStart, WasTold}
-use Rattle.runlaws.proofs.Going.{goes_nowhere, goes_both, goes_to, given_before, given_then, told_before, told_then}
+use Rattle.runlaws.specs.Going.{AreSeated, WasTold, after_stop}
+use Rattle.runlaws.proofs.Going.{goes_nowhere, goes_both, given_before, given_then, told_before, told_then, nowhere_events, same_world, start_goes, starts_at, stop_goes, stops_at, stops_twice, By}
 use Rattle.runlaws.proofs.Seats.{nth_next, set_next, seated, seated_anew, sent_before, sent_next}
 use Rattle.store.specs.declared.store.Store.{Store}
 use Rattle.store.specs.declared.seat.Seat.{Seat}
@@ -24,12 +25,19 @@ use Rattle.store.specs.declared.steps.Letter.{Letter}
 use Rattle.store.specs.declared.steps.Watched.{Watched}
 use Rattle.store.specs.declared.outcome.Outcome.{Outcome}
 use Rattle.store.specs.declared.outcome.Outcome.TheVariants.{Accepted, Refused, Unanswered}
-use Rattle.store.specs.Continuing.{IsContinued}
+use Rattle.journal.specs.declared.line.Taken.{Taken}
+use Rattle.journal.specs.declared.line.Line.{Line}
+use Rattle.journal.specs.declared.line.Line.TheVariants.{Ends, Life, Takes}
+use Rattle.journal.specs.declared.stored.Summary.{Summary}
+use Rattle.store.specs.declared.scribe.Scribe.{Scribe}
+use Rattle.store.specs.Recording.{AreRecorded, IsSilent, job_of, last_reading}
+use Rattle.store.specs.Continuing.{IsContinued, IsKeptOn, reading_in}
 use Rattle.store.specs.Journals.{IsSpent}
 use Rattle.store.specs.Seats.{HasMember, IsClean}
 use Rattle.node.specs.Work.{Work}
-use Rattle.store.proofs.Continuing.{continued_same, continued_is, continued_both}
-use Rattle.store.specs.Going.{Anywhere, AreClean, AreUnderWay, Changes, ComesOf, GoesOn, GoesOnSo, HasSent, Heard, Hears, IsAmong, IsBrought, IsIn, IsOutcome, Publishes, WentOn}
+use Rattle.store.proofs.Continuing.{continued_both, continued_reading, continued_same, continued_spent, kept_both, kept_is, kept_none, kept_same}
+use Rattle.store.proofs.Recording.{last_both, recorded_as, recorded_both, recorded_late, recorded_silent, silent_records}
+use Rattle.store.specs.Going.{Anywhere, AreClean, AreFiled, AreUnderWay, BeginsStep, Changes, ComesOf, GoesOn, GoesOnFrom, GoesOnSo, HasSent, Heard, Hears, IsAmong, IsBrought, IsIn, IsOutcome, Publishes, StartsOne, Stops, WentOn}
 
 -- ---- what is heard
 
@@ -170,17 +178,20 @@ module _ {K J I : Type 0} {an : _} {g : _} {s : _} {d : _} (contents : J → Opt
   -- ---- a store that goes on goes on
 
   -- a run that went on, and then went on
-  pub record WentBoth (a b c : Store K J I an g s d) (w : World) (x : WentOn held holds a b w) (y : WentOn held holds b c x.world) : Type 0 where
-    pub went : WentOn held holds a c w
+  pub record WentBoth (a b c : Store K J I an g s d) (w : World) (one two : List Line) (x : WentOn held holds (AreFiled a b one) a b w) (y : WentOn held holds (AreFiled b c two) b c x.world) : Type 0 where
+    pub went : WentOn held holds (AreFiled a c (one ++ two)) a c w
     pub gave : went.goes.gave ≡ x.goes.gave ++ y.goes.gave
 
-  pub went_both : (a b c : Store K J I an g s d) → b.schema ≡ a.schema → length b.seats.items ≡ length a.seats.items → (w : World) (x : WentOn held holds a b w) (y : WentOn held holds b c x.world) → WentBoth a b c w x y
-  went_both a b c schema count w x y =
+  pub went_both : (a b c : Store K J I an g s d) → b.schema ≡ a.schema → length b.seats.items ≡ length a.seats.items → (one two : List Line) → IsContinued contents a.scribe b.scribe one → IsContinued contents b.scribe c.scribe two →
+      (w : World) (x : WentOn held holds (AreFiled a b one) a b w) (y : WentOn held holds (AreFiled b c two) b c x.world) → WentBoth a b c w one two x y
+  went_both a b c schema count one two early late w x y =
       let both = goes_both (language_of a.schema) (language_of b.schema) (length a.seats.items) (length b.seats.items) w x.world y.world (ap language_of schema) count x.goes y.goes in
       let hears : Hears (WasTold (x.goes.gave ++ y.goes.gave)) a.watched c.watched =
       hears_both (WasTold x.goes.gave) (WasTold y.goes.gave) (WasTold (x.goes.gave ++ y.goes.gave)) (tells_before x.goes.gave y.goes.gave) (tells_then x.goes.gave y.goes.gave) a.watched b.watched c.watched x.hears y.hears in
+      let filed = recorded_both (reading_in a.scribe) (reading_in b.scribe) one two x.goes.events y.goes.events (IsSpent b.scribe) (IsSpent c.scribe) (continued_reading contents a.scribe b.scribe one early)
+      (λ spent. let stays = continued_spent contents b.scribe c.scribe two late spent in stays.1) (λ spent. let stays = continued_spent contents b.scribe c.scribe two late spent in subst IsSpent (sym stays.0) spent) x.events_are y.events_are in
       record {
-        went = record { world = y.world; goes = both.goes; is_in = y.is_in; hears = subst (λ (outs : List (List Output)). Hears (WasTold outs) a.watched c.watched) (sym both.gave_is) hears };
+        went = record { world = y.world; goes = both.goes; events_are = subst (AreFiled a c (one ++ two)) (sym both.events_are) filed; is_in = y.is_in; hears = subst (λ (outs : List (List Output)). Hears (WasTold outs) a.watched c.watched) (sym both.gave_is) hears };
         gave = both.gave_is;
       }
 
@@ -188,20 +199,30 @@ module _ {K J I : Type 0} {an : _} {g : _} {s : _} {d : _} (contents : J → Opt
   stays t = record {
     schema = refl;
     count = refl;
+    lines = [];
     journal = continued_same contents t.scribe;
     clean = λ c. c;
-    went = λ c w i. record { world = w; goes = goes_nowhere (language_of t.schema) (length t.seats.items) w; is_in = i; hears = hears_same (WasTold (goes_nowhere (language_of t.schema) (length t.seats.items) w).gave) t.watched t.watched refl };
+    went = λ c w i.
+        let goes = goes_nowhere (language_of t.schema) (length t.seats.items) w in
+        record {
+          world = w;
+          goes = goes;
+          events_are = recorded_silent (reading_in t.scribe) [] goes.events (IsSpent t.scribe) (nowhere_events (language_of t.schema) (length t.seats.items) w) (All-nil IsSilent);
+          is_in = i;
+          hears = hears_same (WasTold goes.gave) t.watched t.watched refl;
+        };
   }
 
   pub goes_on : (a b c : Store K J I an g s d) → On a b → On b c → On a c
   goes_on a b c x y = record {
     schema = y.schema ∙ x.schema;
     count = y.count ∙ x.count;
-    journal = continued_both contents a.scribe b.scribe c.scribe x.journal y.journal;
+    lines = x.lines ++ y.lines;
+    journal = continued_both contents a.scribe b.scribe c.scribe x.lines y.lines x.journal y.journal;
     clean = λ k. x.clean (y.clean k);
     went = λ k w i.
         let one = x.went (y.clean k) w i in
-        let both = went_both a b c x.schema x.count w one (y.went k one.world one.is_in) in
+        let both = went_both a b c x.schema x.count x.lines y.lines x.journal y.journal w one (y.went k one.world one.is_in) in
         both.went;
   }
 
@@ -210,12 +231,13 @@ module _ {K J I : Type 0} {an : _} {g : _} {s : _} {d : _} (contents : J → Opt
   so_then P Q R a b c later x y = record {
     schema = y.schema ∙ x.schema;
     count = y.count ∙ x.count;
-    journal = continued_both contents a.scribe b.scribe c.scribe x.journal y.journal;
+    lines = x.lines ++ y.lines;
+    journal = continued_both contents a.scribe b.scribe c.scribe x.lines y.lines x.journal y.journal;
     clean = λ k. x.clean (y.clean k);
     went = λ k w i p.
         let one = x.went (y.clean k) w i p in
         let two = y.went k one.0.world one.0.is_in in
-        let both = went_both a b c x.schema x.count w one.0 two in
+        let both = went_both a b c x.schema x.count x.lines y.lines x.journal y.journal w one.0 two in
         (both.went, subst R (sym both.gave) (later one.0.goes.gave two.goes.gave one.1));
   }
 
@@ -223,24 +245,28 @@ module _ {K J I : Type 0} {an : _} {g : _} {s : _} {d : _} (contents : J → Opt
   then_so Q R a b c later x y = record {
     schema = y.schema ∙ x.schema;
     count = y.count ∙ x.count;
-    journal = continued_both contents a.scribe b.scribe c.scribe x.journal y.journal;
+    lines = x.lines ++ y.lines;
+    journal = continued_both contents a.scribe b.scribe c.scribe x.lines y.lines x.journal y.journal;
     clean = λ k. x.clean (y.clean k);
     went = λ k w i p.
         let one = x.went (y.clean k) w i in
         let two = y.went k one.world one.is_in tt in
-        let both = went_both a b c x.schema x.count w one two.0 in
+        let both = went_both a b c x.schema x.count x.lines y.lines x.journal y.journal w one two.0 in
         (both.went, subst R (sym both.gave) (later one.goes.gave two.0.goes.gave one.hears two.1));
   }
 
   -- what is said of it is left out, or is always so
   pub so_goes : (P : World → Type 0) (Q : List (List Output) → Type 0) (a b : Store K J I an g s d) → ((w : World) → IsIn held holds a w → P w) → GoesOnSo contents honest held holds P Q a b → On a b
-  so_goes P Q a b from x = record { schema = x.schema; count = x.count; journal = x.journal; clean = x.clean; went = λ k w i. let on = x.went k w i (from w i) in on.0 }
+  so_goes P Q a b from x = record { schema = x.schema; count = x.count; lines = x.lines; journal = x.journal; clean = x.clean; went = λ k w i. let on = x.went k w i (from w i) in on.0 }
 
   pub goes_so : (P : World → Type 0) (Q : List (List Output) → Type 0) (a b : Store K J I an g s d) → ((gave : List (List Output)) → Q gave) → On a b → GoesOnSo contents honest held holds P Q a b
-  goes_so P Q a b all x = record { schema = x.schema; count = x.count; journal = x.journal; clean = x.clean; went = λ k w i p. let on = x.went k w i in (on, all on.goes.gave) }
+  goes_so P Q a b all x = record { schema = x.schema; count = x.count; lines = x.lines; journal = x.journal; clean = x.clean; went = λ k w i p. let on = x.went k w i in (on, all on.goes.gave) }
+
+  pub from_weaker : (begun : List Line) (P R : World → Type 0) (Q S : List (List Output) → Type 0) (a b : Store K J I an g s d) → ((w : World) → R w → P w) → ((gave : List (List Output)) → Q gave → S gave) → GoesOnFrom contents honest held holds begun P Q a b → GoesOnFrom contents honest held holds begun R S a b
+  from_weaker begun P R Q S a b from gives x = record { schema = x.schema; count = x.count; lines = x.lines; journal = x.journal; clean = x.clean; went = λ k w i p. let on = x.went k w i (from w p) in (on.0, gives on.0.goes.gave on.1) }
 
   pub so_weaker : (P R : World → Type 0) (Q S : List (List Output) → Type 0) (a b : Store K J I an g s d) → ((w : World) → R w → P w) → ((gave : List (List Output)) → Q gave → S gave) → GoesOnSo contents honest held holds P Q a b → GoesOnSo contents honest held holds R S a b
-  so_weaker P R Q S a b from gives x = record { schema = x.schema; count = x.count; journal = x.journal; clean = x.clean; went = λ k w i p. let on = x.went k w i (from w p) in (on.0, gives on.0.goes.gave on.1) }
+  so_weaker P R Q S a b from gives x = from_weaker [] P R Q S a b from gives x
 
   -- ---- the members stay, and maybe letters come under way
 
@@ -251,7 +277,7 @@ module _ {K J I : Type 0} {an : _} {g : _} {s : _} {d : _} (contents : J → Opt
   publishes_both a b c one two early late x y = record {
     schema = y.schema ∙ x.schema;
     seats = y.seats ∙ x.seats;
-    journal = continued_both contents a.scribe b.scribe c.scribe x.journal y.journal;
+    journal = kept_both contents a.scribe b.scribe c.scribe x.journal y.journal;
     spent = λ k. y.spent (x.spent k);
     letters = λ live sent u. subst (AreUnderWay c.queue.items c.sent) (append_assoc sent one two) (y.letters live (sent ++ one) (x.letters (λ k. live (y.spent k)) sent u));
     hears = hears_both (IsAmong early) (IsAmong late) (IsAmong (early ++ late)) (among_left early late) (among_right early late) a.watched b.watched c.watched x.hears y.hears;
@@ -266,7 +292,7 @@ module _ {K J I : Type 0} {an : _} {g : _} {s : _} {d : _} (contents : J → Opt
   publishes_then a b c messages told x y = subst (λ (ms : List Message). Publishes contents a c ms told) (append-nil messages) (publishes_both a b c messages [] [] told x y)
 
   -- in a spent store nothing comes under way, whatever was to
-  pub spent_publishes : (a b : Store K J I an g s d) (messages : List Message) (told : List Told) → b.schema ≡ a.schema → b.seats ≡ a.seats → b.watched ≡ a.watched → IsContinued contents a.scribe b.scribe → IsSpent b.scribe → Publishes contents a b messages told
+  pub spent_publishes : (a b : Store K J I an g s d) (messages : List Message) (told : List Told) → b.schema ≡ a.schema → b.seats ≡ a.seats → b.watched ≡ a.watched → IsKeptOn contents a.scribe b.scribe → IsSpent b.scribe → Publishes contents a b messages told
   spent_publishes a b messages told schema seats watched journal spent = record {
     schema = schema;
     seats = ap (λ v. v.items) seats;
@@ -288,7 +314,7 @@ module _ {K J I : Type 0} {an : _} {g : _} {s : _} {d : _} (contents : J → Opt
   }
 
   -- it was spent in the midst of it
-  pub spent_same : (a mid b : Store K J I an g s d) (messages : List Message) (told : List Told) → mid.schema ≡ a.schema → mid.seats ≡ a.seats → mid.watched ≡ a.watched → IsContinued contents a.scribe b.scribe → b ≡ record mid { scribe = b.scribe } → IsSpent b.scribe → Publishes contents a b messages told
+  pub spent_same : (a mid b : Store K J I an g s d) (messages : List Message) (told : List Told) → mid.schema ≡ a.schema → mid.seats ≡ a.seats → mid.watched ≡ a.watched → IsKeptOn contents a.scribe b.scribe → b ≡ record mid { scribe = b.scribe } → IsSpent b.scribe → Publishes contents a b messages told
   spent_same a mid b messages told schema seats watched journal is spent =
       spent_publishes a b messages told (ap (λ t. t.schema) is ∙ schema) (ap (λ t. t.seats) is ∙ seats) (ap (λ t. t.watched) is ∙ watched) journal spent
 
@@ -298,7 +324,7 @@ module _ {K J I : Type 0} {an : _} {g : _} {s : _} {d : _} (contents : J → Opt
   posted a b number message next queue sent schema seats scribe watched = record {
     schema = schema;
     seats = ap (λ v. v.items) seats;
-    journal = continued_is contents a.scribe b.scribe scribe;
+    journal = kept_is contents a.scribe b.scribe scribe;
     spent = λ k. subst IsSpent (sym scribe) k;
     letters = λ live before u. under_same (a.queue.items ++ record { number = number; message = message } ∷ []) b.queue.items number b.sent (before ++ message ∷ []) queue sent (sent_one a.queue.items a.sent number message before next u);
     hears = hears_same (IsAmong []) a.watched b.watched watched;
@@ -309,7 +335,7 @@ module _ {K J I : Type 0} {an : _} {g : _} {s : _} {d : _} (contents : J → Opt
   publishes_at a b t messages told is p = subst (λ (x : Store K J I an g s d). Publishes contents a x messages told) (sym is) p
 
   -- nothing that is looked at here is another
-  pub same_publishes : (a b : Store K J I an g s d) → b.schema ≡ a.schema → b.seats ≡ a.seats → b.queue ≡ a.queue → b.sent ≡ a.sent → b.watched ≡ a.watched → IsContinued contents a.scribe b.scribe → (IsSpent a.scribe → IsSpent b.scribe) → Publishes contents a b [] []
+  pub same_publishes : (a b : Store K J I an g s d) → b.schema ≡ a.schema → b.seats ≡ a.seats → b.queue ≡ a.queue → b.sent ≡ a.sent → b.watched ≡ a.watched → IsKeptOn contents a.scribe b.scribe → (IsSpent a.scribe → IsSpent b.scribe) → Publishes contents a b [] []
   same_publishes a b schema seats queue sent watched journal spent = record {
     schema = schema;
     seats = ap (λ v. v.items) seats;
@@ -320,7 +346,7 @@ module _ {K J I : Type 0} {an : _} {g : _} {s : _} {d : _} (contents : J → Opt
   }
 
   -- nothing but the journal is another
-  pub only_scribe : (old new : Store K J I an g s d) → new ≡ record old { scribe = new.scribe } → IsContinued contents old.scribe new.scribe → (IsSpent old.scribe → IsSpent new.scribe) → Publishes contents old new [] []
+  pub only_scribe : (old new : Store K J I an g s d) → new ≡ record old { scribe = new.scribe } → IsKeptOn contents old.scribe new.scribe → (IsSpent old.scribe → IsSpent new.scribe) → Publishes contents old new [] []
   only_scribe old new is journal spent = same_publishes old new (ap (λ t. t.schema) is) (ap (λ t. t.seats) is) (ap (λ t. t.queue) is) (ap (λ t. t.sent) is) (ap (λ t. t.watched) is) journal spent
 
   -- the same seats
@@ -338,14 +364,14 @@ module _ {K J I : Type 0} {an : _} {g : _} {s : _} {d : _} (contents : J → Opt
 
   -- nothing but up to where outcomes are written is another
   pub only_noted : (old new : Store K J I an g s d) → new ≡ record old { noted = new.noted } → Publishes contents old new [] []
-  only_noted old new is = same_publishes old new (ap (λ t. t.schema) is) (ap (λ t. t.seats) is) (ap (λ t. t.queue) is) (ap (λ t. t.sent) is) (ap (λ t. t.watched) is) (continued_is contents old.scribe new.scribe (ap (λ t. t.scribe) is)) (λ k. subst IsSpent (sym (ap (λ t. t.scribe) is)) k)
+  only_noted old new is = same_publishes old new (ap (λ t. t.schema) is) (ap (λ t. t.seats) is) (ap (λ t. t.queue) is) (ap (λ t. t.sent) is) (ap (λ t. t.watched) is) (kept_is contents old.scribe new.scribe (ap (λ t. t.scribe) is)) (λ k. subst IsSpent (sym (ap (λ t. t.scribe) is)) k)
 
   -- nothing but what the queue is made of is another
   pub only_queue : (old new : Store K J I an g s d) → new ≡ record old { queue = new.queue } → new.queue.items ≡ old.queue.items → Publishes contents old new [] []
   only_queue old new is queue = record {
     schema = ap (λ t. t.schema) is;
     seats = ap (λ t. t.seats.items) is;
-    journal = continued_is contents old.scribe new.scribe (ap (λ t. t.scribe) is);
+    journal = kept_is contents old.scribe new.scribe (ap (λ t. t.scribe) is);
     spent = λ k. subst IsSpent (sym (ap (λ t. t.scribe) is)) k;
     letters = λ live before u. subst (AreUnderWay new.queue.items new.sent) (sym (append-nil before)) (under_same old.queue.items new.queue.items old.sent new.sent before queue (ap (λ t. t.sent) is) u);
     hears = hears_same (IsAmong []) old.watched new.watched (ap (λ t. t.watched) is);
@@ -353,33 +379,50 @@ module _ {K J I : Type 0} {an : _} {g : _} {s : _} {d : _} (contents : J → Opt
 
   -- nothing comes of nothing
   pub publishes_none : (t : Store K J I an g s d) → Publishes contents t t [] []
-  publishes_none t = same_publishes t t refl refl refl refl refl (continued_same contents t.scribe) (λ k. k)
+  publishes_none t = same_publishes t t refl refl refl refl refl (kept_same contents t.scribe) (λ k. k)
 
   pub publishes_on : (a b : Store K J I an g s d) → Publishes contents a b [] [] → On a b
   publishes_on a b p = record {
     schema = p.schema;
     count = ap length p.seats;
-    journal = p.journal;
+    lines = p.journal.0;
+    journal = p.journal.2;
     clean = λ k. subst (All (IsClean honest holds)) p.seats k;
     went = λ k w i.
         let goes = goes_nowhere (language_of a.schema) (length a.seats.items) w in
-        record { world = w; goes = goes; is_in = same_in a b [] p w i; hears = passes a b [] [] p (WasTold goes.gave) (nobody (WasTold goes.gave)) };
+        record { world = w; goes = goes; events_are = recorded_silent (reading_in a.scribe) p.journal.0 goes.events (IsSpent b.scribe) (nowhere_events (language_of a.schema) (length a.seats.items) w) p.journal.1; is_in = same_in a b [] p w i; hears = passes a b [] [] p (WasTold goes.gave) (nobody (WasTold goes.gave)) };
   }
 
   -- nothing but who leads is another
   pub only_leader : (old new : Store K J I an g s d) → new ≡ record old { leader = new.leader } → On old new
-  only_leader old new is = publishes_on old new (same_publishes old new (ap (λ t. t.schema) is) (ap (λ t. t.seats) is) (ap (λ t. t.queue) is) (ap (λ t. t.sent) is) (ap (λ t. t.watched) is) (continued_is contents old.scribe new.scribe (ap (λ t. t.scribe) is)) (λ k. subst IsSpent (sym (ap (λ t. t.scribe) is)) k))
+  only_leader old new is = publishes_on old new (same_publishes old new (ap (λ t. t.schema) is) (ap (λ t. t.seats) is) (ap (λ t. t.queue) is) (ap (λ t. t.sent) is) (ap (λ t. t.watched) is) (kept_is contents old.scribe new.scribe (ap (λ t. t.scribe) is)) (λ k. subst IsSpent (sym (ap (λ t. t.scribe) is)) k))
+
+  -- the outcome of what is waited for was taken out
+  pub outcome_taken : (old new : Store K J I an g s d) (v u : Watched) → old.watched ≡ Some v → new ≡ record old { watched = Some u } → u.client ≡ v.client → u.number ≡ v.number → u.outcome ≡ None → On old new
+  outcome_taken old new v u was is client number none = publishes_on old new (record {
+    schema = ap (λ t. t.schema) is;
+    seats = ap (λ t. t.seats.items) is;
+    journal = kept_is contents old.scribe new.scribe (ap (λ t. t.scribe) is);
+    spent = λ k. subst IsSpent (sym (ap (λ t. t.scribe) is)) k;
+    letters = λ live before under. subst (AreUnderWay new.queue.items new.sent) (sym (append-nil before)) (under_same old.queue.items new.queue.items old.sent new.sent before (ap (λ t. t.queue.items) is) (ap (λ t. t.sent) is) under);
+    hears = subst (λ (o : Option Watched). Hears (IsAmong []) o new.watched) (sym was) (subst (λ (o : Option Watched). Hears (IsAmong []) (Some v) o) (sym (ap (λ t. t.watched) is)) (client, number, unheard u.outcome none));
+  })
+    where
+      unheard : (o : Option (Result ℕ Reason)) → o ≡ None → IfSome o (Heard (IsAmong []) (Some v))
+      unheard None e = tt
+      unheard (Some r) e = absurd (cc e)
 
   -- what is waited for is another, and nothing is waited for at the end
   pub waited : (Q : List (List Output) → Type 0) (a b : Store K J I an g s d) (watched : Option Watched) → GoesOnSo contents honest held holds Anywhere Q (record a { watched = watched }) b → GoesOnSo contents honest held holds Anywhere Q a (record b { watched = None })
   waited Q a b watched x = record {
     schema = x.schema;
     count = x.count;
+    lines = x.lines;
     journal = x.journal;
     clean = x.clean;
     went = λ k w i p.
         let on = x.went k w (record { seated = i.seated; under_way = i.under_way }) tt in
-        (record { world = on.0.world; goes = on.0.goes; is_in = record { seated = on.0.is_in.seated; under_way = on.0.is_in.under_way }; hears = tt }, on.1);
+        (record { world = on.0.world; goes = on.0.goes; events_are = on.0.events_are; is_in = record { seated = on.0.is_in.seated; under_way = on.0.is_in.under_way }; hears = tt }, on.1);
   }
 
   -- ---- a letter that is taken out
@@ -390,6 +433,7 @@ module _ {K J I : Type 0} {an : _} {g : _} {s : _} {d : _} (contents : J → Opt
       record {
         schema = y.schema;
         count = y.count;
+        lines = y.lines;
         journal = y.journal;
         clean = y.clean;
         went = λ k w i.
@@ -397,24 +441,145 @@ module _ {K J I : Type 0} {an : _} {g : _} {s : _} {d : _} (contents : J → Opt
             let on = y.went k w
             (record { seated = i.seated; under_way = λ live. let u = rest live in (u.0, All-tail (λ (l : Letter). nth w.sent l.number ≡ Some l.message) letter mid.queue.items u.1) })
             (λ live. let u = rest live in All-head (λ (l : Letter). nth w.sent l.number ≡ Some l.message) letter mid.queue.items u.1) in
-            record { world = on.0.world; goes = on.0.goes; is_in = on.0.is_in; hears = on.0.hears };
+            record { world = on.0.world; goes = on.0.goes; events_are = on.0.events_are; is_in = on.0.is_in; hears = on.0.hears };
       }
 
   -- ---- a step that is begun
 
-  pub begun : (m : ℕ) (work : Work) (Q : List (List Output) → Type 0) (old mid new : Store K J I an g s d) → mid ≡ record old { scribe = mid.scribe } → (IsSpent old.scribe → ⊥) → IsContinued contents old.scribe mid.scribe → GoesOnSo contents honest held holds (IsBrought mid m work) Q mid new →
-      GoesOnSo contents honest held holds (IsBrought old m work) Q old new
-  begun m work Q old mid new is live journal x =
-      let y = subst (λ (t : Store K J I an g s d). GoesOnSo contents honest held holds (IsBrought t m work) Q t new) is x in
+  pub begun : (m : ℕ) (taken : Taken) (now : ℤ) (work : Work) (Q : List (List Output) → Type 0) (old mid new : Store K J I an g s d) → mid ≡ record old { scribe = mid.scribe } → (IsSpent old.scribe → ⊥) → BeginsStep contents old.scribe mid.scribe m taken →
+      GoesOnFrom contents honest held holds (Takes m taken ∷ []) (IsBrought mid m (job_of now taken) work) Q mid new → GoesOnSo contents honest held holds (IsBrought old m (job_of now taken) work) Q old new
+  begun m taken now work Q old mid new is live (before, silent, came) x =
+      let y = subst (λ (t : Store K J I an g s d). GoesOnFrom contents honest held holds (Takes m taken ∷ []) (IsBrought t m (job_of now taken) work) Q t new) is x in
+      let first = reading_in old.scribe in
+      let shown : last_reading first before ≡ reading_in mid.scribe = sym (continued_reading contents old.scribe mid.scribe (before ++ Takes m taken ∷ []) came ∙ last_both first before (Takes m taken ∷ [])) in
       record {
         schema = y.schema;
         count = y.count;
-        journal = continued_both contents old.scribe mid.scribe new.scribe journal y.journal;
+        lines = before ++ Takes m taken ∷ y.lines;
+        journal = subst (IsContinued contents old.scribe new.scribe) (append_assoc before (Takes m taken ∷ []) y.lines) (continued_both contents old.scribe mid.scribe new.scribe (before ++ Takes m taken ∷ []) y.lines came y.journal);
         clean = y.clean;
         went = λ k w i p.
             let on = y.went k w (record { seated = i.seated; under_way = λ other. i.under_way live }) (λ other. p live) in
-            (record { world = on.0.world; goes = on.0.goes; is_in = on.0.is_in; hears = on.0.hears }, on.1);
+            let filed : AreRecorded first (before ++ Takes m taken ∷ y.lines) on.0.goes.events (IsSpent new.scribe) =
+            recorded_both first (last_reading first before) before (Takes m taken ∷ y.lines) [] on.0.goes.events ⊥ (IsSpent new.scribe) refl (λ never. absurd never) (λ never. absurd never)
+            (recorded_as first before [] ⊥ (silent_records first before silent))
+            (subst (λ (r : Option ℤ). AreRecorded r (Takes m taken ∷ y.lines) on.0.goes.events (IsSpent new.scribe)) (sym shown) on.0.events_are) in
+            (record { world = on.0.world; goes = on.0.goes; events_are = filed; is_in = on.0.is_in; hears = on.0.hears }, on.1);
       }
+
+  -- ---- one event
+
+  -- an event happened, of a store in which nothing is heard
+  pub by_one : (event : Event) (land : World → World) (old new : Store K J I an g s d) → new.schema ≡ old.schema → length new.seats.items ≡ length old.seats.items → new.watched ≡ old.watched → (AreClean honest holds new → AreClean honest holds old) →
+      (lines : List Line) → IsContinued contents old.scribe new.scribe lines → AreRecorded (reading_in old.scribe) lines (event ∷ []) (IsSpent new.scribe) →
+      ((w : World) → By (language_of old.schema) (length old.seats.items) w (land w) event) → (AreClean honest holds new → (w : World) → IsIn held holds old w → IsIn held holds new (land w)) → On old new
+  by_one event land old new schema count watched clean lines journal filed by lands = record {
+    schema = schema;
+    count = count;
+    lines = lines;
+    journal = journal;
+    clean = clean;
+    went = λ k w i.
+        let b = by w in
+        record { world = land w; goes = b.goes; events_are = subst (AreFiled old new lines) (sym b.events_are) filed; is_in = lands k w i; hears = hears_same (WasTold b.goes.gave) old.watched new.watched watched };
+  }
+
+  -- only lines came to the journal of a store that is not spent
+  written_in : (old mid : Store K J I an g s d) → mid ≡ record old { scribe = mid.scribe } → (IsSpent old.scribe → ⊥) → (w : World) → IsIn held holds old w → IsIn held holds mid w
+  written_in old mid is live w i = subst (λ (t : Store K J I an g s d). IsIn held holds t w) (sym is) (let there : IsIn held holds (record old { scribe = mid.scribe }) w = record { seated = i.seated; under_way = λ other. i.under_way live } in there)
+
+  -- a member's end came to the journal, and it was stopped
+  pub ended : (m : ℕ) (old mid new : Store K J I an g s d) → mid ≡ record old { scribe = mid.scribe } → (IsSpent old.scribe → ⊥) → IsContinued contents old.scribe mid.scribe (Ends m ∷ []) → Stops honest held holds m mid new → On old new
+  ended m old mid new is live came stops =
+      let as_old : Stops honest held holds m (record old { scribe = mid.scribe }) new = subst (λ (t : Store K J I an g s d). Stops honest held holds m t new) is stops in
+      let first = reading_in old.scribe in
+      by_one (Stop m) (λ w. stops_of w m (nth w.nodes m)) old new as_old.schema as_old.count as_old.watched as_old.clean (Ends m ∷ [])
+      (subst (λ (x : Option (Scribe J)). IsContinued contents old.scribe x (Ends m ∷ [])) (sym as_old.scribe) came)
+      (recorded_as first (Ends m ∷ []) (Stop m ∷ []) (IsSpent new.scribe) (Stop m ∷ [], [], refl, refl, refl))
+      (λ w. stop_goes (language_of old.schema) (length old.seats.items) w m)
+      (λ k w i. as_old.went k w (record { seated = i.seated; under_way = λ other. i.under_way live }))
+
+  -- it was down before, and its end came to the journal then
+  pub ended_late : (m : ℕ) (first old mid new : Store K J I an g s d) → Stops honest held holds m first old → mid ≡ record old { scribe = mid.scribe } → (IsSpent old.scribe → ⊥) → IsContinued contents old.scribe mid.scribe (Ends m ∷ []) → Stops honest held holds m mid new → On first new
+  ended_late m first old mid new fell is live came stops =
+      let neat : AreClean honest holds new → AreClean honest holds old = λ k. subst (λ (t : Store K J I an g s d). AreClean honest holds t) is (stops.clean k) in
+      by_one (Stop m) (λ w. stops_of w m (nth w.nodes m)) first new (stops.schema ∙ ap (λ t. t.schema) is ∙ fell.schema) (stops.count ∙ ap (λ t. length t.seats.items) is ∙ fell.count) (stops.watched ∙ ap (λ t. t.watched) is ∙ fell.watched)
+      (λ k. fell.clean (neat k)) (Ends m ∷ [])
+      (subst (λ (x : Option (Scribe J)). IsContinued contents x new.scribe (Ends m ∷ [])) fell.scribe (subst (λ (x : Option (Scribe J)). IsContinued contents old.scribe x (Ends m ∷ [])) (sym stops.scribe) came))
+      (recorded_as (reading_in first.scribe) (Ends m ∷ []) (Stop m ∷ []) (IsSpent new.scribe) (Stop m ∷ [], [], refl, refl, refl))
+      (λ w. stop_goes (language_of first.schema) (length first.seats.items) w m)
+      (λ k w i.
+      let down = stops_of w m (nth w.nodes m) in
+      subst (IsIn held holds new) (stops_twice w m) (stops.went k down (written_in old mid is live down (fell.went (neat k) w i))))
+
+  -- and the journal was spent before that
+  pub ended_unsaid : (m : ℕ) (first old new : Store K J I an g s d) → Stops honest held holds m first old → new ≡ record old { scribe = new.scribe } → IsContinued contents old.scribe new.scribe [] → IsSpent new.scribe → On first new
+  ended_unsaid m first old new fell is came spent =
+      let neat : AreClean honest holds new → AreClean honest holds old = λ k. subst (λ (t : Store K J I an g s d). AreClean honest holds t) is k in
+      by_one (Stop m) (λ w. stops_of w m (nth w.nodes m)) first new (ap (λ t. t.schema) is ∙ fell.schema) (ap (λ t. length t.seats.items) is ∙ fell.count) (ap (λ t. t.watched) is ∙ fell.watched)
+      (λ k. fell.clean (neat k)) []
+      (subst (λ (x : Option (Scribe J)). IsContinued contents x new.scribe []) fell.scribe came)
+      (recorded_late (reading_in first.scribe) (Stop m) (IsSpent new.scribe) (m, inr refl) spent)
+      (λ w. stop_goes (language_of first.schema) (length first.seats.items) w m)
+      (λ k w i.
+      let there = fell.went (neat k) w i in
+      subst (λ (t : Store K J I an g s d). IsIn held holds t (stops_of w m (nth w.nodes m))) (sym is)
+      (let in_old : IsIn held holds (record old { scribe = new.scribe }) (stops_of w m (nth w.nodes m)) = record { seated = there.seated; under_way = λ live. absurd (live spent) } in in_old))
+
+  -- a member was started, and its life came to the journal
+  pub lives : (m : ℕ) (stored : Summary) (old mid new : Store K J I an g s d) → StartsOne honest held holds m old mid → new ≡ record mid { scribe = new.scribe } → (IsSpent mid.scribe → ⊥) → IsContinued contents mid.scribe new.scribe (Life m stored ∷ []) → On old new
+  lives m stored old mid new starts is live came =
+      let first = reading_in old.scribe in
+      by_one (Start m) (λ w. starts_of w m (nth w.nodes m)) old new (ap (λ t. t.schema) is ∙ starts.schema) (ap (λ t. length t.seats.items) is ∙ starts.count) (ap (λ t. t.watched) is ∙ starts.watched)
+      (λ k. starts.clean (subst (λ (t : Store K J I an g s d). AreClean honest holds t) is k)) (Life m stored ∷ [])
+      (subst (λ (x : Option (Scribe J)). IsContinued contents x new.scribe (Life m stored ∷ [])) starts.scribe came)
+      (recorded_as first (Life m stored ∷ []) (Start m ∷ []) (IsSpent new.scribe) (Start m ∷ [], [], refl, refl, refl))
+      (λ w. start_goes (language_of old.schema) (length old.seats.items) w m)
+      (λ k w i. written_in mid new is live (starts_of w m (nth w.nodes m)) (starts.went (subst (λ (t : Store K J I an g s d). AreClean honest holds t) is k) w i))
+
+  -- it was started, and the journal was spent before its life came there
+  pub lives_unsaid : (m : ℕ) (old mid new : Store K J I an g s d) → StartsOne honest held holds m old mid → new ≡ record mid { scribe = new.scribe } → IsContinued contents mid.scribe new.scribe [] → IsSpent new.scribe → On old new
+  lives_unsaid m old mid new starts is came spent =
+      let first = reading_in old.scribe in
+      by_one (Start m) (λ w. starts_of w m (nth w.nodes m)) old new (ap (λ t. t.schema) is ∙ starts.schema) (ap (λ t. length t.seats.items) is ∙ starts.count) (ap (λ t. t.watched) is ∙ starts.watched)
+      (λ k. starts.clean (subst (λ (t : Store K J I an g s d). AreClean honest holds t) is k)) []
+      (subst (λ (x : Option (Scribe J)). IsContinued contents x new.scribe []) starts.scribe came)
+      (recorded_late first (Start m) (IsSpent new.scribe) (m, inl refl) spent)
+      (λ w. start_goes (language_of old.schema) (length old.seats.items) w m)
+      (λ k w i.
+      let there = starts.went (subst (λ (t : Store K J I an g s d). AreClean honest holds t) is k) w i in
+      subst (λ (t : Store K J I an g s d). IsIn held holds t (starts_of w m (nth w.nodes m))) (sym is)
+      (let in_mid : IsIn held holds (record mid { scribe = new.scribe }) (starts_of w m (nth w.nodes m)) = record { seated = there.seated; under_way = λ live. absurd (live spent) } in in_mid))
+
+  -- nothing came to a journal, which is spent
+  pub unwritten : (old new : Store K J I an g s d) → new ≡ record old { scribe = new.scribe } → IsContinued contents old.scribe new.scribe [] → IsSpent new.scribe → On old new
+  unwritten old new is came spent = publishes_on old new (only_scribe old new is (kept_none contents old.scribe new.scribe came) (λ was. spent))
+
+  -- nobody is stopped who is not there
+  pub stops_nobody : (t : Store K J I an g s d) (m : ℕ) → (length t.seats.items < m) ⊎ (m ≡ 0) → Stops honest held holds m t t
+  stops_nobody t m away = record {
+    schema = refl;
+    count = refl;
+    scribe = refl;
+    watched = refl;
+    clean = λ k. k;
+    went = λ k w i. subst (IsIn held holds t) (sym (ap (stops_of w m) (nowhere w.nodes (i.seated.all) m away))) i;
+  }
+    where
+      nowhere : (nodes : List model.Node) → length nodes ≡ length t.seats.items → (m : ℕ) → (length t.seats.items < m) ⊎ (m ≡ 0) → nth nodes m ≡ None
+      nowhere nodes all zero away = refl
+      nowhere nodes all (suc k) away = ⊎_elim (λ far. slice_get_past nodes k (omega (arith, far, all))) (λ none. absurd (cc none)) away
+
+  -- who leads is another
+  pub stops_leader : (m : ℕ) (old mid new : Store K J I an g s d) → new ≡ record mid { leader = new.leader } → Stops honest held holds m old mid → Stops honest held holds m old new
+  stops_leader m old mid new is S = subst (Stops honest held holds m old) (sym is) (record {
+    schema = S.schema;
+    count = S.count;
+    scribe = S.scribe;
+    watched = S.watched;
+    clean = S.clean;
+    went = λ k w i. let there = S.went k w i in record { seated = there.seated; under_way = there.under_way };
+  })
 
   -- ---- a seat whose member is stopped or started
 
@@ -449,29 +614,75 @@ module _ {K J I : Type 0} {an : _} {g : _} {s : _} {d : _} (contents : J → Opt
           under_way = λ live. under_same old.queue.items new.queue.items old.sent new.sent w.sent (ap (λ q. q.items) C.queue) C.sent (i.under_way (λ k. live (spent k)));
         }
 
-    -- a member that was stopped or started
-    pub one_seat : (IsSpent old.scribe → IsSpent new.scribe) → (IsClean honest holds after → (x : model.Node) → Has (at + 1) before x →
-        (y : model.Node) × (Has (at + 1) after y × ((w : World) → nth w.nodes (at + 1) ≡ Some x → Goes (language_of old.schema) (length old.seats.items) w (with_node w (at + 1) y [])))) → On old new
-    one_seat spent turn = record {
+    -- a member that stays as it is, or turns into another one
+    stays_in : new.scribe ≡ old.scribe → (w v : World) (x y : model.Node) → IsIn held holds old w → Has (at + 1) after y → v ≡ with_node w (at + 1) y [] → IsIn held holds new v
+    stays_in scribe w v x y i h is =
+        subst (IsIn held holds new) (sym (is ∙ ap (world_with (with_nth w.nodes (at + 1) y)) (append-nil w.sent))) (seat_in (λ spent. subst IsSpent (sym scribe) spent) w y i h)
+
+    -- it was stopped
+    pub stops_one : (m : ℕ) → m ≡ at + 1 → new.scribe ≡ old.scribe → (IsClean honest holds after → (x : model.Node) → Has (at + 1) before x → Has (at + 1) after (after_stop x)) → Stops honest held holds m old new
+    stops_one m is scribe turn = subst (λ (k : ℕ). Stops honest held holds k old new) (sym is) (record {
       schema = C.schema;
       count = same_count;
-      journal = C.journal;
+      scribe = scribe;
+      watched = C.watched;
+      clean = was_tidy;
+      went = λ k w i.
+          let x = sits w i in
+          stays_in scribe w (stops_of w (at + 1) (nth w.nodes (at + 1))) x.0 (after_stop x.0) i (turn (tidy k) x.0 x.2) (stops_at w (at + 1) x.0 x.1);
+    })
+
+    -- it was started
+    pub starts_one : (m : ℕ) → m ≡ at + 1 → new.scribe ≡ old.scribe → (IsClean honest holds after → (x : model.Node) → Has (at + 1) before x → (x.up ≡ false) × Has (at + 1) after (started x)) → StartsOne honest held holds m old new
+    starts_one m is scribe turn = subst (λ (k : ℕ). StartsOne honest held holds k old new) (sym is) (record {
+      schema = C.schema;
+      count = same_count;
+      scribe = scribe;
+      watched = C.watched;
       clean = was_tidy;
       went = λ k w i.
           let x = sits w i in
           let t = turn (tidy k) x.0 x.2 in
-          let v = world_with (with_nth w.nodes (at + 1) t.0) w.sent in
-          let goes = goes_to (language_of old.schema) (length old.seats.items) w (with_node w (at + 1) t.0 []) v (ap (world_with (with_nth w.nodes (at + 1) t.0)) (append-nil w.sent)) (t.1.1 w x.1) in
-          record { world = v; goes = goes; is_in = seat_in spent w t.0 i t.1.0; hears = hears_same (WasTold goes.gave) old.watched new.watched C.watched };
+          stays_in scribe w (starts_of w (at + 1) (nth w.nodes (at + 1))) x.0 (started x.0) i t.1 (starts_at w (at + 1) x.0 x.1 t.0);
+    })
+
+    -- it stayed as it was
+    pub same_seat : new.scribe ≡ old.scribe → (IsClean honest holds after → (x : model.Node) → Has (at + 1) before x → Has (at + 1) after x) → On old new
+    same_seat scribe turn = record {
+      schema = C.schema;
+      count = same_count;
+      lines = [];
+      journal = subst (λ (x : Option (Scribe J)). IsContinued contents old.scribe x []) (sym scribe) (continued_same contents old.scribe);
+      clean = was_tidy;
+      went = λ k w i.
+          let x = sits w i in
+          let goes = goes_nowhere (language_of old.schema) (length old.seats.items) w in
+          record {
+            world = w;
+            goes = goes;
+            events_are = recorded_silent (reading_in old.scribe) [] goes.events (IsSpent new.scribe) (nowhere_events (language_of old.schema) (length old.seats.items) w) (All-nil IsSilent);
+            is_in = stays_in scribe w w x.0 x.0 i (turn (tidy k) x.0 x.2) (sym (same_world w (at + 1) x.0 x.0 x.1 refl));
+            hears = hears_same (WasTold goes.gave) old.watched new.watched C.watched;
+          };
     }
 
-  -- a seat that may have been started, by the seat's own words
-  pub started_seat : (before after : Seat K J I an g s d) (schema named : Tables) (n k m : ℕ) → named ≡ schema → k ≡ n →
-      ((x : model.Node) → HasMember held holds named k before.member before x → (y : model.Node) × (HasMember held holds named k before.member after y × MayStart x y)) →
-      (x : model.Node) → HasMember held holds schema n m before x → (y : model.Node) × (HasMember held holds schema n m after y × MayStart x y)
-  started_seat before after schema named n k m tables count starts x has =
-      let T : Tables → ℕ → ℕ → Type 0 = λ t c i. HasMember held holds t c i before x → (y : model.Node) × (HasMember held holds t c i after y × MayStart x y) in
+  -- a seat that was started, or was not, by the seat's own words
+  pub begun_seat : (before after : Seat K J I an g s d) (schema named : Tables) (n k m : ℕ) → named ≡ schema → k ≡ n →
+      ((x : model.Node) → HasMember held holds named k before.member before x → (x.up ≡ false) × HasMember held holds named k before.member after (started x)) →
+      (x : model.Node) → HasMember held holds schema n m before x → (x.up ≡ false) × HasMember held holds schema n m after (started x)
+  begun_seat before after schema named n k m tables count starts x has =
+      let T : Tables → ℕ → ℕ → Type 0 = λ t c i. HasMember held holds t c i before x → (x.up ≡ false) × HasMember held holds t c i after (started x) in
       let a : T schema k before.member = subst (λ (t : Tables). T t k before.member) tables (starts x) in
+      let b : T schema n before.member = subst (λ (c : ℕ). T schema c before.member) count a in
+      let e : T schema n m = subst (λ (i : ℕ). T schema n i) has.0 b in
+      e has
+
+  pub stayed_seat : (before after : Seat K J I an g s d) (schema named : Tables) (n k m : ℕ) → named ≡ schema → k ≡ n →
+      ((x : model.Node) → HasMember held holds named k before.member before x → HasMember held holds named k before.member after x) →
+      (x : model.Node) → HasMember held holds schema n m before x → HasMember held holds schema n m after x
+  stayed_seat before after schema named n k m tables count stays x has =
+      let T : Tables → ℕ → ℕ → Type 0 = λ t c i. HasMember held holds t c i before x → HasMember held holds t c i after x in
+      let a : T schema k before.member = subst (λ (t : Tables). T t k before.member) tables (stays x) in
       let b : T schema n before.member = subst (λ (c : ℕ). T schema c before.member) count a in
       let e : T schema n m = subst (λ (i : ℕ). T schema n i) has.0 b in
       e has

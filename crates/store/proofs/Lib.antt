@@ -10,7 +10,9 @@ pub mod Missing
 pub mod Opening
 pub mod Ranges
 pub mod Reading
+pub mod Recording
 pub mod Statuses
 pub mod Stepping
 pub mod Taking
+pub mod Texts
 pub mod Written

@@ -1,31 +1,46 @@
 -- The members of a store that is opened.
-use Rattle.std.proofs.Common.{◌≡◌, ◌∙◌, ℕ, zero, suc, ◌+◌, ◌⊎◌, inl, inr, Option, Some, None, List, [], ◌∷◌, ◌++◌, MatchOption, length, slice_get, slice_set, refl, sym, ap, subst, append-nil, add-one, arith, false}
+use Rattle.std.proofs.Common.{◌≡◌, ◌∙◌, ℕ, zero, suc, ◌+◌, ◌≤◌, ◌⊎◌, inl, inr, Option, Some, None, Result, Ok, Err, OnOk, List, [], ◌∷◌, ◌++◌, MatchOption, drop, length, slice_get, slice_set, take, refl, sym, ap, subst, append-nil, append_assoc, add-one, arith, false, if◌then◌else◌}
 use Rattle.std.specs.List.{All}
+use Rattle.std.specs.Option.{ForSome}
+use Rattle.std.specs.Prelude.{ℤ, is_none}
+use Rattle.std.proofs.Math.Seq.{take-add}
+use Rattle.std.proofs.lemmas.Grind.{flat_map-append}
 use Rattle.std.proofs.lemmas.List.{length-append}
-use Rattle.std.proofs.lemmas.List.Elements.{All-nil}
+use Rattle.std.proofs.lemmas.List.Elements.{All-head, All-nil, All-tail}
 use Rattle.std.proofs.lemmas.Option.{same_Some, slice_get_within}
 use Rattle.model.specs.Lists.{nth, with_nth}
 use Rattle.model.specs.Members as model
-use Rattle.model.specs.Worlds.{World, Event, with_node}
+use Rattle.model.specs.Transactions.{Language}
+use Rattle.model.specs.Worlds.{World, Event, Start, started, starts}
+use Rattle.model.specs.declared.message.Message.{Message}
+use Rattle.journal.specs.declared.line.Line.{Line}
+use Rattle.journal.specs.declared.line.Line.TheVariants.{Life, Rests}
+use Rattle.journal.specs.declared.stored.Summary.{Summary}
 use Rattle.keep.specs.Durable.{Durable}
 use Rattle.sessions.specs.Kills.{opened}
-use Rattle.sessions.proofs.Lists.{get_short, get_there, with_length}
+use Rattle.sessions.proofs.Lists.{further, get_short, get_there}
 use Rattle.sqlchecks.specs.Columns.{Tables}
 use Rattle.sqlread.specs.Meaning.{language_of}
-use Rattle.runlaws.specs.Going.{AreSeated, Goes, MayStart}
-use Rattle.runlaws.proofs.Going.{goes_further, goes_nowhere, goes_to, start}
-use Rattle.runlaws.proofs.Seats.{nth_next, set_next, seated, seated_anew}
+use Rattle.runlaws.specs.Going.{AreSeated, Goes}
+use Rattle.runlaws.proofs.Going.{further_events, goes_further, goes_named, goes_nowhere, goes_to, nowhere_events, start_goes, starts_at, to_events}
+use Rattle.runlaws.proofs.Seats.{nth_next, set_next}
 use Rattle.store.specs.declared.members.Members.{Members}
+use Rattle.store.specs.declared.scribe.Scribe.{Scribe}
 use Rattle.store.specs.declared.seat.Seat.{Seat}
 use Rattle.store.specs.declared.steps.Letter.{Letter}
 use Rattle.store.specs.declared.store.Store.{Store}
+use Rattle.store.specs.Became.{Became, EachBecame}
+use Rattle.store.specs.Continuing.{IsContinued, reading_in}
 use Rattle.store.specs.Going.{AreClean, GoesOn, IsIn, IsRunOf}
 use Rattle.node.specs.declared.node.Node.{Node}
-use Rattle.store.specs.Nodes.{IsNodeOf, Rests}
+use Rattle.store.specs.Journals.{IsSpent}
+use Rattle.store.specs.Nodes.{IsNodeOf, Rests as AreRests}
+use Rattle.store.specs.Recording.{AreRecorded, IsSilent, RecordAll, Records}
 use Rattle.store.specs.Seats.{HasMember, IsClean}
-use Rattle.store.specs.Opening.{AreFound, AreLaid, AreMembers, AreOpened, Begins, Starts}
+use Rattle.store.specs.Opening.{AreFound, AreLaid, AreMembers, AreOpened, Begins, Files, Starts, risen, starts_of}
 use Rattle.store.specs.Tales.{Told, tale_of}
-use Rattle.store.proofs.Going.{all_at, all_back, world_with}
+use Rattle.store.proofs.Continuing.{continued_both, continued_reading}
+use Rattle.store.proofs.Recording.{record_both, recorded_as, recorded_both, silent_records}
 
 -- what stands in a list with one more at its end
 pub pushed : {A : Type 0} (xs : List A) (y z : A) (i : ℕ) → slice_get (xs ++ y ∷ []) i ≡ Some z → (slice_get xs i ≡ Some z) ⊎ ((i ≡ length xs) × (z ≡ y))
@@ -36,6 +51,75 @@ pushed (x ∷ xs) y z (suc i) e = elim (pushed xs y z i e) [
   | inl h ↦ inl h
   | inr h ↦ inr (ap suc h.0, h.1)
 ]
+
+-- the element behind a front, and another one for it
+nth_behind : {A : Type 0} (front xs : List A) (x : A) → nth (front ++ x ∷ xs) (length front + 1) ≡ Some x
+nth_behind front xs x = nth_next (front ++ x ∷ xs) (length front + 1) (length front) refl ∙ ap (slice_get (front ++ x ∷ xs)) (let e : length front ≡ length front + 0 = omega arith in e) ∙ further front (x ∷ xs) 0
+
+set_behind : {A : Type 0} (front xs : List A) (x y : A) → with_nth (front ++ x ∷ xs) (length front + 1) y ≡ front ++ y ∷ xs
+set_behind {A = A} front xs x y = sym (set_next (front ++ x ∷ xs) (length front + 1) (length front) y refl) ∙ go front
+  where
+    go : (zs : List A) → slice_set (zs ++ x ∷ xs) (length zs) y ≡ zs ++ y ∷ xs
+    go [] = refl
+    go (z ∷ zs) = ap (λ (l : List A). z ∷ l) (go zs)
+
+-- what holds of all holds of the one that stands there
+all_of : {A : Type 0} (P : A → Type 0) (xs : List A) (i : ℕ) (x : A) → slice_get xs i ≡ Some x → All P xs → P x
+all_of P [] i x e all = absurd (cc e)
+all_of P (y ∷ ys) zero x e all = subst P (same_Some y x e) (All-head P y ys all)
+all_of P (y ∷ ys) (suc i) x e all = all_of P ys i x e (All-tail P y ys all)
+
+-- where one of a list became another one
+pub on_became : {A B E : Type 0} (r : Result B E) (turn : A → A → Type 0) (old : List A) (at : ℕ) (before after : A) → slice_get old at ≡ Some before → OnOk r (turn before after) → OnOk r (Became turn at old (slice_set old at after))
+on_became (Ok x) turn old at before after there turned = record { before = before; after = after; there = there; now = refl; turned = turned }
+on_became (Err e) turn old at before after there turned = tt
+
+-- ---- lines that record events, one after another
+
+module _ {J : Type 0} (contents : J → Option (List ℕ)) where
+  pub files_silent : (s t : Option (Scribe J)) (lines : List Line) → All IsSilent lines → IsContinued contents s t lines → Files contents s t []
+  files_silent s t lines silent on = (lines, on, silent_records (reading_in s) lines silent)
+
+  pub files_both : (s t u : Option (Scribe J)) (a b : List Event) → Files contents s t a → Files contents t u b → Files contents s u (a ++ b)
+  files_both s t u a b (one, first, x) (two, second, y) = (
+    one ++ two,
+    continued_both contents s t u one two first second,
+    record_both (reading_in s) one two a b x (subst (λ (r : Option ℤ). RecordAll r two b) (continued_reading contents s t one first) y),
+  )
+
+  pub files_on : (s t u : Option (Scribe J)) (events : List Event) (lines : List Line) → Files contents s t events → All IsSilent lines → IsContinued contents t u lines → Files contents s u events
+  files_on s t u events lines one silent on = subst (Files contents s u) (append-nil events) (files_both s t u events [] one (files_silent t u lines silent on))
+
+-- ---- worlds where these messages were sent
+
+abbrev world_with : List Message → List model.Node → World
+world_with sent nodes = record { nodes = nodes; sent = sent }
+
+-- these events lead from these members to those
+record By_these (language : Language) (n : ℕ) (sent : List Message) (events : List Event) (old new : List model.Node) : Type 0 where
+  goes : Goes language n (world_with sent old) (world_with sent new)
+  events_are : goes.events ≡ events
+
+by_both : (language : Language) (n : ℕ) (sent : List Message) (e f : List Event) (a b c : List model.Node) → By_these language n sent e a b → By_these language n sent f b c → By_these language n sent (e ++ f) a c
+by_both language n sent e f a b c one two = record {
+  goes = goes_further language n (world_with sent a) (world_with sent b) (world_with sent c) one.goes two.goes;
+  events_are =
+      further_events language n (world_with sent a) (world_with sent b) (world_with sent c) one.goes two.goes
+      ∙ ap (λ (es : List Event). es ++ two.goes.events) one.events_are
+      ∙ ap (λ (es : List Event). e ++ es) two.events_are;
+}
+
+-- members that were found are down
+are_down : {I : Type 0} (holds : I → Durable → Type 0) (images : List (Option I)) (found : List model.Node) → AreFound holds images found → (i : ℕ) (x : model.Node) → slice_get found i ≡ Some x → x.up ≡ false
+are_down {I = I} holds images found F i x q =
+    let short = get_short found i x q in
+    let all = F.all in
+    let image = get_there images i (omega (arith, short, all)) in
+    go image.0 (F.each (suc i) image.0 x image.1 q)
+  where
+    go : (o : Option I) → MatchOption o (x.up ≡ false) (λ i. AreRests (holds i) x) → x.up ≡ false
+    go None down = down
+    go (Some image) rests = rests.0
 
 module _ {K J I : Type 0} {an : _} {g : _} {s : _} {d : _} where
   pub laid_none : (told : Told) (seats : List (Seat K J I an g s d)) → seats ≡ [] → AreLaid {I = I} told [] seats
@@ -57,15 +141,126 @@ module _ {K J I : Type 0} {an : _} {g : _} {s : _} {d : _} where
     ];
   }
 
+  -- ---- members that are started one after the other
+
+  -- the start of the member of this seat, if it is up
+  abbrev start_of : Seat K J I an g s d → List Event
+  start_of seat = if is_none seat.node then [] else (Start seat.member ∷ [])
+
+  -- what becomes of the members of these seats
+  abbrev all_risen : List (Seat K J I an g s d) → List model.Node → List model.Node
+  all_risen [] xs = xs
+  all_risen (seat ∷ seats) [] = []
+  all_risen (seat ∷ seats) (x ∷ xs) = risen seat x ∷ all_risen seats xs
+
+  risen_count : (seats : List (Seat K J I an g s d)) (xs : List model.Node) → length xs ≡ length seats → length (all_risen seats xs) ≡ length seats
+  risen_count [] xs all = all
+  risen_count (seat ∷ seats) [] all = all
+  risen_count (seat ∷ seats) (x ∷ xs) all = ap suc (risen_count seats xs (omega (arith, all)))
+
+  risen_at : (seats : List (Seat K J I an g s d)) (xs : List model.Node) (i : ℕ) (seat : Seat K J I an g s d) (y : model.Node) → slice_get seats i ≡ Some seat → slice_get (all_risen seats xs) i ≡ Some y → (x : model.Node) × (slice_get xs i ≡ Some x) × (y ≡ risen seat x)
+  risen_at [] xs i seat y p q = absurd (cc p)
+  risen_at (first ∷ seats) [] i seat y p q = absurd (cc q)
+  risen_at (first ∷ seats) (x ∷ xs) zero seat y p q = (x, refl, sym (same_Some (risen first x) y q) ∙ ap (λ (t : Seat K J I an g s d). risen t x) (same_Some first seat p))
+  risen_at (first ∷ seats) (x ∷ xs) (suc i) seat y p q = risen_at seats xs i seat y p q
+
+  module _ (language : Language) (n : ℕ) (sent : List Message) where
+    -- the one behind those of a front
+    start_behind : (front : List model.Node) (seat : Seat K J I an g s d) (x : model.Node) (xs : List model.Node) → seat.member ≡ length front + 1 → x.up ≡ false → By_these language n sent (start_of seat) (front ++ x ∷ xs) (front ++ risen seat x ∷ xs)
+    start_behind front seat x xs me down = go seat.node refl
+      where
+        go : (o : Option (Node K I g s)) → seat.node ≡ o → By_these language n sent (start_of seat) (front ++ x ∷ xs) (front ++ risen seat x ∷ xs)
+        go None is =
+            let old = world_with sent (front ++ x ∷ xs) in
+            let new = world_with sent (front ++ risen seat x ∷ xs) in
+            let same : old ≡ new = ap (λ (o : Option (Node K I g s)). world_with sent (front ++ (if is_none o then x else started x) ∷ xs)) (sym is) in
+            record {
+              goes = goes_to language n old old new same (goes_nowhere language n old);
+              events_are = to_events language n old old new same (goes_nowhere language n old) ∙ nowhere_events language n old ∙ ap (λ (o : Option (Node K I g s)). if is_none o then [] else (Start seat.member ∷ [])) (sym is);
+            }
+        go (Some node) is =
+            let old = world_with sent (front ++ x ∷ xs) in
+            let new = world_with sent (front ++ risen seat x ∷ xs) in
+            let m = seat.member in
+            let at : nth old.nodes m ≡ Some x = ap (nth old.nodes) me ∙ nth_behind front xs x in
+            let nodes : with_nth old.nodes m (started x) ≡ front ++ risen seat x ∷ xs = ap (λ (k : ℕ). with_nth old.nodes k (started x)) me ∙ set_behind front xs x (started x) ∙ ap (λ (o : Option (Node K I g s)). front ++ (if is_none o then x else started x) ∷ xs) (sym is) in
+            let same : starts old m (nth old.nodes m) ≡ new = starts_at old m x at down ∙ ap (λ (sent' : List Message). let u : World = record { nodes = with_nth old.nodes m (started x); sent = sent' } in u) (append-nil sent) ∙ ap (world_with sent) nodes in
+            let by = start_goes language n old m in
+            record {
+              goes = goes_to language n old (starts old m (nth old.nodes m)) new same by.goes;
+              events_are = to_events language n old (starts old m (nth old.nodes m)) new same by.goes ∙ by.events_are ∙ ap (λ (o : Option (Node K I g s)). if is_none o then [] else (Start m ∷ [])) (sym is);
+            }
+
+    -- all of them
+    start_all : (front : List model.Node) (seats : List (Seat K J I an g s d)) (xs : List model.Node) → length xs ≡ length seats → ((i : ℕ) (seat : Seat K J I an g s d) → slice_get seats i ≡ Some seat → seat.member ≡ length front + i + 1) →
+        ((i : ℕ) (x : model.Node) → slice_get xs i ≡ Some x → x.up ≡ false) → By_these language n sent (starts_of seats) (front ++ xs) (front ++ all_risen seats xs)
+    start_all front [] xs all me down = record { goes = goes_nowhere language n (world_with sent (front ++ xs)); events_are = nowhere_events language n (world_with sent (front ++ xs)) }
+    start_all front (seat ∷ seats) [] all me down = absurd (omega (arith, all))
+    start_all front (seat ∷ seats) (x ∷ xs) all me down =
+        let y = risen seat x in
+        let here = me 0 seat refl in
+        let one = start_behind front seat x xs (omega (arith, here)) (down 0 x refl) in
+        let longer = length-append front (y ∷ []) in
+        let rest = start_all (front ++ y ∷ []) seats xs (omega (arith, all)) (λ i t p. let next = me (suc i) t p in omega (arith, next, longer)) (λ i z p. down (suc i) z p) in
+        let T : List model.Node → List model.Node → Type 0 = λ a b. By_these language n sent (starts_of seats) a b in
+        let more : T (front ++ y ∷ xs) (front ++ y ∷ all_risen seats xs) = subst (λ (a : List model.Node). T a (front ++ y ∷ all_risen seats xs)) (append_assoc front (y ∷ []) xs) (subst (T ((front ++ y ∷ []) ++ xs)) (append_assoc front (y ∷ []) (all_risen seats xs)) rest) in
+        by_both language n sent (start_of seat) (starts_of seats) (front ++ x ∷ xs) (front ++ y ∷ xs) (front ++ y ∷ all_risen seats xs) one more
+
+  -- ---- lines that a journal begins with
+
+  -- what a member begins it with records its start
+  head_records : (seat : Seat K J I an g s d) (line : Line) (reading : Option ℤ) → (seat.node ≡ None → line ≡ Rests seat.member seat.tale.stored) → ForSome seat.node (λ node. (stored : Summary) × (line ≡ Life seat.member stored)) → RecordAll reading (line ∷ []) (starts_of (seat ∷ []))
+  head_records seat line reading down life = (start_of seat, [], go seat.node refl, refl, refl)
+    where
+      go : (o : Option (Node K I g s)) → seat.node ≡ o → Records reading line (start_of seat)
+      go None is = subst (λ (l : Line). Records reading l (start_of seat)) (sym (down is)) (ap (λ (o : Option (Node K I g s)). if is_none o then [] else (Start seat.member ∷ [])) is)
+      go (Some node) is = let l = life node is in subst (λ (l : Line). Records reading l (start_of seat)) (sym l.1) (ap (λ (o : Option (Node K I g s)). if is_none o then [] else (Start seat.member ∷ [])) is)
+
+  -- the starts of the first of these seats, and of the next one
+  pub next_starts : (seats : List (Seat K J I an g s d)) (at : ℕ) → starts_of (take (at + 1) seats) ≡ starts_of (take at seats) ++ starts_of (take 1 (drop at seats))
+  next_starts seats at = ap starts_of (take-add at 1 seats) ∙ flat_map-append start_of (take at seats) (take 1 (drop at seats))
+
+  -- the seat that stands there
+  one_there : (seats : List (Seat K J I an g s d)) (at : ℕ) (seat : Seat K J I an g s d) → slice_get seats at ≡ Some seat → take 1 (drop at seats) ≡ seat ∷ []
+  one_there [] at seat p = absurd (cc p)
+  one_there (first ∷ seats) zero seat p = ap (λ (t : Seat K J I an g s d). t ∷ []) (same_Some first seat p)
+  one_there (first ∷ seats) (suc at) seat p = one_there seats at seat p
+
+  -- none stands there
+  pub none_there : (seats : List (Seat K J I an g s d)) (at : ℕ) → length seats ≤ at → take 1 (drop at seats) ≡ []
+  none_there [] zero past = refl
+  none_there [] (suc at) past = refl
+  none_there (first ∷ seats) zero past = absurd (omega (arith, past))
+  none_there (first ∷ seats) (suc at) past = none_there seats at (omega (arith, past))
+
+  pub head_files : (contents : J → Option (List ℕ)) (seats : List (Seat K J I an g s d)) (at : ℕ) (seat : Seat K J I an g s d) (old new : Option (Scribe J)) (line : Line) → slice_get seats at ≡ Some seat → (seat.node ≡ None → line ≡ Rests seat.member seat.tale.stored) →
+      ForSome seat.node (λ node. (stored : Summary) × (line ≡ Life seat.member stored)) → IsContinued contents old new (line ∷ []) → Files contents old new (starts_of (take 1 (drop at seats)))
+  head_files contents seats at seat old new line there down life on =
+      (line ∷ [], on, subst (λ (xs : List (Seat K J I an g s d)). RecordAll (reading_in old) (line ∷ []) (starts_of xs)) (sym (one_there seats at seat there)) (head_records seat line (reading_in old) down life))
+
+  -- ---- a store of which only the journal and what is noted become others
+
+  pub only_first : (old t : Store K J I an g s d) (noted : ℕ) → t ≡ old → record t { noted = noted } ≡ record old { scribe = t.scribe; noted = noted }
+  only_first old t noted same = ap (λ (x : Store K J I an g s d). record x { noted = noted }) same ∙ ap (λ (x : Option (Scribe J)). record old { scribe = x; noted = noted }) (sym (ap (λ (x : Store K J I an g s d). x.scribe) same))
+
+  pub only_then : (old mid new : Store K J I an g s d) → mid ≡ record old { scribe = mid.scribe; noted = mid.noted } → new ≡ record mid { scribe = new.scribe } → new ≡ record old { scribe = new.scribe; noted = new.noted }
+  only_then old mid new one two =
+      two
+      ∙ ap (λ (x : Store K J I an g s d). record x { scribe = new.scribe }) one
+      ∙ ap (λ (n : ℕ). record old { scribe = new.scribe; noted = n }) (sym (ap (λ (x : Store K J I an g s d). x.noted) two))
+
+  pub only_both : (old mid new : Store K J I an g s d) → mid ≡ record old { scribe = mid.scribe; noted = mid.noted } → new ≡ record mid { scribe = new.scribe; noted = new.noted } → new ≡ record old { scribe = new.scribe; noted = new.noted }
+  only_both old mid new one two = two ∙ ap (λ (x : Store K J I an g s d). record x { scribe = new.scribe; noted = new.noted }) one
+
 module _ {K J I : Type 0} {an : _} {g : _} {s : _} {d : _} (honest : K → Type 0) (held : K → Durable → Type 0) (holds : I → Durable → Type 0) where
   -- ---- seats whose members are not started yet
 
-  at_rest : (tables : Tables) (n m : ℕ) (seat : Seat K J I an g s d) (image : Option I) (x : model.Node) → seat.member ≡ m → seat.node ≡ None → seat.image ≡ image → MatchOption image (x.up ≡ false) (λ i. Rests (holds i) x) → HasMember held holds tables n m seat x
+  at_rest : (tables : Tables) (n m : ℕ) (seat : Seat K J I an g s d) (image : Option I) (x : model.Node) → seat.member ≡ m → seat.node ≡ None → seat.image ≡ image → MatchOption image (x.up ≡ false) (λ i. AreRests (holds i) x) → HasMember held holds tables n m seat x
   at_rest tables n m seat image x me none is rests =
-      let there : MatchOption seat.image (x.up ≡ false) (λ i. Rests (holds i) x) = subst (λ (o : Option I). MatchOption o (x.up ≡ false) (λ i. Rests (holds i) x)) (sym is) rests in
-      (me, subst (λ (o : Option (Node K I g s)). MatchOption o (MatchOption seat.image (x.up ≡ false) (λ i. Rests (holds i) x)) (λ node. IsNodeOf held tables n m node x)) (sym none) there)
+      let there : MatchOption seat.image (x.up ≡ false) (λ i. AreRests (holds i) x) = subst (λ (o : Option I). MatchOption o (x.up ≡ false) (λ i. AreRests (holds i) x)) (sym is) rests in
+      (me, subst (λ (o : Option (Node K I g s)). MatchOption o (MatchOption seat.image (x.up ≡ false) (λ i. AreRests (holds i) x)) (λ node. IsNodeOf held tables n m node x)) (sym none) there)
 
-  pub laid : (told : Told) (tables : Tables) (n : ℕ) (images : List (Option I)) (seats : List (Seat K J I an g s d)) (found : List model.Node) → AreLaid told images seats → AreFound holds images found → AreSeated (λ m seat x. HasMember held holds tables n m seat x) seats found
+  laid : (told : Told) (tables : Tables) (n : ℕ) (images : List (Option I)) (seats : List (Seat K J I an g s d)) (found : List model.Node) → AreLaid told images seats → AreFound holds images found → AreSeated (λ m seat x. HasMember held holds tables n m seat x) seats found
   laid told tables n images seats found L F = record { all = F.all ∙ sym L.all; each = go }
     where
       go : (m : ℕ) (seat : Seat K J I an g s d) (x : model.Node) → nth seats m ≡ Some seat → nth found m ≡ Some x → HasMember held holds tables n m seat x
@@ -78,88 +273,112 @@ module _ {K J I : Type 0} {an : _} {g : _} {s : _} {d : _} (honest : K → Type 
           let me : seat.member ≡ suc i = l.0 ∙ add-one i in
           at_rest tables n (suc i) seat image.0 x me l.1 l.2 (F.each (suc i) image.0 x image.1 q)
 
-  -- ---- members that are started one after the other
+  -- ---- a seat whose member was started
 
-  pub starts_none : (tables : Tables) (n : ℕ) (seats : List (Seat K J I an g s d)) → Starts honest held holds tables n seats seats
-  starts_none tables n seats = record { count = refl; clean = λ k. k; went = λ k w a. (w, (goes_nowhere (language_of tables) n w, refl, a)) }
+  -- a member that stays at its seat without a node
+  pub stays_missing : (tables : Tables) (n : ℕ) (seat : Seat K J I an g s d) → seat.node ≡ None → Starts honest held holds tables n seat seat
+  stays_missing tables n seat none = λ neat down x has. subst (HasMember held holds tables n seat.member seat) (ap (λ (o : Option (Node K I g s)). if is_none o then x else started x) (sym none)) has
 
-  pub starts_both : (tables : Tables) (n : ℕ) (old mid new : List (Seat K J I an g s d)) → Starts honest held holds tables n old mid → Starts honest held holds tables n mid new → Starts honest held holds tables n old new
-  starts_both tables n old mid new a b = record {
-    count = b.count ∙ a.count;
-    clean = λ k. a.clean (b.clean k);
-    went = λ k w has.
-        let one = a.went (b.clean k) w has in
-        let two = b.went k one.0 one.1.2 in
-        (two.0, (goes_further (language_of tables) n w one.0 two.0 one.1.0 two.1.0, two.1.1 ∙ one.1.1, two.1.2));
-  }
-
-  -- one of them
-  pub starts_one : (tables : Tables) (n : ℕ) (old new : List (Seat K J I an g s d)) (at : ℕ) (before after : Seat K J I an g s d) → slice_get old at ≡ Some before → new ≡ slice_set old at after →
-      (IsClean honest holds after → IsClean honest holds before) →
-      (IsClean honest holds after → (x : model.Node) → HasMember held holds tables n (at + 1) before x → (y : model.Node) × (HasMember held holds tables n (at + 1) after y × MayStart x y)) → Starts honest held holds tables n old new
-  starts_one tables n old new at before after there is clean turn =
-      let Has : ℕ → Seat K J I an g s d → model.Node → Type 0 = λ m seat x. HasMember held holds tables n m seat x in
-      let seats : with_nth old (at + 1) after ≡ new = sym (is ∙ set_next old (at + 1) at after refl) in
-      record {
-        count = sym (ap length seats) ∙ with_length old (at + 1) after;
-        clean = λ k. all_back (IsClean honest holds) old at before after there clean (subst (All (IsClean honest holds)) is k);
-        went = λ k w a.
-            let neat = subst (All (IsClean honest holds)) is k in
-            let sits = seated Has old w.nodes a (at + 1) before (nth_next old (at + 1) at refl ∙ there) in
-            let t = turn (all_at (IsClean honest holds) old at before after there neat) sits.0 sits.2 in
-            let v = world_with (with_nth w.nodes (at + 1) t.0) w.sent in
-            let goes = goes_to (language_of tables) n w (with_node w (at + 1) t.0 []) v (ap (world_with (with_nth w.nodes (at + 1) t.0)) (append-nil w.sent)) (start (language_of tables) n w (at + 1) sits.0 sits.1 t.0 t.1.1) in
-            let anew : AreSeated Has (with_nth old (at + 1) after) v.nodes = seated_anew Has old w.nodes a (at + 1) after t.0 t.1.0 in
-            (v, (goes, refl, subst (λ (xs : List (Seat K J I an g s d)). AreSeated Has xs v.nodes) seats anew));
-      }
-
-  -- one that stays as it is
-  pub starts_still : (tables : Tables) (n : ℕ) (old new : List (Seat K J I an g s d)) (at : ℕ) (seat : Seat K J I an g s d) → slice_get old at ≡ Some seat → new ≡ slice_set old at seat → Starts honest held holds tables n old new
-  starts_still tables n old new at seat there is = starts_one tables n old new at seat seat there is (λ k. k) (λ k x has. (x, (has, inl refl)))
+  -- the same, where tables and number are said in other words
+  pub starts_named : {A E : Type 0} (r : Result A E) (tables named : Tables) (n k : ℕ) (before after : Seat K J I an g s d) → named ≡ tables → k ≡ n → OnOk r (Starts honest held holds named k before after) → OnOk r (Starts honest held holds tables n before after)
+  starts_named r tables named n k before after p q starts =
+      subst (λ (t : Tables). OnOk r (Starts honest held holds t n before after)) p (subst (λ (c : ℕ). OnOk r (Starts honest held holds named c before after)) q starts)
 
   -- ---- the members of a store that is opened
 
-  pub are_opened : (told : Told) (tables : Tables) (images : List (Option I)) (laid_down new : List (Seat K J I an g s d)) → AreLaid told images laid_down → Starts honest held holds tables (length laid_down) laid_down new →
-      (All (IsClean honest holds) new → (found : List model.Node) → AreFound holds images found →
-      (v : World) × (Goes (language_of tables) (length images) (opened found) v × (v.sent ≡ []) × AreMembers held holds tables (length images) new v))
-  are_opened told tables images laid_down new L S k found F =
-      let T : ℕ → Type 0 = λ n. (v : World) × (Goes (language_of tables) n (opened found) v × (v.sent ≡ []) × AreMembers held holds tables n new v) in
-      let there : T (length laid_down) = S.went k (opened found) (laid told tables (length laid_down) images laid_down found L F) in
-      subst T L.all there
+  -- events that start members from these databases
+  abbrev HasStarted : Tables → ℕ → List model.Node → List (Seat K J I an g s d) → Type 0
+  HasStarted tables n found seats = (v : World) × (goes : Goes (language_of tables) n (opened found) v) × (goes.events ≡ starts_of seats) × (v.sent ≡ []) × AreMembers held holds tables n seats v
+
+  pub are_opened : (told : Told) (tables : Tables) (images : List (Option I)) (laid_down new : List (Seat K J I an g s d)) → AreLaid told images laid_down → EachBecame (Starts honest held holds tables (length laid_down)) laid_down new →
+      (All (IsClean honest holds) new → (found : List model.Node) → AreFound holds images found → HasStarted tables (length images) found new)
+  are_opened told tables images laid_down new L E k found F = subst (λ (c : ℕ). HasStarted tables c found new) L.all (world, there.goes, there.events_are, refl, sits)
+    where
+      has_after : (i : ℕ) (seat : Seat K J I an g s d) (x : model.Node) → slice_get new i ≡ Some seat → slice_get found i ≡ Some x → HasMember held holds tables (length laid_down) (suc i) seat (risen seat x)
+      has_after i seat x p q =
+          let short = get_short found i x q in
+          let images_all = F.all in
+          let laid_all = L.all in
+          let before = get_there laid_down i (omega (arith, short, images_all, laid_all)) in
+          let image = get_there images i (omega (arith, short, images_all)) in
+          let old = (laid told tables (length laid_down) images laid_down found L F).each (suc i) before.0 x before.1 q in
+          let none = (L.each i before.0 image.0 before.1 image.1).1 in
+          let mine = subst (λ (m : ℕ). HasMember held holds tables (length laid_down) m before.0 x) (sym old.0) old in
+          let now = E.each i before.0 seat before.1 p (all_of (IsClean honest holds) new i seat p k) none x mine in
+          subst (λ (m : ℕ). HasMember held holds tables (length laid_down) m seat (risen seat x)) old.0 now
+
+      all : length found ≡ length new
+      all = F.all ∙ sym L.all ∙ sym E.count
+
+      me : (i : ℕ) (seat : Seat K J I an g s d) → slice_get new i ≡ Some seat → seat.member ≡ 0 + i + 1
+      me i seat p =
+          let short = get_short new i seat p in
+          let count = all in
+          let x = get_there found i (omega (arith, short, count)) in
+          let is = (has_after i seat x.0 p x.1).0 in
+          omega (arith, is)
+
+      there : By_these (language_of tables) (length laid_down) [] (starts_of new) found (all_risen new found)
+      there = start_all (language_of tables) (length laid_down) [] [] new found all me (are_down holds images found F)
+
+      world : World
+      world = record { nodes = all_risen new found; sent = [] }
+
+      sits : AreMembers held holds tables (length laid_down) new (record { nodes = all_risen new found; sent = [] })
+      sits = record { all = risen_count new found all; each = go }
+        where
+          go : (m : ℕ) (seat : Seat K J I an g s d) (y : model.Node) → nth new m ≡ Some seat → nth (all_risen new found) m ≡ Some y → HasMember held holds tables (length laid_down) m seat y
+          go zero seat y p q = absurd (cc p)
+          go (suc i) seat y p q =
+              let x = risen_at new found i seat y p q in
+              subst (HasMember held holds tables (length laid_down) (suc i) seat) (sym x.2) (has_after i seat x.0 p x.1)
 
   -- ---- a store that begins
 
   -- the world that it begins in
-  begins_in : (members : Members K J I an g s d) (first : Store K J I an g s d) → first.schema ≡ members.schema → first.seats.items ≡ members.seats.items → first.queue.items ≡ [] → first.sent ≡ 0 →
-      (w : World) → w.sent ≡ [] → AreMembers held holds members.schema (length members.seats.items) members.seats.items w → IsIn held holds first w
-  begins_in members first schema seats queue sent w none has = record {
-    seated = subst (λ (t : Tables). AreSeated (λ m seat x. HasMember held holds t (length first.seats.items) m seat x) first.seats.items w.nodes) (sym schema)
+  begins_in : (members : Members K J I an g s d) (head : Store K J I an g s d) → head.schema ≡ members.schema → head.seats.items ≡ members.seats.items → head.queue.items ≡ [] → head.sent ≡ 0 →
+      (w : World) → w.sent ≡ [] → AreMembers held holds members.schema (length members.seats.items) members.seats.items w → IsIn held holds head w
+  begins_in members head schema seats queue sent w none has = record {
+    seated = subst (λ (t : Tables). AreSeated (λ m seat x. HasMember held holds t (length head.seats.items) m seat x) head.seats.items w.nodes) (sym schema)
         (subst (λ (xs : List (Seat K J I an g s d)). AreSeated (λ m seat x. HasMember held holds members.schema (length xs) m seat x) xs w.nodes) (sym seats) has);
     under_way = λ live. (sent ∙ sym (ap length none), subst (All (λ (l : Letter). nth w.sent l.number ≡ Some l.message)) (sym queue) (All-nil (λ (l : Letter). nth w.sent l.number ≡ Some l.message)));
   }
 
-  pub begins : (contents : J → Option (List ℕ)) (members : Members K J I an g s d) (first last : Store K J I an g s d) → first.schema ≡ members.schema → first.seats.items ≡ members.seats.items → first.queue.items ≡ [] → first.sent ≡ 0 → GoesOn contents honest held holds first last → Begins honest held holds members last
-  begins contents members first last schema seats queue sent on = record {
-    schema = on.schema ∙ schema;
-    count = on.count ∙ ap length seats;
-    clean = λ k. subst (All (IsClean honest holds)) seats (on.clean k);
+  -- its first lines were written, and then it went on
+  pub begins : (contents : J → Option (List ℕ)) (members : Members K J I an g s d) (scribe : Scribe J) (head last : Store K J I an g s d) → head.schema ≡ members.schema → head.seats.items ≡ members.seats.items → head.queue.items ≡ [] → head.sent ≡ 0 →
+      Files contents (Some scribe) head.scribe (starts_of members.seats.items) → GoesOn contents honest held holds head last → Begins contents honest held holds members scribe last
+  begins contents members scribe head last schema seats queue sent (lines, on, recorded) later = record {
+    schema = later.schema ∙ schema;
+    count = later.count ∙ ap length seats;
+    lines = lines ++ later.lines;
+    journal = continued_both contents (Some scribe) head.scribe last.scribe lines later.lines on later.journal;
+    clean = λ k. subst (All (IsClean honest holds)) seats (later.clean k);
     went = λ k w none has.
-        let went = on.went k w (begins_in members first schema seats queue sent w none has) in
-        let goes : Goes (language_of members.schema) (length members.seats.items) w went.world =
-        subst (λ (t : Tables). Goes (language_of t) (length members.seats.items) w went.world) schema (subst (λ (n : ℕ). Goes (language_of first.schema) n w went.world) (ap length seats) went.goes) in
-        (went.world, (goes, went.is_in));
+        let went = later.went k w (begins_in members head schema seats queue sent w none has) in
+        let named = goes_named (language_of members.schema) (language_of head.schema) (length members.seats.items) (length head.seats.items) w went.world (ap language_of schema) (ap length seats) went.goes in
+        (went.world, named.goes, went.is_in, subst (λ (es : List Event). AreRecorded scribe.reading (lines ++ later.lines) (starts_of members.seats.items ++ es) (IsSpent last.scribe)) (sym named.events_are) (all went.goes.events went.events_are));
   }
+    where
+      all : (events : List Event) → AreRecorded (reading_in head.scribe) later.lines events (IsSpent last.scribe) → AreRecorded scribe.reading (lines ++ later.lines) (starts_of members.seats.items ++ events) (IsSpent last.scribe)
+      all events are = recorded_both scribe.reading (reading_in head.scribe) lines later.lines (starts_of members.seats.items) events ⊥ (IsSpent last.scribe) (continued_reading contents (Some scribe) head.scribe lines on) (λ never. absurd never) (λ never. absurd never)
+          (recorded_as scribe.reading lines (starts_of members.seats.items) ⊥ recorded) are
 
-  -- a store that was begun with members that were opened is a run from what the databases held
-  pub runs : (told : Told) (images : List (Option I)) (members : Members K J I an g s d) (store : Store K J I an g s d) → AreOpened honest held holds told images members → Begins honest held holds members store → AreClean honest holds store →
+  -- A store that was begun with members that were opened is a run from what the databases held, and the lines that came to its journal
+  -- record that run.
+  pub runs_recorded : (contents : J → Option (List ℕ)) (told : Told) (images : List (Option I)) (members : Members K J I an g s d) (scribe : Scribe J) (store : Store K J I an g s d) → AreOpened honest held holds told images members → (B : Begins contents honest held holds members scribe store) → AreClean honest holds store →
+      (found : List model.Node) → AreFound holds images found → (w : World) × (goes : Goes (language_of store.schema) (length store.seats.items) (opened found) w) × IsIn held holds store w × AreRecorded scribe.reading B.lines goes.events (IsSpent store.scribe)
+  runs_recorded contents told images members scribe store O B k found F =
+      let o : HasStarted members.schema (length members.seats.items) found members.seats.items = subst (λ (n : ℕ). HasStarted members.schema n found members.seats.items) (sym O.count) (O.went (B.clean k) found F) in
+      let b = B.went k o.0 o.3 o.4 in
+      let language = language_of members.schema in
+      let n = length members.seats.items in
+      let all = goes_further language n (opened found) o.0 b.0 o.1 b.1 in
+      let named = goes_named (language_of store.schema) language (length store.seats.items) n (opened found) b.0 (ap language_of (sym B.schema)) (sym B.count) all in
+      let events : named.goes.events ≡ starts_of members.seats.items ++ b.1.events = named.events_are ∙ further_events language n (opened found) o.0 b.0 o.1 b.1 ∙ ap (λ (es : List Event). es ++ b.1.events) o.2 in
+      (b.0, named.goes, b.2, subst (λ (es : List Event). AreRecorded scribe.reading B.lines es (IsSpent store.scribe)) (sym events) b.3)
+
+  pub runs : (contents : J → Option (List ℕ)) (told : Told) (images : List (Option I)) (members : Members K J I an g s d) (scribe : Scribe J) (store : Store K J I an g s d) → AreOpened honest held holds told images members → Begins contents honest held holds members scribe store → AreClean honest holds store →
       (found : List model.Node) → AreFound holds images found → (events : List Event) × IsRunOf held holds found events store
-  runs told images members store O B k found F =
-      let o = O.went (B.clean k) found F in
-      let v = o.0 in
-      let named : (u : World) × (Goes (language_of members.schema) (length members.seats.items) (opened found) u × (u.sent ≡ []) × AreMembers held holds members.schema (length members.seats.items) members.seats.items u) =
-      subst (λ (n : ℕ). (u : World) × (Goes (language_of members.schema) n (opened found) u × (u.sent ≡ []) × AreMembers held holds members.schema n members.seats.items u)) (sym O.count) o in
-      let b = B.went k named.0 named.1.1 named.1.2 in
-      let all = goes_further (language_of members.schema) (length members.seats.items) (opened found) named.0 b.0 named.1.0 b.1.0 in
-      let there : Goes (language_of store.schema) (length store.seats.items) (opened found) b.0 =
-      subst (λ (t : Tables). Goes (language_of t) (length store.seats.items) (opened found) b.0) (sym B.schema) (subst (λ (n : ℕ). Goes (language_of members.schema) n (opened found) b.0) (sym B.count) all) in
-      (there.events, subst (λ (u : World). IsIn held holds store u) there.leads b.1.1)
+  runs contents told images members scribe store O B k found F =
+      let r = runs_recorded contents told images members scribe store O B k found F in
+      (r.1.events, subst (λ (u : World). IsIn held holds store u) r.1.leads r.2)

@@ -1,5 +1,5 @@
 -- What came of a step of a node, and of a keeper that lost the voice.
-use Rattle.std.proofs.Common.{◌≡◌, ◌∙◌, ℕ, Bool, true, false, Option, Some, None, List, ◌++◌, take, MatchOption, Result, Ok, Err, IfOk, IfErr, OnOk, MatchBool, refl, sym, ap, subst, ⊎_elim, inr}
+use Rattle.std.proofs.Common.{◌≡◌, ◌∙◌, ℕ, Bool, true, false, Option, Some, None, List, ◌++◌, take, MatchOption, Result, Ok, Err, IfOk, IfErr, OnOk, MatchBool, refl, sym, ap, subst, ⊎_elim}
 use Rattle.model.specs.Members as model
 use Rattle.model.specs.declared.entry.Entry.{Entry}
 use Rattle.model.specs.Kept.{node_after}
@@ -18,7 +18,6 @@ use Rattle.node.specs.declared.node.Fault.TheVariants.{Kept, Down}
 use Rattle.node.specs.Member.{me_of, member_of, members_of, tables_of}
 use Rattle.node.specs.View.{durable_of, started_from, told_between, works, Gave, IsGiven, IsEmpty, IsSame, IsTorn, LeavesUp}
 use Rattle.node.specs.Work.{Work}
-use Rattle.runlaws.specs.Going.{MayStart}
 use Rattle.store.specs.Nodes.{rested, IsMember, IsNodeOf, Rests, StepsTo}
 
 left_old : (x : model.Node) (o : Effect) → node_left Old x o ≡ x
@@ -87,10 +86,6 @@ module _ {K I : Type 0} {g : _} {s : _} (held : K → Durable → Type 0) where
   pub member_up : (node : Node K I g s) (x : model.Node) → node.is_up ≡ true → IsMember held node x → x ≡ member_of node
   member_up node x u is = subst (λ (b : Bool). MatchBool b (x ≡ member_of node) (Rests (held node.keeper) x)) u is
 
--- a member that is started with what its database holds
-pub may_start : (x y : model.Node) (stored : Durable) → x ≡ rested stored → y ≡ started_from stored → MayStart x y
-may_start x y stored was is = inr (ap (λ (z : model.Node). z.up) was, is ∙ sym (ap started was))
-
 -- a node whose keeper gave something back: what it holds is no more
 pub given_back : {K I : Type 0} {g : _} {s : _} (held : K → Durable → Type 0) (node : Node K I g s) (holds : Durable → Type 0) (other y : model.Node) → other ≡ member_of node → ((d : Durable) → holds d → held node.keeper d) → IsMember held node y → MatchBool node.is_up (y ≡ other) (Rests holds y)
 given_back held node holds other y same less is = go node.is_up is
@@ -124,13 +119,9 @@ at_some o node Q P some there = subst (λ x. MatchOption x Q P) some there
 pub to_some : {N : Type 0} (o : Option N) (node : N) (Q : Type 0) (P : N → Type 0) → o ≡ Some node → P node → MatchOption o Q P
 to_some o node Q P some there = subst (λ x. MatchOption x Q P) (sym some) there
 
--- a node that was started with what its database holds
+-- a node that was started with what its database holds is the member, started
 pub started_there : {K I : Type 0} {g : _} {s : _} (held : K → Durable → Type 0) (holds : Durable → Type 0) (tables : Tables) (n m : ℕ) (node : Node K I g s) (x : model.Node) → Rests holds x → holds (durable_of (member_of node)) → member_of node ≡ started_from (durable_of (member_of node)) → node.is_up ≡ true →
-    tables_of node ≡ tables → members_of node ≡ n → me_of node ≡ m → (y : model.Node) × (IsNodeOf held tables n m node y × MayStart x y)
-started_there held holds tables n m node x rests found opened up a b c = (
-  member_of node,
-  (
-    record { tables_are = a; members_are = b; me_is = c; is = subst (λ (z : Bool). MatchBool z (member_of node ≡ member_of node) (Rests (held node.keeper) (member_of node))) (sym up) refl },
-    may_start x (member_of node) (durable_of (member_of node)) (rests.1 (durable_of (member_of node)) found) opened,
-  ),
-)
+    tables_of node ≡ tables → members_of node ≡ n → me_of node ≡ m → (x.up ≡ false) × IsNodeOf held tables n m node (started x)
+started_there held holds tables n m node x rests found opened up a b c =
+    let is : started x ≡ member_of node = ap started (rests.1 (durable_of (member_of node)) found) ∙ sym opened in
+    (rests.0, record { tables_are = a; members_are = b; me_is = c; is = subst (λ (z : Bool). MatchBool z (started x ≡ member_of node) (Rests (held node.keeper) (started x))) (sym up) is })

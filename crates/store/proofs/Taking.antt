@@ -1,5 +1,5 @@
 -- A step of a member of a store, as events of a run.
-use Rattle.std.proofs.Common.{◌≡◌, ◌∙◌, ℕ, ◌+◌, ◌⊎◌, ⊎_elim, inl, inr, Bool, true, false, Option, Some, Result, Ok, Err, IsErr, MatchBool, List, [], length, refl, sym, ap, subst, arith}
+use Rattle.std.proofs.Common.{◌≡◌, ◌∙◌, ℕ, ◌+◌, ◌⊎◌, ⊎_elim, inl, inr, Bool, true, false, Option, Some, Result, Ok, Err, IsErr, MatchBool, List, [], ◌∷◌, length, refl, sym, ap, subst, append-nil, arith}
 use Rattle.std.specs.List.{All, Contains}
 use Rattle.std.specs.Option.{option_map_or}
 use Rattle.std.proofs.lemmas.Bool.{eq-eqb}
@@ -14,10 +14,11 @@ use Rattle.model.specs.declared.event.Job.{Job}
 use Rattle.model.specs.declared.event.Job.TheVariants.{Local as TheLocal, Delivery}
 use Rattle.model.specs.declared.message.Input.{Input}
 use Rattle.model.specs.declared.message.Message.{Message}
-use Rattle.model.specs.Worlds.{World, Output, effect, is_for, node_left, stopped, with_node}
+use Rattle.model.specs.Worlds.{World, Event, Torn, Output, effect, is_for, node_left, stopped, with_node}
 use Rattle.model.specs.Worlds.Output.{Applied, Refused as Refuses}
 use Rattle.keep.specs.Durable.{Durable}
-use Rattle.sessions.specs.Kills.{Steps}
+use Rattle.keep.specs.declared.error.StoreError.{StoreError}
+use Rattle.sessions.specs.Kills.{whole, Steps}
 use Rattle.sqlchecks.specs.Columns.{Tables}
 use Rattle.sqlread.specs.Meaning.{language_of}
 use Rattle.node.specs.declared.node.Out.{Out}
@@ -26,7 +27,7 @@ use Rattle.node.specs.declared.node.Fault.TheVariants.{Kept, Down}
 use Rattle.node.specs.View.{told_between, works, IsEmpty, IsGiven}
 use Rattle.node.specs.Work.{Work, Local, Delivered}
 use Rattle.runlaws.specs.Going.{Goes, HasGiven, WasTold}
-use Rattle.runlaws.proofs.Going.{made, refused, torn, turned}
+use Rattle.runlaws.proofs.Going.{made, refused, stop_after, torn, torn_events, turned}
 use Rattle.store.specs.declared.store.Store.{Store}
 use Rattle.store.specs.declared.steps.Letter.{Letter}
 use Rattle.store.specs.declared.steps.Stepped.{Stepped}
@@ -34,9 +35,15 @@ use Rattle.store.specs.declared.refusal.StoreRefusal.{StoreRefusal}
 use Rattle.store.specs.Journals.{IsSpent}
 use Rattle.store.specs.Nodes.{StepsTo}
 use Rattle.store.specs.Seats.{IsClean}
-use Rattle.store.specs.Going.{GoesOn, GoesOnSo, HasSent, HasStepped, Hears, IsAmong, IsBrought, Publishes, SaysWhy}
-use Rattle.store.proofs.Continuing.{continued_same, continued_both}
-use Rattle.store.proofs.Going.{TellsLess, hears_more, same_count, seat_in, seats_as, sits, so_then, so_weaker, publishes_none, spent_publishes, tidy, was_tidy, world_with}
+use Rattle.journal.specs.declared.line.Taken.{Taken}
+use Rattle.journal.specs.declared.line.Line.{Line}
+use Rattle.journal.specs.declared.line.Line.TheVariants.{Takes}
+use Rattle.store.specs.Recording.{IsSilent, IsStep, job_of}
+use Rattle.store.specs.Continuing.{IsKeptOn, reading_in}
+use Rattle.store.specs.Going.{AreFiled, Changes, GoesOnFrom, HasSent, HasStepped, Hears, IsAmong, IsBrought, IsIn, Publishes, SaysWhy, Stops}
+use Rattle.store.proofs.Continuing.{kept_both, kept_same}
+use Rattle.store.proofs.Recording.{recorded_as, silent_records}
+use Rattle.store.proofs.Going.{TellsLess, from_weaker, hears_more, hears_same, same_count, seat_in, seats_as, sits, spent_publishes, tidy, was_tidy, world_with}
 
 -- what a step sends, and what it tells
 abbrev pub messages_of : Result Out Fault → List Message
@@ -68,6 +75,7 @@ module _ (tables : Tables) (n m : ℕ) (work : Work) (w : World) (x : model.Node
   -- what a step comes to
   pub record Turn (y : model.Node) (result : Result Out Fault) : Type 0 where
     pub goes : Goes (language_of tables) n w (with_node w m y (messages_of result))
+    pub events_are : (event : Event) × IsStep m job event × (goes.events ≡ event ∷ [])
     pub tells : (one : Told) → Contains (told_of result) one → HasGiven goes.gave (Applied m one)
     pub says : Says m result goes.gave
 
@@ -84,51 +92,65 @@ module _ (tables : Tables) (n m : ℕ) (work : Work) (w : World) (x : model.Node
   unfolding told_between steps
   turn y (Ok out) s =
       let d = made (language_of tables) n w m job (steps s.0) y out.messages.items out.told.items (given y out s.1) s.2 in
-      record { goes = d.goes; tells = d.tells; says = tt }
+      record { goes = d.goes; events_are = (whole m job, inl refl, d.events_are); tells = d.tells; says = tt }
   turn y (Err (Kept reason)) s = go x.up refl s.1
     where
       go : (b : Bool) → x.up ≡ b → MatchBool b (Denies reason ≡ works tables n m work x) (reason ≡ NodeDown) → Turn y (Err (Kept reason))
       go true up is =
           let d = refused (language_of tables) n w m job (steps up) y reason (is ∙ sym (same x)) s.0 in
-          record { goes = d.goes; tells = λ one has. absurd (nobody one has); says = d.says }
+          record { goes = d.goes; events_are = (whole m job, inl refl, d.events_are); tells = λ one has. absurd (nobody one has); says = d.says }
       go false down is =
           let d = turned (language_of tables) n w m job x at down for y s.0 in
-          record { goes = d.goes; tells = λ one has. absurd (nobody one has); says = subst (λ (r : Reason). HasGiven d.goes.gave (Refuses m r)) (sym is) d.says }
-  turn y (Err (Down error)) s = record {
-    goes = torn (language_of tables) n w m job (steps s.0) y s.1.0 (s.1.1 ∙ ap (λ (o : Effect). stopped (node_left s.1.0 x o)) (sym (same x)));
-    tells = λ one has. absurd (nobody one has);
-    says = tt;
-  }
+          record { goes = d.goes; events_are = (whole m job, inl refl, d.events_are); tells = λ one has. absurd (nobody one has); says = subst (λ (r : Reason). HasGiven d.goes.gave (Refuses m r)) (sym is) d.says }
+  turn y (Err (Down error)) s =
+      let left = s.1.1 ∙ ap (λ (o : Effect). stopped (node_left s.1.0 x o)) (sym (same x)) in
+      record {
+        goes = torn (language_of tables) n w m job (steps s.0) y s.1.0 left;
+        events_are = (Torn m job s.1.0, inr (s.1.0, refl), torn_events (language_of tables) n w m job (steps s.0) y s.1.0 left);
+        tells = λ one has. absurd (nobody one has);
+        says = tt;
+      }
 
 -- ---- one step of a store
 
 module _ {K J I : Type 0} {an : _} {g : _} {s : _} {d : _} (contents : J → Option (List ℕ)) (honest : K → Type 0) (held : K → Durable → Type 0) (holds : I → Durable → Type 0) where
-  abbrev So : (World → Type 0) → (List (List Output) → Type 0) → Store K J I an g s d → Store K J I an g s d → Type 0
-  So = GoesOnSo contents honest held holds
+  -- a member took a step that is begun, after which lines came that record nothing
+  abbrev pub So : (m : ℕ) (taken : Taken) (now : ℤ) → Work → (List (List Output) → Type 0) → Store K J I an g s d → Store K J I an g s d → Type 0
+  So m taken now work gives old new = GoesOnFrom contents honest held holds (Takes m taken ∷ []) (IsBrought old m (job_of now taken) work) gives old new
+
+  -- the events of the step, in the lines
+  filed : (old new : Store K J I an g s d) (m : ℕ) (taken : Taken) (now : ℤ) (lines : List Line) (events : List Event) → reading_in old.scribe ≡ Some now → All IsSilent lines → (event : Event) × IsStep m (job_of now taken) event × (events ≡ event ∷ []) →
+      AreFiled old new (Takes m taken ∷ lines) events
+  filed old new m taken now lines events shown silent (event, is, are) =
+      subst (AreFiled old new (Takes m taken ∷ lines)) (sym are)
+      (recorded_as (reading_in old.scribe) (Takes m taken ∷ lines) (event ∷ []) (IsSpent new.scribe) (event ∷ [], [], (now, shown, event, is, refl), silent_records (reading_in old.scribe) lines silent, refl))
 
   -- a member took a step, what it sent came under way, and what it told was heard
-  pub step_on : (old mid new : Store K J I an g s d) (at : ℕ) (work : Work) (result : Result Out Fault) → HasStepped contents honest held holds old mid at work result → (IsSpent old.scribe → ⊥) → Publishes contents mid new (messages_of result) (told_of result) →
-      So (IsBrought old (at + 1) work) (Says (at + 1) result) old new
-  step_on old mid new at work result h live p =
+  pub step_on : (old mid new : Store K J I an g s d) (at : ℕ) (taken : Taken) (now : ℤ) (work : Work) (result : Result Out Fault) → reading_in old.scribe ≡ Some now → HasStepped contents honest held holds old mid at work result → (IsSpent old.scribe → ⊥) → Publishes contents mid new (messages_of result) (told_of result) →
+      So (at + 1) taken now work (Says (at + 1) result) old new
+  step_on old mid new at taken now work result shown h live p =
       let C = h.changes in
       let m = at + 1 in
+      let kept = kept_both contents old.scribe mid.scribe new.scribe C.journal p.journal in
       record {
         schema = p.schema ∙ C.schema;
         count = ap length p.seats ∙ same_count contents honest held holds old mid at h.before h.after C;
-        journal = continued_both contents old.scribe mid.scribe new.scribe C.journal p.journal;
+        lines = kept.0;
+        journal = kept.2;
         clean = λ k. was_tidy contents honest held holds old mid at h.before h.after C (subst (All (IsClean honest holds)) p.seats k);
         went = λ k w i brought.
             let neat = subst (All (IsClean honest holds)) p.seats k in
             let sat = sits contents honest held holds old mid at h.before h.after C w i in
             let t = h.steps (tidy contents honest held holds old mid at h.before h.after C neat) sat.0 sat.2 in
             let b = brought live in
-            let turned = turn old.schema (length old.seats.items) m work w sat.0 sat.1 b.0 b.1 b.2 t.0 result t.1.1 in
+            let turned = turn old.schema (length old.seats.items) m work w sat.0 sat.1 (job_of now taken) b.0 b.1 t.0 result t.1.1 in
             let there = seat_in contents honest held holds old mid at h.before h.after C (λ was. absurd (live was)) w t.0 i t.1.0 in
             let less : TellsLess (IsAmong (told_of result)) (WasTold turned.goes.gave) = λ client number o one. record { member = m; told = one.0; client_is = one.2; number_is = one.3; outcome_is = one.4; given = turned.tells one.0 one.1 } in
             let hears = hears_more (IsAmong (told_of result)) (WasTold turned.goes.gave) less mid.watched new.watched p.hears in (
               record {
                 world = with_node w m t.0 (messages_of result);
                 goes = turned.goes;
+                events_are = filed old new m taken now kept.0 turned.goes.events shown kept.1 turned.events_are;
                 is_in = record {
                   seated = seats_as contents honest held holds mid new p.schema p.seats (world_with (with_nth w.nodes m t.0) w.sent) there;
                   under_way = λ up. p.letters up w.sent (there.under_way (λ was. up (p.spent was)));
@@ -140,36 +162,65 @@ module _ {K J I : Type 0} {an : _} {g : _} {s : _} {d : _} (contents : J → Opt
       }
 
   -- the same of a member by its number
-  pub stepped : (old mid new : Store K J I an g s d) (at m : ℕ) (work : Work) (result : Result Out Fault) → m ≡ at + 1 → HasStepped contents honest held holds old mid at work result → (IsSpent old.scribe → ⊥) → Publishes contents mid new (messages_of result) (told_of result) →
-      So (IsBrought old m work) (Says m result) old new
-  stepped old mid new at m work result is h live p = subst (λ (k : ℕ). So (IsBrought old k work) (Says k result) old new) (sym is) (step_on old mid new at work result h live p)
+  pub stepped : (old mid new : Store K J I an g s d) (at m : ℕ) (taken : Taken) (now : ℤ) (work : Work) (result : Result Out Fault) → m ≡ at + 1 → reading_in old.scribe ≡ Some now → HasStepped contents honest held holds old mid at work result → (IsSpent old.scribe → ⊥) → Publishes contents mid new (messages_of result) (told_of result) →
+      So m taken now work (Says m result) old new
+  stepped old mid new at m taken now work result is shown h live p = subst (λ (k : ℕ). So k taken now work (Says k result) old new) (sym is) (step_on old mid new at taken now work result shown h live p)
 
   -- the store was spent in the midst of it
-  pub stepped_last : (old mid : Store K J I an g s d) (at m : ℕ) (work : Work) → m ≡ at + 1 → ((result : Result Out Fault) × HasStepped contents honest held holds old mid at work result) → (IsSpent old.scribe → ⊥) → IsSpent mid.scribe →
-      So (IsBrought old m work) (λ gave. Unit {0}) old mid
-  stepped_last old mid at m work is h live spent =
-      so_weaker contents honest held holds (IsBrought old m work) (IsBrought old m work) (Says m h.0) (λ gave. Unit {0}) old mid (λ w b. b) (λ gave says. tt)
-      (stepped old mid mid at m work h.0 is h.1 live (spent_publishes contents honest held holds mid mid (messages_of h.0) (told_of h.0) refl refl refl (continued_same contents mid.scribe) spent))
+  pub stepped_last : (old mid : Store K J I an g s d) (at m : ℕ) (taken : Taken) (now : ℤ) (work : Work) → m ≡ at + 1 → reading_in old.scribe ≡ Some now → ((result : Result Out Fault) × HasStepped contents honest held holds old mid at work result) → (IsSpent old.scribe → ⊥) → IsSpent mid.scribe →
+      So m taken now work (λ gave. Unit {0}) old mid
+  stepped_last old mid at m taken now work is shown h live spent =
+      from_weaker contents honest held holds (Takes m taken ∷ []) (IsBrought old m (job_of now taken) work) (IsBrought old m (job_of now taken) work) (Says m h.0) (λ gave. Unit {0}) old mid (λ w b. b) (λ gave says. tt)
+      (stepped old mid mid at m taken now work h.0 is shown h.1 live (spent_publishes contents honest held holds mid mid (messages_of h.0) (told_of h.0) refl refl refl (kept_same contents mid.scribe) spent))
 
-  -- the member went down, and was stopped
-  pub stepped_down : (old mid new : Store K J I an g s d) (at m : ℕ) (work : Work) (result : Result Out Fault) → m ≡ at + 1 → HasStepped contents honest held holds old mid at work result → (IsSpent old.scribe → ⊥) → messages_of result ≡ [] → told_of result ≡ [] →
-      GoesOn contents honest held holds mid new → So (IsBrought old m work) (λ gave. Unit {0}) old new
-  stepped_down old mid new at m work result is h live none nobody_told on =
-      let quiet : Publishes contents mid mid (messages_of result) (told_of result) =
-      subst (λ (ms : List Message). Publishes contents mid mid ms (told_of result)) (sym none) (subst (λ (ts : List Told). Publishes contents mid mid [] ts) (sym nobody_told) (publishes_none contents honest held holds mid)) in
-      so_then contents honest held holds (IsBrought old m work) (Says m result) (λ gave. Unit {0}) old mid new (λ one two says. tt) (stepped old mid mid at m work result is h live quiet) on
+  -- the member went down, and its node was stopped, which is no event
+  pub stepped_down : (old mid new : Store K J I an g s d) (at m : ℕ) (taken : Taken) (now : ℤ) (work : Work) (error : StoreError) → m ≡ at + 1 → reading_in old.scribe ≡ Some now → HasStepped contents honest held holds old mid at work (Err (Down error)) → (IsSpent old.scribe → ⊥) →
+      Stops honest held holds m mid new → So m taken now work (λ gave. Unit {0}) old new
+  stepped_down old mid new at m taken now work error is shown h live stops = subst (λ (k : ℕ). Stops honest held holds k mid new → So k taken now work (λ gave. Unit {0}) old new) (sym is) go stops
+    where
+      C : Changes contents honest holds old mid at h.before h.after
+      C = h.changes
+
+      go : Stops honest held holds (at + 1) mid new → So (at + 1) taken now work (λ gave. Unit {0}) old new
+      go S =
+          let kept = subst (IsKeptOn contents old.scribe) (sym S.scribe) C.journal in
+          record {
+            schema = S.schema ∙ C.schema;
+            count = S.count ∙ same_count contents honest held holds old mid at h.before h.after C;
+            lines = kept.0;
+            journal = kept.2;
+            clean = λ k. was_tidy contents honest held holds old mid at h.before h.after C (S.clean k);
+            went = λ k w i brought.
+                let sat = sits contents honest held holds old mid at h.before h.after C w i in
+                let t = h.steps (tidy contents honest held holds old mid at h.before h.after C (S.clean k)) sat.0 sat.2 in
+                let b = brought live in
+                let turned = turn old.schema (length old.seats.items) (at + 1) work w sat.0 sat.1 (job_of now taken) b.0 b.1 t.0 (Err (Down error)) t.1.1 in
+                let v = with_node w (at + 1) t.0 [] in
+                let there = seat_in contents honest held holds old mid at h.before h.after C (λ was. absurd (live was)) w t.0 i t.1.0 in
+                let in_mid : IsIn held holds mid v = subst (IsIn held holds mid) (ap (world_with (with_nth w.nodes (at + 1) t.0)) (sym (append-nil w.sent))) there in
+                let down : t.0.up ≡ false = ap (λ (z : model.Node). z.up) t.1.1.1.1 in
+                let still = stop_after w (at + 1) sat.0 t.0 sat.1 down in (
+                  record {
+                    world = v;
+                    goes = turned.goes;
+                    events_are = filed old new (at + 1) taken now kept.0 turned.goes.events shown kept.1 turned.events_are;
+                    is_in = subst (IsIn held holds new) still (S.went k v in_mid);
+                    hears = hears_same (WasTold turned.goes.gave) old.watched new.watched (S.watched ∙ C.watched);
+                  },
+                  tt,
+                );
+          }
 
   -- ---- what a step is in the events
 
   -- an input is handed to a member
-  pub hands : (store : Store K J I an g s d) (m : ℕ) (input : Input) (w : World) → IsBrought store m (Local input) w
-  hands store m input w live = (TheLocal input, refl, λ x. refl)
+  pub hands : (store : Store K J I an g s d) (m : ℕ) (job : Job) (input : Input) (w : World) → job ≡ TheLocal input → IsBrought store m job (Local input) w
+  hands store m job input w is live = subst (λ (j : Job). (is_for w m j ≡ true) × ((x : model.Node) → effect (language_of store.schema) (length store.seats.items) w m j x ≡ works store.schema (length store.seats.items) m (Local input) x)) (sym is) (refl, λ x. refl)
 
   -- a letter is delivered
-  pub delivers : (store : Store K J I an g s d) (letter : Letter) (reading : ℤ) (w : World) → HasSent store letter w → IsBrought store letter.message.addressee (Delivered reading letter.message) w
+  pub delivers : (store : Store K J I an g s d) (letter : Letter) (reading : ℤ) (w : World) → HasSent store letter w → IsBrought store letter.message.addressee (Delivery letter.number reading) (Delivered reading letter.message) w
   delivers store letter reading w sent live =
       let there = sent live in (
-        Delivery letter.number reading,
         ap (λ o. option_map_or (λ (p : Message). p.addressee == letter.message.addressee) o false) there ∙ eq-eqb letter.message.addressee letter.message.addressee refl,
         λ x. ap (λ o. option_map_or (λ (p : Message). on_message (language_of store.schema) (length store.seats.items) letter.message.addressee reading p x) o Nothing) there,
       )

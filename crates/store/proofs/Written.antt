@@ -150,7 +150,7 @@ part_on contents (Some s) (Some t) (Some device) longer part =
     let b = subst (λ (n : ℕ). AppendsPart (contents t.device) (contents device) (block_text n (string_bytes s.buffer ++ (longer.0 ++ part.0)) [])) longer.3 a in
     (longer.0 ++ part.0, subst (λ (x : Option (List ℕ)). AppendsPart x (contents device) (block_text s.sum (string_bytes s.buffer ++ (longer.0 ++ part.0)) [])) (ap contents longer.2) b)
 
-append_nothing : (held : Option (List ℕ)) → append_known held [] ≡ held
+pub append_nothing : (held : Option (List ℕ)) → append_known held [] ≡ held
 append_nothing None = refl
 append_nothing (Some xs) = ap Some (append-nil xs)
 

@@ -4,7 +4,7 @@ use Rattle.journal.specs.declared.stored.Summary.{Summary}
 use Rattle.journal.specs.declared.line.Line.TheVariants.{Saves}
 use Rattle.store.specs.declared.scribe.Scribe.{Scribe}
 use Rattle.store.specs.declared.voice.Voice.{Voice}
-use Rattle.store.specs.Continuing.{Continues}
+use Rattle.store.specs.Continuing.{IsKeptOn}
 use Rattle.store.specs.Writing.{IsWritten, with_line}
 
 module _ {J : Type 0} where
@@ -13,7 +13,7 @@ module _ {J : Type 0} where
   HasAnnounced contents v None s = ⊥
   HasAnnounced contents v (Some w) s = IsWritten (contents v.scribe.device) (contents w.scribe.device) v.scribe.sum (with_line (string_bytes v.scribe.buffer) (Saves v.member s)) × (string_bytes w.scribe.buffer ≡ [])
 
-  -- a voice is there, whose journal went on from this one
+  -- a voice is there, whose journal went on from this one by lines that record no event
   abbrev pub HasContinued : (J → Option (List ℕ)) → Scribe J → Option (Voice J) → Type 0
   HasContinued contents s None = ⊥
-  HasContinued contents s (Some v) = Continues contents s v.scribe
+  HasContinued contents s (Some v) = IsKeptOn contents (Some s) (Some v.scribe)

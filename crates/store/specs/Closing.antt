@@ -4,6 +4,8 @@ use Rattle.keep.specs.Durable.{Durable}
 use Rattle.store.specs.declared.seat.Seat.{Seat}
 use Rattle.store.specs.declared.store.Store.{Store}
 use Rattle.store.specs.Became.{EachBecame}
+use Rattle.store.specs.Going.{GoesOn}
+use Rattle.store.specs.Journals.{device_in}
 use Rattle.store.specs.Seats.{IsMissing}
 
 module _ {K J I : Type 0} {an : _} {g : _} {s : _} {d : _} where
@@ -38,6 +40,10 @@ module _ {K J I : Type 0} {an : _} {g : _} {s : _} {d : _} where
   -- these are the seats of a store that is closed: those of the store, each of them at rest
   abbrev pub IsClosed : (held : K → Durable → Type 0) (holds : I → Durable → Type 0) → Store K J I an g s d → List (Seat K J I an g s d) → Type 0
   IsClosed held holds store seats = EachBecame (IsAtRest held holds) store.seats.items seats
+
+  -- a store went on to one with this device, which was closed with these seats
+  abbrev pub ClosesTo : (contents : J → Option (List ℕ)) (honest : K → Type 0) (held : K → Durable → Type 0) (holds : I → Durable → Type 0) → Store K J I an g s d → List (Seat K J I an g s d) → Option J → Type 0
+  ClosesTo contents honest held holds store seats device = (last : Store K J I an g s d) × GoesOn contents honest held holds store last × IsClosed held holds last seats × (device ≡ device_in last.scribe)
 
   -- what is found of a store's databases once its process has ended: each that is there holds nothing else than its seat's may hold
   pub record AreLeft (held : K → Durable → Type 0) (holds : I → Durable → Type 0) (store : Store K J I an g s d) (images : List (Option I)) : Type 0 where

@@ -1,36 +1,55 @@
 -- How a journal goes on.
-use Rattle.std.specs.Prelude.{◌≡◌, ◌≢◌, ℕ, Option, Some, None, List, [], ◌++◌, flat_map, All, IsSome, string_bytes}
+use Rattle.std.specs.Prelude.{◌≡◌, ◌≢◌, ℕ, ℤ, Option, Some, None, List, [], ◌∷◌, ◌++◌, flat_map, All, IsSome, string_bytes}
 use Rattle.std.specs.Io.KnownBytes.{append_known}
-use Rattle.flight.specs.Additions.{Adds}
-use Rattle.flight.specs.Spelling.{each_text}
 use Rattle.journal.specs.declared.line.Line.{Line}
-use Rattle.journal.specs.Spelling.{line_text}
 use Rattle.journal.specs.Blocks.{block_text, blocks_text, last_sum}
 use Rattle.store.specs.declared.scribe.Scribe.{Scribe}
 use Rattle.store.specs.Journals.{IsOpened}
+use Rattle.store.specs.Recording.{IsSilent, last_reading}
+use Rattle.store.specs.Writing.{lines_text}
+
+-- the bodies of blocks with these lines, the first one behind what a buffer had
+abbrev pub bodies_of : List ℕ → List (List Line) → List (List ℕ)
+bodies_of buffer [] = []
+bodies_of buffer (group ∷ groups) = (buffer ++ lines_text group) ∷ bodies_of [] groups
+
+-- what the buffer has once these are written and the rest came
+abbrev pub left_of : List ℕ → List (List Line) → List Line → List ℕ
+left_of buffer [] rest = buffer ++ lines_text rest
+left_of buffer (group ∷ groups) rest = left_of [] groups rest
 
 module _ {J : Type 0} where
-  -- Blocks went to the device, none of them empty and each with the sum of the one before it, and after an error a beginning of one more
-  -- at most. In these, and behind them in what is left, is what was in the buffer, and then the lines that came to it, in their order.
-  pub record Continues (contents : J → Option (List ℕ)) (s t : Scribe J) : Type 0 where
-    pub bodies : List (List ℕ)
-    pub left : List ℕ
-    pub lines : List Line
+  -- Lines came to a journal. They are groups and a rest: each group went whole to the device, in one block with the sum of the one before it;
+  -- the first block begins with what was in the buffer, and no block is empty. The rest is still in the buffer or, after an error, a beginning
+  -- of its block at most is on the device.
+  pub record Continues (contents : J → Option (List ℕ)) (s t : Scribe J) (lines : List Line) : Type 0 where
+    pub groups : List (List Line)
+    pub rest : List Line
     pub front : List ℕ
     pub back : List ℕ
-    pub filled : All (λ (body : List ℕ). body ≢ []) bodies
-    pub whole : Adds (string_bytes s.buffer) (flat_map (λ (body : List ℕ). body) bodies ++ left) (each_text line_text lines)
-    pub torn : block_text (last_sum s.sum bodies) left [] ≡ front ++ back
-    pub device : contents t.device ≡ append_known (contents s.device) (blocks_text s.sum bodies front)
-    pub live : t.failure ≡ None → (front ≡ []) × (string_bytes t.buffer ≡ left) × (t.sum ≡ last_sum s.sum bodies)
-    pub spent : IsSome s.failure → t ≡ s
+    pub lines_are : lines ≡ flat_map (λ (group : List Line). group) groups ++ rest
+    pub filled : All (λ (body : List ℕ). body ≢ []) (bodies_of (string_bytes s.buffer) groups)
+    pub torn : block_text (last_sum s.sum (bodies_of (string_bytes s.buffer) groups)) (left_of (string_bytes s.buffer) groups rest) [] ≡ front ++ back
+    pub device : contents t.device ≡ append_known (contents s.device) (blocks_text s.sum (bodies_of (string_bytes s.buffer) groups) front)
+    pub live : t.failure ≡ None → (front ≡ []) × (string_bytes t.buffer ≡ left_of (string_bytes s.buffer) groups rest) × (t.sum ≡ last_sum s.sum (bodies_of (string_bytes s.buffer) groups))
+    pub reading : t.reading ≡ last_reading s.reading lines
+    pub spent : IsSome s.failure → (t ≡ s) × (lines ≡ [])
 
   -- the same of a journal that may be away
-  abbrev pub IsContinued : (contents : J → Option (List ℕ)) → Option (Scribe J) → Option (Scribe J) → Type 0
-  IsContinued contents None new = new ≡ None
-  IsContinued contents (Some s) None = ⊥
-  IsContinued contents (Some s) (Some t) = Continues contents s t
+  abbrev pub IsContinued : (contents : J → Option (List ℕ)) → Option (Scribe J) → Option (Scribe J) → List Line → Type 0
+  IsContinued contents None new lines = (new ≡ None) × (lines ≡ [])
+  IsContinued contents (Some s) None lines = ⊥
+  IsContinued contents (Some s) (Some t) lines = Continues contents s t lines
+
+  -- lines came to it that record no event
+  abbrev pub IsKeptOn : (contents : J → Option (List ℕ)) → Option (Scribe J) → Option (Scribe J) → Type 0
+  IsKeptOn contents old new = (lines : List Line) × All IsSilent lines × IsContinued contents old new lines
+
+  -- what clocks showed last, as it says
+  abbrev pub reading_in : Option (Scribe J) → Option ℤ
+  reading_in None = None
+  reading_in (Some s) = s.reading
 
   -- a block opened a journal, which then went on
   abbrev pub HasBegun : (contents : J → Option (List ℕ)) → Scribe J → Option (Scribe J) → (journal marks : ℕ) → Type 0
-  HasBegun contents s new journal marks = (mid : Option (Scribe J)) × IsOpened contents (Some s) mid journal marks × IsContinued contents mid new
+  HasBegun contents s new journal marks = (mid : Option (Scribe J)) × IsOpened contents (Some s) mid journal marks × ((lines : List Line) × IsContinued contents mid new lines)

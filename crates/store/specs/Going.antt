@@ -1,5 +1,5 @@
 -- An open store is a run of the group.
-use Rattle.std.specs.Prelude.{◌≡◌, ◌⊎◌, ℕ, ◌+◌, true, Option, Some, None, Result, Ok, Err, List, ◌++◌, IfSome, length, slice_get, slice_set}
+use Rattle.std.specs.Prelude.{◌≡◌, ◌⊎◌, ℕ, ◌+◌, true, Option, Some, None, Result, Ok, Err, List, [], ◌∷◌, ◌++◌, IfSome, length, slice_get, slice_set}
 use Rattle.std.specs.List.{All, Contains}
 use Rattle.fault.specs.declared.refusal.Refusal.{Refusal as Reason}
 use Rattle.model.specs.Lists.{nth}
@@ -7,7 +7,7 @@ use Rattle.model.specs.Members.{Node}
 use Rattle.model.specs.declared.entry.Told.{Told}
 use Rattle.model.specs.declared.event.Job.{Job}
 use Rattle.model.specs.declared.message.Message.{Message}
-use Rattle.model.specs.Worlds.{World, Event, Output, run, effect, is_for}
+use Rattle.model.specs.Worlds.{World, Event, Output, run, effect, is_for, starts, stops}
 use Rattle.model.specs.Worlds.Output.{Refused as Refuses}
 use Rattle.keep.specs.Durable.{Durable}
 use Rattle.sqlread.specs.Meaning.{language_of}
@@ -26,7 +26,12 @@ use Rattle.store.specs.declared.steps.Watched.{Watched}
 use Rattle.store.specs.declared.outcome.Outcome.{Outcome}
 use Rattle.store.specs.declared.outcome.Outcome.TheVariants.{Accepted, Refused, Unanswered}
 use Rattle.store.specs.declared.refusal.StoreRefusal.{StoreRefusal}
-use Rattle.store.specs.Continuing.{IsContinued}
+use Rattle.store.specs.Continuing.{IsContinued, IsKeptOn, reading_in}
+use Rattle.store.specs.Recording.{AreRecorded, IsSilent}
+use Rattle.journal.specs.declared.line.Taken.{Taken}
+use Rattle.journal.specs.declared.line.Line.{Line}
+use Rattle.journal.specs.declared.line.Line.TheVariants.{Takes}
+use Rattle.store.specs.declared.scribe.Scribe.{Scribe}
 use Rattle.store.specs.Journals.{IsSpent}
 use Rattle.store.specs.Nodes.{StepsTo}
 use Rattle.store.specs.Seats.{HasMember, IsClean}
@@ -75,6 +80,10 @@ SaysWhy m (Ok (stepped.Refused reason)) gave = HasGiven gave (Refuses m reason)
 SaysWhy m (Ok stepped.Fell) gave = Unit {0}
 SaysWhy m (Err refusal) gave = Unit {0}
 
+-- lines that record nothing came to a journal, and then that a member begins a step
+abbrev pub BeginsStep : {J : Type 0} → (contents : J → Option (List ℕ)) → Option (Scribe J) → Option (Scribe J) → (m : ℕ) → Taken → Type 0
+BeginsStep contents old new m taken = (before : List Line) × All IsSilent before × IsContinued contents old new (before ++ Takes m taken ∷ [])
+
 module _ {K J I : Type 0} {an : _} {g : _} {s : _} {d : _} where
   -- nothing wrong was taken as true, and each database that is at rest holds something
   abbrev pub AreClean : (honest : K → Type 0) (holds : I → Durable → Type 0) → Store K J I an g s d → Type 0
@@ -89,46 +98,76 @@ module _ {K J I : Type 0} {an : _} {g : _} {s : _} {d : _} where
   abbrev pub IsRunOf : (held : K → Durable → Type 0) (holds : I → Durable → Type 0) → List Node → List Event → Store K J I an g s d → Type 0
   IsRunOf held holds found events store = IsIn held holds store (run (language_of store.schema) (length store.seats.items) (opened found) events)
 
-  -- a store was in this world, and is where events lead from there
-  pub record WentOn (held : K → Durable → Type 0) (holds : I → Durable → Type 0) (old new : Store K J I an g s d) (w : World) : Type 0 where
+  -- a store was in this world, and is where events lead from there of which this holds
+  pub record WentOn (held : K → Durable → Type 0) (holds : I → Durable → Type 0) (are : List Event → Type 0) (old new : Store K J I an g s d) (w : World) : Type 0 where
     pub world : World
     pub goes : Goes (language_of old.schema) (length old.seats.items) w world
+    pub events_are : are goes.events
     pub is_in : IsIn held holds new world
     pub hears : Hears (WasTold goes.gave) old.watched new.watched
 
-  -- the run of a store goes on, and so does its journal
+  -- the events of a store that went on are what these lines of its journal record
+  abbrev pub AreFiled : Store K J I an g s d → Store K J I an g s d → List Line → List Event → Type 0
+  AreFiled old new lines events = AreRecorded (reading_in old.scribe) lines events (IsSpent new.scribe)
+
+  -- the run of a store goes on, and lines came to its journal that record it
   pub record GoesOn (contents : J → Option (List ℕ)) (honest : K → Type 0) (held : K → Durable → Type 0) (holds : I → Durable → Type 0) (old new : Store K J I an g s d) : Type 0 where
     pub schema : new.schema ≡ old.schema
     pub count : length new.seats.items ≡ length old.seats.items
-    pub journal : IsContinued contents old.scribe new.scribe
+    pub lines : List Line
+    pub journal : IsContinued contents old.scribe new.scribe lines
     pub clean : AreClean honest holds new → AreClean honest holds old
-    pub went : AreClean honest holds new → (w : World) → IsIn held holds old w → WentOn held holds old new w
+    pub went : AreClean honest holds new → (w : World) → IsIn held holds old w → WentOn held holds (AreFiled old new lines) old new w
 
-  -- the run goes on from each world of which this holds, by events that gave what this holds of
-  pub record GoesOnSo (contents : J → Option (List ℕ)) (honest : K → Type 0) (held : K → Durable → Type 0) (holds : I → Durable → Type 0) (from : World → Type 0) (gives : List (List Output) → Type 0) (old new : Store K J I an g s d) : Type 0 where
+  -- The run goes on from each world of which this holds, by events that gave what this holds of. Lines that were in the buffer before, and
+  -- then those that came to the journal, record it.
+  pub record GoesOnFrom (contents : J → Option (List ℕ)) (honest : K → Type 0) (held : K → Durable → Type 0) (holds : I → Durable → Type 0) (begun : List Line) (from : World → Type 0) (gives : List (List Output) → Type 0) (old new : Store K J I an g s d) : Type 0 where
     pub schema : new.schema ≡ old.schema
     pub count : length new.seats.items ≡ length old.seats.items
-    pub journal : IsContinued contents old.scribe new.scribe
+    pub lines : List Line
+    pub journal : IsContinued contents old.scribe new.scribe lines
     pub clean : AreClean honest holds new → AreClean honest holds old
-    pub went : AreClean honest holds new → (w : World) → IsIn held holds old w → from w → (on : WentOn held holds old new w) × gives on.goes.gave
+    pub went : AreClean honest holds new → (w : World) → IsIn held holds old w → from w → (on : WentOn held holds (AreFiled old new (begun ++ lines)) old new w) × gives on.goes.gave
+
+  -- the same where no such lines were in the buffer
+  abbrev pub GoesOnSo : (contents : J → Option (List ℕ)) (honest : K → Type 0) (held : K → Durable → Type 0) (holds : I → Durable → Type 0) (from : World → Type 0) (gives : List (List Output) → Type 0) (old new : Store K J I an g s d) → Type 0
+  GoesOnSo contents honest held holds from gives old new = GoesOnFrom contents honest held holds [] from gives old new
+
+  -- the member is stopped, if it is up; nothing came to the journal
+  pub record Stops (honest : K → Type 0) (held : K → Durable → Type 0) (holds : I → Durable → Type 0) (m : ℕ) (old new : Store K J I an g s d) : Type 0 where
+    pub schema : new.schema ≡ old.schema
+    pub count : length new.seats.items ≡ length old.seats.items
+    pub scribe : new.scribe ≡ old.scribe
+    pub watched : new.watched ≡ old.watched
+    pub clean : AreClean honest holds new → AreClean honest holds old
+    pub went : AreClean honest holds new → (w : World) → IsIn held holds old w → IsIn held holds new (stops w m (nth w.nodes m))
+
+  -- the member is started, if it is not up; nothing came to the journal
+  pub record StartsOne (honest : K → Type 0) (held : K → Durable → Type 0) (holds : I → Durable → Type 0) (m : ℕ) (old new : Store K J I an g s d) : Type 0 where
+    pub schema : new.schema ≡ old.schema
+    pub count : length new.seats.items ≡ length old.seats.items
+    pub scribe : new.scribe ≡ old.scribe
+    pub watched : new.watched ≡ old.watched
+    pub clean : AreClean honest holds new → AreClean honest holds old
+    pub went : AreClean honest holds new → (w : World) → IsIn held holds old w → IsIn held holds new (starts w m (nth w.nodes m))
 
   -- ---- the parts of a step
 
-  -- The members stay. These messages come under way, but in a spent store, and this is heard.
+  -- The members stay. These messages come under way, but in a spent store, and this is heard. What came to the journal records no event.
   pub record Publishes (contents : J → Option (List ℕ)) (old new : Store K J I an g s d) (messages : List Message) (told : List Told) : Type 0 where
     pub schema : new.schema ≡ old.schema
     pub seats : new.seats.items ≡ old.seats.items
-    pub journal : IsContinued contents old.scribe new.scribe
+    pub journal : IsKeptOn contents old.scribe new.scribe
     pub spent : IsSpent old.scribe → IsSpent new.scribe
     pub letters : (IsSpent new.scribe → ⊥) → (sent : List Message) → AreUnderWay old.queue.items old.sent sent → AreUnderWay new.queue.items new.sent (sent ++ messages)
     pub hears : Hears (IsAmong told) old.watched new.watched
 
-  -- the seat of one member is another; nothing else is, but for the journal
+  -- the seat of one member is another; nothing else is, but for the journal, to which lines came that record no event
   pub record Changes (contents : J → Option (List ℕ)) (honest : K → Type 0) (holds : I → Durable → Type 0) (old new : Store K J I an g s d) (at : ℕ) (before after : Seat K J I an g s d) : Type 0 where
     pub there : slice_get old.seats.items at ≡ Some before
     pub seats : new.seats.items ≡ slice_set old.seats.items at after
     pub schema : new.schema ≡ old.schema
-    pub journal : IsContinued contents old.scribe new.scribe
+    pub journal : IsKeptOn contents old.scribe new.scribe
     pub queue : new.queue ≡ old.queue
     pub sent : new.sent ≡ old.sent
     pub watched : new.watched ≡ old.watched
@@ -146,9 +185,9 @@ module _ {K J I : Type 0} {an : _} {g : _} {s : _} {d : _} where
   abbrev pub MayHaveStepped : (contents : J → Option (List ℕ)) (honest : K → Type 0) (held : K → Durable → Type 0) (holds : I → Durable → Type 0) (old new : Store K J I an g s d) (at : ℕ) (work : Work) → Type 0
   MayHaveStepped contents honest held holds old new at work = (result : Result Out Fault) × HasStepped contents honest held holds old new at work result
 
-  -- work is what a job is in this world, where the store is not spent
-  abbrev pub IsBrought : Store K J I an g s d → ℕ → Work → World → Type 0
-  IsBrought store m work w = (IsSpent store.scribe → ⊥) → (job : Job) × (is_for w m job ≡ true) ×
+  -- work is what this job is in this world, where the store is not spent
+  abbrev pub IsBrought : Store K J I an g s d → ℕ → Job → Work → World → Type 0
+  IsBrought store m job work w = (IsSpent store.scribe → ⊥) → (is_for w m job ≡ true) ×
       ((x : Node) → effect (language_of store.schema) (length store.seats.items) w m job x ≡ works store.schema (length store.seats.items) m work x)
 
   -- a letter is under way there

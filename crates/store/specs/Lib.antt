@@ -13,6 +13,7 @@ pub mod Journals
 pub mod Nodes
 pub mod Opening
 pub mod Pasts
+pub mod Recording
 pub mod Refusals
 pub mod Seats
 pub mod Starting

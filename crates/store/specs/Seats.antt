@@ -1,15 +1,10 @@
 -- The members that a store's seats have.
-use Rattle.std.specs.Prelude.{◌≡◌, ◌⊎◌, ◌&&◌, ℕ, false, None, List, filter, is_none, map, MatchOption}
+use Rattle.std.specs.Prelude.{◌≡◌, ◌&&◌, ℕ, false, None, List, filter, is_none, map, MatchOption}
 use Rattle.model.specs.Members as model
 use Rattle.keep.specs.Durable.{Durable}
 use Rattle.sqlchecks.specs.Columns.{Tables}
-use Rattle.runlaws.specs.Going.{after_stop}
 use Rattle.store.specs.declared.seat.Seat.{Seat}
 use Rattle.store.specs.Nodes.{IsNodeOf, Rests}
-
--- a member that was read stays as it is, or stops
-abbrev pub MayFall : model.Node → model.Node → Type 0
-MayFall x y = (y ≡ x) ⊎ (y ≡ after_stop x)
 
 module _ {K J I : Type 0} {an : _} {g : _} {s : _} {d : _} where
   -- a seat has no member that is up, and no database

@@ -4,6 +4,7 @@ use Rattle.std.specs.Io.KnownBytes.{append_known}
 use Rattle.journal.specs.Blocks.{block_text, sum_after}
 use Rattle.journal.specs.declared.line.Line.{Line}
 use Rattle.journal.specs.Spelling.{line_text}
+use Rattle.flight.specs.Spelling.{each_text}
 
 -- what is held grows by a beginning of these bytes
 abbrev pub AppendsPart : Option (List ℕ) → Option (List ℕ) → List ℕ → Type 0
@@ -16,6 +17,10 @@ IsWritten old new sum bytes = (bytes ≡ [] → new ≡ old) × (bytes ≢ [] �
 -- the sum of the last block is so, once these lines are written
 abbrev pub IsSummed : ℕ → ℕ → List ℕ → Type 0
 IsSummed old new bytes = (bytes ≡ [] → new ≡ old) × (bytes ≢ [] → new ≡ sum_after old bytes)
+
+-- lines, and nothing behind them
+abbrev pub lines_text : List Line → List ℕ
+lines_text lines = each_text line_text lines []
 
 -- a line behind those of a buffer
 abbrev pub with_line : List ℕ → Line → List ℕ

@@ -271,7 +271,6 @@ impl<K: Judging, J: Device> Announces for Announcing<K, J> {
 
     ghost carries_on = { λ k l s on h. on s h };
 
-    #[tactic(auto, using(crate::proofs::Continuing::continues_same))]
     fn lend(&mut self, voice: Voice<J>)
         requires { K.is_honest self.old.keeper → voice.chain.links.items ≡ links_of (K.stored self.old.keeper).log }
         ensures carries { HasContinued J.contents voice.scribe self.new.voice }

@@ -29,7 +29,7 @@ where
     }
 
     // Has a member stand for election, if it is up, its log is so long, and nobody leads.
-    #[tactic(auto, using(crate::proofs::Continuing::continued_same))]
+    #[tactic(auto, using(crate::proofs::Going::stays))]
     fn elect(&mut self, member: Member, least: usize, reading: i64) -> Result<(), StoreRefusal>
         ensures why { IfErr result IsOfJournal }
         ensures fails { OnErr result (IsSpent self.new.scribe) }
@@ -60,7 +60,7 @@ where
 
     /// The leader; one is elected where none is known and a majority is up: first a member with the longest log stands. None where there is
     /// none. 38, 40 and 43 where the journal can't be written; of a store that was spent before nothing changes then.
-    #[tactic(auto, using(crate::proofs::Continuing::continued_same))]
+    #[tactic(auto, using(crate::proofs::Going::stays))]
     pub fn lead(&mut self, reading: i64) -> Result<Option<Member>, StoreRefusal>
         ensures why { IfErr result IsOfJournal }
         ensures fails { OnErr result (IsSpent self.new.scribe) }

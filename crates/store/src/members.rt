@@ -1,12 +1,10 @@
 //! The members of a store as it is opened: what each database holds has to be what the journal says.
 ghost use Rattle.std.specs.Prelude.{◌≡◌, ◌≢◌, ◌⊎◌, ◌<◌, Err, IfErr, IfOk, IsSome, OnOk, length};
-ghost use Rattle.model.specs.Members.{Node as TheNode};
-ghost use Rattle.runlaws.specs.Going.{MayStart};
 ghost use Rattle.store.specs.Became.{Became, EachBecame};
 ghost use Rattle.store.specs.Opening.{AreLaid, AreMost, AreOpened, Starts, there_in};
 ghost use Rattle.store.specs.Pasts.{told_by};
 ghost use Rattle.store.specs.Refusals.{no_memory};
-ghost use Rattle.store.specs.Seats.{HasMember, IsClean, missing_in};
+ghost use Rattle.store.specs.Seats.{IsClean, missing_in};
 ghost use Rattle.store.specs.Starting.{FitsTale, IsStarted};
 
 use crate::announcing::Announces;
@@ -54,8 +52,7 @@ where
     ensures same { seat.new.member ≡ seat.old.member }
     ensures fits { OnOk result (FitsTale K.is_honest seat.old.tale seat.new) }
     ensures other { result ≢ Err StoreRefusal.TooFew }
-    ensures clean { IsClean K.is_honest K.holds seat.new → IsClean K.is_honest K.holds seat.old }
-    ensures starts { IsClean K.is_honest K.holds seat.new → (x : TheNode) → HasMember K.may_hold K.holds schema members seat.old.member seat.old x → (y : TheNode) × (HasMember K.may_hold K.holds schema members seat.old.member seat.new y × MayStart x y) }
+    ensures starts { OnOk result (Starts K.is_honest K.may_hold K.holds schema members seat.old seat.new) }
 {
     let member = seat.member;
     match seat.start(schema, members, known) {
@@ -113,7 +110,7 @@ where
     requires { at < length seats.old.items }
     ensures up { OnOk result (Became (IsStarted K.is_honest) at seats.old.items seats.new.items) }
     ensures other { result ≢ Err StoreRefusal.TooFew }
-    ensures starts { Starts K.is_honest K.may_hold K.holds schema.now (length seats.old.items) seats.old.items seats.new.items }
+    ensures starts { OnOk result (Became (Starts K.is_honest K.may_hold K.holds schema.now (length seats.old.items)) at seats.old.items seats.new.items) }
 {
     let count = seats.len();
     let schema = schema.clone()?;
@@ -134,7 +131,7 @@ where
     K::Image: Drop,
     ensures up { OnOk result (EachBecame (IsStarted K.is_honest) seats.old.items seats.new.items) }
     ensures other { result ≢ Err StoreRefusal.TooFew }
-    ensures starts { Starts K.is_honest K.may_hold K.holds schema.now (length seats.old.items) seats.old.items seats.new.items }
+    ensures starts { OnOk result (EachBecame (Starts K.is_honest K.may_hold K.holds schema.now (length seats.old.items)) seats.old.items seats.new.items) }
 {
     let mut known = KnownLog::new(alloc);
     for at in 0..seats.len() {

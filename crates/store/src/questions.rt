@@ -85,7 +85,7 @@ where
     }
 
     // The answer from what a member has applied, asked again once time is closed where it is not yet.
-    #[tactic(auto, using(crate::proofs::Continuing::continued_same))]
+    #[tactic(auto, using(crate::proofs::Going::stays))]
     fn ask_closed(
         &mut self,
         reading: i64,
@@ -127,7 +127,7 @@ where
     ///
     /// 10 to 17 where the text is no question; 33 where its last instant is not closed, which is in the journal too; 41 where the
     /// member is not up. 38, 40 and 43 where the journal can't be written; of a store that was spent before nothing changes then.
-    #[tactic(auto, using(crate::proofs::Continuing::continued_same))]
+    #[tactic(auto, using(crate::proofs::Going::stays))]
     pub fn ask(&mut self, reading: i64, member: Member, text: &str) -> Result<Answer, StoreRefusal>
         ensures told { IfOk result (λ a. EndsWith K.Journal.contents self.new.scribe (Line.Answer member text.now (answer_text a))) }
         ensures asked { IfOk result (λ a. MatchOption (slice_get self.new.seats.items (member - 1)) ⊥ (λ seat. MatchOption seat.node ⊥ (λ n. IsAnswerOf K.is_honest n self.new.schema text.now a))) }

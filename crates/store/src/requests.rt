@@ -74,7 +74,6 @@ where
     }
 
     // What was told of the request that is waited for.
-    #[tactic(auto, using(crate::proofs::Continuing::continued_same))]
     fn take_outcome(&mut self) -> Option<Outcome>
         ensures { GoesOnSo K.Journal.contents K.is_honest K.may_hold K.holds Anywhere (λ gave. IfSome result (λ o. IsOutcome self.old.watched o gave)) self.old self.new }
     {
@@ -198,7 +197,7 @@ where
 
     /// The number that the next request of the store's own client has: one more than the last one in the leader's log, or in the
     /// longest log where no majority is up.
-    #[tactic(auto, using(crate::proofs::Continuing::continued_same))]
+    #[tactic(auto, using(crate::proofs::Going::stays))]
     pub fn next_number(&mut self, reading: i64) -> Result<u64, StoreRefusal>
         ensures why { IfErr result IsOfJournal }
         ensures fails { OnErr result (IsSpent self.new.scribe) }

@@ -1,9 +1,10 @@
 //! What writes a journal: lines go to a buffer, and the buffer goes to the device as one block.
-ghost use Rattle.std.specs.Prelude.{◌≡◌, ◌≢◌, Some, None, [], ◌++◌, IsErr, IfErr, OnOk, OnErr, IsSome, string_bytes};
+ghost use Rattle.std.specs.Prelude.{◌≡◌, ◌≢◌, ◌⊎◌, Some, None, [], ◌∷◌, ◌++◌, IsErr, IfErr, OnOk, OnErr, IsSome, string_bytes};
 ghost use Rattle.flight.specs.Additions.{Adds};
 ghost use Rattle.journal.specs.Blocks.{block_text};
 ghost use Rattle.journal.specs.Spelling.{line_text};
-ghost use Rattle.store.specs.Continuing.{Continues};
+ghost use Rattle.store.specs.Continuing.{Continues, IsKeptOn};
+ghost use Rattle.store.specs.Recording.{reading_after};
 ghost use Rattle.store.specs.Writing.{AppendsPart, IsSummed, IsWritten, with_line};
 
 use crate::device::{Device, DeviceError};
@@ -61,7 +62,7 @@ impl<J: Device> Scribe<J> {
         ensures spent { IsSome self.new.failure }
         ensures first { IsSome self.old.failure → self.new ≡ self.old }
         ensures same { (self.new.device ≡ self.old.device) × (self.new.buffer ≡ self.old.buffer) × (self.new.sum ≡ self.old.sum) }
-        ensures continues { Continues J.contents self.old self.new }
+        ensures continues { Continues J.contents self.old self.new [] }
     {
         if self.failure.is_none() {
             self.failure = Some(failure);
@@ -79,6 +80,16 @@ impl<J: Device> Scribe<J> {
         }
     }
 
+    // What clocks showed last behind this line.
+    fn shown(&self, line: &Line) -> Option<i64>
+        ensures { result ≡ reading_after self.now.reading line.now }
+    {
+        match line {
+            Line::Clock { reading } => Some(*reading),
+            _ => self.reading,
+        }
+    }
+
     /// Adds a line to the buffer; nothing goes to the device. For want of memory it is spent. Its failure where it is spent, with
     /// nothing changed.
     pub fn add(&mut self, line: &Line) -> Result<(), DeviceError>
@@ -86,12 +97,17 @@ impl<J: Device> Scribe<J> {
         ensures up { OnOk result ((self.old.failure ≡ None) × (self.new.failure ≡ None)) }
         ensures err { IfErr result (λ e. self.new.failure ≡ Some e) }
         ensures spent { IsSome self.old.failure → IsErr result × (self.new ≡ self.old) }
-        ensures same { (self.new.device ≡ self.old.device) × (self.new.sum ≡ self.old.sum) × (self.new.reading ≡ self.old.reading) }
-        ensures continues { Continues J.contents self.old self.new }
+        ensures same { (self.new.device ≡ self.old.device) × (self.new.sum ≡ self.old.sum) }
+        ensures shows { OnOk result (self.new.reading ≡ reading_after self.old.reading line.now) }
+        ensures continues { OnOk result (Continues J.contents self.old self.new (line.now ∷ [])) }
+        ensures lost { OnErr result (Continues J.contents self.old self.new []) }
     {
         self.check()?;
         match put_line(self.alloc, line, &mut self.buffer) {
-            Ok(()) => Ok(()),
+            Ok(()) => {
+                self.reading = self.shown(line);
+                Ok(())
+            }
             Err(_) => {
                 self.failure = Some(DeviceError::NoMemory);
                 Err(DeviceError::NoMemory)
@@ -107,14 +123,12 @@ impl<J: Device> Scribe<J> {
         ensures up { OnOk result (self.new.failure ≡ self.old.failure) }
         ensures err { IfErr result (λ e. self.new.failure ≡ Some e) }
         ensures same { (self.new.device ≡ self.old.device) × (self.new.sum ≡ self.old.sum) }
-        ensures continues { Continues J.contents self.old self.new }
+        ensures continues { IsKeptOn J.contents (Some self.old) (Some self.new) }
     {
         if self.reading == Some(reading) {
             return Ok(());
         }
-        self.add(&Line::Clock { reading })?;
-        self.reading = Some(reading);
-        Ok(())
+        self.add(&Line::Clock { reading })
     }
 
     // Writes the buffer's lines as a block.
@@ -124,7 +138,7 @@ impl<J: Device> Scribe<J> {
         ensures empty { OnOk result (string_bytes self.new.buffer ≡ []) }
         ensures sum { OnOk result (IsSummed self.old.sum self.new.sum (string_bytes self.old.buffer)) }
         ensures err { OnErr result (AppendsPart (J.contents self.old.device) (J.contents self.new.device) (block_text self.old.sum (string_bytes self.old.buffer) [])) }
-        ensures same { self.new.failure ≡ self.old.failure }
+        ensures same { (self.new.failure ≡ self.old.failure) × (self.new.reading ≡ self.old.reading) }
     {
         let mut block = String::new(self.alloc);
         let Ok(sum) = put_block(self.sum, self.buffer.as_str(), &mut block) else {
@@ -146,7 +160,7 @@ impl<J: Device> Scribe<J> {
         ensures part { OnErr result (self.old.failure ≡ None → AppendsPart (J.contents self.old.device) (J.contents self.new.device) (block_text self.old.sum (string_bytes self.old.buffer) [])) }
         ensures err { IfErr result (λ e. self.new.failure ≡ Some e) }
         ensures spent { IsSome self.old.failure → IsErr result × (self.new ≡ self.old) }
-        ensures continues { Continues J.contents self.old self.new }
+        ensures continues { Continues J.contents self.old self.new [] }
     {
         self.check()?;
         if self.buffer.is_empty() {
@@ -166,7 +180,8 @@ impl<J: Device> Scribe<J> {
         ensures ok { OnOk result (IsWritten (J.contents self.old.device) (J.contents self.new.device) self.old.sum (with_line (string_bytes self.old.buffer) line.now)) }
         ensures empty { OnOk result (string_bytes self.new.buffer ≡ []) }
         ensures spent { IsSome self.old.failure → IsErr result × (self.new ≡ self.old) }
-        ensures continues { Continues J.contents self.old self.new }
+        ensures continues { OnOk result (Continues J.contents self.old self.new (line.now ∷ [])) }
+        ensures part { OnErr result (Continues J.contents self.old self.new [] ⊎ Continues J.contents self.old self.new (line.now ∷ [])) }
     {
         self.add(line)?;
         self.flush()

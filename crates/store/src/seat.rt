@@ -5,12 +5,13 @@ ghost use Rattle.keep.specs.Durable.{Durable};
 ghost use Rattle.model.specs.Members.{Node as TheNode};
 ghost use Rattle.sqlchecks.specs.Columns.{Tables};
 ghost use Rattle.node.specs.Member.{me_of, member_of, members_of, tables_of, IsSameSeat};
+ghost use Rattle.model.specs.Worlds.{started};
 ghost use Rattle.node.specs.View.{durable_of, started_from};
 ghost use Rattle.store.specs.Nodes.{IsMember, StepsTo};
 ghost use Rattle.journal.specs.Digests.{summary_of};
 ghost use Rattle.store.specs.Announcing.{HasContinued};
 ghost use Rattle.store.specs.Chains.{links_of};
-ghost use Rattle.store.specs.Continuing.{IsContinued};
+ghost use Rattle.store.specs.Continuing.{IsKeptOn};
 
 use crate::announcing::Announces;
 use crate::chain::Chain;
@@ -102,7 +103,7 @@ impl<K: Announces> Seat<K>
 where
     K::Image: Drop,
 {
-    ghost use Rattle.runlaws.specs.Going.{after_stop, MayStart};
+    ghost use Rattle.runlaws.specs.Going.{after_stop};
     ghost use Rattle.store.specs.Closing.{IsAtRest};
     ghost use Rattle.store.specs.Seats.{HasMember, IsClean};
 
@@ -148,7 +149,8 @@ where
         ensures still { IsSome self.old.node → self.new ≡ self.old }
         ensures missing { self.old.node ≡ None → self.old.image ≡ None → result ≡ Err (StoreRefusal.Refused Refusal.NodeDown) }
         ensures clean { IsClean K.is_honest K.holds self.new → IsClean K.is_honest K.holds self.old }
-        ensures starts { IsClean K.is_honest K.holds self.new → (x : TheNode) → HasMember K.may_hold K.holds schema members self.old.member self.old x → (y : TheNode) × (HasMember K.may_hold K.holds schema members self.old.member self.new y × MayStart x y) }
+        ensures starts { OnOk result (self.old.node ≡ None → IsClean K.is_honest K.holds self.new → (x : TheNode) → HasMember K.may_hold K.holds schema members self.old.member self.old x → (x.up ≡ false) × HasMember K.may_hold K.holds schema members self.old.member self.new (started x)) }
+        ensures rests { OnErr result (IsClean K.is_honest K.holds self.new → (x : TheNode) → HasMember K.may_hold K.holds schema members self.old.member self.old x → HasMember K.may_hold K.holds schema members self.old.member self.new x) }
         ensures same { (self.new.member ≡ self.old.member) × (self.new.tale ≡ self.old.tale) }
     {
         if self.is_up() {
@@ -212,6 +214,7 @@ where
     /// The line that it begins a journal with.
     pub fn head(&self) -> Line
         ensures down { self.now.node ≡ None → result ≡ Line.Rests self.now.member self.now.tale.stored }
+        ensures life { ForSome self.now.node (λ n. (stored : Summary) × (result ≡ Line.Life self.now.member stored)) }
         ensures up { ForSome self.now.node (λ n. n.is_up ≡ true → K.is_honest n.keeper → result ≡ Line.Life self.now.member (summary_of (durable_of (member_of n)))) }
     {
         let member = self.member;
@@ -225,7 +228,6 @@ where
     }
 
     /// Takes a step, with the journal lent to it, which comes back as it was or gone on; 41 where it is not up.
-    #[tactic(auto, using(crate::proofs::Continuing::continues_same))]
     pub fn step(
         &mut self,
         scribe: Scribe<K::Journal>,
@@ -234,7 +236,7 @@ where
         ensures clean { IsClean K.is_honest K.holds self.new → IsClean K.is_honest K.holds self.old }
         ensures steps { IsClean K.is_honest K.holds self.new → (tables : Tables) (n m : ℕ) (x : TheNode) → HasMember K.may_hold K.holds tables n m self.old x → (y : TheNode) × (HasMember K.may_hold K.holds tables n m self.new y × StepsTo tables n m work x y result.1) }
         ensures same { (self.new.member ≡ self.old.member) × (self.new.tale ≡ self.old.tale) }
-        ensures continues { IsContinued K.Journal.contents (Some scribe) result.0 }
+        ensures continues { IsKeptOn K.Journal.contents (Some scribe) result.0 }
     {
         let Some(node) = &mut self.node else {
             return (Some(scribe), Err(Fault::Kept(Refusal::NodeDown)));

@@ -1,5 +1,5 @@
 //! What a member has applied, for who keeps a copy of it.
-ghost use Rattle.std.specs.Prelude.{◌≡◌, ◌≢◌, ◌-◌, ◌<◌, ℕ, true, false, None, Some, length, slice_get, slice_range, IsErr, IfOk, IfErr, IfSome, OnOk, OnSome, MatchBool, MatchOption};
+ghost use Rattle.std.specs.Prelude.{◌≡◌, ◌≢◌, ◌-◌, ◌+◌, ◌<◌, ℕ, true, false, None, Some, length, slice_get, slice_range, IsErr, IsSome, IfOk, IfErr, IfSome, OnOk, OnSome, MatchBool, MatchOption, if◌then◌else◌};
 ghost use Rattle.std.specs.Option.{ForSome};
 ghost use Rattle.keep.specs.Durable.{Durable};
 ghost use Rattle.model.specs.Members.{Node as TheNode};
@@ -8,7 +8,7 @@ ghost use Rattle.node.specs.View.{durable_of};
 ghost use Rattle.sqlchecks.specs.Columns.{Tables};
 ghost use Rattle.store.specs.Applied.{IsKept, IsSince, SaysDown, found};
 ghost use Rattle.store.specs.Chains.{links_of};
-ghost use Rattle.store.specs.Going.{GoesOn};
+ghost use Rattle.store.specs.Going.{GoesOn, Stops};
 ghost use Rattle.store.specs.Journals.{IsSpent};
 
 use crate::announcing::Announces;
@@ -127,7 +127,8 @@ impl<K: Announces> Seat<K>
 where
     K::Image: Drop,
 {
-    ghost use Rattle.store.specs.Seats.{HasMember, IsClean, MayFall};
+    ghost use Rattle.runlaws.specs.Going.{after_stop};
+    ghost use Rattle.store.specs.Seats.{HasMember, IsClean};
 
     // Whether it has a node that is up.
     fn is_running(&self) -> bool
@@ -145,8 +146,9 @@ where
         ensures since { IfOk result (λ since. MatchOption self.new.node ⊥ (λ n. IsSince K.is_honest n after since)) }
         ensures kept { OnOk result (IsKept K.is_honest self.old.node self.new.node) }
         ensures why { IfErr result (λ refusal. SaysDown refusal → ⊥) }
+        ensures there { IsSome self.new.node }
         ensures clean { IsClean K.is_honest K.holds self.new → IsClean K.is_honest K.holds self.old }
-        ensures reads { IsClean K.is_honest K.holds self.new → (tables : Tables) (n m : ℕ) (x : TheNode) → HasMember K.may_hold K.holds tables n m self.old x → (y : TheNode) × (HasMember K.may_hold K.holds tables n m self.new y × MayFall x y) }
+        ensures reads { IsClean K.is_honest K.holds self.new → (tables : Tables) (n m : ℕ) (x : TheNode) → HasMember K.may_hold K.holds tables n m self.old x → MatchOption self.new.node ⊥ (λ node. HasMember K.may_hold K.holds tables n m self.new (if node.is_up then x else after_stop x)) }
     {
         match &mut self.node {
             Some(node) => since_of(self.alloc, node, &self.chain, after),
@@ -155,7 +157,9 @@ where
     }
 
     // Whether its node is down, and nobody took notice of it yet.
-    fn has_failed(&self) -> bool {
+    fn has_failed(&self) -> bool
+        ensures { MatchBool result (MatchOption self.now.node ⊥ (λ n. n.is_up ≡ false)) (ForSome self.now.node (λ n. n.is_up ≡ true)) }
+    {
         match &self.node {
             Some(node) => !node.is_up,
             None => false,
@@ -183,7 +187,9 @@ where
         ensures kept { OnOk result (IsKept K.is_honest (found self.old.seats.items at (λ seat. seat.node)) (found self.new.seats.items at (λ seat. seat.node))) }
         ensures others { (i : ℕ) → i ≢ at → slice_get self.new.seats.items i ≡ slice_get self.old.seats.items i }
         ensures same { self.new ≡ record self.old { seats = self.new.seats } }
-        ensures goes { GoesOn K.Journal.contents K.is_honest K.may_hold K.holds self.old self.new }
+        ensures there { IsSome (found self.new.seats.items at (λ seat. seat.node)) }
+        ensures stays { ForSome (found self.new.seats.items at (λ seat. seat.node)) (λ n. n.is_up ≡ true) → GoesOn K.Journal.contents K.is_honest K.may_hold K.holds self.old self.new }
+        ensures falls { MatchOption (found self.new.seats.items at (λ seat. seat.node)) ⊥ (λ n. n.is_up ≡ false) → Stops K.is_honest K.may_hold K.holds (at + 1) self.old self.new }
         ensures why { IfErr result (λ refusal. SaysDown refusal → ⊥) }
     {
         let seat = &mut self.seats[at];
@@ -196,7 +202,7 @@ where
     ///
     /// 40 and 43 where an entry can't be read: the member is down then, and the journal says so. 43 for want of memory otherwise. 38, 40
     /// and 43 where the journal can't be written; of a store that was spent before nothing changes then.
-    #[tactic(auto, using(crate::proofs::Continuing::continued_same))]
+    #[tactic(auto, using(crate::proofs::Going::stays))]
     pub fn applied_since(
         &mut self,
         member: Member,
@@ -221,30 +227,20 @@ where
         match self.read_since(at, after) {
             Ok(since) => Ok(Some(since)),
             Err(refusal) => {
-                self.end_failed(at, member);
+                if !self.has_failed(at) {
+                    return Err(refusal);
+                }
+                let _ = self.end_now(member);
                 Err(refusal)
             }
         }
     }
 
     // Whether the node of the member that has so many before it is down, and nobody took notice of it yet.
-    fn has_failed(&self, at: usize) -> bool {
-        match self.seats.get(at) {
-            Some(seat) => seat.has_failed(),
-            None => false,
-        }
-    }
-
-    // Where a member's database failed as it was read, the member goes down, and the journal says so; where that can't be written the
-    // store is spent.
-    #[tactic(auto, using(crate::proofs::Continuing::continued_same))]
-    fn end_failed(&mut self, at: usize, member: Member)
-        ensures others { (i : ℕ) → i ≢ member - 1 → slice_get self.new.seats.items i ≡ slice_get self.old.seats.items i }
-        ensures goes { GoesOn K.Journal.contents K.is_honest K.may_hold K.holds self.old self.new }
+    fn has_failed(&self, at: usize) -> bool
+        requires { at < length self.now.seats.items }
+        ensures { MatchBool result (MatchOption (found self.now.seats.items at (λ seat. seat.node)) ⊥ (λ n. n.is_up ≡ false)) (ForSome (found self.now.seats.items at (λ seat. seat.node)) (λ n. n.is_up ≡ true)) }
     {
-        if !self.has_failed(at) {
-            return;
-        }
-        let _ = self.stop(member);
+        self.seats[at].has_failed()
     }
 }

@@ -1,8 +1,8 @@
 //! How members stand, and are stopped and started.
-ghost use Rattle.std.specs.Prelude.{◌≡◌, ◌≢◌, ◌⊎◌, ◌-◌, ℕ, IfErr, IfOk, IsErr, OnErr, OnOk, slice_get, if◌then◌else◌};
+ghost use Rattle.std.specs.Prelude.{◌≡◌, ◌≢◌, ◌⊎◌, ◌-◌, ℕ, IfErr, IfOk, IsErr, IsSome, None, OnErr, OnOk, slice_get, if◌then◌else◌};
 ghost use Rattle.store.specs.Became.{EachBecame};
 ghost use Rattle.store.specs.Closing.{MayRest};
-ghost use Rattle.store.specs.Going.{GoesOn};
+ghost use Rattle.store.specs.Going.{GoesOn, StartsOne, Stops};
 ghost use Rattle.store.specs.Journals.{IsAllOn, IsLonger, IsPartOn, IsSpent, device_in};
 ghost use Rattle.store.specs.Refusals.{IsOfJournal};
 ghost use Rattle.store.specs.Statuses.{IsStatus, leads};
@@ -15,7 +15,7 @@ use crate::status::{Standing, Status};
 use crate::store::Store;
 use closedtime::greater;
 use fault::Refusal;
-use journal::{Line, Taken};
+use journal::{Line, Summary, Taken};
 use model::member::Member;
 use model::message::Input;
 use model::stamp::Stamp;
@@ -35,7 +35,7 @@ where
     K::Image: Drop,
 {
     /// A member goes down, and keeps what it has stored. 41 where it is not up.
-    #[tactic(auto, using(crate::proofs::Continuing::continued_same))]
+    #[tactic(auto, using(crate::proofs::Going::stays))]
     pub fn stop(&mut self, member: Member) -> Result<(), StoreRefusal>
         ensures others { (at : ℕ) → at ≢ member - 1 → slice_get self.new.seats.items at ≡ slice_get self.old.seats.items at }
         ensures fails { OnErr result (IsSpent self.new.scribe ⊎ (self.new ≡ self.old)) }
@@ -46,16 +46,26 @@ where
         if !self.is_up(member) {
             return Err(StoreRefusal::Refused(Refusal::NodeDown));
         }
-        self.write(&Line::Ends { member })?;
-        self.flush()?;
-        self.fall(member);
-        Ok(())
+        self.end_now(member)
     }
 
-    // Starts a member's node. Whether it was not up before.
-    #[tactic(auto, using(crate::proofs::Continuing::continued_same))]
-    fn start_node(&mut self, member: Member) -> Result<bool, StoreRefusal>
-        ensures { GoesOn K.Journal.contents K.is_honest K.may_hold K.holds self.old self.new }
+    // The journal says that a member ends, and its node is stopped, if it is not down before.
+    pub(crate) fn end_now(&mut self, member: Member) -> Result<(), StoreRefusal>
+        ensures others { (at : ℕ) → at ≢ member - 1 → slice_get self.new.seats.items at ≡ slice_get self.old.seats.items at }
+        ensures fails { OnErr result (IsSpent self.new.scribe) }
+        ensures goes { GoesOn K.Journal.contents K.is_honest K.may_hold K.holds self.old self.new }
+        ensures late { (first : _) → Stops K.is_honest K.may_hold K.holds member first self.old → GoesOn K.Journal.contents K.is_honest K.may_hold K.holds first self.new }
+    {
+        self.write(&Line::Ends { member })?;
+        self.fall(member);
+        self.flush()
+    }
+
+    // Starts a member's node: what it has stored; none where it was up before.
+    fn start_node(&mut self, member: Member) -> Result<Option<Summary>, StoreRefusal>
+        ensures starts { IfOk result (λ stored. IsSome stored → StartsOne K.is_honest K.may_hold K.holds member self.old self.new) }
+        ensures still { IfOk result (λ stored. stored ≡ None → GoesOn K.Journal.contents K.is_honest K.may_hold K.holds self.old self.new) }
+        ensures goes { OnErr result (GoesOn K.Journal.contents K.is_honest K.may_hold K.holds self.old self.new) }
     {
         let members = self.seats.len();
         let schema = self.schema.clone()?;
@@ -65,24 +75,24 @@ where
         };
         let seat = &mut self.seats[at];
         if seat.is_up() {
-            return Ok(false);
+            return Ok(None);
         }
         seat.start(schema, members, &mut known)?;
-        Ok(true)
+        Ok(seat.stored())
     }
 
     /// A member comes up again, and is brought what it lacks; one that is up stays so. 41 where its database was missing as the store
     /// was opened, 40, 43 and 44 where its database is refused: it stays down then.
-    #[tactic(auto, using(crate::proofs::Continuing::continued_same))]
+    #[tactic(auto, using(crate::proofs::Going::stays))]
     pub fn start(&mut self, reading: i64, member: Member) -> Result<(), StoreRefusal>
         ensures goes { GoesOn K.Journal.contents K.is_honest K.may_hold K.holds self.old self.new }
         ensures spent { IsSpent self.old.scribe → IsErr result × (self.new ≡ self.old) }
     {
         self.check()?;
-        if !self.start_node(member)? {
+        let Some(stored) = self.start_node(member)? else {
             return Ok(());
-        }
-        self.write_life(member)?;
+        };
+        self.write(&Line::Life { member, stored })?;
         self.bring(reading)?;
         self.flush()
     }
@@ -96,21 +106,6 @@ where
         };
         let _ = self.hand(leader, reading, Taken::Beat, Input::Beat)?;
         self.deliver_all(reading)
-    }
-
-    // A life of a member that is up begins.
-    #[tactic(auto, using(crate::proofs::Continuing::continued_same))]
-    fn write_life(&mut self, member: Member) -> Result<(), StoreRefusal>
-        ensures { GoesOn K.Journal.contents K.is_honest K.may_hold K.holds self.old self.new }
-    {
-        let stored = match self.seat(member) {
-            Some(seat) => seat.stored(),
-            None => None,
-        };
-        match stored {
-            Some(stored) => self.write(&Line::Life { member, stored }),
-            None => Ok(()),
-        }
     }
 
     fn status_of(&self, seat: &Seat<K>) -> Status
@@ -183,6 +178,7 @@ where
         ensures why { IfErr result IsOfJournal }
         ensures live { OnOk result (IsSpent self.old.scribe → ⊥) }
         ensures rests { EachBecame (MayRest K.may_hold K.holds) self.old.seats.items self.new.seats.items }
+        ensures goes { GoesOn K.Journal.contents K.is_honest K.may_hold K.holds self.old self.new }
     {
         for at in 0..self.seats.len() {
             self.end(at.saturating_add(1))?;
@@ -197,6 +193,7 @@ where
         ensures why { IfErr result IsOfJournal }
         ensures spent { OnOk result (IsSpent self.old.scribe → IsSpent self.new.scribe) }
         ensures rests { EachBecame (MayRest K.may_hold K.holds) self.old.seats.items self.new.seats.items }
+        ensures goes { GoesOn K.Journal.contents K.is_honest K.may_hold K.holds self.old self.new }
     {
         if !self.is_up(member) {
             return Ok(());

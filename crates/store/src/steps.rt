@@ -1,9 +1,12 @@
 //! Steps of the members, and what comes of them.
-ghost use Rattle.std.specs.Prelude.{◌≡◌, ◌≢◌, ◌<◌, ◌+◌, ◌-◌, ℕ, Some, [], ◌∷◌, IfOk, IfErr, OnOk, OnErr, length, slice_get};
+ghost use Rattle.std.specs.Prelude.{◌≡◌, ◌≢◌, ◌<◌, ◌+◌, ◌-◌, ℕ, ℤ, Some, [], ◌∷◌, IfOk, IfErr, OnOk, OnErr, length, slice_get};
 ghost use Rattle.store.specs.Became.{EachBecame};
 ghost use Rattle.store.specs.Closing.{MayRest};
-ghost use Rattle.store.specs.Continuing.{IsContinued};
-ghost use Rattle.store.specs.Going.{Anywhere, GoesOn, GoesOnSo, HasSent, HasStepped, Hears, IsAmong, IsBrought, MayHaveStepped, Publishes, SaysWhy};
+ghost use Rattle.model.specs.declared.event.Job.TheVariants.{Local as TheLocal};
+ghost use Rattle.journal.specs.declared.line.Taken.{Taken as TheTaken};
+ghost use Rattle.store.specs.Continuing.{IsKeptOn, reading_in};
+ghost use Rattle.store.specs.Going.{Anywhere, BeginsStep, GoesOn, GoesOnFrom, GoesOnSo, HasSent, HasStepped, Hears, IsAmong, IsBrought, MayHaveStepped, Publishes, SaysWhy, Stops};
+ghost use Rattle.store.specs.Recording.{job_of};
 ghost use Rattle.store.specs.Journals.{IsSpent, HasLast};
 ghost use Rattle.store.specs.Refusals.{IsOfJournal};
 
@@ -76,7 +79,6 @@ where
     K::Image: Drop,
 {
     // A step of a member that is up. An error where the store is spent.
-    #[tactic(auto, using(crate::proofs::Continuing::continued_same))]
     pub(crate) fn step(
         &mut self,
         member: Member,
@@ -86,7 +88,7 @@ where
     ) -> Result<Stepped, StoreRefusal>
         ensures why { IfErr result IsOfJournal }
         ensures fails { OnErr result (IsSpent self.new.scribe) }
-        ensures goes { GoesOnSo K.Journal.contents K.is_honest K.may_hold K.holds (IsBrought self.old member work) (SaysWhy member result) self.old self.new }
+        ensures goes { GoesOnSo K.Journal.contents K.is_honest K.may_hold K.holds (IsBrought self.old member (job_of reading taken) work) (SaysWhy member result) self.old self.new }
     {
         let Some(at) = self.place_of(member) else {
             return Ok(Stepped::Fell);
@@ -100,7 +102,9 @@ where
         ensures why { IfErr result IsOfJournal }
         ensures fails { OnErr result (IsSpent self.new.scribe) }
         ensures live { OnOk result ((IsSpent self.old.scribe → ⊥) × (IsSpent self.new.scribe → ⊥)) }
-        ensures continues { IsContinued K.Journal.contents self.old.scribe self.new.scribe }
+        ensures begins { OnOk result (BeginsStep K.Journal.contents self.old.scribe self.new.scribe member taken) }
+        ensures shown { OnOk result (reading_in self.new.scribe ≡ Some reading) }
+        ensures kept { OnErr result (IsKeptOn K.Journal.contents self.old.scribe self.new.scribe) }
         ensures same { self.new ≡ record self.old { scribe = self.new.scribe } }
     {
         match &mut self.scribe {
@@ -119,7 +123,7 @@ where
         requires live { IsSpent self.old.scribe → ⊥ }
         ensures why { IfErr result IsOfJournal }
         ensures fails { OnErr result (IsSpent self.new.scribe) }
-        ensures goes { GoesOnSo K.Journal.contents K.is_honest K.may_hold K.holds (IsBrought self.old member work) (SaysWhy member result) self.old self.new }
+        ensures goes { (taken : TheTaken) (now : ℤ) → reading_in self.old.scribe ≡ Some now → GoesOnFrom K.Journal.contents K.is_honest K.may_hold K.holds (Line.Takes member taken ∷ []) (IsBrought self.old member (job_of now taken) work) (SaysWhy member result) self.old self.new }
     {
         match self.lend(at, work)? {
             Ok(out) => {
@@ -251,12 +255,11 @@ where
     }
 
     // Stops a member's node.
-    #[tactic(auto, using(crate::proofs::Continuing::continued_same))]
     fn stop_node(&mut self, member: Member)
         ensures scribe { self.new.scribe ≡ self.old.scribe }
         ensures rests { EachBecame (MayRest K.may_hold K.holds) self.old.seats.items self.new.seats.items }
         ensures others { (at : ℕ) → at ≢ member - 1 → slice_get self.new.seats.items at ≡ slice_get self.old.seats.items at }
-        ensures goes { GoesOn K.Journal.contents K.is_honest K.may_hold K.holds self.old self.new }
+        ensures stops { Stops K.is_honest K.may_hold K.holds member self.old self.new }
     {
         let Some(at) = self.place_of(member) else {
             return;
@@ -270,7 +273,7 @@ where
         ensures scribe { self.new.scribe ≡ self.old.scribe }
         ensures rests { EachBecame (MayRest K.may_hold K.holds) self.old.seats.items self.new.seats.items }
         ensures others { (at : ℕ) → at ≢ member - 1 → slice_get self.new.seats.items at ≡ slice_get self.old.seats.items at }
-        ensures goes { GoesOn K.Journal.contents K.is_honest K.may_hold K.holds self.old self.new }
+        ensures stops { Stops K.is_honest K.may_hold K.holds member self.old self.new }
     {
         self.stop_node(member);
         if self.leader == Some(member) {
@@ -278,7 +281,7 @@ where
         }
     }
 
-    // Hands a local input to a member.
+    // Hands a local input to a member, which is what it takes.
     pub(crate) fn hand(
         &mut self,
         member: Member,
@@ -286,6 +289,7 @@ where
         taken: Taken,
         input: Input,
     ) -> Result<Stepped, StoreRefusal>
+        requires same { job_of reading taken ≡ TheLocal input }
         ensures why { IfErr result IsOfJournal }
         ensures fails { OnErr result (IsSpent self.new.scribe) }
         ensures goes { GoesOnSo K.Journal.contents K.is_honest K.may_hold K.holds Anywhere (SaysWhy member result) self.old self.new }
@@ -309,7 +313,7 @@ where
         Ok(())
     }
 
-    #[tactic(auto, using(crate::proofs::Continuing::continued_same))]
+    #[tactic(auto, using(crate::proofs::Going::stays))]
     fn deliver(&mut self, reading: i64, letter: Letter) -> Result<(), StoreRefusal>
         ensures why { IfErr result IsOfJournal }
         ensures fails { OnErr result (IsSpent self.new.scribe) }

@@ -1,9 +1,10 @@
 //! The open store.
-ghost use Rattle.std.specs.Prelude.{◌≡◌, ◌↔◌, ◌⊎◌, ◌<◌, ◌+◌, ◌-◌, [], Some, IsTrue, IfSome, IfNone, IfOk, IfErr, OnOk, OnErr, length, slice_get};
-ghost use Rattle.store.specs.Closing.{IsClosed};
-ghost use Rattle.store.specs.Continuing.{HasBegun};
+ghost use Rattle.std.specs.Prelude.{◌≡◌, ◌↔◌, ◌⊎◌, ◌<◌, ◌+◌, ◌-◌, [], ◌∷◌, Some, IsTrue, IfSome, IfNone, IfOk, IfErr, OnOk, OnErr, drop, length, slice_get, take};
+ghost use Rattle.store.specs.Closing.{ClosesTo, IsClosed};
+ghost use Rattle.store.specs.Continuing.{HasBegun, IsContinued};
+ghost use Rattle.store.specs.Recording.{IsSilent};
 ghost use Rattle.store.specs.Going.{GoesOn, Publishes};
-ghost use Rattle.store.specs.Opening.{Begins};
+ghost use Rattle.store.specs.Opening.{Begins, Files, starts_of};
 ghost use Rattle.store.specs.Journals.{IsSpent, IsAdded, IsLonger, IsFlushed, IsOpened, IsAllOn, IsPartOn, device_in};
 ghost use Rattle.store.specs.Refusals.{IsOfJournal};
 
@@ -75,7 +76,7 @@ where
         marks: u64,
         reading: i64,
     ) -> Result<Store<K>, StoreRefusal>
-        ensures begins { IfOk result (Begins K.is_honest K.may_hold K.holds members) }
+        ensures begins { IfOk result (Begins K.Journal.contents K.is_honest K.may_hold K.holds members scribe) }
         ensures journal { IfOk result (λ store. HasBegun K.Journal.contents scribe store.scribe journal marks) }
     {
         let Members {
@@ -104,7 +105,8 @@ where
     // The first block of the journal.
     fn write_head(&mut self, journal: u64, marks: u64) -> Result<(), StoreRefusal>
         ensures opens { OnOk result (IsOpened K.Journal.contents self.old.scribe self.new.scribe journal marks) }
-        ensures goes { GoesOn K.Journal.contents K.is_honest K.may_hold K.holds self.old self.new }
+        ensures heads { OnOk result (Files K.Journal.contents self.old.scribe self.new.scribe (starts_of self.old.seats.items)) }
+        ensures same { self.new ≡ record self.old { scribe = self.new.scribe; noted = self.new.noted } }
     {
         let sum = match &self.scribe {
             Some(scribe) => scribe.sum(),
@@ -124,7 +126,8 @@ where
     // What a member begins the journal with.
     fn write_seat(&mut self, at: usize) -> Result<(), StoreRefusal>
         ensures longer { OnOk result (IsLonger self.old.scribe self.new.scribe) }
-        ensures goes { GoesOn K.Journal.contents K.is_honest K.may_hold K.holds self.old self.new }
+        ensures heads { OnOk result (Files K.Journal.contents self.old.scribe self.new.scribe (starts_of (take 1 (drop at self.old.seats.items)))) }
+        ensures same { self.new ≡ record self.old { scribe = self.new.scribe; noted = self.new.noted } }
     {
         let Some(seat) = self.seats.get(at) else {
             return Ok(());
@@ -153,8 +156,10 @@ where
         ensures live { OnOk result (IsSpent self.old.scribe → ⊥) }
         ensures device { device_in self.new.scribe ≡ device_in self.old.scribe }
         ensures same { self.new ≡ record self.old { scribe = self.new.scribe } }
-        ensures passes { Publishes K.Journal.contents self.old self.new [] [] }
-        ensures goes { GoesOn K.Journal.contents K.is_honest K.may_hold K.holds self.old self.new }
+        ensures continues { OnOk result (IsContinued K.Journal.contents self.old.scribe self.new.scribe (line.now ∷ [])) }
+        ensures lost { OnErr result (IsContinued K.Journal.contents self.old.scribe self.new.scribe []) }
+        ensures passes { IsSilent line.now → Publishes K.Journal.contents self.old self.new [] [] }
+        ensures goes { IsSilent line.now → GoesOn K.Journal.contents K.is_honest K.may_hold K.holds self.old self.new }
     {
         match &mut self.scribe {
             Some(scribe) => Ok(scribe.add(line)?),
@@ -170,6 +175,7 @@ where
         ensures fails { OnErr result (IsSpent self.new.scribe) }
         ensures live { OnOk result (IsSpent self.old.scribe → ⊥) }
         ensures same { self.new ≡ record self.old { scribe = self.new.scribe } }
+        ensures continues { IsContinued K.Journal.contents self.old.scribe self.new.scribe [] }
         ensures goes { GoesOn K.Journal.contents K.is_honest K.may_hold K.holds self.old self.new }
     {
         match &mut self.scribe {
@@ -261,10 +267,11 @@ where
         &self.schema
     }
 
-    /// Stops every member, and gives the databases back, and the journal's device. What could not be written to the journal is its
-    /// refusal; the databases hold what was stored all the same.
+    /// Stops every member, and gives the databases back, and the journal's device, to which the members' ends came. What could not be
+    /// written to the journal is its refusal; the databases hold what was stored all the same.
     pub fn close(mut self) -> (Databases<K>, Option<K::Journal>, Result<(), StoreRefusal>)
         ensures closed { IsClosed K.may_hold K.holds self result.0.seats.items }
+        ensures ends { ClosesTo K.Journal.contents K.is_honest K.may_hold K.holds self result.0.seats.items result.1 }
         ensures all { OnOk result.2 (IsAllOn K.Journal.contents self.scribe result.1) }
         ensures part { OnErr result.2 (IsPartOn K.Journal.contents self.scribe result.1) }
         ensures why { IfErr result.2 IsOfJournal }

@@ -1,9 +1,9 @@
 //! What a member announces its saves by.
-ghost use Rattle.std.specs.Prelude.{◌≡◌, ◌⊎◌, [], IfErr, OnOk, string_bytes};
+ghost use Rattle.std.specs.Prelude.{◌≡◌, ◌⊎◌, Some, [], IfErr, OnOk, string_bytes};
 ghost use Rattle.keep.specs.Durable.{Durable, after};
 ghost use Rattle.journal.specs.Digests.{summary_of};
 ghost use Rattle.store.specs.Chains.{links_of};
-ghost use Rattle.store.specs.Continuing.{Continues};
+ghost use Rattle.store.specs.Continuing.{IsKeptOn};
 ghost use Rattle.store.specs.Writing.{IsWritten, with_line};
 
 use crate::chain::Chain;
@@ -23,13 +23,12 @@ pub struct Voice<J: Device> {
 
 impl<J: Device> Voice<J> {
     /// Writes what is in the journal's buffer, and then what the member is about to store.
-    #[tactic(auto, using(crate::proofs::Continuing::continues_same))]
     pub(crate) fn announce(&mut self, change: &Change) -> Result<(), StoreError>
         ensures announced { (d : Durable) → self.old.chain.links.items ≡ links_of d.log → OnOk result (IsWritten (J.contents self.old.scribe.device) (J.contents self.new.scribe.device) self.old.scribe.sum (with_line (string_bytes self.old.scribe.buffer) (Line.Saves self.old.member (summary_of (after change.now d))))) }
         ensures empty { OnOk result (string_bytes self.new.scribe.buffer ≡ []) }
         ensures links { (d : Durable) → self.old.chain.links.items ≡ links_of d.log → OnOk result (self.new.chain.links.items ≡ links_of (after change.now d).log) }
         ensures error { IfErr result (λ error. (error ≡ StoreError.NoMemory) ⊎ (error ≡ StoreError.StoreFault)) }
-        ensures continues { Continues J.contents self.old.scribe self.new.scribe }
+        ensures continues { IsKeptOn J.contents (Some self.old.scribe) (Some self.new.scribe) }
     {
         let stored = self.chain.change(change)?;
         let line = Line::Saves {

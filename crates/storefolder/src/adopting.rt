@@ -1,15 +1,14 @@
 //! A folder with the flights of a run, made a store.
 use crate::faults::file_refusal;
 use crate::form::text_of_form;
-use crate::place::{exists, form_path, journal_path, sync_folder};
+use crate::place::{exists, form_path, journal_path, put_file, put_open, sync_folder};
 use adopt::{Run, read_run};
 use fault::Refusal;
 use journal::blocks::{FIRST_SUM, sum_after};
 use model::member::Member;
 use std::alloc::Global;
+use std::fs;
 use std::fs::{File, OpenOptions, TryLockError};
-use std::io::Write;
-use std::{fs, io};
 use store::StoreRefusal;
 
 // A file of a run that is no flight of it.
@@ -60,14 +59,6 @@ fn lock_new_form(rt: &HostRuntime, path: &str) -> Result<File, StoreRefusal> {
     }
 }
 
-// Writes a file beside its place, and puts it there in one step.
-fn put_file(rt: &HostRuntime, new: &str, path: &str, text: &str, mut file: File) -> io::Result<()> {
-    file.set_len(0)?;
-    file.write_all(text.as_bytes())?;
-    file.sync_all()?;
-    fs::rename(rt, new, path)
-}
-
 // Puts the first journal there. One that is there already has to be this one: else 56.
 fn put_journal(rt: &HostRuntime, alloc: Global, dir: &str, text: &str) -> Result<(), StoreRefusal> {
     let path = journal_path(alloc, dir, 1)?;
@@ -80,8 +71,24 @@ fn put_journal(rt: &HostRuntime, alloc: Global, dir: &str, text: &str) -> Result
         };
     }
     let new = format!(in alloc; "{dir}/journal1.new")?;
-    let file = File::create(rt, new.as_str()).map_err(|error| file_refusal(&error))?;
-    put_file(rt, new.as_str(), path.as_str(), text, file).map_err(|error| file_refusal(&error))
+    put_file(rt, dir, new.as_str(), path.as_str(), text.as_bytes()).map_err(|error| file_refusal(
+        &error,
+    ))
+}
+
+// Writes the form to this file, which is locked and stands beside its place, and puts it there.
+fn put_form(
+    rt: &HostRuntime,
+    alloc: Global,
+    dir: &str,
+    new: &str,
+    lock: File,
+    form: &str,
+) -> Result<(), StoreRefusal> {
+    let path = form_path(alloc, dir)?;
+    lock.set_len(0).map_err(|error| file_refusal(&error))?;
+    put_open(rt, lock, new, path.as_str(), form.as_bytes()).map_err(|error| file_refusal(&error))?;
+    sync_folder(rt, dir).map_err(|error| file_refusal(&error))
 }
 
 // The texts of a form and of a first journal for a run.
@@ -113,10 +120,6 @@ pub fn adopt(rt: &HostRuntime, alloc: Global, dir: &str) -> Result<Option<Member
         return Ok(None);
     }
     put_journal(rt, alloc, dir, journal.as_str())?;
-    let path = form_path(alloc, dir)?;
-    put_file(rt, new.as_str(), path.as_str(), form.as_str(), lock).map_err(|error| file_refusal(
-        &error,
-    ))?;
-    sync_folder(rt, dir).map_err(|error| file_refusal(&error))?;
+    put_form(rt, alloc, dir, new.as_str(), lock, form.as_str())?;
     Ok(Some(run.members()))
 }

@@ -64,7 +64,20 @@ pub(crate) fn sync_folder(rt: &HostRuntime, dir: &str) -> io::Result<()> {
     File::open(rt, dir)?.sync_all()
 }
 
-/// Writes a file beside its place, and puts it there in one step.
+/// Writes an empty file that is open beside its place, and puts it there in one step.
+pub(crate) fn put_open(
+    rt: &HostRuntime,
+    mut file: File,
+    new: &str,
+    path: &str,
+    bytes: &[u8],
+) -> io::Result<()> {
+    file.write_all(bytes)?;
+    file.sync_all()?;
+    fs::rename(rt, new, path)
+}
+
+/// Writes a file beside its place, puts it there in one step, and brings that to the disk.
 pub(crate) fn put_file(
     rt: &HostRuntime,
     dir: &str,
@@ -72,10 +85,8 @@ pub(crate) fn put_file(
     path: &str,
     bytes: &[u8],
 ) -> io::Result<()> {
-    let mut file = File::create(rt, new)?;
-    file.write_all(bytes)?;
-    file.sync_all()?;
-    fs::rename(rt, new, path)?;
+    let file = File::create(rt, new)?;
+    put_open(rt, file, new, path, bytes)?;
     sync_folder(rt, dir)
 }
 

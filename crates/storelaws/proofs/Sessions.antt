@@ -1,5 +1,7 @@
 -- What a store leaves, and how its session goes on.
-use Rattle.std.proofs.Common.{◌≡◌, ◌∙◌, ℕ, zero, suc, ◌+◌, Bool, true, false, Option, Some, None, Result, List, [], ◌∷◌, ◌++◌, MatchOption, MatchBool, length, slice_get, refl, sym, ap, subst, append-nil, arith}
+use Rattle.std.proofs.Common.{◌≡◌, ◌≢◌, ◌∙◌, ◌⊎◌, ⊎_elim, inl, inr, ℕ, zero, suc, ◌+◌, Bool, true, false, Option, Some, None, Result, List, [], ◌∷◌, ◌++◌, MatchOption, MatchBool, flat_map, length, map, slice_get, string_bytes, refl, sym, ap, subst, append-nil, append_assoc, arith}
+use Rattle.std.specs.Prelude.{All, IsSome}
+use Rattle.std.specs.Io.KnownBytes.{append_known}
 use Rattle.std.proofs.lemmas.List.Elements.{All-get_or}
 use Rattle.std.proofs.lemmas.Option.{get_or_from_slice_get, slice_get_within}
 use Rattle.std.proofs.lemmas.List.{length-map}
@@ -38,9 +40,24 @@ use Rattle.store.specs.Asking.{IsAnswerOf}
 use Rattle.store.specs.Nodes.{IsMember, IsNodeOf, Rests, rested}
 use Rattle.store.specs.Seats.{HasMember, IsClean}
 use Rattle.store.specs.Going.{Anywhere, AreClean, GoesOn, GoesOnSo, IsIn, IsRunOf}
-use Rattle.store.specs.Opening.{AreFound}
+use Rattle.journal.specs.declared.line.Line.{Line}
+use Rattle.journal.specs.declared.line.Line.TheVariants.{Opens, Rests as TheRests, Life, Clock, Takes, Saves, Made, Ends, Answer, Printed}
+use Rattle.journal.specs.Spelling.{line_text}
+use Rattle.journal.specs.Blocks.{block_text, blocks_text, last_sum}
+use Rattle.store.specs.declared.device.DeviceError.{DeviceError}
+use Rattle.store.specs.declared.members.Members.{Members}
+use Rattle.store.specs.declared.scribe.Scribe.{Scribe}
+use Rattle.store.specs.Continuing.{IsContinued, bodies_of, left_of, reading_in}
+use Rattle.store.specs.Journals.{IsSpent}
+use Rattle.store.specs.Opening.{AreFound, AreOpened, Begins}
+use Rattle.store.specs.Recording.{AreRecorded, RecordAll, last_reading}
+use Rattle.store.specs.Tales.{Told}
+use Rattle.store.specs.Writing.{lines_text}
+use Rattle.store.proofs.Continuing.{bodies_alone, continued_both, continued_reading, continued_spent, left_alone}
+use Rattle.store.proofs.Opening.{runs_recorded}
+use Rattle.store.proofs.Recording.{record_split, recorded_both}
 use Rattle.store.specs.Closing.{AreLeft, IsClosed, MayHold, images_in}
-use Rattle.storelaws.specs.Sessions.{AreAfter, Answers, Came, Further, HasAnswered, IsListed, session_of}
+use Rattle.storelaws.specs.Sessions.{AreAfter, Answers, Came, Further, HasAnswered, IsFiled, IsListed, IsOnFile, session_of}
 
 -- what a member told in a session is in the list that explains it
 pub listed : (language : Language) (sessions : List Session) (list : List Entry) → ExplainsSessions language sessions list → (i : ℕ) (s : Session) → nth sessions i ≡ Some s → (client number : ℕ) (outcome : Result ℕ Refusal) → WasTold s.gave client number outcome →
@@ -50,6 +67,23 @@ listed language sessions list E i s at client number outcome t = (t.told, t.clie
 -- the next one in a list
 behind : {A : Type 0} (xs : List A) (y : A) (k : ℕ) → k ≡ length xs + 1 → nth (xs ++ y ∷ []) k ≡ Some y
 behind xs y k e = nth_next (xs ++ y ∷ []) k (length xs) e ∙ ap (slice_get (xs ++ y ∷ [])) (let e : length xs ≡ length xs + 0 = omega arith in e) ∙ further xs (y ∷ []) 0
+
+-- a line has a text
+some_text : (line : Line) (more : List ℕ) → line_text line more ≡ [] → ⊥
+some_text (Opens journal sum marks) more e = cc e
+some_text (TheRests m stored) more e = cc e
+some_text (Life m stored) more e = cc e
+some_text (Clock now) more e = cc e
+some_text (Takes m taken) more e = cc e
+some_text (Saves m stored) more e = cc e
+some_text (Made m outcomes) more e = cc e
+some_text (Ends m) more e = cc e
+some_text (Answer m query answer) more e = cc e
+some_text (Printed client number words) more e = cc e
+
+no_lines : (lines : List Line) → lines_text lines ≡ [] → lines ≡ []
+no_lines [] e = refl
+no_lines (line ∷ lines) e = absurd (some_text line (lines_text lines) e)
 
 module _ (language : Language) (n : ℕ) where
   given_all : (es : List Event) (w : World) (outs : List (List Output)) → GivesAll language n w es outs → length outs ≡ length es
@@ -179,6 +213,78 @@ module _ {K J I : Type 0} {an : _} {g : _} {s : _} {d : _} (held : K → Durable
       } in
       (record { world = on.0.world; goes = goes; is_in = on.0.is_in }, record { events = on.0.goes.events; gave = on.0.goes.gave; events_are = refl; gave_is = refl; gives_so = on.1 })
 
+  -- a call of which no more is said
+  pub so : (contents : J → Option (List ℕ)) (honest : K → Type 0) (old new : Store K J I an g s d) → GoesOn contents honest held holds old new → GoesOnSo contents honest held holds Anywhere (λ gave. Unit {0}) old new
+  so contents honest old new x = record { schema = x.schema; count = x.count; lines = x.lines; journal = x.journal; clean = x.clean; went = λ k w i p. (x.went k w i, tt) }
+
+  -- ---- what its journal says
+
+  -- the lines of a store that goes on record its session further on
+  pub files : (contents : J → Option (List ℕ)) (honest : K → Type 0) (found : List model.Node) (scribe : Scribe J) (old new : Store K J I an g s d) → IsFiled contents held holds found scribe old → GoesOn contents honest held holds old new → AreClean honest holds new → IsFiled contents held holds found scribe new
+  unfolding goes_on joined so
+  files contents honest found scribe old new before x k =
+      let on = x.went k before.came.world before.came.is_in in
+      let after = goes_on contents honest (λ gave. Unit {0}) found old new before.came (so contents honest old new x) k in
+      record {
+        lines = before.lines ++ x.lines;
+        journal = continued_both contents (Some scribe) old.scribe new.scribe before.lines x.lines before.journal x.journal;
+        came = after.0;
+        recorded = subst (λ (events : List Event). AreRecorded scribe.reading (before.lines ++ x.lines) events (IsSpent new.scribe)) (sym after.1.events_are)
+            (recorded_both scribe.reading (reading_in old.scribe) before.lines x.lines before.came.goes.events on.goes.events (IsSpent old.scribe) (IsSpent new.scribe) (continued_reading contents (Some scribe) old.scribe before.lines before.journal)
+            (λ spent. let stays = continued_spent contents old.scribe new.scribe x.lines x.journal spent in stays.1) (λ spent. let stays = continued_spent contents old.scribe new.scribe x.lines x.journal spent in subst IsSpent (sym stays.0) spent) before.recorded on.events_are);
+      }
+
+  -- as a store begins
+  pub files_first : (contents : J → Option (List ℕ)) (honest : K → Type 0) (told : Told) (images : List (Option I)) (found : List model.Node) (scribe : Scribe J) (members : Members K J I an g s d) (store : Store K J I an g s d) → AreFound holds images found → AreOpened honest held holds told images members →
+      Begins contents honest held holds members scribe store → AreClean honest holds store → IsFiled contents held holds found scribe store
+  files_first contents honest told images found scribe members store are O B k =
+      let ran = runs_recorded honest held holds contents told images members scribe store O B k found are in
+      record { lines = B.lines; journal = B.journal; came = record { world = ran.0; goes = ran.1; is_in = ran.2 }; recorded = ran.3 }
+
+  -- what its file has
+  pub on_file : (contents : J → Option (List ℕ)) (found : List model.Node) (scribe : Scribe J) (store : Store K J I an g s d) → string_bytes scribe.buffer ≡ [] → (filed : IsFiled contents held holds found scribe store) → IsOnFile contents scribe filed.came
+  on_file contents found scribe store empty filed = go store.scribe refl filed.journal
+    where
+      spent : (last : Scribe J) (o : Option DeviceError) → store.scribe ≡ Some last → last.failure ≡ o → (front : List ℕ) → (last.failure ≡ None → front ≡ []) → (front ≡ []) ⊎ IsSpent store.scribe
+      spent last None is up front none = inl (none up)
+      spent last (Some e) is up front none = inr (subst IsSpent (sym is) (subst IsSome (sym up) refl))
+
+      live : (last : Scribe J) (o : Option DeviceError) → store.scribe ≡ Some last → last.failure ≡ o → (IsSpent store.scribe → ⊥) → last.failure ≡ None
+      live last None is up unspent = up
+      live last (Some e) is up unspent = absurd (unspent (subst IsSpent (sym is) (subst IsSome (sym up) refl)))
+
+      go : (o : Option (Scribe J)) → store.scribe ≡ o → IsContinued contents (Some scribe) o filed.lines → IsOnFile contents scribe filed.came
+      go None is away = absurd away
+      go (Some last) is c =
+          let buffer = string_bytes scribe.buffer in
+          let bodies : bodies_of buffer c.groups ≡ map lines_text c.groups = ap (λ (x : List ℕ). bodies_of x c.groups) empty ∙ bodies_alone c.groups in
+          let left : left_of buffer c.groups c.rest ≡ lines_text c.rest = ap (λ (x : List ℕ). left_of x c.groups c.rest) empty ∙ left_alone c.groups c.rest in
+          let first = flat_map (λ (group : List Line). group) c.groups in
+          let split = record_split scribe.reading first c.rest filed.recorded.filed (subst (λ (lines : List Line). RecordAll scribe.reading lines filed.recorded.filed) c.lines_are filed.recorded.recorded) in
+          record {
+            groups = c.groups;
+            next = c.rest;
+            front = c.front;
+            back = c.back;
+            last = last;
+            last_is = is;
+            device = c.device ∙ ap (λ (x : List (List ℕ)). append_known (contents scribe.device) (blocks_text scribe.sum x c.front)) bodies;
+            filled = subst (All (λ (body : List ℕ). body ≢ [])) bodies c.filled;
+            torn = ap (λ (x : List (List ℕ)). block_text (last_sum scribe.sum x) (lines_text c.rest) []) (sym bodies)
+                ∙ ap (λ (x : List ℕ). block_text (last_sum scribe.sum (bodies_of buffer c.groups)) x []) (sym left)
+                ∙ c.torn;
+            none = spent last last.failure is refl c.front (λ up. (c.live up).0);
+            events = split.0;
+            later = split.1 ++ filed.recorded.lost;
+            events_are = filed.recorded.events_are ∙ ap (λ (x : List Event). x ++ filed.recorded.lost) split.2 ∙ append_assoc split.0 split.1 filed.recorded.lost;
+            recorded = split.3;
+            all = λ unspent nothing.
+                let up = live last last.failure is refl unspent in
+                let none : c.rest ≡ [] = no_lines c.rest (sym left ∙ sym (c.live up).1 ∙ nothing) in
+                let quiet : split.1 ≡ [] = subst (λ (lines : List Line). RecordAll (last_reading scribe.reading first) lines split.1) none split.4 in
+                ap (λ (x : List Event). x ++ filed.recorded.lost) quiet ∙ ⊎_elim (λ (e : filed.recorded.lost ≡ []). e) (λ spent. absurd (unspent spent)) filed.recorded.none;
+          }
+
   -- ---- one session more
 
   pub next : ((node : Node K I g s) → Keeps held node) → (sessions : List Session) (store : Store K J I an g s d) (c : Came held holds (found_after (new_databases (length store.seats.items)) sessions) store) → AreSessions (language_of store.schema) (length store.seats.items) (new_databases (length store.seats.items)) sessions →
@@ -239,7 +345,3 @@ module _ {K J I : Type 0} {an : _} {g : _} {s : _} {d : _} (held : K → Durable
       by_seat : (o : Option (Seat K J I an g s d)) → slice_get store.seats.items at ≡ o → MatchOption o ⊥ (λ seat. MatchOption seat.node ⊥ (λ node. IsAnswerOf honest node store.schema text a)) → Answers held holds found store before (at + 1) text a
       by_seat None there none = absurd none
       by_seat (Some seat) there some = by_node seat seat.node there refl some
-
-  -- a call of which no more is said
-  pub so : (contents : J → Option (List ℕ)) (honest : K → Type 0) (old new : Store K J I an g s d) → GoesOn contents honest held holds old new → GoesOnSo contents honest held holds Anywhere (λ gave. Unit {0}) old new
-  so contents honest old new x = record { schema = x.schema; count = x.count; journal = x.journal; clean = x.clean; went = λ k w i p. (x.went k w i, tt) }

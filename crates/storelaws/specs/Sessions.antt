@@ -1,5 +1,6 @@
 -- The sessions of stores that are opened one after the other over the same databases.
-use Rattle.std.specs.Prelude.{◌≡◌, ℕ, Option, Result, List, [], ◌∷◌, ◌++◌, ◌+◌, Ok, MatchOption, length, slice_get}
+use Rattle.std.specs.Prelude.{◌≡◌, ◌≢◌, ◌⊎◌, ℕ, Option, Some, Result, List, [], ◌∷◌, ◌++◌, ◌+◌, Ok, MatchOption, All, flat_map, length, map, slice_get, string_bytes}
+use Rattle.std.specs.Io.KnownBytes.{append_known}
 use Rattle.fault.specs.declared.refusal.Refusal.{Refusal}
 use Rattle.model.specs.declared.entry.Entry.{Entry}
 use Rattle.model.specs.declared.entry.Told.{Told}
@@ -18,7 +19,14 @@ use Rattle.answer.specs.Answers.{answer_of}
 use Rattle.sqlread.specs.Shapes.{QueryShape}
 use Rattle.sqlread.specs.Texts.{query_in}
 use Rattle.runlaws.specs.Going.{Goes}
+use Rattle.journal.specs.declared.line.Line.{Line}
+use Rattle.journal.specs.Blocks.{block_text, blocks_text, last_sum}
 use Rattle.store.specs.Asking.{IsAnswerOf}
+use Rattle.store.specs.declared.scribe.Scribe.{Scribe}
+use Rattle.store.specs.Continuing.{IsContinued}
+use Rattle.store.specs.Journals.{IsSpent}
+use Rattle.store.specs.Recording.{AreRecorded, RecordAll}
+use Rattle.store.specs.Writing.{lines_text}
 use Rattle.store.specs.declared.store.Store.{Store}
 use Rattle.store.specs.Going.{IsIn}
 use Rattle.store.specs.Opening.{AreFound}
@@ -49,6 +57,33 @@ module _ {K J I : Type 0} {an : _} {g : _} {s : _} {d : _} where
     pub events_are : after.goes.events ≡ before.goes.events ++ events
     pub gave_is : after.goes.gave ≡ before.goes.gave ++ gave
     pub gives_so : gives gave
+
+  -- the lines that came to its journal, since that was at this scribe, record how a store came to where it is
+  pub record IsFiled (contents : J → Option (List ℕ)) (held : K → Durable → Type 0) (holds : I → Durable → Type 0) (found : List Node) (scribe : Scribe J) (store : Store K J I an g s d) : Type 0 where
+    pub lines : List Line
+    pub journal : IsContinued contents (Some scribe) store.scribe lines
+    pub came : Came held holds found store
+    pub recorded : AreRecorded scribe.reading lines came.goes.events (IsSpent store.scribe)
+
+  -- What the file of its journal has of a session. Behind what was there as the store began come blocks, each with the lines of a group and the
+  -- sum of the block before, none empty, and then a beginning of the next at most, which is nothing unless the journal is spent. The lines of
+  -- the groups record a beginning of the session's events, and all of them where nothing is in the buffer.
+  pub record IsOnFile (contents : J → Option (List ℕ)) (scribe : Scribe J) {held : K → Durable → Type 0} {holds : I → Durable → Type 0} {found : List Node} {store : Store K J I an g s d} (came : Came held holds found store) : Type 0 where
+    pub groups : List (List Line)
+    pub next : List Line
+    pub front : List ℕ
+    pub back : List ℕ
+    pub last : Scribe J
+    pub last_is : store.scribe ≡ Some last
+    pub device : contents last.device ≡ append_known (contents scribe.device) (blocks_text scribe.sum (map lines_text groups) front)
+    pub filled : All (λ (body : List ℕ). body ≢ []) (map lines_text groups)
+    pub torn : block_text (last_sum scribe.sum (map lines_text groups)) (lines_text next) [] ≡ front ++ back
+    pub none : (front ≡ []) ⊎ IsSpent store.scribe
+    pub events : List Event
+    pub later : List Event
+    pub events_are : came.goes.events ≡ events ++ later
+    pub recorded : RecordAll scribe.reading (flat_map (λ (group : List Line). group) groups) events
+    pub all : (IsSpent store.scribe → ⊥) → string_bytes last.buffer ≡ [] → later ≡ []
 
   -- the member of the seat that has so many before it is up, and answers the question of this text so
   abbrev pub HasAnswered : (honest : K → Type 0) → Store K J I an g s d → ℕ → List ℕ → Answer → Type 0

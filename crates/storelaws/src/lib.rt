@@ -2,7 +2,7 @@
 //! anything: what it is for is its contract, which a caller has as a fact.
 #![tactic(auto)]
 
-ghost use Rattle.std.specs.Prelude.{◌≡◌, ◌+◌, ◌++◌, ◌∷◌, ℕ, Some, Option, Result, List, [], length};
+ghost use Rattle.std.specs.Prelude.{◌≡◌, ◌+◌, ◌++◌, ◌∷◌, ℕ, Some, Option, Result, List, [], length, string_bytes};
 ghost use Rattle.model.specs.Members.{Node};
 ghost use Rattle.model.specs.Worlds.{World};
 ghost use Rattle.model.specs.declared.entry.Entry.{Entry};
@@ -18,10 +18,13 @@ ghost use Rattle.sqlread.specs.Meaning.{language_of};
 ghost use Rattle.store.specs.Closing.{AreLeft, IsClosed, images_in};
 ghost use Rattle.store.specs.Going.{Anywhere, AreClean, ComesOf, GoesOn, GoesOnSo, IsIn};
 ghost use Rattle.store.specs.declared.outcome.Outcome.{Outcome};
-ghost use Rattle.store.specs.Opening.{AreFound, IsRunFrom};
-ghost use Rattle.storelaws.specs.Sessions.{Answers, AreAfter, Came, Further, HasAnswered, IsListed, session_of};
+ghost use Rattle.store.specs.declared.scribe.Scribe.{Scribe};
+ghost use Rattle.store.specs.Opening.{AreFound, AreOpened, Begins, IsRunFrom};
+ghost use Rattle.store.specs.Tales.{Told};
+ghost use Rattle.storelaws.specs.Sessions.{Answers, AreAfter, Came, Further, HasAnswered, IsFiled, IsListed, IsOnFile, session_of};
 
 use store::announcing::Announces;
+use store::members::Members;
 use store::{Databases, Store};
 
 /// What is left. Where a process ends between two calls of its store, whether that is closed or the process is killed, what its databases
@@ -47,6 +50,28 @@ where
         (after : Came K.may_hold K.holds found new.now) × Further (λ gave. Unit {0}) before after }
     ensures tells { (found : List Node) (before : Came K.may_hold K.holds found old.now) (client number : ℕ) (outcome : Outcome) → GoesOnSo K.Journal.contents K.is_honest K.may_hold K.holds Anywhere (ComesOf client number outcome) old.now new.now → AreClean K.is_honest K.holds new.now →
         (after : Came K.may_hold K.holds found new.now) × Further (ComesOf client number outcome) before after }
+{}
+
+/// A session's journal. The lines that came to it, from where its scribe stood as the store began, record the starts of its members and
+/// each event since, in order: a step whole or cut short, with what was taken and what clocks showed, a start, a stop, and no other. Only
+/// a start may be missing at the end of a journal that can't be written any more; it stored nothing.
+pub fn is_filed<K: Announces>(members: &Members<K>, old: &Store<K>, new: &Store<K>)
+where
+    K::Image: Drop,
+    ensures begins { (told : Told) (images : List (Option K.Image)) (found : List Node) (scribe : Scribe K.Journal) → AreFound K.holds images found → AreOpened K.is_honest K.may_hold K.holds told images members.now →
+        Begins K.Journal.contents K.is_honest K.may_hold K.holds members.now scribe new.now → AreClean K.is_honest K.holds new.now → IsFiled K.Journal.contents K.may_hold K.holds found scribe new.now }
+    ensures goes { (found : List Node) (scribe : Scribe K.Journal) → IsFiled K.Journal.contents K.may_hold K.holds found scribe old.now → GoesOn K.Journal.contents K.is_honest K.may_hold K.holds old.now new.now → AreClean K.is_honest K.holds new.now →
+        IsFiled K.Journal.contents K.may_hold K.holds found scribe new.now }
+{}
+
+/// What the file has of a session is a beginning of its events. A journal that had nothing in its buffer as the store began has, behind what
+/// its device held then, blocks of whole lines, and these record the first events of the session, in order: all of them where nothing is in
+/// the buffer, as once an outcome or an answer is told. Only where the journal can't be written any more may a part of one block stand behind
+/// them.
+pub fn is_on_file<K: Announces>(store: &Store<K>)
+where
+    K::Image: Drop,
+    ensures { (found : List Node) (scribe : Scribe K.Journal) → string_bytes scribe.buffer ≡ [] → (filed : IsFiled K.Journal.contents K.may_hold K.holds found scribe store.now) → IsOnFile K.Journal.contents scribe filed.came }
 {}
 
 /// What a store gives back when it is closed is what is left of it where its process is killed instead: so `leaves` and `next_session` say

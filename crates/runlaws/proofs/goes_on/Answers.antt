@@ -1,5 +1,4 @@
 use Rattle.runlaws.proofs.Going.{goes_further}
-use Rattle.runlaws.proofs.Seats.{seated}
 use Rattle.runlaws.proofs.goes_on.Goals as goal
 
 pub returns : goal.returns

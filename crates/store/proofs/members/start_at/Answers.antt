@@ -1,29 +1,32 @@
-use Rattle.std.proofs.Common.{◌≡◌, ◌+◌, length, refl, rules}
+use Rattle.std.proofs.Common.{◌≡◌, length, refl, rules}
 use Rattle.std.proofs.lemmas.Option.{slice_get_read}
+use Rattle.store.specs.Opening.{Starts}
 use Rattle.store.proofs.Closing.{became_up, still_missing}
-use Rattle.store.proofs.Going.{started_seat}
-use Rattle.store.proofs.Opening.{starts_none, starts_one, starts_still}
+use Rattle.store.proofs.Opening.{on_became, starts_named, stays_missing}
 use Rattle.store.proofs.members.start_at.Goals as goal
-
-pub returns-in_err-schema-clause-starts : goal.returns-in_err-schema-clause-starts
-returns-in_err-schema-clause-starts g c = starts_none g.K.LogReader.is_honest g.K.LogReader.may_hold g.K.Keeper.holds c.args.schema.now (length c.args.seats.now.items) c.args.seats.now.items
 
 pub returns-then-is_missing-clause-starts : goal.returns-then-is_missing-clause-starts
 returns-then-is_missing-clause-starts g c =
     let old = c.args.seats.now.items in
     let before = c.index_mut-seat.result.now in
-    starts_still g.K.LogReader.is_honest g.K.LogReader.may_hold g.K.Keeper.holds c.args.schema.now (length old) old _ c.args.at before
-    (slice_get_read old (length old) c.args.at before refl c.requires c.index_mut-seat.ensures.value) refl
+    record {
+      before = before;
+      after = before;
+      there = slice_get_read old (length old) c.args.at before refl c.requires c.index_mut-seat.ensures.value;
+      now = refl;
+      turned = stays_missing g.K.LogReader.is_honest g.K.LogReader.may_hold g.K.Keeper.holds c.args.schema.now (length old) before (c.is_missing.ensures.0 c.if-is_missing.true).0;
+    }
 
 pub returns-clause-starts : goal.returns-clause-starts
 returns-clause-starts g c =
     let old = c.args.seats.now.items in
     let before = c.index_mut-seat.result.now in
+    let after = c.start_seat.new.seat in
     let named : c.in_ok-schema.schema ≡ c.args.schema.now = search rules in
     let count : c.len-count.result ≡ length old = search rules in
-    starts_one g.K.LogReader.is_honest g.K.LogReader.may_hold g.K.Keeper.holds c.args.schema.now (length old) old _ c.args.at before c.start_seat.new.seat
-    (slice_get_read old (length old) c.args.at before refl c.requires c.index_mut-seat.ensures.value) refl c.start_seat.ensures.clean
-    (λ neat x has. started_seat g.K.Journal.Device.contents g.K.LogReader.is_honest g.K.LogReader.may_hold g.K.Keeper.holds before c.start_seat.new.seat c.args.schema.now c.in_ok-schema.schema (length old) c.len-count.result (c.args.at + 1) named count (c.start_seat.ensures.starts neat) x has)
+    on_became c.start_seat.result (Starts g.K.LogReader.is_honest g.K.LogReader.may_hold g.K.Keeper.holds c.args.schema.now (length old)) old c.args.at before after
+    (slice_get_read old (length old) c.args.at before refl c.requires c.index_mut-seat.ensures.value)
+    (starts_named g.K.LogReader.is_honest g.K.LogReader.may_hold g.K.Keeper.holds c.start_seat.result c.args.schema.now c.in_ok-schema.schema (length old) c.len-count.result before after named count c.start_seat.ensures.starts)
 
 pub returns-then-is_missing-clause-up : goal.returns-then-is_missing-clause-up
 returns-then-is_missing-clause-up g c =

@@ -1,14 +1,14 @@
 use Rattle.std.proofs.Common.{◌≡◌, ℕ, arith, length, rules, subst}
-use Rattle.store.specs.Starting.{IsStarted}
+use Rattle.store.specs.Became.{Became}
 use Rattle.store.specs.Opening.{Starts}
+use Rattle.store.specs.Starting.{IsStarted}
 use Rattle.store.proofs.Became.{all_became, none_became}
 use Rattle.store.proofs.Closing.{next_one}
-use Rattle.store.proofs.Opening.{starts_both, starts_none}
 use Rattle.store.proofs.members.start_seats.Goals as goal
 
 pub loop-at-init : goal.loop-at-init
 loop-at-init g c = record {
-  starts = starts_none g.K.LogReader.is_honest g.K.LogReader.may_hold g.K.Keeper.holds c.args.schema.now (length c.args.seats.now.items) c.args.seats.now.items;
+  starts = none_became (Starts g.K.LogReader.is_honest g.K.LogReader.may_hold g.K.Keeper.holds c.args.schema.now (length c.args.seats.now.items)) c.args.seats.now.items;
   up = none_became (IsStarted g.K.LogReader.is_honest) c.args.seats.now.items;
 }
 
@@ -17,19 +17,18 @@ loop-at-preserved g c =
     let old = c.args.seats.now.items in
     let mid = c.loop-at.seats.items in
     let new = c.start_at.new.seats.items in
-    let one = subst (λ (n : ℕ). Starts g.K.LogReader.is_honest g.K.LogReader.may_hold g.K.Keeper.holds c.args.schema.now n mid new) c.loop-at.invariant.starts.count c.start_at.ensures.starts in
+    let one = subst (λ (n : ℕ). Became (Starts g.K.LogReader.is_honest g.K.LogReader.may_hold g.K.Keeper.holds c.args.schema.now n) c.loop-at.at mid new) c.loop-at.invariant.starts.count c.in_ok-start_at.ensures.starts in
     record {
-      starts = starts_both g.K.LogReader.is_honest g.K.LogReader.may_hold g.K.Keeper.holds c.args.schema.now (length old) old mid new c.loop-at.invariant.starts one;
+      starts = next_one (Starts g.K.LogReader.is_honest g.K.LogReader.may_hold g.K.Keeper.holds c.args.schema.now (length old)) c.loop-at.at old mid new c.loop-at.invariant.starts one;
       up = next_one (IsStarted g.K.LogReader.is_honest) c.loop-at.at old mid new c.loop-at.invariant.up c.in_ok-start_at.ensures.up;
     }
 
-pub returns-in_err-start_at-clause-starts : goal.returns-in_err-start_at-clause-starts
-returns-in_err-start_at-clause-starts g c =
+pub returns-clause-starts : goal.returns-clause-starts
+returns-clause-starts g c =
     let old = c.args.seats.now.items in
-    let mid = c.loop-at.seats.items in
-    let new = c.start_at.new.seats.items in
-    let one = subst (λ (n : ℕ). Starts g.K.LogReader.is_honest g.K.LogReader.may_hold g.K.Keeper.holds c.args.schema.now n mid new) c.loop-at.invariant.starts.count c.start_at.ensures.starts in
-    starts_both g.K.LogReader.is_honest g.K.LogReader.may_hold g.K.Keeper.holds c.args.schema.now (length old) old mid new c.loop-at.invariant.starts one
+    let len : c.len-at-end.result ≡ length old = search rules in
+    let test = c.loop-at-test.false in
+    all_became (Starts g.K.LogReader.is_honest g.K.LogReader.may_hold g.K.Keeper.holds c.args.schema.now (length old)) c.loop-at.at old c.loop-at.seats.items (omega (arith, len, test)) c.loop-at.invariant.starts
 
 pub returns-clause-up : goal.returns-clause-up
 returns-clause-up g c =

@@ -6,6 +6,6 @@ use Rattle.store.proofs.members.start_seats.Given as goal
 
 abbrev pub invariant-loop-at : goal.invariant-loop-at
 invariant-loop-at g l = record {
-  starts : Starts g.K.LogReader.is_honest g.K.LogReader.may_hold g.K.Keeper.holds l.schema (length l.initial.seats.items) l.initial.seats.items l.seats.items;
+  starts : FirstBecame (Starts g.K.LogReader.is_honest g.K.LogReader.may_hold g.K.Keeper.holds l.schema (length l.initial.seats.items)) l.at l.initial.seats.items l.seats.items;
   up : FirstBecame (IsStarted g.K.LogReader.is_honest) l.at l.initial.seats.items l.seats.items;
 }

@@ -23,3 +23,11 @@ returns-clause-part g c =
       | in-None w ↦ w.device-is ∙ sym (ap device_in w.in-None.is)
     ] in
     rw is c.stop_all-stopped.ensures.part
+
+pub returns-clause-ends : goal.returns-clause-ends
+returns-clause-ends g c =
+    let is : c.match-scribe.device ≡ device_in c.stop_all-stopped.new.self.scribe = elim c.match-scribe.branch [
+      | in-Some w ↦ w.device-is ∙ ap Some w.into_device.ensures ∙ sym (ap device_in w.in-Some.is)
+      | in-None w ↦ w.device-is ∙ sym (ap device_in w.in-None.is)
+    ] in
+    (c.stop_all-stopped.new.self, c.stop_all-stopped.ensures.goes, c.of.ensures, is)

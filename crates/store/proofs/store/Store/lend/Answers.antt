@@ -1,6 +1,6 @@
 use Rattle.std.proofs.Common.{◌≡◌, ◌+◌, Some, length, refl, rules, subst}
 use Rattle.std.proofs.lemmas.Option.{slice_get_read}
-use Rattle.store.specs.Continuing.{IsContinued}
+use Rattle.store.specs.Continuing.{IsKeptOn}
 use Rattle.store.proofs.Written.{on_err}
 use Rattle.store.proofs.store.Store.lend.Goals as goal
 
@@ -14,7 +14,7 @@ returns-in_err-check-clause-lost g c =
       record {
         before = before;
         after = c.step-scribe.new.self;
-        changes = record { there = slice_get_read old.seats.items (length old.seats.items) c.args.at before refl c.requires.there c.index_mut-seat.ensures.value; seats = refl; schema = refl; queue = refl; sent = refl; watched = refl; journal = subst (λ s. IsContinued g.K.Journal.Device.contents s c.step-scribe.result.0) lent c.step-scribe.ensures.continues; clean = c.step-scribe.ensures.clean };
+        changes = record { there = slice_get_read old.seats.items (length old.seats.items) c.args.at before refl c.requires.there c.index_mut-seat.ensures.value; seats = refl; schema = refl; queue = refl; sent = refl; watched = refl; journal = subst (λ s. IsKeptOn g.K.Journal.Device.contents s c.step-scribe.result.0) lent c.step-scribe.ensures.continues; clean = c.step-scribe.ensures.clean };
         steps = λ neat x has. c.step-scribe.ensures.steps neat old.schema (length old.seats.items) (c.args.at + 1) x has;
       },
     )
@@ -27,6 +27,6 @@ returns-clause-stepped g c =
     record {
       before = before;
       after = c.step-scribe.new.self;
-      changes = record { there = slice_get_read old.seats.items (length old.seats.items) c.args.at before refl c.requires.there c.index_mut-seat.ensures.value; seats = refl; schema = refl; queue = refl; sent = refl; watched = refl; journal = subst (λ s. IsContinued g.K.Journal.Device.contents s c.step-scribe.result.0) lent c.step-scribe.ensures.continues; clean = c.step-scribe.ensures.clean };
+      changes = record { there = slice_get_read old.seats.items (length old.seats.items) c.args.at before refl c.requires.there c.index_mut-seat.ensures.value; seats = refl; schema = refl; queue = refl; sent = refl; watched = refl; journal = subst (λ s. IsKeptOn g.K.Journal.Device.contents s c.step-scribe.result.0) lent c.step-scribe.ensures.continues; clean = c.step-scribe.ensures.clean };
       steps = λ neat x has. c.step-scribe.ensures.steps neat old.schema (length old.seats.items) (c.args.at + 1) x has;
     }

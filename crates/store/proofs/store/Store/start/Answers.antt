@@ -1,16 +1,17 @@
-use Rattle.store.proofs.Going.{goes_on}
+use Rattle.std.proofs.Common.{rules}
+use Rattle.store.proofs.Going.{goes_on, lives, lives_unsaid}
 use Rattle.store.proofs.store.Store.start.Goals as goal
 
-pub returns-in_err-write_life-clause-goes : goal.returns-in_err-write_life-clause-goes
-returns-in_err-write_life-clause-goes g c = goes_on g.K.Journal.Device.contents g.K.LogReader.is_honest g.K.LogReader.may_hold g.K.Keeper.holds c.args.self.now c.start_node.new.self c.write_life.new.self c.start_node.ensures c.write_life.ensures
+pub returns-in_err-write-clause-goes : goal.returns-in_err-write-clause-goes
+returns-in_err-write-clause-goes g c = lives_unsaid g.K.Journal.Device.contents g.K.LogReader.is_honest g.K.LogReader.may_hold g.K.Keeper.holds c.args.member c.args.self.now c.start_node.new.self c.write.new.self (c.in_ok-stored.ensures.starts (search rules)) c.write.ensures.same c.in_err-write.ensures.lost c.in_err-write.ensures.fails
 
 pub returns-in_err-bring-clause-goes : goal.returns-in_err-bring-clause-goes
 returns-in_err-bring-clause-goes g c =
-    let lives = goes_on g.K.Journal.Device.contents g.K.LogReader.is_honest g.K.LogReader.may_hold g.K.Keeper.holds c.args.self.now c.start_node.new.self c.write_life.new.self c.start_node.ensures c.write_life.ensures in
-    goes_on g.K.Journal.Device.contents g.K.LogReader.is_honest g.K.LogReader.may_hold g.K.Keeper.holds c.args.self.now c.write_life.new.self c.bring.new.self lives c.bring.ensures
+    goes_on g.K.Journal.Device.contents g.K.LogReader.is_honest g.K.LogReader.may_hold g.K.Keeper.holds c.args.self.now c.write.new.self c.bring.new.self
+    (lives g.K.Journal.Device.contents g.K.LogReader.is_honest g.K.LogReader.may_hold g.K.Keeper.holds c.args.member c.in-Some.stored c.args.self.now c.start_node.new.self c.write.new.self (c.in_ok-stored.ensures.starts (search rules)) c.write.ensures.same c.in_ok-write.ensures.live c.in_ok-write.ensures.continues) c.bring.ensures
 
 pub returns-clause-goes : goal.returns-clause-goes
 returns-clause-goes g c =
-    let lives = goes_on g.K.Journal.Device.contents g.K.LogReader.is_honest g.K.LogReader.may_hold g.K.Keeper.holds c.args.self.now c.start_node.new.self c.write_life.new.self c.start_node.ensures c.write_life.ensures in
-    let brought = goes_on g.K.Journal.Device.contents g.K.LogReader.is_honest g.K.LogReader.may_hold g.K.Keeper.holds c.args.self.now c.write_life.new.self c.bring.new.self lives c.bring.ensures in
-    goes_on g.K.Journal.Device.contents g.K.LogReader.is_honest g.K.LogReader.may_hold g.K.Keeper.holds c.args.self.now c.bring.new.self c.flush.new.self brought c.flush.ensures.goes
+    goes_on g.K.Journal.Device.contents g.K.LogReader.is_honest g.K.LogReader.may_hold g.K.Keeper.holds c.args.self.now c.bring.new.self c.flush.new.self
+    (goes_on g.K.Journal.Device.contents g.K.LogReader.is_honest g.K.LogReader.may_hold g.K.Keeper.holds c.args.self.now c.write.new.self c.bring.new.self
+    (lives g.K.Journal.Device.contents g.K.LogReader.is_honest g.K.LogReader.may_hold g.K.Keeper.holds c.args.member c.in-Some.stored c.args.self.now c.start_node.new.self c.write.new.self (c.in_ok-stored.ensures.starts (search rules)) c.write.ensures.same c.in_ok-write.ensures.live c.in_ok-write.ensures.continues) c.bring.ensures) c.flush.ensures.goes

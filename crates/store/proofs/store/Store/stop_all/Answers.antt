@@ -1,5 +1,6 @@
 use Rattle.std.proofs.Common.{ap, refl}
 use Rattle.store.proofs.Closing.{rest_after, rest_same}
+use Rattle.store.proofs.Going.{goes_on, stays}
 use Rattle.store.proofs.Written.{all_on, longer_more, longer_none, on_err, part_on, same_on, then_err, then_ok}
 use Rattle.store.proofs.store.Store.stop_all.Goals as goal
 
@@ -8,6 +9,7 @@ loop-at-init g c = record {
   rests = rest_same g.K.LogReader.may_hold g.K.Keeper.holds c.args.self.now.seats.items c.args.self.now.seats.items refl;
   longer = longer_none c.args.self.now.scribe;
   spent = λ spent. spent;
+  goes = stays g.K.Journal.Device.contents g.K.LogReader.is_honest g.K.LogReader.may_hold g.K.Keeper.holds c.args.self.now;
 }
 
 pub loop-at-preserved : goal.loop-at-preserved
@@ -15,6 +17,7 @@ loop-at-preserved g c = record {
   rests = rest_after g.K.LogReader.may_hold g.K.Keeper.holds c.args.self.now.seats.items c.loop-at.self.seats.items c.end.new.self.seats.items c.loop-at.invariant.rests c.end.ensures.rests;
   longer = longer_more c.args.self.now.scribe c.loop-at.self.scribe c.end.new.self.scribe c.loop-at.invariant.longer c.in_ok-end.ensures.longer;
   spent = λ spent. c.in_ok-end.ensures.spent (c.loop-at.invariant.spent spent);
+  goes = goes_on g.K.Journal.Device.contents g.K.LogReader.is_honest g.K.LogReader.may_hold g.K.Keeper.holds c.args.self.now c.loop-at.self c.end.new.self c.loop-at.invariant.goes c.end.ensures.goes;
 }
 
 pub returns-in_err-end-clause-part : goal.returns-in_err-end-clause-part
@@ -42,3 +45,9 @@ returns-clause-rests g c =
     let mid = c.loop-at.self.seats.items in
     let last = c.flush.new.self.seats.items in
     rest_after g.K.LogReader.may_hold g.K.Keeper.holds c.args.self.now.seats.items mid last c.loop-at.invariant.rests (rest_same g.K.LogReader.may_hold g.K.Keeper.holds mid last (ap (λ t. t.seats.items) c.flush.ensures.same))
+
+pub returns-in_err-end-clause-goes : goal.returns-in_err-end-clause-goes
+returns-in_err-end-clause-goes g c = goes_on g.K.Journal.Device.contents g.K.LogReader.is_honest g.K.LogReader.may_hold g.K.Keeper.holds c.args.self.now c.loop-at.self c.end.new.self c.loop-at.invariant.goes c.end.ensures.goes
+
+pub returns-clause-goes : goal.returns-clause-goes
+returns-clause-goes g c = goes_on g.K.Journal.Device.contents g.K.LogReader.is_honest g.K.LogReader.may_hold g.K.Keeper.holds c.args.self.now c.loop-at.self c.flush.new.self c.loop-at.invariant.goes c.flush.ensures.goes

@@ -1,30 +1,64 @@
-use Rattle.store.proofs.Going.{goes_on, stays}
-use Rattle.store.proofs.Written.{longer_none, longer_more, on_opened}
+use Rattle.std.proofs.Common.{◌≡◌, ◌∙◌, ◌∷◌, [], ap, arith, drop, length, refl, rules, subst, sym, take}
+use Rattle.std.proofs.lemmas.List.{take_all}
+use Rattle.std.proofs.lemmas.List.Elements.{All-nil}
+use Rattle.journal.specs.declared.line.Line.TheVariants.{Opens}
+use Rattle.store.specs.Opening.{Files, starts_of}
+use Rattle.store.specs.Recording.{IsSilent}
+use Rattle.store.proofs.Continuing.{continued_same}
+use Rattle.store.proofs.Opening.{files_both, files_on, files_silent, next_starts, only_both, only_then}
+use Rattle.store.proofs.Recording.{silent_one}
+use Rattle.store.proofs.Written.{longer_none, longer_more, on_opened, then_ok}
 use Rattle.store.proofs.store.Store.write_head.Goals as goal
 
 pub loop-at-init : goal.loop-at-init
 loop-at-init g c = record {
   longer = longer_none c.write.new.self.scribe;
-  goes = stays g.K.Journal.Device.contents g.K.LogReader.is_honest g.K.LogReader.may_hold g.K.Keeper.holds c.write.new.self;
+  heads = ([], continued_same g.K.Journal.Device.contents c.write.new.self.scribe, refl);
+  same = refl;
 }
 
 pub loop-at-preserved : goal.loop-at-preserved
-loop-at-preserved g c = record {
-  longer = longer_more c.write.new.self.scribe c.loop-at.self.scribe c.write_seat.new.self.scribe c.loop-at.invariant.longer c.in_ok-write_seat.ensures.longer;
-  goes = goes_on g.K.Journal.Device.contents g.K.LogReader.is_honest g.K.LogReader.may_hold g.K.Keeper.holds c.write.new.self c.loop-at.self c.write_seat.new.self c.loop-at.invariant.goes c.write_seat.ensures.goes;
-}
+loop-at-preserved g c =
+    let contents = g.K.Journal.Device.contents in
+    let first = c.write.new.self in
+    let mid = c.loop-at.self in
+    let new = c.write_seat.new.self in
+    let seats = first.seats.items in
+    let one = subst (λ xs. Files contents mid.scribe new.scribe (starts_of (take 1 (drop c.loop-at.at xs)))) (ap (λ t. t.seats.items) c.loop-at.invariant.same) c.in_ok-write_seat.ensures.heads in
+    record {
+      longer = longer_more first.scribe mid.scribe new.scribe c.loop-at.invariant.longer c.in_ok-write_seat.ensures.longer;
+      heads = subst (Files contents first.scribe new.scribe) (sym (next_starts seats c.loop-at.at)) (files_both contents first.scribe mid.scribe new.scribe (starts_of (take c.loop-at.at seats)) (starts_of (take 1 (drop c.loop-at.at seats))) c.loop-at.invariant.heads one);
+      same = only_both first mid new c.loop-at.invariant.same c.write_seat.ensures.same;
+    }
 
-pub returns-in_err-write_seat-clause-goes : goal.returns-in_err-write_seat-clause-goes
-returns-in_err-write_seat-clause-goes g c =
-    let first = goes_on g.K.Journal.Device.contents g.K.LogReader.is_honest g.K.LogReader.may_hold g.K.Keeper.holds c.args.self.now c.write.new.self c.loop-at.self c.write.ensures.goes c.loop-at.invariant.goes in
-    goes_on g.K.Journal.Device.contents g.K.LogReader.is_honest g.K.LogReader.may_hold g.K.Keeper.holds c.args.self.now c.loop-at.self c.write_seat.new.self first c.write_seat.ensures.goes
+pub returns-in_err-write_seat-clause-same : goal.returns-in_err-write_seat-clause-same
+returns-in_err-write_seat-clause-same g c =
+    let old = c.args.self.now in
+    only_both old c.loop-at.self c.write_seat.new.self (only_both old c.write.new.self c.loop-at.self (only_then old old c.write.new.self refl c.write.ensures.same) c.loop-at.invariant.same) c.write_seat.ensures.same
 
 pub returns-clause-opens : goal.returns-clause-opens
 returns-clause-opens g c =
     on_opened g.K.Journal.Device.contents c.flush.result c.args.self.now.scribe c.write.new.self.scribe c.loop-at.self.scribe c.flush.new.self.scribe c.in-Some.scribe c.args.journal c.sum-sum.result c.args.marks
     c.in-Some.is c.sum-sum.ensures c.in_ok-write.ensures.ok c.loop-at.invariant.longer c.flush.ensures.ok
 
-pub returns-clause-goes : goal.returns-clause-goes
-returns-clause-goes g c =
-    let first = goes_on g.K.Journal.Device.contents g.K.LogReader.is_honest g.K.LogReader.may_hold g.K.Keeper.holds c.args.self.now c.write.new.self c.loop-at.self c.write.ensures.goes c.loop-at.invariant.goes in
-    goes_on g.K.Journal.Device.contents g.K.LogReader.is_honest g.K.LogReader.may_hold g.K.Keeper.holds c.args.self.now c.loop-at.self c.flush.new.self first c.flush.ensures.goes
+pub returns-clause-heads : goal.returns-clause-heads
+returns-clause-heads g c =
+    let contents = g.K.Journal.Device.contents in
+    let old = c.args.self.now in
+    let first = c.write.new.self in
+    let mid = c.loop-at.self in
+    let new = c.flush.new.self in
+    let at = c.loop-at.at in
+    let line = Opens c.args.journal c.sum-sum.result c.args.marks in
+    let seats = ap (λ t. t.seats.items) c.write.ensures.same in
+    let len : c.len-at-end.result ≡ length first.seats.items = search rules in
+    let test = c.loop-at-test.false in
+    let all : take at first.seats.items ≡ old.seats.items = take_all at first.seats.items (omega (arith, len, test)) ∙ seats in
+    let opens = files_silent contents old.scribe first.scribe (line ∷ []) (silent_one line tt) c.in_ok-write.ensures.continues in
+    let heads = subst (λ xs. Files contents first.scribe mid.scribe (starts_of xs)) all c.loop-at.invariant.heads in
+    then_ok c.flush.result (λ ok. files_on contents old.scribe mid.scribe new.scribe (starts_of old.seats.items) [] (files_both contents old.scribe first.scribe mid.scribe [] (starts_of old.seats.items) opens heads) (All-nil IsSilent) c.flush.ensures.continues) c.flush.ensures.ok
+
+pub returns-clause-same : goal.returns-clause-same
+returns-clause-same g c =
+    let old = c.args.self.now in
+    only_then old c.loop-at.self c.flush.new.self (only_both old c.write.new.self c.loop-at.self (only_then old old c.write.new.self refl c.write.ensures.same) c.loop-at.invariant.same) c.flush.ensures.same

@@ -1,54 +1,76 @@
-use Rattle.std.proofs.Common.{◌≡◌}
+use Rattle.std.proofs.Common.{◌≡◌, ◌≤◌, ◌∷◌, [], Some, ap, drop, length, refl, slice_get, subst, take}
+use Rattle.std.proofs.lemmas.Option.{slice_get_read}
 use Rattle.journal.specs.declared.line.Line.TheVariants.{Saves}
-use Rattle.store.proofs.Going.{goes_on, only_noted, publishes_on, stays}
-use Rattle.store.proofs.Written.{longer_none, longer_from, on_longer}
+use Rattle.store.specs.Continuing.{IsContinued}
+use Rattle.store.specs.Opening.{starts_of}
+use Rattle.store.proofs.Continuing.{continued_same}
+use Rattle.store.proofs.Opening.{files_on, head_files, none_there, only_first, only_then}
+use Rattle.store.proofs.Recording.{silent_one}
+use Rattle.store.proofs.Written.{longer_none, longer_from, on_longer, then_ok}
 use Rattle.store.proofs.store.Store.write_seat.Goals as goal
 use Rattle.store.proofs.store.Store.write_seat.Goals.{then-is_up, else-is_up}
 
 pub returns-in_default-clause-longer : goal.returns-in_default-clause-longer
 returns-in_default-clause-longer g c = longer_none c.args.self.now.scribe
 
-pub returns-in_default-clause-goes : goal.returns-in_default-clause-goes
-returns-in_default-clause-goes g c = stays g.K.Journal.Device.contents g.K.LogReader.is_honest g.K.LogReader.may_hold g.K.Keeper.holds c.args.self.now
-
-pub returns-in_err-write-clause-goes : goal.returns-in_err-write-clause-goes
-returns-in_err-write-clause-goes g c =
+pub returns-in_default-clause-heads : goal.returns-in_default-clause-heads
+returns-in_default-clause-heads g c =
     let old = c.args.self.now in
-    let mid = record c.if-is_up.self { noted = c.max-self.result } in
-    let same : mid ≡ record old { noted = mid.noted } = elim c.if-is_up.branch [ then-is_up w ↦ cc w.self-is | else-is_up w ↦ cc w.self-is ] in
-    let noted = publishes_on g.K.Journal.Device.contents g.K.LogReader.is_honest g.K.LogReader.may_hold g.K.Keeper.holds old mid (only_noted g.K.Journal.Device.contents g.K.LogReader.is_honest g.K.LogReader.may_hold g.K.Keeper.holds old mid same) in
-    let head = goes_on g.K.Journal.Device.contents g.K.LogReader.is_honest g.K.LogReader.may_hold g.K.Keeper.holds old mid c.write.new.self noted c.write.ensures.goes in
-    head
+    let past = subst (λ xs. length xs ≤ c.args.at) c.deref.ensures.value c.in_default.ensures.lookup.3 in
+    ([], continued_same g.K.Journal.Device.contents old.scribe, ap starts_of (none_there old.seats.items c.args.at past))
 
 pub returns-in-Some-announced-clause-longer : goal.returns-in-Some-announced-clause-longer
 returns-in-Some-announced-clause-longer g c =
     let old = c.args.self.now.scribe in
     let mid = c.write.new.self.scribe in
-    let same : c.if-is_up.self.scribe ≡ old = elim c.if-is_up.branch [ then-is_up w ↦ cc w.self-is | else-is_up w ↦ cc w.self-is ] in
-    let first = longer_from old c.if-is_up.self.scribe mid c.head-head.result same c.in_ok-write.ensures.ok in
+    let same : c.if-is_up.self ≡ c.args.self.now = elim c.if-is_up.branch [ then-is_up w ↦ w.self-is | else-is_up w ↦ w.self-is ] in
+    let first = longer_from old c.if-is_up.self.scribe mid c.head-head.result (ap (λ t. t.scribe) same) c.in_ok-write.ensures.ok in
     let call = c.write-in-Some-announced in
     on_longer call.result old mid call.new.self.scribe (Saves c.in-Some.seat.now.member c.in-Some-announced.stored) first call.ensures.ok
 
-pub returns-in-Some-announced-clause-goes : goal.returns-in-Some-announced-clause-goes
-returns-in-Some-announced-clause-goes g c =
+pub returns-in-Some-announced-clause-heads : goal.returns-in-Some-announced-clause-heads
+returns-in-Some-announced-clause-heads g c =
+    let contents = g.K.Journal.Device.contents in
     let old = c.args.self.now in
+    let seat = c.in-Some.seat.now in
+    let call = c.write-in-Some-announced in
+    let line = Saves seat.member c.in-Some-announced.stored in
+    let same : c.if-is_up.self ≡ old = elim c.if-is_up.branch [ then-is_up w ↦ w.self-is | else-is_up w ↦ w.self-is ] in
+    let look = c.in-Some.ensures.lookup in
+    let found = c.deref.result.now in
+    let there = subst (λ xs. slice_get xs c.args.at ≡ Some seat) c.deref.ensures.value (slice_get_read found (length found) c.args.at seat refl look.3.0 look.1) in
+    let on = subst (λ s. IsContinued contents s c.write.new.self.scribe (c.head-head.result ∷ [])) (ap (λ t. t.scribe) same) c.in_ok-write.ensures.continues in
+    let head = head_files contents old.seats.items c.args.at seat old.scribe c.write.new.self.scribe c.head-head.result there c.head-head.ensures.down c.head-head.ensures.life on in
+    then_ok call.result (λ more. files_on contents old.scribe c.write.new.self.scribe call.new.self.scribe (starts_of (take 1 (drop c.args.at old.seats.items))) (line ∷ []) head (silent_one line tt) more) call.ensures.continues
+
+pub returns-in-Some-announced-clause-same : goal.returns-in-Some-announced-clause-same
+returns-in-Some-announced-clause-same g c =
+    let old = c.args.self.now in
+    let same : c.if-is_up.self ≡ old = elim c.if-is_up.branch [ then-is_up w ↦ w.self-is | else-is_up w ↦ w.self-is ] in
     let mid = record c.if-is_up.self { noted = c.max-self.result } in
-    let same : mid ≡ record old { noted = mid.noted } = elim c.if-is_up.branch [ then-is_up w ↦ cc w.self-is | else-is_up w ↦ cc w.self-is ] in
-    let noted = publishes_on g.K.Journal.Device.contents g.K.LogReader.is_honest g.K.LogReader.may_hold g.K.Keeper.holds old mid (only_noted g.K.Journal.Device.contents g.K.LogReader.is_honest g.K.LogReader.may_hold g.K.Keeper.holds old mid same) in
-    let head = goes_on g.K.Journal.Device.contents g.K.LogReader.is_honest g.K.LogReader.may_hold g.K.Keeper.holds old mid c.write.new.self noted c.write.ensures.goes in
-    goes_on g.K.Journal.Device.contents g.K.LogReader.is_honest g.K.LogReader.may_hold g.K.Keeper.holds old c.write.new.self c.write-in-Some-announced.new.self head c.write-in-Some-announced.ensures.goes
+    only_then old c.write.new.self c.write-in-Some-announced.new.self (only_then old mid c.write.new.self (only_first old c.if-is_up.self c.max-self.result same) c.write.ensures.same) c.write-in-Some-announced.ensures.same
 
 pub returns-clause-longer : goal.returns-clause-longer
 returns-clause-longer g c =
     let old = c.args.self.now.scribe in
-    let same : c.if-is_up.self.scribe ≡ old = elim c.if-is_up.branch [ then-is_up w ↦ cc w.self-is | else-is_up w ↦ cc w.self-is ] in
-    longer_from old c.if-is_up.self.scribe c.write.new.self.scribe c.head-head.result same c.in_ok-write.ensures.ok
+    let same : c.if-is_up.self ≡ c.args.self.now = elim c.if-is_up.branch [ then-is_up w ↦ w.self-is | else-is_up w ↦ w.self-is ] in
+    longer_from old c.if-is_up.self.scribe c.write.new.self.scribe c.head-head.result (ap (λ t. t.scribe) same) c.in_ok-write.ensures.ok
 
-pub returns-clause-goes : goal.returns-clause-goes
-returns-clause-goes g c =
+pub returns-clause-heads : goal.returns-clause-heads
+returns-clause-heads g c =
+    let contents = g.K.Journal.Device.contents in
     let old = c.args.self.now in
+    let seat = c.in-Some.seat.now in
+    let same : c.if-is_up.self ≡ old = elim c.if-is_up.branch [ then-is_up w ↦ w.self-is | else-is_up w ↦ w.self-is ] in
+    let look = c.in-Some.ensures.lookup in
+    let found = c.deref.result.now in
+    let there = subst (λ xs. slice_get xs c.args.at ≡ Some seat) c.deref.ensures.value (slice_get_read found (length found) c.args.at seat refl look.3.0 look.1) in
+    let on = subst (λ s. IsContinued contents s c.write.new.self.scribe (c.head-head.result ∷ [])) (ap (λ t. t.scribe) same) c.in_ok-write.ensures.continues in
+    head_files contents old.seats.items c.args.at seat old.scribe c.write.new.self.scribe c.head-head.result there c.head-head.ensures.down c.head-head.ensures.life on
+
+pub returns-clause-same : goal.returns-clause-same
+returns-clause-same g c =
+    let old = c.args.self.now in
+    let same : c.if-is_up.self ≡ old = elim c.if-is_up.branch [ then-is_up w ↦ w.self-is | else-is_up w ↦ w.self-is ] in
     let mid = record c.if-is_up.self { noted = c.max-self.result } in
-    let same : mid ≡ record old { noted = mid.noted } = elim c.if-is_up.branch [ then-is_up w ↦ cc w.self-is | else-is_up w ↦ cc w.self-is ] in
-    let noted = publishes_on g.K.Journal.Device.contents g.K.LogReader.is_honest g.K.LogReader.may_hold g.K.Keeper.holds old mid (only_noted g.K.Journal.Device.contents g.K.LogReader.is_honest g.K.LogReader.may_hold g.K.Keeper.holds old mid same) in
-    let head = goes_on g.K.Journal.Device.contents g.K.LogReader.is_honest g.K.LogReader.may_hold g.K.Keeper.holds old mid c.write.new.self noted c.write.ensures.goes in
-    head
+    only_then old mid c.write.new.self (only_first old c.if-is_up.self c.max-self.result same) c.write.ensures.same

@@ -1,0 +1,65 @@
+-- Which events of a run the lines of a journal record.
+use Rattle.std.specs.Prelude.{◌≡◌, ◌⊎◌, ℕ, ℤ, Option, Some, List, [], ◌∷◌, ◌++◌, fold, All, ⊤}
+use Rattle.model.specs.declared.event.Job.{Job}
+use Rattle.model.specs.declared.event.Job.TheVariants.{Local, Delivery}
+use Rattle.model.specs.declared.event.Left.{Left}
+use Rattle.model.specs.declared.message.Input.TheVariants.{Timeout as TheTimeout, Beat as TheBeat, Close as TheClose, Floor as TheFloor, Submit as TheSubmit}
+use Rattle.model.specs.Worlds.{Event, Start, Stop, Torn}
+use Rattle.sessions.specs.Kills.{whole}
+use Rattle.journal.specs.declared.line.Taken.{Taken}
+use Rattle.journal.specs.declared.line.Taken.TheVariants.{Timeout, Beat, Close, Floor, Submit, Message}
+use Rattle.journal.specs.declared.line.Line.{Line}
+use Rattle.journal.specs.declared.line.Line.TheVariants.{Life, Clock, Takes, Ends}
+
+-- what clocks show behind a line, and behind some
+abbrev pub reading_after : Option ℤ → Line → Option ℤ
+reading_after reading (Clock now) = Some now
+reading_after reading line = reading
+
+abbrev pub last_reading : Option ℤ → List Line → Option ℤ
+last_reading reading lines = fold reading_after reading lines
+
+-- what a member takes, as a job of a run, where clocks show this
+abbrev pub job_of : ℤ → Taken → Job
+job_of now Timeout = Local TheTimeout
+job_of now Beat = Local TheBeat
+job_of now Close = Local (TheClose now)
+job_of now Floor = Local (TheFloor now)
+job_of now (Submit request) = Local (TheSubmit now request)
+job_of now (Message number) = Delivery number now
+
+-- a member's step with this job, whole or cut short
+abbrev pub IsStep : ℕ → Job → Event → Type 0
+IsStep m job event = (event ≡ whole m job) ⊎ ((left : Left) × (event ≡ Torn m job left))
+
+-- a line records these events: a start, a step, a stop, or none
+abbrev pub Records : Option ℤ → Line → List Event → Type 0
+Records reading (Life m stored) events = events ≡ Start m ∷ []
+Records reading (Takes m taken) events = (now : ℤ) × (reading ≡ Some now) × (event : Event) × IsStep m (job_of now taken) event × (events ≡ event ∷ [])
+Records reading (Ends m) events = events ≡ Stop m ∷ []
+Records reading line events = events ≡ []
+
+-- lines record these events, in order
+abbrev pub RecordAll : Option ℤ → List Line → List Event → Type 0
+RecordAll reading [] events = events ≡ []
+RecordAll reading (line ∷ lines) events = (first rest : List Event) × Records reading line first × RecordAll (reading_after reading line) lines rest × (events ≡ first ++ rest)
+
+-- it records no event
+abbrev pub IsSilent : Line → Type 0
+IsSilent (Life m stored) = ⊥
+IsSilent (Takes m taken) = ⊥
+IsSilent (Ends m) = ⊥
+IsSilent line = ⊤
+
+-- it starts or stops a member, which stores nothing
+abbrev pub IsStartOrStop : Event → Type 0
+IsStartOrStop event = (m : ℕ) × ((event ≡ Start m) ⊎ (event ≡ Stop m))
+
+-- lines record these events, but for starts and stops at the end of a journal that is spent
+pub record AreRecorded (reading : Option ℤ) (lines : List Line) (events : List Event) (spent : Type 0) : Type 0 where
+  pub filed : List Event
+  pub lost : List Event
+  pub events_are : events ≡ filed ++ lost
+  pub recorded : RecordAll reading lines filed
+  pub idle : All IsStartOrStop lost
+  pub none : (lost ≡ []) ⊎ spent
