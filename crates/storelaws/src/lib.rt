@@ -52,9 +52,10 @@ where
         (after : Came K.may_hold K.holds found new.now) × Further (ComesOf client number outcome) before after }
 {}
 
-/// A session's journal. The lines that came to it, from where its scribe stood as the store began, record the starts of its members and
-/// each event since, in order: a step whole or cut short, with what was taken and what clocks showed, a start, a stop, and no other. Only
-/// starts and stops may be missing at the end of a journal that can't be written any more; they store nothing.
+/// A session's journal. While nothing wrong was taken as true, the lines that came to it, from where its scribe stood as the store began,
+/// record the starts of its members and each event since, in order: a step whole or cut short, with what was taken and what clocks showed, a
+/// start, a stop, and no other. Only starts and stops may be missing at the end of a journal that can't be written any more; they store
+/// nothing.
 pub fn is_filed<K: Announces>(members: &Members<K>, old: &Store<K>, new: &Store<K>)
 where
     K::Image: Drop,
