@@ -9,6 +9,8 @@ WORDS, PATH = "docs/believe.txt", "docs/BELIEVE.md"
 KIT = "the kit"
 # No line of a definition is longer in the text than this.
 WIDE = 120
+# What stands before the words that are left out by laws.
+LAWS = "By laws: read what stands here in place of these words. The law in brackets proves that it is the same, or says as much here, or all that matters."
 # What a line is best broken before or behind, where as much is open: the smaller the number, the better.
 BEFORE = {"|": 0, "then": 1, "else": 0, "×": 1, "⊎": 1, "↔": 1, "&&": 1, "||": 1, "++": 2, "▸": 2, "▹": 2, "∷": 3}
 BEHIND = {"→": 0, ";": 0, "=": 1}
@@ -41,18 +43,21 @@ class Chapter:
 
 
 class Part(Chapter):
-    """A function, whose clauses come first, and chapters of what these cite and no part before."""
+    """Functions, whose clauses come first, and chapters of what these cite and no part before.
+
+    `by_law` has the words cited in it in whose place others are read.
+    """
 
     def __init__(self, title):
         super().__init__(title)
-        self.chapters = []
+        self.chapters, self.by_law = [], set()
 
 
 class Words:
     """docs/believe.txt."""
 
     def __init__(self, path):
-        self.texts, self.parts, self.sentences, self.sources = {}, [], {}, {}
+        self.texts, self.parts, self.sentences, self.sources, self.laws = {}, [], {}, {}, []
         place, chapter = None, None
         for line in raw(path):
             head = re.match(r"\[(\w+)\] ?(.*)", line)
@@ -68,6 +73,8 @@ class Words:
                 continue
             if place == "words":
                 self.add_word(line)
+            elif place == "laws":
+                self.add_law(line)
             elif chapter and line.startswith("of: "):
                 chapter.of = line[4:].split()
             elif chapter:
@@ -80,6 +87,12 @@ class Words:
         word = re.match(r"(\S+?)(: | @ )(.*)", line)
         if word:
             (self.sentences if word[2] == ": " else self.sources)[word[1]] = word[3]
+
+    def add_law(self, line):
+        """`NAME ..: SENTENCE`."""
+        names, _, sentence = line.partition(": ")
+        if sentence:
+            self.laws.append((names.split(), sentence))
 
 
 # ---- what stands in the sources
@@ -98,8 +111,11 @@ def blocks(lines):
     """The comments among lines without definitions, and whether the last one stands right above what follows."""
     found, block = [], []
     for line in lines:
-        if line.strip().startswith("--") or line.startswith("module "):
+        if line.strip().startswith("--"):
             block.append(line)
+        elif line.startswith("module "):
+            found.append(Block(block + [line]))
+            block = []
         elif block:
             found.append(Block(block))
             block = []
@@ -133,9 +149,12 @@ class Source:
         return [line for line in found if not line.lstrip().startswith("#[")]
 
     def body(self, definition):
-        """The definition as it stands there; of a type with a view, the view too."""
-        lines = self.lines[definition.first - 1:definition.last]
+        """The definition as it stands there, without what is hidden; of a type with a view, the view too."""
+        numbers = [number for number in range(definition.first, definition.last + 1) if number not in definition.hidden]
+        lines = [self.lines[number - 1] for number in numbers]
         lines = [line for line in lines if not line.strip().startswith("#[")]
+        if definition.hidden:
+            lines.insert(-1, "    ..")
         if definition.has_view:
             views = [line for line in definition.text if re.match(r"\s+ghost (Value|view) ", line)]
             lines += [f"impl Model for {definition.name} {{"] + views + ["}"]
@@ -264,13 +283,14 @@ class Book:
         self.repository, self.words = repository, Words(WORDS)
         self.needs, self.wrong = {}, []
         for part in self.words.parts:
-            path, function = part.of
-            reached = reach(repository, path, function)
+            path, *functions = part.of
+            reached = reach(repository, path, *functions)
             new = {d: others for d, others in reached.items() if d not in self.needs}
             self.needs.update(new)
             self.wrong += place(part, new)
+            part.by_law = repository.by_law(path, functions, new)
         self.parts = self.words.parts
-        self.shown_heads = set()
+        self.shown_heads, self.by_law = set(), set()
         self.order = [d for part in self.parts for chapter in part.chapters for d in chapter.definitions]
         self.at = {d: number for number, d in enumerate(self.order)}
         self.keys = {key(d): d for d in self.order}
@@ -309,6 +329,10 @@ class Book:
         for name in list(self.words.sentences) + list(self.words.sources):
             if name not in self.keys:
                 self.wrong.append(f"{WORDS} has words for {name}, which is not reached: drop them")
+        by_law, told = {key(d) for part in self.parts for d in part.by_law}, [name for names, _ in self.words.laws for name in names]
+        self.wrong += [f"{name} is not in [laws] of {WORDS}" for name in sorted(by_law - set(told))]
+        self.wrong += [f"{WORDS} has a law for {name}, which no part cites" for name in told if name not in by_law]
+        self.wrong += [f"{name} is left out in vain: {why}" for name, why in self.repository.without_law()]
         told = set(re.findall(r"[^\s`]+", " ".join(re.findall(r"`([^`]+)`", self.words.texts.get("signs", "").replace("\\|", "|")))))
         for word in sorted(self.repository.kit):
             if not set(word.replace("◌", " ").split()) <= told:
@@ -326,8 +350,10 @@ class Book:
 
     def notes(self, path, named, end):
         """What stands in a file for a name of another one, where a reader could take it for something that stood before."""
-        found = {}
+        found, laws = {}, set()
         for name, other, old in named:
+            if other in self.by_law:
+                laws.add(name)
             if other not in self.at or other.file == path:
                 continue
             of = key(other) if old != other.name else module(other.file)
@@ -337,7 +363,8 @@ class Book:
                 found.setdefault(of, set()).add(f"{name} = {old}")
             elif self.is_taken(old, end):
                 found.setdefault(of, set()).add(name)
-        return [f"{', '.join(sorted(names))} ({of})" for of, names in sorted(found.items())]
+        notes = [f"{', '.join(sorted(names))} ({of})" for of, names in sorted(found.items())]
+        return notes + ([f"by laws: {', '.join(sorted(laws))}"] if laws else [])
 
     def is_taken(self, name, end):
         """Whether more than one thing of this name stands in the text up to a place."""
@@ -349,7 +376,7 @@ class Book:
         mark = "--" if d.file.endswith(".antt") else "///"
         source, lines = self.sources[d.file], []
         for block in remarks:
-            lines += block.lines + [""]
+            lines += block.lines + ([] if block.opens_module else [""])
         indent = re.match(r"\s*", source.lines[d.line - 1])[0]
         comment = source.comments.get(d.name, [])
         lines += fitted(comment)
@@ -403,9 +430,22 @@ class Book:
         return wrapped(f"Names here: {'; '.join(notes)}.", mark) + [""] if notes else []
 
     def written_clauses(self, part):
-        path, function = part.of
-        lines = self.written_notes("//", path, self.repository.named_in_clauses(path, function), len(self.order))
-        return shown(path, lines + self.repository.clauses_of(path, function))
+        path, *functions = part.of
+        lines = self.written_notes("//", path, self.repository.named_in_clauses(path, *functions), len(self.order))
+        for function in functions:
+            comment = self.repository.comment_of(path, function) if len(functions) > 1 else []
+            lines += comment + self.repository.clauses_of(path, function) + [""]
+        return shown(path, (lines + self.written_laws(part))[:-1])
+
+    def written_laws(self, part):
+        """What is read in place of the words that are left out by laws."""
+        keys, lines = {key(d): d for d in part.by_law}, []
+        for names, sentence in self.words.laws:
+            of = [keys[name] for name in names if name in keys]
+            laws = sorted({self.repository.law_of(d) or ("the same but for names", "") for d in of})
+            told = ", ".join(f"{law} of {path}" if path else law for law, path in laws)
+            lines += wrapped(f"{', '.join(d.name for d in of)}: {sentence} ({told})", "//") if of else []
+        return wrapped(LAWS, "//") + lines + [""] if lines else []
 
     def written(self):
         """The whole text."""
@@ -413,6 +453,7 @@ class Book:
         lines = [f"<!-- Written by `docs/trusted --text`, from the sources and {WORDS}. -->", ""]
         lines += [texts["head"].strip(), "", texts["signs"].strip(), ""]
         for part in self.parts:
+            self.by_law = part.by_law
             lines += opened(f"# {part.title}", [d for chapter in part.chapters for d in chapter.definitions], part.text)
             lines += self.written_clauses(part)
             for chapter in part.chapters:

@@ -1,19 +1,19 @@
 -- Seats whose members are started or stopped, one after the other.
-use Rattle.std.proofs.Common.{◌≡◌, ◌∙◌, ◌↔◌, inl, inr, ℕ, ◌+◌, true, false, Bool, Option, Some, None, Result, Ok, Err, OnOk, List, MatchOption, slice_get, slice_set, refl, sym, subst, arith}
-use Rattle.std.specs.Prelude.{IsSome, IsTrue}
-use Rattle.std.proofs.lemmas.Option.{slice_get_within}
+use Rattle.std.proofs.Common.{◌≡◌, ◌≢◌, ◌∙◌, ◌↔◌, ◌⊎◌, ⊎_elim, inl, inr, ℕ, zero, suc, ◌+◌, ◌<◌, ◌≤◌, true, false, Bool, Option, Some, None, Result, Ok, Err, OnOk, List, MatchOption, length, slice_get, slice_set, refl, sym, ap, subst, arith}
+use Rattle.std.specs.Prelude.{◌-◌, IsSome, IsTrue}
+use Rattle.std.proofs.lemmas.Option.{same_Some, slice_get_within}
 use Rattle.keep.specs.Durable.{Durable}
 use Rattle.sessions.proofs.Lists.{get_there}
 use Rattle.node.specs.declared.node.Node.{Node}
 use Rattle.store.specs.declared.seat.Seat.{Seat}
 use Rattle.store.specs.declared.tale.Tale.{Tale}
 use Rattle.store.specs.Became.{Became, EachBecame}
-use Rattle.store.specs.Closing.{IsAtRest, MayHold, MayRest}
+use Rattle.store.specs.Closing.{IsAtRest, IsDownIn, MayHold, MayRest}
 use Rattle.store.specs.Opening.{AreLaid}
 use Rattle.store.specs.Seats.{IsMissing}
 use Rattle.store.specs.Starting.{FitsTale, IsStarted}
 use Rattle.store.specs.Tales.{Told, tale_of}
-use Rattle.store.proofs.Became.{FirstBecame, both_became, next_became, one_became, same_became}
+use Rattle.store.proofs.Became.{FirstBecame, both_became, next_became, one_became, same_became, set_there}
 
 pub next_one : {A : Type 0} (turn : A → A → Type 0) (k : ℕ) (old mid new : List A) → FirstBecame turn k old mid → Became turn k mid new → FirstBecame turn (k + 1) old new
 next_one turn k old mid new F b = next_became turn k old mid new b.before b.after F b.there b.now b.turned
@@ -47,6 +47,44 @@ module _ {K J I : Type 0} {an : _} {g : _} {s : _} {d : _} where
       let l = L.each i before.0 image before.1 q in
       let e = E.each i before.0 seat before.1 p in
       (e.0 ∙ l.0, (λ none. sym l.2 ∙ (e.1.0 none).1, λ gone. e.1.1 (l.1, l.2 ∙ gone)), subst (λ (t : Tale). FitsTale honest t seat) l.3 e.2)
+
+  -- ---- a seat without a node
+
+  pub down_one : (seats : List (Seat K J I an g s d)) (m : ℕ) (seat : Seat K J I an g s d) (up : Bool) → (IsSome seat.node → IsTrue up) → slice_get seats (m - 1) ≡ Some seat → up ≡ false → IsDownIn seats m
+  down_one seats m seat up ups there is at found me q =
+      let place : m - 1 ≡ at = omega (arith, me) in
+      let same : seat ≡ found = same_Some seat found (sym there ∙ ap (slice_get seats) place ∙ q) in
+      subst (λ (t : Seat K J I an g s d). t.node ≡ None) same (not_up seat.node up ups is)
+
+  -- a member that has no seat
+  pub down_none : (seats : List (Seat K J I an g s d)) (m : ℕ) → (length seats < m) ⊎ (m ≡ 0) → IsDownIn seats m
+  down_none seats m away at found me q =
+      let within = slice_get_within seats at found q in
+      absurd (⊎_elim (λ (far : length seats < m). omega (arith, far, me, within)) (λ (none : m ≡ 0). omega (arith, none, me)) away)
+
+  pub down_set : (seats : List (Seat K J I an g s d)) (at m : ℕ) (before after : Seat K J I an g s d) → slice_get seats at ≡ Some before → m ≡ at + 1 → after.node ≡ None → IsDownIn (slice_set seats at after) m
+  down_set seats at m before after there me none k found is q =
+      let place : k ≡ at = omega (arith, me, is) in
+      let same : after ≡ found = same_Some after found (sym (set_there seats at after before there) ∙ ap (slice_get (slice_set seats at after)) (sym place) ∙ q) in
+      subst (λ (t : Seat K J I an g s d). t.node ≡ None) same none
+
+  -- one member more of the first of these
+  pub down_next : (old new : List (Seat K J I an g s d)) (at m : ℕ) → m ≡ at + 1 → ((i : ℕ) (seat : Seat K J I an g s d) → i < at → slice_get old i ≡ Some seat → seat.node ≡ None) → ((i : ℕ) → i ≢ m - 1 → slice_get new i ≡ slice_get old i) → IsDownIn new m →
+      (i : ℕ) (seat : Seat K J I an g s d) → i < at + 1 → slice_get new i ≡ Some seat → seat.node ≡ None
+  down_next old new at m me first others here i seat below there = ⊎_elim
+      (λ (is : i ≡ at). here i seat (let e : m ≡ i + 1 = omega (arith, is, me) in e) there)
+      (λ (less : i < at). first i seat less (sym (others i (λ (is : i ≡ m - 1). omega (arith, is, less, me))) ∙ there))
+      (case_below i at below)
+    where
+      case_below : (i at : ℕ) → i < at + 1 → (i ≡ at) ⊎ (i < at)
+      case_below zero zero below = inl refl
+      case_below zero (suc at) below = inr (omega arith)
+      case_below (suc i) zero below = absurd (omega (arith, below))
+      case_below (suc i) (suc at) below = ⊎_elim (λ (is : i ≡ at). inl (ap suc is)) (λ (less : i < at). inr (omega (arith, less))) (case_below i at (omega (arith, below)))
+
+  -- all of them
+  pub down_all : (seats : List (Seat K J I an g s d)) (at : ℕ) → length seats ≤ at → ((i : ℕ) (seat : Seat K J I an g s d) → i < at → slice_get seats i ≡ Some seat → seat.node ≡ None) → (m : ℕ) → IsDownIn seats m
+  down_all seats at past all m k found is q = let within = slice_get_within seats k found q in all k found (omega (arith, within, past)) q
 
 module _ {K J I : Type 0} {an : _} {g : _} {s : _} {d : _} (held : K → Durable → Type 0) (holds : I → Durable → Type 0) where
   -- ---- at rest

@@ -30,14 +30,15 @@ use Rattle.journal.specs.declared.line.Line.{Line}
 use Rattle.journal.specs.declared.line.Line.TheVariants.{Ends, Life, Takes}
 use Rattle.journal.specs.declared.stored.Summary.{Summary}
 use Rattle.store.specs.declared.scribe.Scribe.{Scribe}
-use Rattle.store.specs.Recording.{AreRecorded, IsSilent, job_of, last_reading}
+use Rattle.store.specs.Lines.{Lines, and_then, no_lines, waiting}
+use Rattle.store.specs.Recording.{AreRecorded, IsSilent, IsStartOrStop, Records, job_of, last_reading}
 use Rattle.store.specs.Continuing.{IsContinued, IsKeptOn, reading_in}
 use Rattle.store.specs.Journals.{IsSpent}
 use Rattle.store.specs.Seats.{HasMember, IsClean}
 use Rattle.node.specs.Work.{Work}
 use Rattle.store.proofs.Continuing.{continued_both, continued_reading, continued_same, continued_spent, kept_both, kept_is, kept_none, kept_same}
-use Rattle.store.proofs.Recording.{last_both, recorded_as, recorded_both, recorded_late, recorded_silent, silent_records}
-use Rattle.store.specs.Going.{Anywhere, AreClean, AreFiled, AreUnderWay, BeginsStep, Changes, ComesOf, GoesOn, GoesOnFrom, GoesOnSo, HasSent, Heard, Hears, IsAmong, IsBrought, IsIn, IsOutcome, Publishes, StartsOne, Stops, WentOn}
+use Rattle.store.proofs.Recording.{last_both, recorded_after, recorded_both, recorded_idle, recorded_late, recorded_silent}
+use Rattle.store.specs.Going.{Anywhere, AreClean, AreFiled, AreUnderWay, BeginsStep, Changes, ComesOf, GoesOn, GoesOnFrom, GoesOnSo, HasSent, Heard, Hears, IsAmong, IsBrought, IsIn, IsOutcome, Publishes, StartsOne, Stops, WentOn, with_begun}
 
 -- ---- what is heard
 
@@ -178,20 +179,25 @@ module _ {K J I : Type 0} {an : _} {g : _} {s : _} {d : _} (contents : J → Opt
   -- ---- a store that goes on goes on
 
   -- a run that went on, and then went on
-  pub record WentBoth (a b c : Store K J I an g s d) (w : World) (one two : List Line) (x : WentOn held holds (AreFiled a b one) a b w) (y : WentOn held holds (AreFiled b c two) b c x.world) : Type 0 where
-    pub went : WentOn held holds (AreFiled a c (one ++ two)) a c w
+  pub record WentBoth (a b c : Store K J I an g s d) (w : World) (one two : Lines) (x : WentOn held holds (AreFiled a b one w) a b w) (y : WentOn held holds (AreFiled b c two x.world) b c x.world) : Type 0 where
+    pub went : WentOn held holds (AreFiled a c (and_then one two) w) a c w
     pub gave : went.goes.gave ≡ x.goes.gave ++ y.goes.gave
 
-  pub went_both : (a b c : Store K J I an g s d) → b.schema ≡ a.schema → length b.seats.items ≡ length a.seats.items → (one two : List Line) → IsContinued contents a.scribe b.scribe one → IsContinued contents b.scribe c.scribe two →
-      (w : World) (x : WentOn held holds (AreFiled a b one) a b w) (y : WentOn held holds (AreFiled b c two) b c x.world) → WentBoth a b c w one two x y
+  pub went_both : (a b c : Store K J I an g s d) → b.schema ≡ a.schema → length b.seats.items ≡ length a.seats.items → (one two : Lines) → IsContinued contents a.scribe b.scribe one → IsContinued contents b.scribe c.scribe two →
+      (w : World) (x : WentOn held holds (AreFiled a b one w) a b w) (y : WentOn held holds (AreFiled b c two x.world) b c x.world) → WentBoth a b c w one two x y
   went_both a b c schema count one two early late w x y =
-      let both = goes_both (language_of a.schema) (language_of b.schema) (length a.seats.items) (length b.seats.items) w x.world y.world (ap language_of schema) count x.goes y.goes in
+      let language = language_of a.schema in
+      let n = length a.seats.items in
+      let both = goes_both language (language_of b.schema) n (length b.seats.items) w x.world y.world (ap language_of schema) count x.goes y.goes in
       let hears : Hears (WasTold (x.goes.gave ++ y.goes.gave)) a.watched c.watched =
       hears_both (WasTold x.goes.gave) (WasTold y.goes.gave) (WasTold (x.goes.gave ++ y.goes.gave)) (tells_before x.goes.gave y.goes.gave) (tells_then x.goes.gave y.goes.gave) a.watched b.watched c.watched x.hears y.hears in
-      let filed = recorded_both (reading_in a.scribe) (reading_in b.scribe) one two x.goes.events y.goes.events (IsSpent b.scribe) (IsSpent c.scribe) (continued_reading contents a.scribe b.scribe one early)
-      (λ spent. let stays = continued_spent contents b.scribe c.scribe two late spent in stays.1) (λ spent. let stays = continued_spent contents b.scribe c.scribe two late spent in subst IsSpent (sym stays.0) spent) x.events_are y.events_are in
+      let then_filed : AreRecorded language n x.world (reading_in b.scribe) two y.goes.events (IsSpent c.scribe) =
+      subst (λ (k : ℕ). AreRecorded language k x.world (reading_in b.scribe) two y.goes.events (IsSpent c.scribe)) count
+      (subst (λ (t : Tables). AreRecorded (language_of t) (length b.seats.items) x.world (reading_in b.scribe) two y.goes.events (IsSpent c.scribe)) schema y.events_are) in
+      let filed = recorded_both language n w x.world (reading_in a.scribe) (reading_in b.scribe) one two x.goes.events y.goes.events (IsSpent b.scribe) (IsSpent c.scribe) x.goes.leads (continued_reading contents a.scribe b.scribe one early)
+      (λ spent. let stays = continued_spent contents b.scribe c.scribe two late spent in stays.1) (λ spent. let stays = continued_spent contents b.scribe c.scribe two late spent in subst IsSpent (sym stays.0) spent) x.events_are then_filed in
       record {
-        went = record { world = y.world; goes = both.goes; events_are = subst (AreFiled a c (one ++ two)) (sym both.events_are) filed; is_in = y.is_in; hears = subst (λ (outs : List (List Output)). Hears (WasTold outs) a.watched c.watched) (sym both.gave_is) hears };
+        went = record { world = y.world; goes = both.goes; events_are = subst (AreFiled a c (and_then one two) w) (sym both.events_are) filed.0; is_in = y.is_in; hears = subst (λ (outs : List (List Output)). Hears (WasTold outs) a.watched c.watched) (sym both.gave_is) hears };
         gave = both.gave_is;
       }
 
@@ -199,7 +205,7 @@ module _ {K J I : Type 0} {an : _} {g : _} {s : _} {d : _} (contents : J → Opt
   stays t = record {
     schema = refl;
     count = refl;
-    lines = [];
+    lines = no_lines;
     journal = continued_same contents t.scribe;
     clean = λ c. c;
     went = λ c w i.
@@ -207,7 +213,7 @@ module _ {K J I : Type 0} {an : _} {g : _} {s : _} {d : _} (contents : J → Opt
         record {
           world = w;
           goes = goes;
-          events_are = recorded_silent (reading_in t.scribe) [] goes.events (IsSpent t.scribe) (nowhere_events (language_of t.schema) (length t.seats.items) w) (All-nil IsSilent);
+          events_are = recorded_silent (language_of t.schema) (length t.seats.items) w (reading_in t.scribe) no_lines goes.events (IsSpent t.scribe) (nowhere_events (language_of t.schema) (length t.seats.items) w) (All-nil IsSilent);
           is_in = i;
           hears = hears_same (WasTold goes.gave) t.watched t.watched refl;
         };
@@ -217,7 +223,7 @@ module _ {K J I : Type 0} {an : _} {g : _} {s : _} {d : _} (contents : J → Opt
   goes_on a b c x y = record {
     schema = y.schema ∙ x.schema;
     count = y.count ∙ x.count;
-    lines = x.lines ++ y.lines;
+    lines = and_then x.lines y.lines;
     journal = continued_both contents a.scribe b.scribe c.scribe x.lines y.lines x.journal y.journal;
     clean = λ k. x.clean (y.clean k);
     went = λ k w i.
@@ -231,7 +237,7 @@ module _ {K J I : Type 0} {an : _} {g : _} {s : _} {d : _} (contents : J → Opt
   so_then P Q R a b c later x y = record {
     schema = y.schema ∙ x.schema;
     count = y.count ∙ x.count;
-    lines = x.lines ++ y.lines;
+    lines = and_then x.lines y.lines;
     journal = continued_both contents a.scribe b.scribe c.scribe x.lines y.lines x.journal y.journal;
     clean = λ k. x.clean (y.clean k);
     went = λ k w i p.
@@ -245,7 +251,7 @@ module _ {K J I : Type 0} {an : _} {g : _} {s : _} {d : _} (contents : J → Opt
   then_so Q R a b c later x y = record {
     schema = y.schema ∙ x.schema;
     count = y.count ∙ x.count;
-    lines = x.lines ++ y.lines;
+    lines = and_then x.lines y.lines;
     journal = continued_both contents a.scribe b.scribe c.scribe x.lines y.lines x.journal y.journal;
     clean = λ k. x.clean (y.clean k);
     went = λ k w i p.
@@ -390,7 +396,7 @@ module _ {K J I : Type 0} {an : _} {g : _} {s : _} {d : _} (contents : J → Opt
     clean = λ k. subst (All (IsClean honest holds)) p.seats k;
     went = λ k w i.
         let goes = goes_nowhere (language_of a.schema) (length a.seats.items) w in
-        record { world = w; goes = goes; events_are = recorded_silent (reading_in a.scribe) p.journal.0 goes.events (IsSpent b.scribe) (nowhere_events (language_of a.schema) (length a.seats.items) w) p.journal.1; is_in = same_in a b [] p w i; hears = passes a b [] [] p (WasTold goes.gave) (nobody (WasTold goes.gave)) };
+        record { world = w; goes = goes; events_are = recorded_silent (language_of a.schema) (length a.seats.items) w (reading_in a.scribe) p.journal.0 goes.events (IsSpent b.scribe) (nowhere_events (language_of a.schema) (length a.seats.items) w) p.journal.1; is_in = same_in a b [] p w i; hears = passes a b [] [] p (WasTold goes.gave) (nobody (WasTold goes.gave)) };
   }
 
   -- nothing but who leads is another
@@ -451,27 +457,30 @@ module _ {K J I : Type 0} {an : _} {g : _} {s : _} {d : _} (contents : J → Opt
   begun m taken now work Q old mid new is live (before, silent, came) x =
       let y = subst (λ (t : Store K J I an g s d). GoesOnFrom contents honest held holds (Takes m taken ∷ []) (IsBrought t m (job_of now taken) work) Q t new) is x in
       let first = reading_in old.scribe in
-      let shown : last_reading first before ≡ reading_in mid.scribe = sym (continued_reading contents old.scribe mid.scribe (before ++ Takes m taken ∷ []) came ∙ last_both first before (Takes m taken ∷ [])) in
+      let shown : last_reading first before ≡ reading_in mid.scribe = sym (continued_reading contents old.scribe mid.scribe (waiting (before ++ Takes m taken ∷ [])) came ∙ last_both first before (Takes m taken ∷ [])) in
       record {
         schema = y.schema;
         count = y.count;
-        lines = before ++ Takes m taken ∷ y.lines;
-        journal = subst (IsContinued contents old.scribe new.scribe) (append_assoc before (Takes m taken ∷ []) y.lines) (continued_both contents old.scribe mid.scribe new.scribe (before ++ Takes m taken ∷ []) y.lines came y.journal);
+        lines = and_then (waiting (before ++ Takes m taken ∷ [])) y.lines;
+        journal = continued_both contents old.scribe mid.scribe new.scribe (waiting (before ++ Takes m taken ∷ [])) y.lines came y.journal;
         clean = y.clean;
         went = λ k w i p.
             let on = y.went k w (record { seated = i.seated; under_way = λ other. i.under_way live }) (λ other. p live) in
-            let filed : AreRecorded first (before ++ Takes m taken ∷ y.lines) on.0.goes.events (IsSpent new.scribe) =
-            recorded_both first (last_reading first before) before (Takes m taken ∷ y.lines) [] on.0.goes.events ⊥ (IsSpent new.scribe) refl (λ never. absurd never) (λ never. absurd never)
-            (recorded_as first before [] ⊥ (silent_records first before silent))
-            (subst (λ (r : Option ℤ). AreRecorded r (Takes m taken ∷ y.lines) on.0.goes.events (IsSpent new.scribe)) (sym shown) on.0.events_are) in
+            let filed : AreFiled old new (and_then (waiting (before ++ Takes m taken ∷ [])) y.lines) w on.0.goes.events =
+            recorded_after (language_of old.schema) (length old.seats.items) w first before (Takes m taken) y.lines on.0.goes.events (IsSpent new.scribe) silent
+            (subst (λ (r : Option ℤ). AreRecorded (language_of old.schema) (length old.seats.items) w r (with_begun (Takes m taken ∷ []) y.lines) on.0.goes.events (IsSpent new.scribe)) (sym shown) on.0.events_are) in
             (record { world = on.0.world; goes = on.0.goes; events_are = filed; is_in = on.0.is_in; hears = on.0.hears }, on.1);
       }
 
   -- ---- one event
 
+  -- a line that waits records a start or a stop
+  one_idle : (old new : Store K J I an g s d) (line : Line) (event : Event) (w : World) → IsStartOrStop event → Records (reading_in old.scribe) line (event ∷ []) → AreFiled old new (waiting (line ∷ [])) w (event ∷ [])
+  one_idle old new line event w idle records = recorded_idle (language_of old.schema) (length old.seats.items) w (reading_in old.scribe) (waiting (line ∷ [])) (event ∷ []) (IsSpent new.scribe) (event ∷ [], [], records, refl, refl) (All-cons IsStartOrStop event [] idle (All-nil IsStartOrStop))
+
   -- an event happened, of a store in which nothing is heard
   pub by_one : (event : Event) (land : World → World) (old new : Store K J I an g s d) → new.schema ≡ old.schema → length new.seats.items ≡ length old.seats.items → new.watched ≡ old.watched → (AreClean honest holds new → AreClean honest holds old) →
-      (lines : List Line) → IsContinued contents old.scribe new.scribe lines → AreRecorded (reading_in old.scribe) lines (event ∷ []) (IsSpent new.scribe) →
+      (lines : Lines) → IsContinued contents old.scribe new.scribe lines → ((w : World) → AreFiled old new lines w (event ∷ [])) →
       ((w : World) → By (language_of old.schema) (length old.seats.items) w (land w) event) → (AreClean honest holds new → (w : World) → IsIn held holds old w → IsIn held holds new (land w)) → On old new
   by_one event land old new schema count watched clean lines journal filed by lands = record {
     schema = schema;
@@ -481,7 +490,7 @@ module _ {K J I : Type 0} {an : _} {g : _} {s : _} {d : _} (contents : J → Opt
     clean = clean;
     went = λ k w i.
         let b = by w in
-        record { world = land w; goes = b.goes; events_are = subst (AreFiled old new lines) (sym b.events_are) filed; is_in = lands k w i; hears = hears_same (WasTold b.goes.gave) old.watched new.watched watched };
+        record { world = land w; goes = b.goes; events_are = subst (AreFiled old new lines w) (sym b.events_are) (filed w); is_in = lands k w i; hears = hears_same (WasTold b.goes.gave) old.watched new.watched watched };
   }
 
   -- only lines came to the journal of a store that is not spent
@@ -489,37 +498,37 @@ module _ {K J I : Type 0} {an : _} {g : _} {s : _} {d : _} (contents : J → Opt
   written_in old mid is live w i = subst (λ (t : Store K J I an g s d). IsIn held holds t w) (sym is) (let there : IsIn held holds (record old { scribe = mid.scribe }) w = record { seated = i.seated; under_way = λ other. i.under_way live } in there)
 
   -- a member's end came to the journal, and it was stopped
-  pub ended : (m : ℕ) (old mid new : Store K J I an g s d) → mid ≡ record old { scribe = mid.scribe } → (IsSpent old.scribe → ⊥) → IsContinued contents old.scribe mid.scribe (Ends m ∷ []) → Stops honest held holds m mid new → On old new
+  pub ended : (m : ℕ) (old mid new : Store K J I an g s d) → mid ≡ record old { scribe = mid.scribe } → (IsSpent old.scribe → ⊥) → IsContinued contents old.scribe mid.scribe (waiting (Ends m ∷ [])) → Stops honest held holds m mid new → On old new
   ended m old mid new is live came stops =
       let as_old : Stops honest held holds m (record old { scribe = mid.scribe }) new = subst (λ (t : Store K J I an g s d). Stops honest held holds m t new) is stops in
       let first = reading_in old.scribe in
-      by_one (Stop m) (λ w. stops_of w m (nth w.nodes m)) old new as_old.schema as_old.count as_old.watched as_old.clean (Ends m ∷ [])
-      (subst (λ (x : Option (Scribe J)). IsContinued contents old.scribe x (Ends m ∷ [])) (sym as_old.scribe) came)
-      (recorded_as first (Ends m ∷ []) (Stop m ∷ []) (IsSpent new.scribe) (Stop m ∷ [], [], refl, refl, refl))
+      by_one (Stop m) (λ w. stops_of w m (nth w.nodes m)) old new as_old.schema as_old.count as_old.watched as_old.clean (waiting (Ends m ∷ []))
+      (subst (λ (x : Option (Scribe J)). IsContinued contents old.scribe x (waiting (Ends m ∷ []))) (sym as_old.scribe) came)
+      (λ w. one_idle old new (Ends m) (Stop m) w (m, inr refl) refl)
       (λ w. stop_goes (language_of old.schema) (length old.seats.items) w m)
       (λ k w i. as_old.went k w (record { seated = i.seated; under_way = λ other. i.under_way live }))
 
   -- it was down before, and its end came to the journal then
-  pub ended_late : (m : ℕ) (first old mid new : Store K J I an g s d) → Stops honest held holds m first old → mid ≡ record old { scribe = mid.scribe } → (IsSpent old.scribe → ⊥) → IsContinued contents old.scribe mid.scribe (Ends m ∷ []) → Stops honest held holds m mid new → On first new
+  pub ended_late : (m : ℕ) (first old mid new : Store K J I an g s d) → Stops honest held holds m first old → mid ≡ record old { scribe = mid.scribe } → (IsSpent old.scribe → ⊥) → IsContinued contents old.scribe mid.scribe (waiting (Ends m ∷ [])) → Stops honest held holds m mid new → On first new
   ended_late m first old mid new fell is live came stops =
       let neat : AreClean honest holds new → AreClean honest holds old = λ k. subst (λ (t : Store K J I an g s d). AreClean honest holds t) is (stops.clean k) in
       by_one (Stop m) (λ w. stops_of w m (nth w.nodes m)) first new (stops.schema ∙ ap (λ t. t.schema) is ∙ fell.schema) (stops.count ∙ ap (λ t. length t.seats.items) is ∙ fell.count) (stops.watched ∙ ap (λ t. t.watched) is ∙ fell.watched)
-      (λ k. fell.clean (neat k)) (Ends m ∷ [])
-      (subst (λ (x : Option (Scribe J)). IsContinued contents x new.scribe (Ends m ∷ [])) fell.scribe (subst (λ (x : Option (Scribe J)). IsContinued contents old.scribe x (Ends m ∷ [])) (sym stops.scribe) came))
-      (recorded_as (reading_in first.scribe) (Ends m ∷ []) (Stop m ∷ []) (IsSpent new.scribe) (Stop m ∷ [], [], refl, refl, refl))
+      (λ k. fell.clean (neat k)) (waiting (Ends m ∷ []))
+      (subst (λ (x : Option (Scribe J)). IsContinued contents x new.scribe (waiting (Ends m ∷ []))) fell.scribe (subst (λ (x : Option (Scribe J)). IsContinued contents old.scribe x (waiting (Ends m ∷ []))) (sym stops.scribe) came))
+      (λ w. one_idle first new (Ends m) (Stop m) w (m, inr refl) refl)
       (λ w. stop_goes (language_of first.schema) (length first.seats.items) w m)
       (λ k w i.
       let down = stops_of w m (nth w.nodes m) in
       subst (IsIn held holds new) (stops_twice w m) (stops.went k down (written_in old mid is live down (fell.went (neat k) w i))))
 
   -- and the journal was spent before that
-  pub ended_unsaid : (m : ℕ) (first old new : Store K J I an g s d) → Stops honest held holds m first old → new ≡ record old { scribe = new.scribe } → IsContinued contents old.scribe new.scribe [] → IsSpent new.scribe → On first new
+  pub ended_unsaid : (m : ℕ) (first old new : Store K J I an g s d) → Stops honest held holds m first old → new ≡ record old { scribe = new.scribe } → IsContinued contents old.scribe new.scribe no_lines → IsSpent new.scribe → On first new
   ended_unsaid m first old new fell is came spent =
       let neat : AreClean honest holds new → AreClean honest holds old = λ k. subst (λ (t : Store K J I an g s d). AreClean honest holds t) is k in
       by_one (Stop m) (λ w. stops_of w m (nth w.nodes m)) first new (ap (λ t. t.schema) is ∙ fell.schema) (ap (λ t. length t.seats.items) is ∙ fell.count) (ap (λ t. t.watched) is ∙ fell.watched)
-      (λ k. fell.clean (neat k)) []
-      (subst (λ (x : Option (Scribe J)). IsContinued contents x new.scribe []) fell.scribe came)
-      (recorded_late (reading_in first.scribe) (Stop m) (IsSpent new.scribe) (m, inr refl) spent)
+      (λ k. fell.clean (neat k)) no_lines
+      (subst (λ (x : Option (Scribe J)). IsContinued contents x new.scribe no_lines) fell.scribe came)
+      (λ w. recorded_late (language_of first.schema) (length first.seats.items) w (reading_in first.scribe) (Stop m) (IsSpent new.scribe) (m, inr refl) spent)
       (λ w. stop_goes (language_of first.schema) (length first.seats.items) w m)
       (λ k w i.
       let there = fell.went (neat k) w i in
@@ -527,24 +536,24 @@ module _ {K J I : Type 0} {an : _} {g : _} {s : _} {d : _} (contents : J → Opt
       (let in_old : IsIn held holds (record old { scribe = new.scribe }) (stops_of w m (nth w.nodes m)) = record { seated = there.seated; under_way = λ live. absurd (live spent) } in in_old))
 
   -- a member was started, and its life came to the journal
-  pub lives : (m : ℕ) (stored : Summary) (old mid new : Store K J I an g s d) → StartsOne honest held holds m old mid → new ≡ record mid { scribe = new.scribe } → (IsSpent mid.scribe → ⊥) → IsContinued contents mid.scribe new.scribe (Life m stored ∷ []) → On old new
+  pub lives : (m : ℕ) (stored : Summary) (old mid new : Store K J I an g s d) → StartsOne honest held holds m old mid → new ≡ record mid { scribe = new.scribe } → (IsSpent mid.scribe → ⊥) → IsContinued contents mid.scribe new.scribe (waiting (Life m stored ∷ [])) → On old new
   lives m stored old mid new starts is live came =
       let first = reading_in old.scribe in
       by_one (Start m) (λ w. starts_of w m (nth w.nodes m)) old new (ap (λ t. t.schema) is ∙ starts.schema) (ap (λ t. length t.seats.items) is ∙ starts.count) (ap (λ t. t.watched) is ∙ starts.watched)
-      (λ k. starts.clean (subst (λ (t : Store K J I an g s d). AreClean honest holds t) is k)) (Life m stored ∷ [])
-      (subst (λ (x : Option (Scribe J)). IsContinued contents x new.scribe (Life m stored ∷ [])) starts.scribe came)
-      (recorded_as first (Life m stored ∷ []) (Start m ∷ []) (IsSpent new.scribe) (Start m ∷ [], [], refl, refl, refl))
+      (λ k. starts.clean (subst (λ (t : Store K J I an g s d). AreClean honest holds t) is k)) (waiting (Life m stored ∷ []))
+      (subst (λ (x : Option (Scribe J)). IsContinued contents x new.scribe (waiting (Life m stored ∷ []))) starts.scribe came)
+      (λ w. one_idle old new (Life m stored) (Start m) w (m, inl refl) refl)
       (λ w. start_goes (language_of old.schema) (length old.seats.items) w m)
       (λ k w i. written_in mid new is live (starts_of w m (nth w.nodes m)) (starts.went (subst (λ (t : Store K J I an g s d). AreClean honest holds t) is k) w i))
 
   -- it was started, and the journal was spent before its life came there
-  pub lives_unsaid : (m : ℕ) (old mid new : Store K J I an g s d) → StartsOne honest held holds m old mid → new ≡ record mid { scribe = new.scribe } → IsContinued contents mid.scribe new.scribe [] → IsSpent new.scribe → On old new
+  pub lives_unsaid : (m : ℕ) (old mid new : Store K J I an g s d) → StartsOne honest held holds m old mid → new ≡ record mid { scribe = new.scribe } → IsContinued contents mid.scribe new.scribe no_lines → IsSpent new.scribe → On old new
   lives_unsaid m old mid new starts is came spent =
       let first = reading_in old.scribe in
       by_one (Start m) (λ w. starts_of w m (nth w.nodes m)) old new (ap (λ t. t.schema) is ∙ starts.schema) (ap (λ t. length t.seats.items) is ∙ starts.count) (ap (λ t. t.watched) is ∙ starts.watched)
-      (λ k. starts.clean (subst (λ (t : Store K J I an g s d). AreClean honest holds t) is k)) []
-      (subst (λ (x : Option (Scribe J)). IsContinued contents x new.scribe []) starts.scribe came)
-      (recorded_late first (Start m) (IsSpent new.scribe) (m, inl refl) spent)
+      (λ k. starts.clean (subst (λ (t : Store K J I an g s d). AreClean honest holds t) is k)) no_lines
+      (subst (λ (x : Option (Scribe J)). IsContinued contents x new.scribe no_lines) starts.scribe came)
+      (λ w. recorded_late (language_of old.schema) (length old.seats.items) w (reading_in old.scribe) (Start m) (IsSpent new.scribe) (m, inl refl) spent)
       (λ w. start_goes (language_of old.schema) (length old.seats.items) w m)
       (λ k w i.
       let there = starts.went (subst (λ (t : Store K J I an g s d). AreClean honest holds t) is k) w i in
@@ -552,7 +561,7 @@ module _ {K J I : Type 0} {an : _} {g : _} {s : _} {d : _} (contents : J → Opt
       (let in_mid : IsIn held holds (record mid { scribe = new.scribe }) (starts_of w m (nth w.nodes m)) = record { seated = there.seated; under_way = λ live. absurd (live spent) } in in_mid))
 
   -- nothing came to a journal, which is spent
-  pub unwritten : (old new : Store K J I an g s d) → new ≡ record old { scribe = new.scribe } → IsContinued contents old.scribe new.scribe [] → IsSpent new.scribe → On old new
+  pub unwritten : (old new : Store K J I an g s d) → new ≡ record old { scribe = new.scribe } → IsContinued contents old.scribe new.scribe no_lines → IsSpent new.scribe → On old new
   unwritten old new is came spent = publishes_on old new (only_scribe old new is (kept_none contents old.scribe new.scribe came) (λ was. spent))
 
   -- nobody is stopped who is not there
@@ -651,8 +660,8 @@ module _ {K J I : Type 0} {an : _} {g : _} {s : _} {d : _} (contents : J → Opt
     same_seat scribe turn = record {
       schema = C.schema;
       count = same_count;
-      lines = [];
-      journal = subst (λ (x : Option (Scribe J)). IsContinued contents old.scribe x []) (sym scribe) (continued_same contents old.scribe);
+      lines = no_lines;
+      journal = subst (λ (x : Option (Scribe J)). IsContinued contents old.scribe x no_lines) (sym scribe) (continued_same contents old.scribe);
       clean = was_tidy;
       went = λ k w i.
           let x = sits w i in
@@ -660,7 +669,7 @@ module _ {K J I : Type 0} {an : _} {g : _} {s : _} {d : _} (contents : J → Opt
           record {
             world = w;
             goes = goes;
-            events_are = recorded_silent (reading_in old.scribe) [] goes.events (IsSpent new.scribe) (nowhere_events (language_of old.schema) (length old.seats.items) w) (All-nil IsSilent);
+            events_are = recorded_silent (language_of old.schema) (length old.seats.items) w (reading_in old.scribe) no_lines goes.events (IsSpent new.scribe) (nowhere_events (language_of old.schema) (length old.seats.items) w) (All-nil IsSilent);
             is_in = stays_in scribe w w x.0 x.0 i (turn (tidy k) x.0 x.2) (sym (same_world w (at + 1) x.0 x.0 x.1 refl));
             hears = hears_same (WasTold goes.gave) old.watched new.watched C.watched;
           };

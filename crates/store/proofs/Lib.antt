@@ -5,6 +5,7 @@ pub mod Fullness
 pub mod Going
 pub mod Heard
 pub mod Helds
+pub mod Lines
 pub mod Links
 pub mod Missing
 pub mod Opening
@@ -13,6 +14,7 @@ pub mod Reading
 pub mod Recording
 pub mod Statuses
 pub mod Stepping
+pub mod Storing
 pub mod Taking
 pub mod Texts
 pub mod Written

@@ -1,12 +1,12 @@
 -- The members of a store that is opened.
-use Rattle.std.proofs.Common.{◌≡◌, ◌∙◌, ℕ, zero, suc, ◌+◌, ◌≤◌, ◌⊎◌, inl, inr, Option, Some, None, Result, Ok, Err, OnOk, List, [], ◌∷◌, ◌++◌, MatchOption, drop, length, slice_get, slice_set, take, refl, sym, ap, subst, append-nil, append_assoc, add-one, arith, false, if◌then◌else◌}
+use Rattle.std.proofs.Common.{◌≡◌, ◌∙◌, ℕ, zero, suc, ◌+◌, ◌≤◌, ◌⊎◌, inl, inr, Option, Some, None, Result, Ok, Err, OnOk, List, [], ◌∷◌, ◌++◌, MatchOption, drop, length, slice_get, slice_set, take, refl, sym, ap, subst, append-nil, append_assoc, add-one, arith, Bool, true, false, if◌then◌else◌}
 use Rattle.std.specs.List.{All}
 use Rattle.std.specs.Option.{ForSome}
 use Rattle.std.specs.Prelude.{ℤ, is_none}
 use Rattle.std.proofs.Math.Seq.{take-add}
 use Rattle.std.proofs.lemmas.Grind.{flat_map-append}
 use Rattle.std.proofs.lemmas.List.{length-append}
-use Rattle.std.proofs.lemmas.List.Elements.{All-head, All-nil, All-tail}
+use Rattle.std.proofs.lemmas.List.Elements.{All-cons, All-head, All-nil, All-tail}
 use Rattle.std.proofs.lemmas.Option.{same_Some, slice_get_within}
 use Rattle.model.specs.Lists.{nth, with_nth}
 use Rattle.model.specs.Members as model
@@ -30,17 +30,19 @@ use Rattle.store.specs.declared.seat.Seat.{Seat}
 use Rattle.store.specs.declared.steps.Letter.{Letter}
 use Rattle.store.specs.declared.store.Store.{Store}
 use Rattle.store.specs.Became.{Became, EachBecame}
-use Rattle.store.specs.Continuing.{IsContinued, reading_in}
+use Rattle.store.specs.Continuing.{IsContinued, IsKeptOn, reading_in}
 use Rattle.store.specs.Going.{AreClean, GoesOn, IsIn, IsRunOf}
 use Rattle.node.specs.declared.node.Node.{Node}
 use Rattle.store.specs.Journals.{IsSpent}
+use Rattle.store.specs.Lines.{and_then, lines_in, waiting}
 use Rattle.store.specs.Nodes.{IsNodeOf, Rests as AreRests}
-use Rattle.store.specs.Recording.{AreRecorded, IsSilent, RecordAll, Records}
+use Rattle.store.specs.Recording.{AreRecorded, IsStartOrStop, RecordAll, Records}
 use Rattle.store.specs.Seats.{HasMember, IsClean}
 use Rattle.store.specs.Opening.{AreFound, AreLaid, AreMembers, AreOpened, Begins, Files, Starts, risen, starts_of}
 use Rattle.store.specs.Tales.{Told, tale_of}
 use Rattle.store.proofs.Continuing.{continued_both, continued_reading}
-use Rattle.store.proofs.Recording.{record_both, recorded_as, recorded_both, silent_records}
+use Rattle.store.proofs.Lines.{lines_then}
+use Rattle.store.proofs.Recording.{record_both, recorded_both, recorded_idle, silent_records}
 
 -- what stands in a list with one more at its end
 pub pushed : {A : Type 0} (xs : List A) (y z : A) (i : ℕ) → slice_get (xs ++ y ∷ []) i ≡ Some z → (slice_get xs i ≡ Some z) ⊎ ((i ≡ length xs) × (z ≡ y))
@@ -77,18 +79,19 @@ on_became (Err e) turn old at before after there turned = tt
 -- ---- lines that record events, one after another
 
 module _ {J : Type 0} (contents : J → Option (List ℕ)) where
-  pub files_silent : (s t : Option (Scribe J)) (lines : List Line) → All IsSilent lines → IsContinued contents s t lines → Files contents s t []
-  files_silent s t lines silent on = (lines, on, silent_records (reading_in s) lines silent)
+  pub files_silent : (s t : Option (Scribe J)) → IsKeptOn contents s t → Files contents s t []
+  files_silent s t (lines, silent, on) = (lines, on, silent_records (reading_in s) (lines_in lines) silent)
 
   pub files_both : (s t u : Option (Scribe J)) (a b : List Event) → Files contents s t a → Files contents t u b → Files contents s u (a ++ b)
   files_both s t u a b (one, first, x) (two, second, y) = (
-    one ++ two,
+    and_then one two,
     continued_both contents s t u one two first second,
-    record_both (reading_in s) one two a b x (subst (λ (r : Option ℤ). RecordAll r two b) (continued_reading contents s t one first) y),
+    subst (λ (lines : List Line). RecordAll (reading_in s) lines (a ++ b)) (sym (lines_then one two))
+        (record_both (reading_in s) (lines_in one) (lines_in two) a b x (subst (λ (r : Option ℤ). RecordAll r (lines_in two) b) (continued_reading contents s t one first) y)),
   )
 
-  pub files_on : (s t u : Option (Scribe J)) (events : List Event) (lines : List Line) → Files contents s t events → All IsSilent lines → IsContinued contents t u lines → Files contents s u events
-  files_on s t u events lines one silent on = subst (Files contents s u) (append-nil events) (files_both s t u events [] one (files_silent t u lines silent on))
+  pub files_on : (s t u : Option (Scribe J)) (events : List Event) → Files contents s t events → IsKeptOn contents t u → Files contents s u events
+  files_on s t u events one on = subst (Files contents s u) (append-nil events) (files_both s t u events [] one (files_silent t u on))
 
 -- ---- worlds where these messages were sent
 
@@ -234,9 +237,18 @@ module _ {K J I : Type 0} {an : _} {g : _} {s : _} {d : _} where
   none_there (first ∷ seats) (suc at) past = none_there seats at (omega (arith, past))
 
   pub head_files : (contents : J → Option (List ℕ)) (seats : List (Seat K J I an g s d)) (at : ℕ) (seat : Seat K J I an g s d) (old new : Option (Scribe J)) (line : Line) → slice_get seats at ≡ Some seat → (seat.node ≡ None → line ≡ Rests seat.member seat.tale.stored) →
-      ForSome seat.node (λ node. (stored : Summary) × (line ≡ Life seat.member stored)) → IsContinued contents old new (line ∷ []) → Files contents old new (starts_of (take 1 (drop at seats)))
+      ForSome seat.node (λ node. (stored : Summary) × (line ≡ Life seat.member stored)) → IsContinued contents old new (waiting (line ∷ [])) → Files contents old new (starts_of (take 1 (drop at seats)))
   head_files contents seats at seat old new line there down life on =
-      (line ∷ [], on, subst (λ (xs : List (Seat K J I an g s d)). RecordAll (reading_in old) (line ∷ []) (starts_of xs)) (sym (one_there seats at seat there)) (head_records seat line (reading_in old) down life))
+      (waiting (line ∷ []), on, subst (λ (xs : List (Seat K J I an g s d)). RecordAll (reading_in old) (line ∷ []) (starts_of xs)) (sym (one_there seats at seat there)) (head_records seat line (reading_in old) down life))
+
+  -- starts start members
+  pub starts_idle : (seats : List (Seat K J I an g s d)) → All IsStartOrStop (starts_of seats)
+  starts_idle [] = All-nil IsStartOrStop
+  starts_idle (seat ∷ seats) = go (is_none seat.node) (starts_idle seats)
+    where
+      go : (none : Bool) → All IsStartOrStop (starts_of seats) → All IsStartOrStop ((if none then [] else (Start seat.member ∷ [])) ++ starts_of seats)
+      go true rest = rest
+      go false rest = All-cons IsStartOrStop (Start seat.member) (starts_of seats) (seat.member, inl refl) rest
 
   -- ---- a store of which only the journal and what is noted become others
 
@@ -350,32 +362,39 @@ module _ {K J I : Type 0} {an : _} {g : _} {s : _} {d : _} (honest : K → Type 
   begins contents members scribe head last schema seats queue sent (lines, on, recorded) later = record {
     schema = later.schema ∙ schema;
     count = later.count ∙ ap length seats;
-    lines = lines ++ later.lines;
+    lines = and_then lines later.lines;
     journal = continued_both contents (Some scribe) head.scribe last.scribe lines later.lines on later.journal;
     clean = λ k. subst (All (IsClean honest holds)) seats (later.clean k);
-    went = λ k w none has.
+    went = λ k u w starts are none has.
+        let language = language_of members.schema in
+        let n = length members.seats.items in
         let went = later.went k w (begins_in members head schema seats queue sent w none has) in
-        let named = goes_named (language_of members.schema) (language_of head.schema) (length members.seats.items) (length head.seats.items) w went.world (ap language_of schema) (ap length seats) went.goes in
-        (went.world, named.goes, went.is_in, subst (λ (es : List Event). AreRecorded scribe.reading (lines ++ later.lines) (starts_of members.seats.items ++ es) (IsSpent last.scribe)) (sym named.events_are) (all went.goes.events went.events_are));
+        let named = goes_named language (language_of head.schema) n (length head.seats.items) w went.world (ap language_of schema) (ap length seats) went.goes in
+        let first : AreRecorded language n u scribe.reading lines starts.events ⊥ =
+        recorded_idle language n u scribe.reading lines starts.events ⊥ (subst (RecordAll scribe.reading (lines_in lines)) (sym are) recorded) (subst (All IsStartOrStop) (sym are) (starts_idle members.seats.items)) in
+        let after : AreRecorded language n w (reading_in head.scribe) later.lines went.goes.events (IsSpent last.scribe) =
+        subst (λ (k : ℕ). AreRecorded language k w (reading_in head.scribe) later.lines went.goes.events (IsSpent last.scribe)) (ap length seats)
+        (subst (λ (t : Tables). AreRecorded (language_of t) (length head.seats.items) w (reading_in head.scribe) later.lines went.goes.events (IsSpent last.scribe)) schema went.events_are) in
+        let all = recorded_both language n u w scribe.reading (reading_in head.scribe) lines later.lines starts.events went.goes.events ⊥ (IsSpent last.scribe) starts.leads (continued_reading contents (Some scribe) head.scribe lines on) (λ never. absurd never) (λ never. absurd never) first after in
+        (went.world, named.goes, went.is_in, subst (λ (es : List Event). AreRecorded language n u scribe.reading (and_then lines later.lines) (starts.events ++ es) (IsSpent last.scribe)) (sym named.events_are) all.0);
   }
-    where
-      all : (events : List Event) → AreRecorded (reading_in head.scribe) later.lines events (IsSpent last.scribe) → AreRecorded scribe.reading (lines ++ later.lines) (starts_of members.seats.items ++ events) (IsSpent last.scribe)
-      all events are = recorded_both scribe.reading (reading_in head.scribe) lines later.lines (starts_of members.seats.items) events ⊥ (IsSpent last.scribe) (continued_reading contents (Some scribe) head.scribe lines on) (λ never. absurd never) (λ never. absurd never)
-          (recorded_as scribe.reading lines (starts_of members.seats.items) ⊥ recorded) are
 
   -- A store that was begun with members that were opened is a run from what the databases held, and the lines that came to its journal
   -- record that run.
   pub runs_recorded : (contents : J → Option (List ℕ)) (told : Told) (images : List (Option I)) (members : Members K J I an g s d) (scribe : Scribe J) (store : Store K J I an g s d) → AreOpened honest held holds told images members → (B : Begins contents honest held holds members scribe store) → AreClean honest holds store →
-      (found : List model.Node) → AreFound holds images found → (w : World) × (goes : Goes (language_of store.schema) (length store.seats.items) (opened found) w) × IsIn held holds store w × AreRecorded scribe.reading B.lines goes.events (IsSpent store.scribe)
+      (found : List model.Node) → AreFound holds images found → (w : World) × (goes : Goes (language_of store.schema) (length store.seats.items) (opened found) w) × IsIn held holds store w × AreRecorded (language_of store.schema) (length store.seats.items) (opened found) scribe.reading B.lines goes.events (IsSpent store.scribe)
   runs_recorded contents told images members scribe store O B k found F =
       let o : HasStarted members.schema (length members.seats.items) found members.seats.items = subst (λ (n : ℕ). HasStarted members.schema n found members.seats.items) (sym O.count) (O.went (B.clean k) found F) in
-      let b = B.went k o.0 o.3 o.4 in
+      let b = B.went k (opened found) o.0 o.1 o.2 o.3 o.4 in
       let language = language_of members.schema in
       let n = length members.seats.items in
       let all = goes_further language n (opened found) o.0 b.0 o.1 b.1 in
       let named = goes_named (language_of store.schema) language (length store.seats.items) n (opened found) b.0 (ap language_of (sym B.schema)) (sym B.count) all in
-      let events : named.goes.events ≡ starts_of members.seats.items ++ b.1.events = named.events_are ∙ further_events language n (opened found) o.0 b.0 o.1 b.1 ∙ ap (λ (es : List Event). es ++ b.1.events) o.2 in
-      (b.0, named.goes, b.2, subst (λ (es : List Event). AreRecorded scribe.reading B.lines es (IsSpent store.scribe)) (sym events) b.3)
+      let events : named.goes.events ≡ o.1.events ++ b.1.events = named.events_are ∙ further_events language n (opened found) o.0 b.0 o.1 b.1 in
+      let filed : AreRecorded (language_of store.schema) (length store.seats.items) (opened found) scribe.reading B.lines (o.1.events ++ b.1.events) (IsSpent store.scribe) =
+      subst (λ (k : ℕ). AreRecorded (language_of store.schema) k (opened found) scribe.reading B.lines (o.1.events ++ b.1.events) (IsSpent store.scribe)) (sym B.count)
+      (subst (λ (t : Tables). AreRecorded (language_of t) n (opened found) scribe.reading B.lines (o.1.events ++ b.1.events) (IsSpent store.scribe)) (sym B.schema) b.3) in
+      (b.0, named.goes, b.2, subst (λ (es : List Event). AreRecorded (language_of store.schema) (length store.seats.items) (opened found) scribe.reading B.lines es (IsSpent store.scribe)) (sym events) filed)
 
   pub runs : (contents : J → Option (List ℕ)) (told : Told) (images : List (Option I)) (members : Members K J I an g s d) (scribe : Scribe J) (store : Store K J I an g s d) → AreOpened honest held holds told images members → Begins contents honest held holds members scribe store → AreClean honest holds store →
       (found : List model.Node) → AreFound holds images found → (events : List Event) × IsRunOf held holds found events store

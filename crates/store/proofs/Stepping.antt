@@ -106,6 +106,11 @@ what_stays held node y d is holds ups = go node.is_up refl is
     go true u e = ups u ∙ sym (ap durable_of e)
     go false u rests = sym (ap durable_of (rests.1 d holds))
 
+-- a member that is this one, or rests where what it has stored is held
+pub what_rests : (held : Durable → Type 0) (up : Bool) (other y : model.Node) (d : Durable) → MatchBool up (y ≡ other) (Rests held y) → held d → (up ≡ true → d ≡ durable_of other) → d ≡ durable_of y
+what_rests held true other y d is holds ups = ups refl ∙ sym (ap durable_of is)
+what_rests held false other y d rests holds ups = sym (ap durable_of (rests.1 d holds))
+
 -- the database of a seat without a node
 pub at_rest_there : {N I : Type 0} (o : Option N) (i : Option I) (image : I) (P : N → Type 0) (R : I → Type 0) (Q : Type 0) → o ≡ None → i ≡ Some image → MatchOption o (MatchOption i Q R) P → R image
 at_rest_there {N} {I} o i image P R Q none some there =

@@ -14,11 +14,11 @@ use Rattle.model.specs.declared.event.Job.{Job}
 use Rattle.model.specs.declared.event.Job.TheVariants.{Local as TheLocal, Delivery}
 use Rattle.model.specs.declared.message.Input.{Input}
 use Rattle.model.specs.declared.message.Message.{Message}
-use Rattle.model.specs.Worlds.{World, Event, Torn, Output, effect, is_for, node_left, stopped, with_node}
+use Rattle.model.specs.Worlds.{World, Event, Torn, Output, effect, is_for, node_left, run, stopped, with_node}
 use Rattle.model.specs.Worlds.Output.{Applied, Refused as Refuses}
 use Rattle.keep.specs.Durable.{Durable}
 use Rattle.keep.specs.declared.error.StoreError.{StoreError}
-use Rattle.sessions.specs.Kills.{whole, Steps}
+use Rattle.sessions.specs.Kills.{durable, whole, Steps}
 use Rattle.sqlchecks.specs.Columns.{Tables}
 use Rattle.sqlread.specs.Meaning.{language_of}
 use Rattle.node.specs.declared.node.Out.{Out}
@@ -38,11 +38,15 @@ use Rattle.store.specs.Seats.{IsClean}
 use Rattle.journal.specs.declared.line.Taken.{Taken}
 use Rattle.journal.specs.declared.line.Line.{Line}
 use Rattle.journal.specs.declared.line.Line.TheVariants.{Takes}
+use Rattle.store.specs.Lines.{Lines, and_then, behind, lines_in}
 use Rattle.store.specs.Recording.{IsSilent, IsStep, job_of}
-use Rattle.store.specs.Continuing.{IsKeptOn, reading_in}
-use Rattle.store.specs.Going.{AreFiled, Changes, GoesOnFrom, HasSent, HasStepped, Hears, IsAmong, IsBrought, IsIn, Publishes, SaysWhy, Stops}
-use Rattle.store.proofs.Continuing.{kept_both, kept_same}
-use Rattle.store.proofs.Recording.{recorded_as, silent_records}
+use Rattle.store.specs.declared.scribe.Scribe.{Scribe}
+use Rattle.store.specs.Continuing.{IsContinued, reading_in}
+use Rattle.store.specs.Going.{AreFiled, Changes, GoesOnFrom, HasSent, HasStepped, Hears, IsAmong, IsBrought, IsIn, Publishes, SaysWhy, Stops, with_begun}
+use Rattle.store.proofs.Continuing.{continued_both, kept_same}
+use Rattle.store.proofs.Lines.{lines_then, none_first}
+use Rattle.store.proofs.Recording.{recorded_step, silent_both}
+use Rattle.store.proofs.Storing.{same_stored}
 use Rattle.store.proofs.Going.{TellsLess, from_weaker, hears_more, hears_same, same_count, seat_in, seats_as, sits, spent_publishes, tidy, was_tidy, world_with}
 
 -- what a step sends, and what it tells
@@ -119,11 +123,14 @@ module _ {K J I : Type 0} {an : _} {g : _} {s : _} {d : _} (contents : J → Opt
   So m taken now work gives old new = GoesOnFrom contents honest held holds (Takes m taken ∷ []) (IsBrought old m (job_of now taken) work) gives old new
 
   -- the events of the step, in the lines
-  filed : (old new : Store K J I an g s d) (m : ℕ) (taken : Taken) (now : ℤ) (lines : List Line) (events : List Event) → reading_in old.scribe ≡ Some now → All IsSilent lines → (event : Event) × IsStep m (job_of now taken) event × (events ≡ event ∷ []) →
-      AreFiled old new (Takes m taken ∷ lines) events
-  filed old new m taken now lines events shown silent (event, is, are) =
-      subst (AreFiled old new (Takes m taken ∷ lines)) (sym are)
-      (recorded_as (reading_in old.scribe) (Takes m taken ∷ lines) (event ∷ []) (IsSpent new.scribe) (event ∷ [], [], (now, shown, event, is, refl), silent_records (reading_in old.scribe) lines silent, refl))
+  filed : (old new : Store K J I an g s d) (m : ℕ) (taken : Taken) (now : ℤ) (lines : Lines) (w v : World) (goes : Goes (language_of old.schema) (length old.seats.items) w v) → reading_in old.scribe ≡ Some now → All IsSilent (lines_in lines) → (event : Event) × IsStep m (job_of now taken) event × (goes.events ≡ event ∷ []) →
+      (lines.groups ≡ [] → durable v ≡ durable w) → AreFiled old new (with_begun (Takes m taken ∷ []) lines) w goes.events
+  filed old new m taken now lines w v goes shown silent (event, is, are) same =
+      let language = language_of old.schema in
+      let n = length old.seats.items in
+      subst (AreFiled old new (with_begun (Takes m taken ∷ []) lines) w) (sym are)
+      (recorded_step language n w (reading_in old.scribe) m taken lines event (IsSpent new.scribe) (now, shown, event, is, refl) silent
+      (λ none. ap durable (sym (goes.leads ∙ ap (run language n w) are)) ∙ same none))
 
   -- a member took a step, what it sent came under way, and what it told was heard
   pub step_on : (old mid new : Store K J I an g s d) (at : ℕ) (taken : Taken) (now : ℤ) (work : Work) (result : Result Out Fault) → reading_in old.scribe ≡ Some now → HasStepped contents honest held holds old mid at work result → (IsSpent old.scribe → ⊥) → Publishes contents mid new (messages_of result) (told_of result) →
@@ -131,26 +138,29 @@ module _ {K J I : Type 0} {an : _} {g : _} {s : _} {d : _} (contents : J → Opt
   step_on old mid new at taken now work result shown h live p =
       let C = h.changes in
       let m = at + 1 in
-      let kept = kept_both contents old.scribe mid.scribe new.scribe C.journal p.journal in
+      let lines = and_then C.journal.0 p.journal.0 in
+      let silent = subst (All IsSilent) (sym (lines_then C.journal.0 p.journal.0)) (silent_both (lines_in C.journal.0) (lines_in p.journal.0) C.journal.1 p.journal.1) in
       record {
         schema = p.schema ∙ C.schema;
         count = ap length p.seats ∙ same_count contents honest held holds old mid at h.before h.after C;
-        lines = kept.0;
-        journal = kept.2;
+        lines = lines;
+        journal = continued_both contents old.scribe mid.scribe new.scribe C.journal.0 p.journal.0 C.journal.2 p.journal.2;
         clean = λ k. was_tidy contents honest held holds old mid at h.before h.after C (subst (All (IsClean honest holds)) p.seats k);
         went = λ k w i brought.
             let neat = subst (All (IsClean honest holds)) p.seats k in
             let sat = sits contents honest held holds old mid at h.before h.after C w i in
-            let t = h.steps (tidy contents honest held holds old mid at h.before h.after C neat) sat.0 sat.2 in
+            let seat_clean = tidy contents honest held holds old mid at h.before h.after C neat in
+            let t = h.steps seat_clean sat.0 sat.2 in
             let b = brought live in
             let turned = turn old.schema (length old.seats.items) m work w sat.0 sat.1 (job_of now taken) b.0 b.1 t.0 result t.1.1 in
             let there = seat_in contents honest held holds old mid at h.before h.after C (λ was. absurd (live was)) w t.0 i t.1.0 in
             let less : TellsLess (IsAmong (told_of result)) (WasTold turned.goes.gave) = λ client number o one. record { member = m; told = one.0; client_is = one.2; number_is = one.3; outcome_is = one.4; given = turned.tells one.0 one.1 } in
-            let hears = hears_more (IsAmong (told_of result)) (WasTold turned.goes.gave) less mid.watched new.watched p.hears in (
+            let hears = hears_more (IsAmong (told_of result)) (WasTold turned.goes.gave) less mid.watched new.watched p.hears in
+            let v = with_node w m t.0 (messages_of result) in (
               record {
-                world = with_node w m t.0 (messages_of result);
+                world = v;
                 goes = turned.goes;
-                events_are = filed old new m taken now kept.0 turned.goes.events shown kept.1 turned.events_are;
+                events_are = filed old new m taken now lines w v turned.goes shown silent turned.events_are (λ none. same_stored w m sat.0 t.0 (messages_of result) sat.1 (h.stored (none_first C.journal.0.groups (behind C.journal.0.rest p.journal.0.groups) none) seat_clean old.schema (length old.seats.items) m sat.0 t.0 sat.2 t.1.0 t.1.1));
                 is_in = record {
                   seated = seats_as contents honest held holds mid new p.schema p.seats (world_with (with_nth w.nodes m t.0) w.sent) there;
                   under_way = λ up. p.letters up w.sent (there.under_way (λ was. up (p.spent was)));
@@ -183,16 +193,16 @@ module _ {K J I : Type 0} {an : _} {g : _} {s : _} {d : _} (contents : J → Opt
 
       go : Stops honest held holds (at + 1) mid new → So (at + 1) taken now work (λ gave. Unit {0}) old new
       go S =
-          let kept = subst (IsKeptOn contents old.scribe) (sym S.scribe) C.journal in
           record {
             schema = S.schema ∙ C.schema;
             count = S.count ∙ same_count contents honest held holds old mid at h.before h.after C;
-            lines = kept.0;
-            journal = kept.2;
+            lines = C.journal.0;
+            journal = subst (λ (x : Option (Scribe J)). IsContinued contents old.scribe x C.journal.0) (sym S.scribe) C.journal.2;
             clean = λ k. was_tidy contents honest held holds old mid at h.before h.after C (S.clean k);
             went = λ k w i brought.
                 let sat = sits contents honest held holds old mid at h.before h.after C w i in
-                let t = h.steps (tidy contents honest held holds old mid at h.before h.after C (S.clean k)) sat.0 sat.2 in
+                let seat_clean = tidy contents honest held holds old mid at h.before h.after C (S.clean k) in
+                let t = h.steps seat_clean sat.0 sat.2 in
                 let b = brought live in
                 let turned = turn old.schema (length old.seats.items) (at + 1) work w sat.0 sat.1 (job_of now taken) b.0 b.1 t.0 (Err (Down error)) t.1.1 in
                 let v = with_node w (at + 1) t.0 [] in
@@ -203,7 +213,7 @@ module _ {K J I : Type 0} {an : _} {g : _} {s : _} {d : _} (contents : J → Opt
                   record {
                     world = v;
                     goes = turned.goes;
-                    events_are = filed old new (at + 1) taken now kept.0 turned.goes.events shown kept.1 turned.events_are;
+                    events_are = filed old new (at + 1) taken now C.journal.0 w v turned.goes shown C.journal.1 turned.events_are (λ none. same_stored w (at + 1) sat.0 t.0 [] sat.1 (h.stored none seat_clean old.schema (length old.seats.items) (at + 1) sat.0 t.0 sat.2 t.1.0 t.1.1));
                     is_in = subst (IsIn held holds new) still (S.went k v in_mid);
                     hears = hears_same (WasTold turned.goes.gave) old.watched new.watched (S.watched ∙ C.watched);
                   },

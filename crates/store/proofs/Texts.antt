@@ -1,5 +1,5 @@
 -- Texts of lines, one after another.
-use Rattle.std.proofs.Common.{◌≡◌, ◌∙◌, ℕ, ℤ, List, [], ◌∷◌, ◌++◌, refl, sym, ap, append-nil, append_assoc}
+use Rattle.std.proofs.Common.{◌≡◌, ◌≢◌, ◌∙◌, ℕ, ℤ, List, [], ◌∷◌, ◌++◌, refl, sym, ap, append-nil, append_assoc}
 use Rattle.std.specs.Prelude.{codes, decimal, length}
 use Rattle.std.specs.Fmt.{signed_decimal}
 use Rattle.flight.specs.declared.outcome.Outcome.{Outcome}
@@ -11,7 +11,7 @@ use Rattle.journal.specs.declared.line.Taken.{Taken}
 use Rattle.journal.specs.declared.line.Taken.TheVariants.{Timeout, Beat, Close, Floor, Submit, Message}
 use Rattle.journal.specs.declared.stored.Summary.{Summary}
 use Rattle.journal.specs.Spelling.{digest_text, summary_text, stored_text, taken_text, said_text, line_text}
-use Rattle.store.specs.Writing.{lines_text}
+use Rattle.store.specs.Writing.{lines_text, with_line}
 
 -- it spells the same before whatever follows
 abbrev Leads : (List ℕ → List ℕ) → Type 0
@@ -100,3 +100,29 @@ lines_both (l ∷ one) two =
     ∙ line l (lines_text one ++ lines_text two)
     ∙ sym (append_assoc (line_text l []) (lines_text one) (lines_text two))
     ∙ ap (λ (x : List ℕ). x ++ lines_text two) (sym (line l (lines_text one)))
+
+-- a line has a text
+some_text : (line : Line) (more : List ℕ) → line_text line more ≡ [] → ⊥
+some_text (Opens journal sum marks) more e = cc e
+some_text (Rests m stored) more e = cc e
+some_text (Life m stored) more e = cc e
+some_text (Clock now) more e = cc e
+some_text (Takes m taken) more e = cc e
+some_text (Saves m stored) more e = cc e
+some_text (Made m outcomes) more e = cc e
+some_text (Ends m) more e = cc e
+some_text (Answer m query answer) more e = cc e
+some_text (Printed client number words) more e = cc e
+
+-- lines without a text are none
+pub no_text : (lines : List Line) → lines_text lines ≡ [] → lines ≡ []
+no_text [] e = refl
+no_text (line ∷ lines) e = absurd (some_text line (lines_text lines) e)
+
+-- a buffer to which a line came has something
+pub line_there : (old new : List ℕ) (line : Line) → new ≡ with_line old line → new ≢ []
+line_there old new line is none = some_text line [] (last_none old (line_text line []) (sym is ∙ none))
+  where
+    last_none : (xs ys : List ℕ) → xs ++ ys ≡ [] → ys ≡ []
+    last_none [] ys e = e
+    last_none (x ∷ xs) ys e = absurd (cc e)

@@ -1,5 +1,5 @@
 -- What is written to a journal.
-use Rattle.std.proofs.Common.{◌≡◌, ◌≢◌, ◌∙◌, ℕ, Option, Some, None, List, [], ◌∷◌, ◌++◌, refl, sym, ap, subst, append-nil, append_assoc, string_bytes, Result, Ok, Err, OnOk, OnErr}
+use Rattle.std.proofs.Common.{◌≡◌, ◌≢◌, ◌∙◌, ℕ, Option, Some, None, List, [], ◌∷◌, ◌++◌, refl, sym, ap, subst, append-nil, append_assoc, arith, length, string_bytes, Result, Ok, Err, IsOk, OnOk, OnErr}
 use Rattle.std.specs.Prelude.{IsSome}
 use Rattle.std.specs.Io.KnownBytes.{append_known}
 use Rattle.std.proofs.lemmas.Option.{same_Some}
@@ -122,13 +122,21 @@ on_opened contents (Err e) s t u v first journal sum marks same sums added longe
 
 -- ---- a journal that ends
 
-pub then_ok : {A E P Q : Type 0} (r : Result A E) → (P → Q) → OnOk r P → OnOk r Q
-then_ok (Ok x) f p = f p
-then_ok (Err e) f p = tt
+pub none_long : {A : Type 0} (xs : List A) → length xs ≡ 0 → xs ≡ []
+none_long [] none = refl
+none_long (x ∷ xs) none = absurd (omega (arith, none))
+
+pub ok_then : {A E P : Type 0} (r : Result A E) → IsOk r → OnOk r P → P
+ok_then (Ok x) is p = p
+ok_then (Err e) is p = absurd (cc is)
 
 pub then_err : {A E P Q : Type 0} (r : Result A E) → (P → Q) → OnErr r P → OnErr r Q
 then_err (Ok x) f p = tt
 then_err (Err e) f p = f p
+
+pub then_ok : {A E P Q : Type 0} (r : Result A E) → (P → Q) → OnOk r P → OnOk r Q
+then_ok (Ok x) f p = f p
+then_ok (Err e) f p = tt
 
 pub all_on : {J : Type 0} (contents : J → Option (List ℕ)) (s t u : Option (Scribe J)) → IsLonger s t → IsFlushed contents t u → IsAllOn contents s (device_in u)
 all_on {J = D} contents None t u longer flushed = absurd (subst (λ (x : Option (Scribe D)). IsFlushed contents x u) longer flushed)

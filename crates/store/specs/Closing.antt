@@ -1,5 +1,5 @@
 -- What a store that is closed leaves.
-use Rattle.std.specs.Prelude.{◌≡◌, ◌↔◌, ◌⊎◌, ℕ, Option, Some, None, List, map, length, slice_get, slice_set, MatchOption}
+use Rattle.std.specs.Prelude.{◌≡◌, ◌↔◌, ◌⊎◌, ℕ, ◌+◌, Option, Some, None, List, map, length, slice_get, slice_set, MatchOption}
 use Rattle.keep.specs.Durable.{Durable}
 use Rattle.store.specs.declared.seat.Seat.{Seat}
 use Rattle.store.specs.declared.store.Store.{Store}
@@ -41,9 +41,13 @@ module _ {K J I : Type 0} {an : _} {g : _} {s : _} {d : _} where
   abbrev pub IsClosed : (held : K → Durable → Type 0) (holds : I → Durable → Type 0) → Store K J I an g s d → List (Seat K J I an g s d) → Type 0
   IsClosed held holds store seats = EachBecame (IsAtRest held holds) store.seats.items seats
 
-  -- a store went on to one with this device, which was closed with these seats
-  abbrev pub ClosesTo : (contents : J → Option (List ℕ)) (honest : K → Type 0) (held : K → Durable → Type 0) (holds : I → Durable → Type 0) → Store K J I an g s d → List (Seat K J I an g s d) → Option J → Type 0
-  ClosesTo contents honest held holds store seats device = (last : Store K J I an g s d) × GoesOn contents honest held holds store last × IsClosed held holds last seats × (device ≡ device_in last.scribe)
+  -- the seat of this member, if it is there, has no node
+  abbrev pub IsDownIn : List (Seat K J I an g s d) → ℕ → Type 0
+  IsDownIn seats m = (at : ℕ) (seat : Seat K J I an g s d) → m ≡ at + 1 → slice_get seats at ≡ Some seat → seat.node ≡ None
+
+  -- A store went on to one with this device, which was closed with these seats. Where this holds each of its members was stopped before.
+  abbrev pub ClosesTo : (contents : J → Option (List ℕ)) (honest : K → Type 0) (held : K → Durable → Type 0) (holds : I → Durable → Type 0) → Store K J I an g s d → List (Seat K J I an g s d) → Option J → (whole : Type 0) → Type 0
+  ClosesTo contents honest held holds store seats device whole = (last : Store K J I an g s d) × GoesOn contents honest held holds store last × IsClosed held holds last seats × (device ≡ device_in last.scribe) × (whole → (m : ℕ) → IsDownIn last.seats.items m)
 
   -- what is found of a store's databases once its process has ended: each that is there holds nothing else than its seat's may hold
   pub record AreLeft (held : K → Durable → Type 0) (holds : I → Durable → Type 0) (store : Store K J I an g s d) (images : List (Option I)) : Type 0 where

@@ -27,6 +27,7 @@ use Rattle.store.specs.declared.outcome.Outcome.{Outcome}
 use Rattle.store.specs.declared.outcome.Outcome.TheVariants.{Accepted, Refused, Unanswered}
 use Rattle.store.specs.declared.refusal.StoreRefusal.{StoreRefusal}
 use Rattle.store.specs.Continuing.{IsContinued, IsKeptOn, reading_in}
+use Rattle.store.specs.Lines.{Lines, behind, rest_behind, waiting}
 use Rattle.store.specs.Recording.{AreRecorded, IsSilent}
 use Rattle.journal.specs.declared.line.Taken.{Taken}
 use Rattle.journal.specs.declared.line.Line.{Line}
@@ -34,7 +35,7 @@ use Rattle.journal.specs.declared.line.Line.TheVariants.{Takes}
 use Rattle.store.specs.declared.scribe.Scribe.{Scribe}
 use Rattle.store.specs.Journals.{IsSpent}
 use Rattle.store.specs.Nodes.{StepsTo}
-use Rattle.store.specs.Seats.{HasMember, IsClean}
+use Rattle.store.specs.Seats.{HasMember, IsClean, KeepsStored}
 
 -- so many messages were sent, and each letter is the one of its number
 abbrev pub AreUnderWay : List Letter → ℕ → List Message → Type 0
@@ -82,7 +83,12 @@ SaysWhy m (Err refusal) gave = Unit {0}
 
 -- lines that record nothing came to a journal, and then that a member begins a step
 abbrev pub BeginsStep : {J : Type 0} → (contents : J → Option (List ℕ)) → Option (Scribe J) → Option (Scribe J) → (m : ℕ) → Taken → Type 0
-BeginsStep contents old new m taken = (before : List Line) × All IsSilent before × IsContinued contents old new (before ++ Takes m taken ∷ [])
+BeginsStep contents old new m taken = (before : List Line) × All IsSilent before × IsContinued contents old new (waiting (before ++ Takes m taken ∷ []))
+
+-- lines that came to a journal, and those that were in its buffer before
+abbrev pub with_begun : List Line → Lines → Lines
+with_begun [] lines = lines
+with_begun (line ∷ begun) lines = record { groups = behind (line ∷ begun) lines.groups; rest = rest_behind (line ∷ begun) lines.groups lines.rest }
 
 module _ {K J I : Type 0} {an : _} {g : _} {s : _} {d : _} where
   -- nothing wrong was taken as true, and each database that is at rest holds something
@@ -106,28 +112,28 @@ module _ {K J I : Type 0} {an : _} {g : _} {s : _} {d : _} where
     pub is_in : IsIn held holds new world
     pub hears : Hears (WasTold goes.gave) old.watched new.watched
 
-  -- the events of a store that went on are what these lines of its journal record
-  abbrev pub AreFiled : Store K J I an g s d → Store K J I an g s d → List Line → List Event → Type 0
-  AreFiled old new lines events = AreRecorded (reading_in old.scribe) lines events (IsSpent new.scribe)
+  -- the events of a store that went on from this world are what these lines of its journal record
+  abbrev pub AreFiled : Store K J I an g s d → Store K J I an g s d → Lines → World → List Event → Type 0
+  AreFiled old new lines w events = AreRecorded (language_of old.schema) (length old.seats.items) w (reading_in old.scribe) lines events (IsSpent new.scribe)
 
   -- the run of a store goes on, and lines came to its journal that record it
   pub record GoesOn (contents : J → Option (List ℕ)) (honest : K → Type 0) (held : K → Durable → Type 0) (holds : I → Durable → Type 0) (old new : Store K J I an g s d) : Type 0 where
     pub schema : new.schema ≡ old.schema
     pub count : length new.seats.items ≡ length old.seats.items
-    pub lines : List Line
+    pub lines : Lines
     pub journal : IsContinued contents old.scribe new.scribe lines
     pub clean : AreClean honest holds new → AreClean honest holds old
-    pub went : AreClean honest holds new → (w : World) → IsIn held holds old w → WentOn held holds (AreFiled old new lines) old new w
+    pub went : AreClean honest holds new → (w : World) → IsIn held holds old w → WentOn held holds (AreFiled old new lines w) old new w
 
   -- The run goes on from each world of which this holds, by events that gave what this holds of. Lines that were in the buffer before, and
   -- then those that came to the journal, record it.
   pub record GoesOnFrom (contents : J → Option (List ℕ)) (honest : K → Type 0) (held : K → Durable → Type 0) (holds : I → Durable → Type 0) (begun : List Line) (from : World → Type 0) (gives : List (List Output) → Type 0) (old new : Store K J I an g s d) : Type 0 where
     pub schema : new.schema ≡ old.schema
     pub count : length new.seats.items ≡ length old.seats.items
-    pub lines : List Line
+    pub lines : Lines
     pub journal : IsContinued contents old.scribe new.scribe lines
     pub clean : AreClean honest holds new → AreClean honest holds old
-    pub went : AreClean honest holds new → (w : World) → IsIn held holds old w → from w → (on : WentOn held holds (AreFiled old new (begun ++ lines)) old new w) × gives on.goes.gave
+    pub went : AreClean honest holds new → (w : World) → IsIn held holds old w → from w → (on : WentOn held holds (AreFiled old new (with_begun begun lines) w) old new w) × gives on.goes.gave
 
   -- the same where no such lines were in the buffer
   abbrev pub GoesOnSo : (contents : J → Option (List ℕ)) (honest : K → Type 0) (held : K → Durable → Type 0) (holds : I → Durable → Type 0) (from : World → Type 0) (gives : List (List Output) → Type 0) (old new : Store K J I an g s d) → Type 0
@@ -173,13 +179,14 @@ module _ {K J I : Type 0} {an : _} {g : _} {s : _} {d : _} where
     pub watched : new.watched ≡ old.watched
     pub clean : IsClean honest holds after → IsClean honest holds before
 
-  -- the member at a seat took a step with this result
+  -- The member at a seat took a step with this result. Nothing else was stored, or a block went to the journal's device.
   pub record HasStepped (contents : J → Option (List ℕ)) (honest : K → Type 0) (held : K → Durable → Type 0) (holds : I → Durable → Type 0) (old new : Store K J I an g s d) (at : ℕ) (work : Work) (result : Result Out Fault) : Type 0 where
     pub before : Seat K J I an g s d
     pub after : Seat K J I an g s d
     pub changes : Changes contents honest holds old new at before after
     pub steps : IsClean honest holds after → (x : Node) → HasMember held holds old.schema (length old.seats.items) (at + 1) before x →
         (y : Node) × (HasMember held holds old.schema (length old.seats.items) (at + 1) after y × StepsTo old.schema (length old.seats.items) (at + 1) work x y result)
+    pub stored : changes.journal.0.groups ≡ [] → KeepsStored honest held holds work result before after
 
   -- the same with a result that nobody looks at
   abbrev pub MayHaveStepped : (contents : J → Option (List ℕ)) (honest : K → Type 0) (held : K → Durable → Type 0) (holds : I → Durable → Type 0) (old new : Store K J I an g s d) (at : ℕ) (work : Work) → Type 0

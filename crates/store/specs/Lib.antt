@@ -10,6 +10,7 @@ pub mod Going
 pub mod Held
 pub mod HeldAt
 pub mod Journals
+pub mod Lines
 pub mod Nodes
 pub mod Opening
 pub mod Pasts

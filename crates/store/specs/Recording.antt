@@ -4,12 +4,14 @@ use Rattle.model.specs.declared.event.Job.{Job}
 use Rattle.model.specs.declared.event.Job.TheVariants.{Local, Delivery}
 use Rattle.model.specs.declared.event.Left.{Left}
 use Rattle.model.specs.declared.message.Input.TheVariants.{Timeout as TheTimeout, Beat as TheBeat, Close as TheClose, Floor as TheFloor, Submit as TheSubmit}
-use Rattle.model.specs.Worlds.{Event, Start, Stop, Torn}
-use Rattle.sessions.specs.Kills.{whole}
+use Rattle.model.specs.Transactions.{Language}
+use Rattle.model.specs.Worlds.{World, Event, Start, Stop, Torn, run}
+use Rattle.sessions.specs.Kills.{durable, whole}
 use Rattle.journal.specs.declared.line.Taken.{Taken}
 use Rattle.journal.specs.declared.line.Taken.TheVariants.{Timeout, Beat, Close, Floor, Submit, Message}
 use Rattle.journal.specs.declared.line.Line.{Line}
 use Rattle.journal.specs.declared.line.Line.TheVariants.{Life, Clock, Takes, Ends}
+use Rattle.store.specs.Lines.{Lines, filed_in}
 
 -- what clocks show behind a line, and behind some
 abbrev pub reading_after : Option ℤ → Line → Option ℤ
@@ -55,11 +57,15 @@ IsSilent line = ⊤
 abbrev pub IsStartOrStop : Event → Type 0
 IsStartOrStop event = (m : ℕ) × ((event ≡ Start m) ⊎ (event ≡ Stop m))
 
--- lines record these events, but for starts and stops at the end of a journal that is spent
-pub record AreRecorded (reading : Option ℤ) (lines : List Line) (events : List Event) (spent : Type 0) : Type 0 where
+-- Lines record events, but for starts and stops at the end of a journal that is spent. Those that are on the device record the first of the
+-- events, after which nothing else was stored.
+pub record AreRecorded (language : Language) (n : ℕ) (w : World) (reading : Option ℤ) (lines : Lines) (events : List Event) (spent : Type 0) : Type 0 where
   pub filed : List Event
+  pub waiting : List Event
   pub lost : List Event
-  pub events_are : events ≡ filed ++ lost
-  pub recorded : RecordAll reading lines filed
+  pub events_are : events ≡ filed ++ (waiting ++ lost)
+  pub on_device : RecordAll reading (filed_in lines) filed
+  pub in_buffer : RecordAll (last_reading reading (filed_in lines)) lines.rest waiting
   pub idle : All IsStartOrStop lost
   pub none : (lost ≡ []) ⊎ spent
+  pub stored : durable (run language n w events) ≡ durable (run language n w filed)

@@ -7,7 +7,7 @@ ghost use Rattle.keep.specs.Log.{IsLog, IsSmall};
 ghost use Rattle.model.specs.Transactions.{Language};
 ghost use Rattle.journal.specs.Digests.{summary_of};
 ghost use Rattle.store.specs.Chains.{links_of};
-ghost use Rattle.store.specs.Announcing.{HasAnnounced, HasContinued};
+ghost use Rattle.store.specs.Announcing.{HasAnnounced, HasContinued, HasFiled, HasWaited};
 ghost use Rattle.store.specs.declared.scribe.Scribe.{Scribe as TheScribe};
 
 use crate::device::Device;
@@ -33,14 +33,14 @@ impl<S: Alter + Drop> Judging for SqlKeeper<S> {
 pub trait Announces: Keeper {
     type Journal: Device;
 
-    /// It carries a journal, which is this one still or went on from it.
-    ghost carries: { Self → TheScribe Self.Journal → Type 0 };
+    /// It carries a journal, which is this one still or went on from it. It has stored this, or a block of the journal went to its device.
+    ghost carries: { Self → TheScribe Self.Journal → Durable → Type 0 };
 
     /// Lends a voice, whose chain has to be that of the log that is stored. What is stored, and all else that contracts see of it,
     /// stays.
     fn lend(&mut self, voice: Voice<Self::Journal>)
         requires { Self.LogReader.is_honest self.old → voice.chain.links.items ≡ links_of (Self.LogReader.stored self.old).log }
-        ensures carries { carries self.new voice.scribe }
+        ensures carries { carries self.new voice.scribe (Self.LogReader.stored self.old) }
         ensures stored { Self.LogReader.stored self.new ≡ Self.LogReader.stored self.old }
         ensures honest { (Self.LogReader.is_honest self.new → Self.LogReader.is_honest self.old) × (Self.LogReader.is_honest self.old → Self.LogReader.is_honest self.new) }
         ensures up { Self.LogReader.is_up self.new ≡ Self.LogReader.is_up self.old }
@@ -49,7 +49,7 @@ pub trait Announces: Keeper {
     /// Takes the voice back, if one was lent: while it is up its chain is that of the log that is stored, and its journal went on
     /// from the one that was lent. What is stored, and all else that contracts see of it, stays.
     fn take_back(&mut self) -> Option<Voice<Self::Journal>>
-        ensures continues { (s : TheScribe Self.Journal) → carries self.old s → HasContinued Self.Journal.contents s result }
+        ensures continues { (s : TheScribe Self.Journal) (d : Durable) → carries self.old s d → HasContinued Self.Journal.contents s (Self.LogReader.is_honest self.old → Self.LogReader.stored self.old ≡ d) result }
         ensures links { IfSome result (λ v. Self.LogReader.is_up self.old ≡ true → Self.LogReader.is_honest self.old → v.chain.links.items ≡ links_of (Self.LogReader.stored self.old).log) }
         ensures stored { Self.LogReader.stored self.new ≡ Self.LogReader.stored self.old }
         ensures honest { (Self.LogReader.is_honest self.new → Self.LogReader.is_honest self.old) × (Self.LogReader.is_honest self.old → Self.LogReader.is_honest self.new) }
@@ -60,7 +60,7 @@ pub trait Announces: Keeper {
     ghost takes_all: { (image : Self.Image) (members : ℕ) (language : Language) → Self.Keeper.suits image members language };
 
     /// By the calls of a keeper alone the journal that it carries goes on.
-    ghost carries_on: { (k l : Self) (s : TheScribe Self.Journal) → ((o : Self.Keeper.Origin) → Self.Keeper.came_from k o → Self.Keeper.came_from l o) → carries k s → carries l s };
+    ghost carries_on: { (k l : Self) (s : TheScribe Self.Journal) (d : Durable) → ((o : Self.Keeper.Origin) → Self.Keeper.came_from k o → Self.Keeper.came_from l o) → carries k s d → carries l s d };
 }
 
 // Announces a change, where a voice was lent.
@@ -68,7 +68,8 @@ fn announce<J: Device>(voice: &mut Option<Voice<J>>, change: &Change) -> Result<
     ensures announced { (d : Durable) → ForSome voice.old (λ v. v.chain.links.items ≡ links_of d.log → OnOk result (HasAnnounced J.contents v voice.new (summary_of (after change.now d)))) }
     ensures links { (d : Durable) → ForSome voice.old (λ v. v.chain.links.items ≡ links_of d.log) → OnOk result (ForSome voice.new (λ v. v.chain.links.items ≡ links_of (after change.now d).log)) }
     ensures error { IfErr result (λ error. (error ≡ StoreError.NoMemory) ⊎ (error ≡ StoreError.StoreFault)) }
-    ensures continues { (s : TheScribe J) → HasContinued J.contents s voice.old → HasContinued J.contents s voice.new }
+    ensures filed { OnOk result (HasFiled J.contents voice.old voice.new) }
+    ensures waited { OnErr result (HasWaited J.contents voice.old voice.new) }
 {
     match voice {
         Some(voice) => voice.announce(change),
@@ -128,9 +129,9 @@ impl<K: Keeper, J: Device> LogReader for Announcing<K, J> {
 
     ghost serves = { λ k members language. K.serves k.keeper members language };
 
-    ghost Origin = { TheScribe J };
+    ghost Origin = { TheScribe J × Durable };
 
-    ghost came_from = { λ k s. HasContinued J.contents s k.voice };
+    ghost came_from = { λ k o. HasContinued J.contents o.0 (K.is_honest k.keeper → K.stored k.keeper ≡ o.1) k.voice };
 
     ghost only_honest = { λ k d h. K.only_honest k.keeper d h };
 
@@ -237,7 +238,7 @@ impl<K: Keeper, J: Device> Keeper for Announcing<K, J> {
         ensures asks { self.new.asked ≡ self.old.asked }
         ensures saves { self.new.saved ≡ one_more self.old.saved }
         ensures limit { K.limit self.new.keeper ≡ K.limit self.old.keeper }
-        ensures came { (s : TheScribe J) → HasContinued J.contents s self.old.voice → HasContinued J.contents s self.new.voice }
+        ensures came { (o : TheScribe J × Durable) → HasContinued J.contents o.0 (K.is_honest self.old.keeper → K.stored self.old.keeper ≡ o.1) self.old.voice → HasContinued J.contents o.0 (K.is_honest self.new.keeper → K.stored self.new.keeper ≡ o.1) self.new.voice }
     {
         self.saved = self.saved.saturating_add(1);
         if !self.is_up {
@@ -265,15 +266,15 @@ impl<K: Keeper, J: Device> Keeper for Announcing<K, J> {
 impl<K: Judging, J: Device> Announces for Announcing<K, J> {
     type Journal = J;
 
-    ghost carries = { λ k s. HasContinued J.contents s k.voice };
+    ghost carries = { λ k s d. HasContinued J.contents s (K.is_honest k.keeper → K.stored k.keeper ≡ d) k.voice };
 
     ghost takes_all = { λ image members language. K.takes_all image members language };
 
-    ghost carries_on = { λ k l s on h. on s h };
+    ghost carries_on = { λ k l s d on h. on (s, d) h };
 
     fn lend(&mut self, voice: Voice<J>)
         requires { K.is_honest self.old.keeper → voice.chain.links.items ≡ links_of (K.stored self.old.keeper).log }
-        ensures carries { HasContinued J.contents voice.scribe self.new.voice }
+        ensures carries { HasContinued J.contents voice.scribe (K.is_honest self.new.keeper → K.stored self.new.keeper ≡ K.stored self.old.keeper) self.new.voice }
         ensures stored { K.stored self.new.keeper ≡ K.stored self.old.keeper }
         ensures honest { (K.is_honest self.new.keeper → K.is_honest self.old.keeper) × (K.is_honest self.old.keeper → K.is_honest self.new.keeper) }
         ensures up { self.new.is_up ≡ self.old.is_up }
@@ -283,7 +284,7 @@ impl<K: Judging, J: Device> Announces for Announcing<K, J> {
     }
 
     fn take_back(&mut self) -> Option<Voice<J>>
-        ensures continues { (s : TheScribe J) → HasContinued J.contents s self.old.voice → HasContinued J.contents s result }
+        ensures continues { (s : TheScribe J) (d : Durable) → HasContinued J.contents s (K.is_honest self.old.keeper → K.stored self.old.keeper ≡ d) self.old.voice → HasContinued J.contents s (K.is_honest self.old.keeper → K.stored self.old.keeper ≡ d) result }
         ensures links { IfSome result (λ v. self.old.is_up ≡ true → K.is_honest self.old.keeper → v.chain.links.items ≡ links_of (K.stored self.old.keeper).log) }
         ensures given { (result ≡ self.old.voice) × (self.new.voice ≡ None) }
         ensures stored { K.stored self.new.keeper ≡ K.stored self.old.keeper }

@@ -3,7 +3,8 @@ ghost use Rattle.std.specs.Prelude.{◌≡◌, ◌≢◌, ◌⊎◌, Some, None,
 ghost use Rattle.flight.specs.Additions.{Adds};
 ghost use Rattle.journal.specs.Blocks.{block_text};
 ghost use Rattle.journal.specs.Spelling.{line_text};
-ghost use Rattle.store.specs.Continuing.{Continues, IsKeptOn};
+ghost use Rattle.store.specs.Continuing.{Continues, IsBlockWritten, IsUnfiled};
+ghost use Rattle.store.specs.Lines.{no_lines, one_block, waiting};
 ghost use Rattle.store.specs.Recording.{reading_after};
 ghost use Rattle.store.specs.Writing.{AppendsPart, IsSummed, IsWritten, with_line};
 
@@ -62,7 +63,7 @@ impl<J: Device> Scribe<J> {
         ensures spent { IsSome self.new.failure }
         ensures first { IsSome self.old.failure → self.new ≡ self.old }
         ensures same { (self.new.device ≡ self.old.device) × (self.new.buffer ≡ self.old.buffer) × (self.new.sum ≡ self.old.sum) }
-        ensures continues { Continues J.contents self.old self.new [] }
+        ensures continues { Continues J.contents self.old self.new no_lines }
     {
         if self.failure.is_none() {
             self.failure = Some(failure);
@@ -99,8 +100,8 @@ impl<J: Device> Scribe<J> {
         ensures spent { IsSome self.old.failure → IsErr result × (self.new ≡ self.old) }
         ensures same { (self.new.device ≡ self.old.device) × (self.new.sum ≡ self.old.sum) }
         ensures shows { OnOk result (self.new.reading ≡ reading_after self.old.reading line.now) }
-        ensures continues { OnOk result (Continues J.contents self.old self.new (line.now ∷ [])) }
-        ensures lost { OnErr result (Continues J.contents self.old self.new []) }
+        ensures continues { OnOk result (Continues J.contents self.old self.new (waiting (line.now ∷ []))) }
+        ensures lost { OnErr result (Continues J.contents self.old self.new no_lines) }
     {
         self.check()?;
         match put_line(self.alloc, line, &mut self.buffer) {
@@ -123,7 +124,7 @@ impl<J: Device> Scribe<J> {
         ensures up { OnOk result (self.new.failure ≡ self.old.failure) }
         ensures err { IfErr result (λ e. self.new.failure ≡ Some e) }
         ensures same { (self.new.device ≡ self.old.device) × (self.new.sum ≡ self.old.sum) }
-        ensures continues { IsKeptOn J.contents (Some self.old) (Some self.new) }
+        ensures continues { IsUnfiled J.contents (Some self.old) (Some self.new) }
     {
         if self.reading == Some(reading) {
             return Ok(());
@@ -160,7 +161,8 @@ impl<J: Device> Scribe<J> {
         ensures part { OnErr result (self.old.failure ≡ None → AppendsPart (J.contents self.old.device) (J.contents self.new.device) (block_text self.old.sum (string_bytes self.old.buffer) [])) }
         ensures err { IfErr result (λ e. self.new.failure ≡ Some e) }
         ensures spent { IsSome self.old.failure → IsErr result × (self.new ≡ self.old) }
-        ensures continues { Continues J.contents self.old self.new [] }
+        ensures continues { OnOk result (IsBlockWritten J.contents self.old self.new) }
+        ensures lost { OnErr result (Continues J.contents self.old self.new no_lines) }
     {
         self.check()?;
         if self.buffer.is_empty() {
@@ -180,8 +182,8 @@ impl<J: Device> Scribe<J> {
         ensures ok { OnOk result (IsWritten (J.contents self.old.device) (J.contents self.new.device) self.old.sum (with_line (string_bytes self.old.buffer) line.now)) }
         ensures empty { OnOk result (string_bytes self.new.buffer ≡ []) }
         ensures spent { IsSome self.old.failure → IsErr result × (self.new ≡ self.old) }
-        ensures continues { OnOk result (Continues J.contents self.old self.new (line.now ∷ [])) }
-        ensures part { OnErr result (Continues J.contents self.old self.new [] ⊎ Continues J.contents self.old self.new (line.now ∷ [])) }
+        ensures continues { OnOk result (Continues J.contents self.old self.new (one_block (line.now ∷ []))) }
+        ensures lost { OnErr result (Continues J.contents self.old self.new no_lines ⊎ Continues J.contents self.old self.new (waiting (line.now ∷ []))) }
     {
         self.add(line)?;
         self.flush()

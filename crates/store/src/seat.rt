@@ -1,5 +1,5 @@
 //! A member's seat: what a store has of it.
-ghost use Rattle.std.specs.Prelude.{◌≡◌, ◌≢◌, ◌≤◌, ◌⊎◌, ℕ, true, false, Some, None, Err, IsTrue, IsSome, IfOk, IfErr, OnOk, OnErr, MatchOption, ◌↔◌};
+ghost use Rattle.std.specs.Prelude.{◌≡◌, ◌≢◌, ◌≤◌, ◌⊎◌, ℕ, [], true, false, Some, None, Err, IsTrue, IsSome, IfOk, IfErr, OnOk, OnErr, MatchOption, ◌↔◌};
 ghost use Rattle.std.specs.Option.{ForSome};
 ghost use Rattle.keep.specs.Durable.{Durable};
 ghost use Rattle.model.specs.Members.{Node as TheNode};
@@ -105,7 +105,7 @@ where
 {
     ghost use Rattle.runlaws.specs.Going.{after_stop};
     ghost use Rattle.store.specs.Closing.{IsAtRest};
-    ghost use Rattle.store.specs.Seats.{HasMember, IsClean};
+    ghost use Rattle.store.specs.Seats.{HasMember, IsClean, KeepsStored};
 
     /// A member with this database, which is not started yet; with none it is missing.
     pub fn new(alloc: Global, member: Member, image: Option<K::Image>, tale: Tale) -> Seat<K>
@@ -227,7 +227,8 @@ where
         }
     }
 
-    /// Takes a step, with the journal lent to it, which comes back as it was or gone on; 41 where it is not up.
+    /// Takes a step, with the journal lent to it, which comes back as it was or gone on; where no block of it went to the device, what is
+    /// stored is the same. 41 where it is not up.
     pub fn step(
         &mut self,
         scribe: Scribe<K::Journal>,
@@ -236,7 +237,7 @@ where
         ensures clean { IsClean K.is_honest K.holds self.new → IsClean K.is_honest K.holds self.old }
         ensures steps { IsClean K.is_honest K.holds self.new → (tables : Tables) (n m : ℕ) (x : TheNode) → HasMember K.may_hold K.holds tables n m self.old x → (y : TheNode) × (HasMember K.may_hold K.holds tables n m self.new y × StepsTo tables n m work x y result.1) }
         ensures same { (self.new.member ≡ self.old.member) × (self.new.tale ≡ self.old.tale) }
-        ensures continues { IsKeptOn K.Journal.contents (Some scribe) result.0 }
+        ensures continues { (on : IsKeptOn K.Journal.contents (Some scribe) result.0) × (on.0.groups ≡ [] → KeepsStored K.is_honest K.may_hold K.holds work result.1 self.old self.new) }
     {
         let Some(node) = &mut self.node else {
             return (Some(scribe), Err(Fault::Kept(Refusal::NodeDown)));
@@ -276,7 +277,7 @@ where
     ensures group { IsSameSeat node.old node.new }
     ensures honest { K.is_honest node.new.keeper → K.is_honest node.old.keeper }
     ensures steps { K.is_honest node.new.keeper → (y : TheNode) × (IsMember K.may_hold node.new y × StepsTo (tables_of node.old) (members_of node.old) (me_of node.old) work (member_of node.old) y result.1) }
-    ensures continues { HasContinued K.Journal.contents voice.scribe result.0 }
+    ensures continues { HasContinued K.Journal.contents voice.scribe (K.is_honest node.new.keeper → (y : TheNode) → IsMember K.may_hold node.new y → durable_of y ≡ durable_of (member_of node.old)) result.0 }
 {
     node.keeper.lend(voice);
     let result = node.step(work);

@@ -1,7 +1,7 @@
 //! How members stand, and are stopped and started.
 ghost use Rattle.std.specs.Prelude.{◌≡◌, ◌≢◌, ◌⊎◌, ◌-◌, ℕ, IfErr, IfOk, IsErr, IsSome, None, OnErr, OnOk, slice_get, if◌then◌else◌};
 ghost use Rattle.store.specs.Became.{EachBecame};
-ghost use Rattle.store.specs.Closing.{MayRest};
+ghost use Rattle.store.specs.Closing.{IsDownIn, MayRest};
 ghost use Rattle.store.specs.Going.{GoesOn, StartsOne, Stops};
 ghost use Rattle.store.specs.Journals.{IsAllOn, IsLonger, IsPartOn, IsSpent, device_in};
 ghost use Rattle.store.specs.Refusals.{IsOfJournal};
@@ -34,7 +34,8 @@ impl<K: Announces> Store<K>
 where
     K::Image: Drop,
 {
-    /// A member goes down, and keeps what it has stored. 41 where it is not up.
+    /// A member goes down, and keeps what it has stored. 41 where it is not up. 38, 40 and 43 where the journal can't be written: the store is
+    /// spent then, and the member down, unless no memory was left to note its end (43).
     #[tactic(auto, using(crate::proofs::Going::stays))]
     pub fn stop(&mut self, member: Member) -> Result<(), StoreRefusal>
         ensures others { (at : ℕ) → at ≢ member - 1 → slice_get self.new.seats.items at ≡ slice_get self.old.seats.items at }
@@ -173,6 +174,7 @@ where
 
     // Stops each member that is up.
     pub(crate) fn stop_all(&mut self) -> Result<(), StoreRefusal>
+        ensures down { OnOk result ((m : ℕ) → IsDownIn self.new.seats.items m) }
         ensures all { OnOk result (IsAllOn K.Journal.contents self.old.scribe (device_in self.new.scribe)) }
         ensures part { OnErr result (IsPartOn K.Journal.contents self.old.scribe (device_in self.new.scribe)) }
         ensures why { IfErr result IsOfJournal }
@@ -188,6 +190,8 @@ where
 
     // Stops a member, if it is up.
     fn end(&mut self, member: Member) -> Result<(), StoreRefusal>
+        ensures down { OnOk result (IsDownIn self.new.seats.items member) }
+        ensures others { (at : ℕ) → at ≢ member - 1 → slice_get self.new.seats.items at ≡ slice_get self.old.seats.items at }
         ensures longer { OnOk result (IsLonger self.old.scribe self.new.scribe) }
         ensures device { OnErr result (device_in self.new.scribe ≡ device_in self.old.scribe) }
         ensures why { IfErr result IsOfJournal }

@@ -1,7 +1,7 @@
 //! Steps of the members, and what comes of them.
 ghost use Rattle.std.specs.Prelude.{◌≡◌, ◌≢◌, ◌<◌, ◌+◌, ◌-◌, ℕ, ℤ, Some, [], ◌∷◌, IfOk, IfErr, OnOk, OnErr, length, slice_get};
 ghost use Rattle.store.specs.Became.{EachBecame};
-ghost use Rattle.store.specs.Closing.{MayRest};
+ghost use Rattle.store.specs.Closing.{IsDownIn, MayRest};
 ghost use Rattle.model.specs.declared.event.Job.TheVariants.{Local as TheLocal};
 ghost use Rattle.journal.specs.declared.line.Taken.{Taken as TheTaken};
 ghost use Rattle.store.specs.Continuing.{IsKeptOn, reading_in};
@@ -256,6 +256,7 @@ where
 
     // Stops a member's node.
     fn stop_node(&mut self, member: Member)
+        ensures down { IsDownIn self.new.seats.items member }
         ensures scribe { self.new.scribe ≡ self.old.scribe }
         ensures rests { EachBecame (MayRest K.may_hold K.holds) self.old.seats.items self.new.seats.items }
         ensures others { (at : ℕ) → at ≢ member - 1 → slice_get self.new.seats.items at ≡ slice_get self.old.seats.items at }
@@ -270,6 +271,7 @@ where
 
     // A member is down.
     pub(crate) fn fall(&mut self, member: Member)
+        ensures down { IsDownIn self.new.seats.items member }
         ensures scribe { self.new.scribe ≡ self.old.scribe }
         ensures rests { EachBecame (MayRest K.may_hold K.holds) self.old.seats.items self.new.seats.items }
         ensures others { (at : ℕ) → at ≢ member - 1 → slice_get self.new.seats.items at ≡ slice_get self.old.seats.items at }

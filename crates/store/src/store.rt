@@ -1,7 +1,8 @@
 //! The open store.
-ghost use Rattle.std.specs.Prelude.{◌≡◌, ◌↔◌, ◌⊎◌, ◌<◌, ◌+◌, ◌-◌, [], ◌∷◌, Some, IsTrue, IfSome, IfNone, IfOk, IfErr, OnOk, OnErr, drop, length, slice_get, take};
-ghost use Rattle.store.specs.Closing.{ClosesTo, IsClosed};
-ghost use Rattle.store.specs.Continuing.{HasBegun, IsContinued};
+ghost use Rattle.std.specs.Prelude.{◌≡◌, ◌↔◌, ◌⊎◌, ◌<◌, ◌+◌, ◌-◌, [], ◌∷◌, Some, false, IsOk, IsTrue, IfSome, IfNone, IfOk, IfErr, OnOk, OnErr, drop, length, slice_get, take};
+ghost use Rattle.store.specs.Closing.{ClosesTo, IsClosed, IsDownIn};
+ghost use Rattle.store.specs.Continuing.{HasBegun, IsContinued, IsKeptOn};
+ghost use Rattle.store.specs.Lines.{no_lines, waiting};
 ghost use Rattle.store.specs.Recording.{IsSilent};
 ghost use Rattle.store.specs.Going.{GoesOn, Publishes};
 ghost use Rattle.store.specs.Opening.{Begins, Files, starts_of};
@@ -156,8 +157,8 @@ where
         ensures live { OnOk result (IsSpent self.old.scribe → ⊥) }
         ensures device { device_in self.new.scribe ≡ device_in self.old.scribe }
         ensures same { self.new ≡ record self.old { scribe = self.new.scribe } }
-        ensures continues { OnOk result (IsContinued K.Journal.contents self.old.scribe self.new.scribe (line.now ∷ [])) }
-        ensures lost { OnErr result (IsContinued K.Journal.contents self.old.scribe self.new.scribe []) }
+        ensures continues { OnOk result (IsContinued K.Journal.contents self.old.scribe self.new.scribe (waiting (line.now ∷ []))) }
+        ensures lost { OnErr result (IsContinued K.Journal.contents self.old.scribe self.new.scribe no_lines) }
         ensures passes { IsSilent line.now → Publishes K.Journal.contents self.old self.new [] [] }
         ensures goes { IsSilent line.now → GoesOn K.Journal.contents K.is_honest K.may_hold K.holds self.old self.new }
     {
@@ -175,7 +176,7 @@ where
         ensures fails { OnErr result (IsSpent self.new.scribe) }
         ensures live { OnOk result (IsSpent self.old.scribe → ⊥) }
         ensures same { self.new ≡ record self.old { scribe = self.new.scribe } }
-        ensures continues { IsContinued K.Journal.contents self.old.scribe self.new.scribe [] }
+        ensures continues { IsKeptOn K.Journal.contents self.old.scribe self.new.scribe }
         ensures goes { GoesOn K.Journal.contents K.is_honest K.may_hold K.holds self.old self.new }
     {
         match &mut self.scribe {
@@ -233,13 +234,16 @@ where
 
     // The seat of a member.
     pub(crate) fn seat(&self, member: Member) -> Option<&Seat<K>>
-        ensures { IfSome result (λ seat. (0 < member) × (slice_get self.now.seats.items (member - 1) ≡ Some seat.now)) }
+        ensures some { IfSome result (λ seat. (0 < member) × (slice_get self.now.seats.items (member - 1) ≡ Some seat.now)) }
+        ensures none { IfNone result (length self.now.seats.items < member ⊎ (member ≡ 0)) }
     {
         let at = self.place_of(member)?;
         Some(&self.seats[at])
     }
 
-    pub(crate) fn is_up(&self, member: Member) -> bool {
+    pub(crate) fn is_up(&self, member: Member) -> bool
+        ensures down { result ≡ false → IsDownIn self.now.seats.items member }
+    {
         match self.seat(member) {
             Some(seat) => seat.is_up(),
             None => false,
@@ -267,11 +271,11 @@ where
         &self.schema
     }
 
-    /// Stops every member, and gives the databases back, and the journal's device, to which the members' ends came. What could not be
-    /// written to the journal is its refusal; the databases hold what was stored all the same.
+    /// Stops every member, and gives the databases back, and the journal's device, to which the end of each that was up came. What could not
+    /// be written to the journal is its refusal, after which ends may be missing there; the databases hold what was stored all the same.
     pub fn close(mut self) -> (Databases<K>, Option<K::Journal>, Result<(), StoreRefusal>)
         ensures closed { IsClosed K.may_hold K.holds self result.0.seats.items }
-        ensures ends { ClosesTo K.Journal.contents K.is_honest K.may_hold K.holds self result.0.seats.items result.1 }
+        ensures ends { ClosesTo K.Journal.contents K.is_honest K.may_hold K.holds self result.0.seats.items result.1 (IsOk result.2) }
         ensures all { OnOk result.2 (IsAllOn K.Journal.contents self.scribe result.1) }
         ensures part { OnErr result.2 (IsPartOn K.Journal.contents self.scribe result.1) }
         ensures why { IfErr result.2 IsOfJournal }

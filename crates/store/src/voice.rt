@@ -1,9 +1,11 @@
 //! What a member announces its saves by.
-ghost use Rattle.std.specs.Prelude.{◌≡◌, ◌⊎◌, Some, [], IfErr, OnOk, string_bytes};
+ghost use Rattle.std.specs.Prelude.{◌≡◌, ◌⊎◌, ◌∷◌, Some, [], IfErr, OnErr, OnOk, string_bytes};
 ghost use Rattle.keep.specs.Durable.{Durable, after};
 ghost use Rattle.journal.specs.Digests.{summary_of};
+ghost use Rattle.journal.specs.declared.stored.Summary.{Summary};
 ghost use Rattle.store.specs.Chains.{links_of};
-ghost use Rattle.store.specs.Continuing.{IsKeptOn};
+ghost use Rattle.store.specs.Continuing.{Continues, IsUnfiled};
+ghost use Rattle.store.specs.Lines.{one_block};
 ghost use Rattle.store.specs.Writing.{IsWritten, with_line};
 
 use crate::chain::Chain;
@@ -28,7 +30,8 @@ impl<J: Device> Voice<J> {
         ensures empty { OnOk result (string_bytes self.new.scribe.buffer ≡ []) }
         ensures links { (d : Durable) → self.old.chain.links.items ≡ links_of d.log → OnOk result (self.new.chain.links.items ≡ links_of (after change.now d).log) }
         ensures error { IfErr result (λ error. (error ≡ StoreError.NoMemory) ⊎ (error ≡ StoreError.StoreFault)) }
-        ensures continues { IsKeptOn J.contents (Some self.old.scribe) (Some self.new.scribe) }
+        ensures filed { OnOk result ((stored : Summary) × Continues J.contents self.old.scribe self.new.scribe (one_block (Line.Saves self.old.member stored ∷ []))) }
+        ensures unfiled { OnErr result (IsUnfiled J.contents (Some self.old.scribe) (Some self.new.scribe)) }
     {
         let stored = self.chain.change(change)?;
         let line = Line::Saves {

@@ -5,7 +5,7 @@ use Rattle.std.specs.Io.KnownBytes.{append_known}
 use Rattle.std.proofs.lemmas.List.Elements.{All-get_or}
 use Rattle.std.proofs.lemmas.Option.{get_or_from_slice_get, slice_get_within}
 use Rattle.std.proofs.lemmas.List.{length-map}
-use Rattle.model.specs.Lists.{nth}
+use Rattle.model.specs.Lists.{nth, IsBeginning}
 use Rattle.model.specs.Members as model
 use Rattle.model.specs.Transactions.{Language}
 use Rattle.model.specs.declared.event.Job.TheVariants.{Local, Delivery}
@@ -41,8 +41,6 @@ use Rattle.store.specs.Nodes.{IsMember, IsNodeOf, Rests, rested}
 use Rattle.store.specs.Seats.{HasMember, IsClean}
 use Rattle.store.specs.Going.{Anywhere, AreClean, GoesOn, GoesOnSo, IsIn, IsRunOf}
 use Rattle.journal.specs.declared.line.Line.{Line}
-use Rattle.journal.specs.declared.line.Line.TheVariants.{Opens, Rests as TheRests, Life, Clock, Takes, Saves, Made, Ends, Answer, Printed}
-use Rattle.journal.specs.Spelling.{line_text}
 use Rattle.journal.specs.Blocks.{block_text, blocks_text, last_sum}
 use Rattle.store.specs.declared.device.DeviceError.{DeviceError}
 use Rattle.store.specs.declared.members.Members.{Members}
@@ -50,14 +48,16 @@ use Rattle.store.specs.declared.scribe.Scribe.{Scribe}
 use Rattle.store.specs.Continuing.{IsContinued, bodies_of, left_of, reading_in}
 use Rattle.store.specs.Journals.{IsSpent}
 use Rattle.store.specs.Opening.{AreFound, AreOpened, Begins}
+use Rattle.store.specs.Lines.{and_then, filed_in}
 use Rattle.store.specs.Recording.{AreRecorded, RecordAll, last_reading}
 use Rattle.store.specs.Tales.{Told}
 use Rattle.store.specs.Writing.{lines_text}
 use Rattle.store.proofs.Continuing.{bodies_alone, continued_both, continued_reading, continued_spent, left_alone}
 use Rattle.store.proofs.Opening.{runs_recorded}
-use Rattle.store.proofs.Recording.{record_split, recorded_both}
+use Rattle.store.proofs.Recording.{recorded_both}
+use Rattle.store.proofs.Texts.{no_text}
 use Rattle.store.specs.Closing.{AreLeft, IsClosed, MayHold, images_in}
-use Rattle.storelaws.specs.Sessions.{AreAfter, Answers, Came, Further, HasAnswered, IsFiled, IsListed, IsOnFile, session_of}
+use Rattle.storelaws.specs.Sessions.{AreAfter, Answers, Came, Further, HasAnswered, IsFiled, IsListed, IsOnFile, session_of, session_on}
 
 -- what a member told in a session is in the list that explains it
 pub listed : (language : Language) (sessions : List Session) (list : List Entry) → ExplainsSessions language sessions list → (i : ℕ) (s : Session) → nth sessions i ≡ Some s → (client number : ℕ) (outcome : Result ℕ Refusal) → WasTold s.gave client number outcome →
@@ -68,27 +68,17 @@ listed language sessions list E i s at client number outcome t = (t.told, t.clie
 behind : {A : Type 0} (xs : List A) (y : A) (k : ℕ) → k ≡ length xs + 1 → nth (xs ++ y ∷ []) k ≡ Some y
 behind xs y k e = nth_next (xs ++ y ∷ []) k (length xs) e ∙ ap (slice_get (xs ++ y ∷ [])) (let e : length xs ≡ length xs + 0 = omega arith in e) ∙ further xs (y ∷ []) 0
 
--- a line has a text
-some_text : (line : Line) (more : List ℕ) → line_text line more ≡ [] → ⊥
-some_text (Opens journal sum marks) more e = cc e
-some_text (TheRests m stored) more e = cc e
-some_text (Life m stored) more e = cc e
-some_text (Clock now) more e = cc e
-some_text (Takes m taken) more e = cc e
-some_text (Saves m stored) more e = cc e
-some_text (Made m outcomes) more e = cc e
-some_text (Ends m) more e = cc e
-some_text (Answer m query answer) more e = cc e
-some_text (Printed client number words) more e = cc e
-
-no_lines : (lines : List Line) → lines_text lines ≡ [] → lines ≡ []
-no_lines [] e = refl
-no_lines (line ∷ lines) e = absurd (some_text line (lines_text lines) e)
-
 module _ (language : Language) (n : ℕ) where
   given_all : (es : List Event) (w : World) (outs : List (List Output)) → GivesAll language n w es outs → length outs ≡ length es
   given_all [] w outs p = ap length p
   given_all (e ∷ es) w outs (out, rest, p, g, more) = ap length p ∙ ap suc (given_all es (happens language n w e) rest more)
+
+  -- what the first of these events gave
+  given_first : (one two : List Event) (w : World) (outs : List (List Output)) → GivesAll language n w (one ++ two) outs → (first later : List (List Output)) × (outs ≡ first ++ later) × GivesAll language n w one first
+  given_first [] two w outs p = ([], outs, refl, refl)
+  given_first (e ∷ one) two w outs (out, rest, p, g, more) =
+      let next = given_first one two (happens language n w e) rest more in
+      (out ∷ next.0, next.1, p ∙ ap (λ (x : List (List Output)). out ∷ x) next.2, (out, next.0, refl, g, next.3))
 
   -- ---- one session more
 
@@ -220,19 +210,30 @@ module _ {K J I : Type 0} {an : _} {g : _} {s : _} {d : _} (held : K → Durable
   -- ---- what its journal says
 
   -- the lines of a store that goes on record its session further on
-  pub files : (contents : J → Option (List ℕ)) (honest : K → Type 0) (found : List model.Node) (scribe : Scribe J) (old new : Store K J I an g s d) → IsFiled contents held holds found scribe old → GoesOn contents honest held holds old new → AreClean honest holds new → IsFiled contents held holds found scribe new
+  pub files : (contents : J → Option (List ℕ)) (honest : K → Type 0) (found : List model.Node) (scribe : Scribe J) (old new : Store K J I an g s d) (before : IsFiled contents held holds found scribe old) → GoesOn contents honest held holds old new → AreClean honest holds new →
+      (after : IsFiled contents held holds found scribe new) × IsBeginning before.recorded.filed after.recorded.filed
   unfolding goes_on joined so
   files contents honest found scribe old new before x k =
+      let language = language_of old.schema in
+      let n = length old.seats.items in
+      let lines = and_then before.lines x.lines in
       let on = x.went k before.came.world before.came.is_in in
       let after = goes_on contents honest (λ gave. Unit {0}) found old new before.came (so contents honest old new x) k in
-      record {
-        lines = before.lines ++ x.lines;
+      let first = before.came.goes.events in
+      let both = recorded_both language n (opened found) before.came.world scribe.reading (reading_in old.scribe) before.lines x.lines first on.goes.events (IsSpent old.scribe) (IsSpent new.scribe) before.came.goes.leads
+      (continued_reading contents (Some scribe) old.scribe before.lines before.journal)
+      (λ spent. let stays = continued_spent contents old.scribe new.scribe x.lines x.journal spent in stays.1) (λ spent. let stays = continued_spent contents old.scribe new.scribe x.lines x.journal spent in subst IsSpent (sym stays.0) spent) before.recorded on.events_are in
+      let T : Language → ℕ → List Event → Type 0 = λ t c events. (r : AreRecorded t c (opened found) scribe.reading lines events (IsSpent new.scribe)) × IsBeginning before.recorded.filed r.filed in
+      let here : T language n after.0.goes.events = subst (T language n) (sym after.1.events_are) both in
+      let counted : T language (length new.seats.items) after.0.goes.events = subst (λ (c : ℕ). T language c after.0.goes.events) (sym x.count) here in
+      let named : T (language_of new.schema) (length new.seats.items) after.0.goes.events = subst (λ (t : Tables). T (language_of t) (length new.seats.items) after.0.goes.events) (sym x.schema) counted in
+      let all : IsFiled contents held holds found scribe new = record {
+        lines = lines;
         journal = continued_both contents (Some scribe) old.scribe new.scribe before.lines x.lines before.journal x.journal;
         came = after.0;
-        recorded = subst (λ (events : List Event). AreRecorded scribe.reading (before.lines ++ x.lines) events (IsSpent new.scribe)) (sym after.1.events_are)
-            (recorded_both scribe.reading (reading_in old.scribe) before.lines x.lines before.came.goes.events on.goes.events (IsSpent old.scribe) (IsSpent new.scribe) (continued_reading contents (Some scribe) old.scribe before.lines before.journal)
-            (λ spent. let stays = continued_spent contents old.scribe new.scribe x.lines x.journal spent in stays.1) (λ spent. let stays = continued_spent contents old.scribe new.scribe x.lines x.journal spent in subst IsSpent (sym stays.0) spent) before.recorded on.events_are);
-      }
+        recorded = named.0;
+      } in
+      (all, named.1)
 
   -- as a store begins
   pub files_first : (contents : J → Option (List ℕ)) (honest : K → Type 0) (told : Told) (images : List (Option I)) (found : List model.Node) (scribe : Scribe J) (members : Members K J I an g s d) (store : Store K J I an g s d) → AreFound holds images found → AreOpened honest held holds told images members →
@@ -257,32 +258,40 @@ module _ {K J I : Type 0} {an : _} {g : _} {s : _} {d : _} (held : K → Durable
       go None is away = absurd away
       go (Some last) is c =
           let buffer = string_bytes scribe.buffer in
-          let bodies : bodies_of buffer c.groups ≡ map lines_text c.groups = ap (λ (x : List ℕ). bodies_of x c.groups) empty ∙ bodies_alone c.groups in
-          let left : left_of buffer c.groups c.rest ≡ lines_text c.rest = ap (λ (x : List ℕ). left_of x c.groups c.rest) empty ∙ left_alone c.groups c.rest in
-          let first = flat_map (λ (group : List Line). group) c.groups in
-          let split = record_split scribe.reading first c.rest filed.recorded.filed (subst (λ (lines : List Line). RecordAll scribe.reading lines filed.recorded.filed) c.lines_are filed.recorded.recorded) in
+          let groups = filed.lines.groups in
+          let rest = filed.lines.rest in
+          let r = filed.recorded in
+          let bodies : bodies_of buffer groups ≡ map lines_text groups = ap (λ (x : List ℕ). bodies_of x groups) empty ∙ bodies_alone groups in
+          let left : left_of buffer groups rest ≡ lines_text rest = ap (λ (x : List ℕ). left_of x groups rest) empty ∙ left_alone groups rest in
+          let later = r.waiting ++ r.lost in
+          let given = given_first (language_of store.schema) (length store.seats.items) r.filed later (opened found) filed.came.goes.gave (subst (λ (es : List Event). GivesAll (language_of store.schema) (length store.seats.items) (opened found) es filed.came.goes.gave) r.events_are filed.came.goes.gives) in
           record {
-            groups = c.groups;
-            next = c.rest;
+            groups = groups;
+            next = rest;
             front = c.front;
             back = c.back;
             last = last;
             last_is = is;
             device = c.device ∙ ap (λ (x : List (List ℕ)). append_known (contents scribe.device) (blocks_text scribe.sum x c.front)) bodies;
             filled = subst (All (λ (body : List ℕ). body ≢ [])) bodies c.filled;
-            torn = ap (λ (x : List (List ℕ)). block_text (last_sum scribe.sum x) (lines_text c.rest) []) (sym bodies)
-                ∙ ap (λ (x : List ℕ). block_text (last_sum scribe.sum (bodies_of buffer c.groups)) x []) (sym left)
+            torn = ap (λ (x : List (List ℕ)). block_text (last_sum scribe.sum x) (lines_text rest) []) (sym bodies)
+                ∙ ap (λ (x : List ℕ). block_text (last_sum scribe.sum (bodies_of buffer groups)) x []) (sym left)
                 ∙ c.torn;
             none = spent last last.failure is refl c.front (λ up. (c.live up).0);
-            events = split.0;
-            later = split.1 ++ filed.recorded.lost;
-            events_are = filed.recorded.events_are ∙ ap (λ (x : List Event). x ++ filed.recorded.lost) split.2 ∙ append_assoc split.0 split.1 filed.recorded.lost;
-            recorded = split.3;
+            events = r.filed;
+            later = later;
+            events_are = r.events_are;
+            gave = given.0;
+            gave_later = given.1;
+            gave_is = given.2;
+            gives = given.3;
+            stored = ap durable filed.came.goes.leads ∙ r.stored;
+            recorded = r.on_device;
             all = λ unspent nothing.
                 let up = live last last.failure is refl unspent in
-                let none : c.rest ≡ [] = no_lines c.rest (sym left ∙ sym (c.live up).1 ∙ nothing) in
-                let quiet : split.1 ≡ [] = subst (λ (lines : List Line). RecordAll (last_reading scribe.reading first) lines split.1) none split.4 in
-                ap (λ (x : List Event). x ++ filed.recorded.lost) quiet ∙ ⊎_elim (λ (e : filed.recorded.lost ≡ []). e) (λ spent. absurd (unspent spent)) filed.recorded.none;
+                let none : rest ≡ [] = no_text rest (sym left ∙ sym (c.live up).1 ∙ nothing) in
+                let quiet : r.waiting ≡ [] = subst (λ (lines : List Line). RecordAll (last_reading scribe.reading (filed_in filed.lines)) lines r.waiting) none r.in_buffer in
+                ap (λ (x : List Event). x ++ r.lost) quiet ∙ ⊎_elim (λ (e : r.lost ≡ []). e) (λ spent. absurd (unspent spent)) r.none;
           }
 
   -- ---- one session more
@@ -294,6 +303,18 @@ module _ {K J I : Type 0} {an : _} {g : _} {s : _} {d : _} (held : K → Durable
       let n = length store.seats.items in (
         sessions_more language n sessions (session_of c) (new_databases n) A (ends_now language n (found_after (new_databases n) sessions) c.world c.goes),
         subst (AreFound holds left) (sym (found_last language n sessions (session_of c) (new_databases n))) (leaves keeps store c.world c.is_in left L),
+      )
+
+  -- as its file has it
+  pub next_filed : ((node : Node K I g s) → Keeps held node) → (contents : J → Option (List ℕ)) (scribe : Scribe J) (sessions : List Session) (store : Store K J I an g s d) (c : Came held holds (found_after (new_databases (length store.seats.items)) sessions) store) (on : IsOnFile contents scribe c) →
+      AreSessions (language_of store.schema) (length store.seats.items) (new_databases (length store.seats.items)) sessions → (left : List (Option I)) → AreLeft held holds store left → AreAfter holds (language_of store.schema) (length store.seats.items) (sessions ++ session_on on ∷ []) left
+  next_filed keeps contents scribe sessions store c on A left L =
+      let language = language_of store.schema in
+      let n = length store.seats.items in
+      let found = found_after (new_databases n) sessions in
+      let ends : IsSession language n found (session_on on) = record { leaves = (tt, on.stored); gives = subst (λ (es : List Event). GivesAll language n (opened found) es on.gave) (sym (append-nil on.events)) on.gives } in (
+        sessions_more language n sessions (session_on on) (new_databases n) A ends,
+        subst (AreFound holds left) (sym (found_last language n sessions (session_on on) (new_databases n))) (leaves keeps store c.world c.is_in left L),
       )
 
   -- ---- what is answered

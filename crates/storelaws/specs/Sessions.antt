@@ -7,7 +7,7 @@ use Rattle.model.specs.declared.entry.Told.{Told}
 use Rattle.model.specs.Agreement.{IsTold}
 use Rattle.model.specs.Members.{Node}
 use Rattle.model.specs.Transactions.{Language}
-use Rattle.model.specs.Worlds.{World, Event, Output}
+use Rattle.model.specs.Worlds.{World, Event, GivesAll, Output, run}
 use Rattle.model.specs.Worlds.Output.{Answered}
 use Rattle.keep.specs.Durable.{Durable}
 use Rattle.sessions.specs.Kills.{Between, durable, opened}
@@ -25,6 +25,7 @@ use Rattle.store.specs.Asking.{IsAnswerOf}
 use Rattle.store.specs.declared.scribe.Scribe.{Scribe}
 use Rattle.store.specs.Continuing.{IsContinued}
 use Rattle.store.specs.Journals.{IsSpent}
+use Rattle.store.specs.Lines.{Lines}
 use Rattle.store.specs.Recording.{AreRecorded, RecordAll}
 use Rattle.store.specs.Writing.{lines_text}
 use Rattle.store.specs.declared.store.Store.{Store}
@@ -60,14 +61,14 @@ module _ {K J I : Type 0} {an : _} {g : _} {s : _} {d : _} where
 
   -- the lines that came to its journal, since that was at this scribe, record how a store came to where it is
   pub record IsFiled (contents : J → Option (List ℕ)) (held : K → Durable → Type 0) (holds : I → Durable → Type 0) (found : List Node) (scribe : Scribe J) (store : Store K J I an g s d) : Type 0 where
-    pub lines : List Line
+    pub lines : Lines
     pub journal : IsContinued contents (Some scribe) store.scribe lines
     pub came : Came held holds found store
-    pub recorded : AreRecorded scribe.reading lines came.goes.events (IsSpent store.scribe)
+    pub recorded : AreRecorded (language_of store.schema) (length store.seats.items) (opened found) scribe.reading lines came.goes.events (IsSpent store.scribe)
 
   -- What the file of its journal has of a session. Behind what was there as the store began come blocks, each with the lines of a group and the
   -- sum of the block before, none empty, and then a beginning of the next at most, which is nothing unless the journal is spent. The lines of
-  -- the groups record a beginning of the session's events, and all of them where nothing is in the buffer.
+  -- the groups record a beginning of the session's events, after which nothing else was stored, and all of them where nothing is in the buffer.
   pub record IsOnFile (contents : J → Option (List ℕ)) (scribe : Scribe J) {held : K → Durable → Type 0} {holds : I → Durable → Type 0} {found : List Node} {store : Store K J I an g s d} (came : Came held holds found store) : Type 0 where
     pub groups : List (List Line)
     pub next : List Line
@@ -82,8 +83,17 @@ module _ {K J I : Type 0} {an : _} {g : _} {s : _} {d : _} where
     pub events : List Event
     pub later : List Event
     pub events_are : came.goes.events ≡ events ++ later
+    pub gave : List (List Output)
+    pub gave_later : List (List Output)
+    pub gave_is : came.goes.gave ≡ gave ++ gave_later
+    pub gives : GivesAll (language_of store.schema) (length store.seats.items) (opened found) events gave
+    pub stored : durable came.world ≡ durable (run (language_of store.schema) (length store.seats.items) (opened found) events)
     pub recorded : RecordAll scribe.reading (flat_map (λ (group : List Line). group) groups) events
     pub all : (IsSpent store.scribe → ⊥) → string_bytes last.buffer ≡ [] → later ≡ []
+
+  -- the session of which the file has this
+  abbrev pub session_on : {contents : J → Option (List ℕ)} {scribe : Scribe J} {held : K → Durable → Type 0} {holds : I → Durable → Type 0} {found : List Node} {store : Store K J I an g s d} {came : Came held holds found store} → IsOnFile contents scribe came → Session
+  session_on {came = came} on = record { filed = on.events; moment = Between []; gave = on.gave; left = durable came.world }
 
   -- the member of the seat that has so many before it is up, and answers the question of this text so
   abbrev pub HasAnswered : (honest : K → Type 0) → Store K J I an g s d → ℕ → List ℕ → Answer → Type 0

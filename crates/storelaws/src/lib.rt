@@ -8,7 +8,7 @@ ghost use Rattle.model.specs.Worlds.{World};
 ghost use Rattle.model.specs.declared.entry.Entry.{Entry};
 ghost use Rattle.sessions.specs.Kills.{durable};
 ghost use Rattle.sessions.specs.Sessions.{Session, AreSessions, found_after, new_databases};
-ghost use Rattle.model.specs.Lists.{nth};
+ghost use Rattle.model.specs.Lists.{nth, IsBeginning};
 ghost use Rattle.model.specs.Transactions.{Language};
 ghost use Rattle.fault.specs.declared.refusal.Refusal.{Refusal};
 ghost use Rattle.answer.specs.declared.Answer.{Answer};
@@ -21,7 +21,7 @@ ghost use Rattle.store.specs.declared.outcome.Outcome.{Outcome};
 ghost use Rattle.store.specs.declared.scribe.Scribe.{Scribe};
 ghost use Rattle.store.specs.Opening.{AreFound, AreOpened, Begins, IsRunFrom};
 ghost use Rattle.store.specs.Tales.{Told};
-ghost use Rattle.storelaws.specs.Sessions.{Answers, AreAfter, Came, Further, HasAnswered, IsFiled, IsListed, IsOnFile, session_of};
+ghost use Rattle.storelaws.specs.Sessions.{Answers, AreAfter, Came, Further, HasAnswered, IsFiled, IsListed, IsOnFile, session_of, session_on};
 
 use store::announcing::Announces;
 use store::members::Members;
@@ -55,20 +55,20 @@ where
 /// A session's journal. While nothing wrong was taken as true, the lines that came to it, from where its scribe stood as the store began,
 /// record the starts of its members and each event since, in order: a step whole or cut short, with what was taken and what clocks showed, a
 /// start, a stop, and no other. Only starts and stops may be missing at the end of a journal that can't be written any more; they store
-/// nothing.
+/// nothing. With each call these go on, and what was on the device of them is there still.
 pub fn is_filed<K: Announces>(members: &Members<K>, old: &Store<K>, new: &Store<K>)
 where
     K::Image: Drop,
     ensures begins { (told : Told) (images : List (Option K.Image)) (found : List Node) (scribe : Scribe K.Journal) → AreFound K.holds images found → AreOpened K.is_honest K.may_hold K.holds told images members.now →
         Begins K.Journal.contents K.is_honest K.may_hold K.holds members.now scribe new.now → AreClean K.is_honest K.holds new.now → IsFiled K.Journal.contents K.may_hold K.holds found scribe new.now }
-    ensures goes { (found : List Node) (scribe : Scribe K.Journal) → IsFiled K.Journal.contents K.may_hold K.holds found scribe old.now → GoesOn K.Journal.contents K.is_honest K.may_hold K.holds old.now new.now → AreClean K.is_honest K.holds new.now →
-        IsFiled K.Journal.contents K.may_hold K.holds found scribe new.now }
+    ensures goes { (found : List Node) (scribe : Scribe K.Journal) (before : IsFiled K.Journal.contents K.may_hold K.holds found scribe old.now) → GoesOn K.Journal.contents K.is_honest K.may_hold K.holds old.now new.now → AreClean K.is_honest K.holds new.now →
+        (after : IsFiled K.Journal.contents K.may_hold K.holds found scribe new.now) × IsBeginning before.recorded.filed after.recorded.filed }
 {}
 
-/// What the file has of a session is a beginning of its events. A journal that had nothing in its buffer as the store began has, behind what
-/// its device held then, blocks of whole lines, and these record the first events of the session, in order: all of them where nothing is in
-/// the buffer, as once an outcome or an answer is told. Only where the journal can't be written any more may a part of one block stand behind
-/// them.
+/// What the file has of a session is a beginning of its events, and what the databases hold is what these left. A journal that had nothing in
+/// its buffer as the store began has, behind what its device held then, blocks of whole lines, and these record the first events of the
+/// session, in order: all of them where nothing is in the buffer, as once an outcome or an answer is told. Nothing else was stored after them.
+/// Only where the journal can't be written any more may a part of one block stand behind them.
 pub fn is_on_file<K: Announces>(store: &Store<K>)
 where
     K::Image: Drop,
@@ -93,6 +93,16 @@ where
         AreAfter K.holds (language_of store.now.schema) (length store.now.seats.items) (sessions ++ session_of came ∷ []) left }
 {}
 
+/// The next session, as its file has it: the same of the events that whole blocks on the journal's device record, and of what these gave. So it
+/// is whatever calls came to, also where the device or a database failed in the midst of one.
+pub fn next_on_file<K: Announces>(store: &Store<K>)
+where
+    K::Image: Drop,
+    ensures { (sessions : List Session) (scribe : Scribe K.Journal) (came : Came K.may_hold K.holds (found_after (new_databases (length store.now.seats.items)) sessions) store.now) (on : IsOnFile K.Journal.contents scribe came) →
+        AreSessions (language_of store.now.schema) (length store.now.seats.items) (new_databases (length store.now.seats.items)) sessions → (left : List (Option K.Image)) → AreLeft K.may_hold K.holds store.now left →
+        AreAfter K.holds (language_of store.now.schema) (length store.now.seats.items) (sessions ++ session_on on ∷ []) left }
+{}
+
 /// An answer is an event more of the session: the member of a seat, which has `at` others before it, was asked, and gave it.
 pub fn answers<K: Announces>(store: &Store<K>)
 where
@@ -100,6 +110,15 @@ where
     ensures { (found : List Node) (before : Came K.may_hold K.holds found store.now) (at : ℕ) (text : List ℕ) (answer : Answer) → AreClean K.is_honest K.holds store.now → HasAnswered K.is_honest store.now at text answer →
         Answers K.may_hold K.holds found store.now before (at + 1) text answer }
 {}
+
+/// All sessions of a store, one after the other, have one list that explains them.
+pub fn one_list<K: Announces>(store: &Store<K>)
+where
+    K::Image: Drop,
+    ensures { (language : Language) (n : ℕ) (sessions : List Session) (left : List (Option K.Image)) → AreAfter K.holds language n sessions left → (list : List Entry) × ExplainsSessions language sessions list }
+{
+    sessions::one_list_explains_sessions();
+}
 
 /// What was told of a request in any session stands in the one list that explains them all.
 pub fn is_told()

@@ -1,7 +1,7 @@
 use Rattle.std.proofs.Math.Logic.{∥∥₁_elim}
 use Rattle.std.proofs.Props.{props}
 use Rattle.std.proofs.lemmas.Grind.{merely}
-use Rattle.std.proofs.Common.{◌≡◌, ◌∙◌, Err, refl, sym, ap, subst}
+use Rattle.std.proofs.Common.{◌≡◌, ◌∙◌, Err, Some, refl, sym, ap, subst}
 use Rattle.model.specs.Members as model
 use Rattle.model.specs.Worlds.{stopped}
 use Rattle.keep.specs.Durable.{Durable}
@@ -11,7 +11,9 @@ use Rattle.node.specs.Member.{me_of, member_of, members_of, tables_of}
 use Rattle.node.specs.View.{durable_of}
 use Rattle.store.specs.Announcing.{HasContinued}
 use Rattle.store.specs.Nodes.{StepsTo}
-use Rattle.store.proofs.Stepping.{came, given_back, lost, member_with, seen_down, what_stays}
+use Rattle.node.proofs.Starting.{stored_is}
+use Rattle.store.proofs.Continuing.{continued_less}
+use Rattle.store.proofs.Stepping.{came, given_back, lost, member_with, seen_down, what_rests, what_stays}
 use Rattle.store.proofs.seat.step_with.Goals as goal
 
 pub invariant_of-node-clause-serves : goal.invariant_of-node-clause-serves
@@ -74,5 +76,20 @@ returns-in-None-clause-steps g c = λ late.
 pub returns-in-None-clause-continues : goal.returns-in-None-clause-continues
 returns-in-None-clause-continues g c =
     let scribe = c.args.voice.scribe in
-    let carried = g.met.K.Announces.carries_on c.lend.new.self c.step-result.new.self.keeper scribe c.step-result.ensures.came c.lend.ensures.carries in
-    subst (HasContinued g.K.Journal.Device.contents scribe) c.in-None.is (c.take_back.ensures.continues scribe carried)
+    let d = g.K.LogReader.stored c.args.node.now.keeper in
+    let carried = g.met.K.Announces.carries_on c.lend.new.self c.step-result.new.self.keeper scribe d c.step-result.ensures.came c.lend.ensures.carries in
+    absurd (subst (HasContinued g.K.Journal.Device.contents scribe _) c.in-None.is (c.take_back.ensures.continues scribe d carried))
+
+pub returns-in-Some-clause-continues : goal.returns-in-Some-clause-continues
+returns-in-Some-clause-continues g c =
+    let reader = g.K.LogReader in
+    let scribe = c.args.voice.scribe in
+    let first = c.args.node.now in
+    let d = reader.stored first.keeper in
+    let carried = g.met.K.Announces.carries_on c.lend.new.self c.step-result.new.self.keeper scribe d c.step-result.ensures.came c.lend.ensures.carries in
+    let went = subst (HasContinued g.K.Journal.Device.contents scribe _) c.in-Some.is (c.take_back.ensures.continues scribe d carried) in
+    continued_less g.K.Journal.Device.contents scribe _ _ (Some c.in-Some.voice) (λ keeps honest y is.
+    let last = reader.stored c.take_back.new.self in
+    let before = c.lend.ensures.honest.0 (c.step-result.ensures.honest (c.take_back.ensures.honest.0 honest)) in
+    sym (what_rests (reader.may_hold c.take_back.new.self) c.step-result.new.self.is_up _ y last is (g.met.K.LogReader.holds_stored c.take_back.new.self honest) (λ up. rw c.take_back.ensures.stored (stored_is c.step-result.new.self.core (reader.stored c.step-result.new.self.keeper) (c.step-result.new.self.synced up (c.take_back.ensures.honest.0 honest)))))
+    ∙ c.take_back.ensures.stored ∙ keeps (c.take_back.ensures.honest.0 honest) ∙ stored_is first.core d (first.synced c.requires.up before)) went

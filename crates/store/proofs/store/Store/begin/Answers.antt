@@ -1,4 +1,5 @@
-use Rattle.std.proofs.Common.{◌∙◌, ◌++◌, ap}
+use Rattle.std.proofs.Common.{◌∙◌, ap}
+use Rattle.store.specs.Lines.{and_then}
 use Rattle.store.proofs.Continuing.{continued_both}
 use Rattle.store.proofs.Going.{goes_on}
 use Rattle.store.proofs.Opening.{begins}
@@ -16,4 +17,4 @@ returns-clause-journal g c =
     let mid = c.write_head.new.self.scribe in
     let one = c.lead.ensures.goes in
     let two = c.flush.ensures.goes in
-    (mid, c.in_ok-write_head.ensures.opens, (one.lines ++ two.lines, continued_both contents mid c.lead.new.self.scribe c.flush.new.self.scribe one.lines two.lines one.journal two.journal))
+    (mid, c.in_ok-write_head.ensures.opens, (and_then one.lines two.lines, continued_both contents mid c.lead.new.self.scribe c.flush.new.self.scribe one.lines two.lines one.journal two.journal))

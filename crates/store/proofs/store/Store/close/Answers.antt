@@ -1,6 +1,7 @@
 use Rattle.std.proofs.Common.{◌≡◌, ◌∙◌, Some, ap, sym}
 use Rattle.store.specs.Journals.{device_in}
 use Rattle.store.proofs.Closing.{all_rest}
+use Rattle.store.proofs.Written.{ok_then}
 use Rattle.store.proofs.store.Store.close.Goals as goal
 use Rattle.store.proofs.store.Store.close.Goals.{in-Some, in-None}
 
@@ -30,4 +31,4 @@ returns-clause-ends g c =
       | in-Some w ↦ w.device-is ∙ ap Some w.into_device.ensures ∙ sym (ap device_in w.in-Some.is)
       | in-None w ↦ w.device-is ∙ sym (ap device_in w.in-None.is)
     ] in
-    (c.stop_all-stopped.new.self, c.stop_all-stopped.ensures.goes, c.of.ensures, is)
+    (c.stop_all-stopped.new.self, c.stop_all-stopped.ensures.goes, c.of.ensures, is, λ whole. ok_then c.stop_all-stopped.result whole c.stop_all-stopped.ensures.down)

@@ -1,4 +1,4 @@
-use Rattle.std.proofs.Common.{ap, refl}
+use Rattle.std.proofs.Common.{◌∙◌, ap, refl, slice_get}
 use Rattle.journal.specs.declared.line.Line.TheVariants.{Ends}
 use Rattle.store.proofs.Closing.{rest_after, rest_same}
 use Rattle.store.proofs.Going.{ended, stays, unwritten}
@@ -28,3 +28,9 @@ returns-in_err-write-clause-goes g c = unwritten g.K.Journal.Device.contents g.K
 
 pub returns-clause-goes : goal.returns-clause-goes
 returns-clause-goes g c = ended g.K.Journal.Device.contents g.K.LogReader.is_honest g.K.LogReader.may_hold g.K.Keeper.holds c.args.member c.args.self.now c.write.new.self c.fall.new.self c.write.ensures.same c.in_ok-write.ensures.live c.in_ok-write.ensures.continues c.fall.ensures.stops
+
+pub returns-in_err-write-clause-others : goal.returns-in_err-write-clause-others
+returns-in_err-write-clause-others g c = λ at apart. ap (λ t. slice_get t.seats.items at) c.write.ensures.same
+
+pub returns-clause-others : goal.returns-clause-others
+returns-clause-others g c = λ at apart. c.fall.ensures.others at apart ∙ ap (λ t. slice_get t.seats.items at) c.write.ensures.same

@@ -1,7 +1,8 @@
-use Rattle.std.proofs.Common.{Some, [], refl, rules, subst, sym}
+use Rattle.std.proofs.Common.{Some, refl, rules, subst, sym}
 use Rattle.store.specs.Continuing.{IsContinued, IsKeptOn}
+use Rattle.store.specs.Lines.{no_lines}
 use Rattle.store.specs.Journals.{IsFlushed, IsPartOn, IsSpent}
-use Rattle.store.proofs.Continuing.{kept_none, none_some}
+use Rattle.store.proofs.Continuing.{kept_none, kept_same, kept_written, none_some}
 use Rattle.store.proofs.Going.{only_scribe, publishes_on, stays, unwritten}
 use Rattle.store.proofs.Written.{on_err, part_flushed}
 use Rattle.store.proofs.store.Store.flush.Goals as goal
@@ -20,11 +21,24 @@ returns-in_ok-flush-in-Some-clause-goes g c =
     let contents = g.K.Journal.Device.contents in
     let old = c.args.self.now in
     publishes_on g.K.Journal.Device.contents g.K.LogReader.is_honest g.K.LogReader.may_hold g.K.Keeper.holds old _ (only_scribe g.K.Journal.Device.contents g.K.LogReader.is_honest g.K.LogReader.may_hold g.K.Keeper.holds old _ refl
-    (subst (λ s. IsKeptOn contents s (Some c.flush.new.self)) (sym c.in-Some.is) (kept_none contents (Some c.in-Some.scribe) (Some c.flush.new.self) c.flush.ensures.continues))
+    (subst (λ s. IsKeptOn contents s (Some c.flush.new.self)) (sym c.in-Some.is) (kept_written contents c.in-Some.scribe c.flush.new.self c.in_ok-flush-in-Some.ensures.continues))
     (λ was. absurd (none_some c.in-Some.scribe.failure c.in_ok-flush-in-Some.ensures.up.0 (subst IsSpent c.in-Some.is was))))
 
 pub returns-in_err-flush-in-Some-clause-goes : goal.returns-in_err-flush-in-Some-clause-goes
-returns-in_err-flush-in-Some-clause-goes g c = unwritten g.K.Journal.Device.contents g.K.LogReader.is_honest g.K.LogReader.may_hold g.K.Keeper.holds c.args.self.now _ refl (subst (λ s. IsContinued g.K.Journal.Device.contents s (Some c.flush.new.self) []) (sym c.in-Some.is) c.flush.ensures.continues) (search rules)
+returns-in_err-flush-in-Some-clause-goes g c = unwritten g.K.Journal.Device.contents g.K.LogReader.is_honest g.K.LogReader.may_hold g.K.Keeper.holds c.args.self.now _ refl (subst (λ s. IsContinued g.K.Journal.Device.contents s (Some c.flush.new.self) no_lines) (sym c.in-Some.is) c.in_err-flush-in-Some.ensures.lost) (search rules)
 
 pub returns-in-None-clause-goes : goal.returns-in-None-clause-goes
 returns-in-None-clause-goes g c = stays g.K.Journal.Device.contents g.K.LogReader.is_honest g.K.LogReader.may_hold g.K.Keeper.holds c.args.self.now
+
+pub returns-in_ok-flush-in-Some-clause-continues : goal.returns-in_ok-flush-in-Some-clause-continues
+returns-in_ok-flush-in-Some-clause-continues g c =
+    let contents = g.K.Journal.Device.contents in
+    subst (λ s. IsKeptOn contents s (Some c.flush.new.self)) (sym c.in-Some.is) (kept_written contents c.in-Some.scribe c.flush.new.self c.in_ok-flush-in-Some.ensures.continues)
+
+pub returns-in_err-flush-in-Some-clause-continues : goal.returns-in_err-flush-in-Some-clause-continues
+returns-in_err-flush-in-Some-clause-continues g c =
+    let contents = g.K.Journal.Device.contents in
+    subst (λ s. IsKeptOn contents s (Some c.flush.new.self)) (sym c.in-Some.is) (kept_none contents (Some c.in-Some.scribe) (Some c.flush.new.self) c.in_err-flush-in-Some.ensures.lost)
+
+pub returns-in-None-clause-continues : goal.returns-in-None-clause-continues
+returns-in-None-clause-continues g c = kept_same g.K.Journal.Device.contents c.args.self.now.scribe

@@ -1,6 +1,6 @@
 use Rattle.std.proofs.Common.{◌+◌, length, refl}
 use Rattle.std.proofs.lemmas.Option.{slice_get_read}
-use Rattle.store.proofs.Closing.{rest_one}
+use Rattle.store.proofs.Closing.{down_none, down_set, rest_one}
 use Rattle.store.proofs.Continuing.{kept_same}
 use Rattle.store.proofs.Going.{stops_nobody, stops_one}
 use Rattle.store.proofs.store.Store.stop_node.Goals as goal
@@ -24,3 +24,13 @@ returns-clause-rests g c =
     let at = c.in-Some.at in
     let before = c.index_mut-seat.result.now in
     rest_one g.K.LogReader.may_hold g.K.Keeper.holds old _ at before c.stop.new.self (slice_get_read old (length old) at before refl c.in-Some.ensures.some.0 c.index_mut-seat.ensures.value) refl c.stop.ensures.rests
+
+pub returns-in_default-clause-down : goal.returns-in_default-clause-down
+returns-in_default-clause-down g c = down_none c.args.self.now.seats.items c.args.member c.in_default.ensures.none
+
+pub returns-clause-down : goal.returns-clause-down
+returns-clause-down g c =
+    let old = c.args.self.now.seats.items in
+    let at = c.in-Some.at in
+    let before = c.index_mut-seat.result.now in
+    down_set old at c.args.member before c.stop.new.self (slice_get_read old (length old) at before refl c.in-Some.ensures.some.0 c.index_mut-seat.ensures.value) c.in-Some.ensures.some.1 c.stop.ensures.rests.down

@@ -1,19 +1,17 @@
 use Rattle.std.proofs.Common.{◌≡◌, ◌∙◌, ◌∷◌, [], ap, arith, drop, length, refl, rules, subst, sym, take}
 use Rattle.std.proofs.lemmas.List.{take_all}
-use Rattle.std.proofs.lemmas.List.Elements.{All-nil}
 use Rattle.journal.specs.declared.line.Line.TheVariants.{Opens}
 use Rattle.store.specs.Opening.{Files, starts_of}
-use Rattle.store.specs.Recording.{IsSilent}
-use Rattle.store.proofs.Continuing.{continued_same}
+use Rattle.store.specs.Lines.{no_lines}
+use Rattle.store.proofs.Continuing.{continued_same, kept_by}
 use Rattle.store.proofs.Opening.{files_both, files_on, files_silent, next_starts, only_both, only_then}
-use Rattle.store.proofs.Recording.{silent_one}
 use Rattle.store.proofs.Written.{longer_none, longer_more, on_opened, then_ok}
 use Rattle.store.proofs.store.Store.write_head.Goals as goal
 
 pub loop-at-init : goal.loop-at-init
 loop-at-init g c = record {
   longer = longer_none c.write.new.self.scribe;
-  heads = ([], continued_same g.K.Journal.Device.contents c.write.new.self.scribe, refl);
+  heads = (no_lines, continued_same g.K.Journal.Device.contents c.write.new.self.scribe, refl);
   same = refl;
 }
 
@@ -54,9 +52,9 @@ returns-clause-heads g c =
     let len : c.len-at-end.result ≡ length first.seats.items = search rules in
     let test = c.loop-at-test.false in
     let all : take at first.seats.items ≡ old.seats.items = take_all at first.seats.items (omega (arith, len, test)) ∙ seats in
-    let opens = files_silent contents old.scribe first.scribe (line ∷ []) (silent_one line tt) c.in_ok-write.ensures.continues in
+    let opens = files_silent contents old.scribe first.scribe (kept_by contents old.scribe first.scribe line tt c.in_ok-write.ensures.continues) in
     let heads = subst (λ xs. Files contents first.scribe mid.scribe (starts_of xs)) all c.loop-at.invariant.heads in
-    then_ok c.flush.result (λ ok. files_on contents old.scribe mid.scribe new.scribe (starts_of old.seats.items) [] (files_both contents old.scribe first.scribe mid.scribe [] (starts_of old.seats.items) opens heads) (All-nil IsSilent) c.flush.ensures.continues) c.flush.ensures.ok
+    then_ok c.flush.result (λ ok. files_on contents old.scribe mid.scribe new.scribe (starts_of old.seats.items) (files_both contents old.scribe first.scribe mid.scribe [] (starts_of old.seats.items) opens heads) c.flush.ensures.continues) c.flush.ensures.ok
 
 pub returns-clause-same : goal.returns-clause-same
 returns-clause-same g c =

@@ -3,9 +3,9 @@ use Rattle.std.proofs.lemmas.Option.{slice_get_read}
 use Rattle.journal.specs.declared.line.Line.TheVariants.{Saves}
 use Rattle.store.specs.Continuing.{IsContinued}
 use Rattle.store.specs.Opening.{starts_of}
-use Rattle.store.proofs.Continuing.{continued_same}
+use Rattle.store.specs.Lines.{no_lines, waiting}
+use Rattle.store.proofs.Continuing.{continued_same, kept_by}
 use Rattle.store.proofs.Opening.{files_on, head_files, none_there, only_first, only_then}
-use Rattle.store.proofs.Recording.{silent_one}
 use Rattle.store.proofs.Written.{longer_none, longer_from, on_longer, then_ok}
 use Rattle.store.proofs.store.Store.write_seat.Goals as goal
 use Rattle.store.proofs.store.Store.write_seat.Goals.{then-is_up, else-is_up}
@@ -17,7 +17,7 @@ pub returns-in_default-clause-heads : goal.returns-in_default-clause-heads
 returns-in_default-clause-heads g c =
     let old = c.args.self.now in
     let past = subst (λ xs. length xs ≤ c.args.at) c.deref.ensures.value c.in_default.ensures.lookup.3 in
-    ([], continued_same g.K.Journal.Device.contents old.scribe, ap starts_of (none_there old.seats.items c.args.at past))
+    (no_lines, continued_same g.K.Journal.Device.contents old.scribe, ap starts_of (none_there old.seats.items c.args.at past))
 
 pub returns-in-Some-announced-clause-longer : goal.returns-in-Some-announced-clause-longer
 returns-in-Some-announced-clause-longer g c =
@@ -39,9 +39,9 @@ returns-in-Some-announced-clause-heads g c =
     let look = c.in-Some.ensures.lookup in
     let found = c.deref.result.now in
     let there = subst (λ xs. slice_get xs c.args.at ≡ Some seat) c.deref.ensures.value (slice_get_read found (length found) c.args.at seat refl look.3.0 look.1) in
-    let on = subst (λ s. IsContinued contents s c.write.new.self.scribe (c.head-head.result ∷ [])) (ap (λ t. t.scribe) same) c.in_ok-write.ensures.continues in
+    let on = subst (λ s. IsContinued contents s c.write.new.self.scribe (waiting (c.head-head.result ∷ []))) (ap (λ t. t.scribe) same) c.in_ok-write.ensures.continues in
     let head = head_files contents old.seats.items c.args.at seat old.scribe c.write.new.self.scribe c.head-head.result there c.head-head.ensures.down c.head-head.ensures.life on in
-    then_ok call.result (λ more. files_on contents old.scribe c.write.new.self.scribe call.new.self.scribe (starts_of (take 1 (drop c.args.at old.seats.items))) (line ∷ []) head (silent_one line tt) more) call.ensures.continues
+    then_ok call.result (λ more. files_on contents old.scribe c.write.new.self.scribe call.new.self.scribe (starts_of (take 1 (drop c.args.at old.seats.items))) head (kept_by contents c.write.new.self.scribe call.new.self.scribe line tt more)) call.ensures.continues
 
 pub returns-in-Some-announced-clause-same : goal.returns-in-Some-announced-clause-same
 returns-in-Some-announced-clause-same g c =
@@ -65,7 +65,7 @@ returns-clause-heads g c =
     let look = c.in-Some.ensures.lookup in
     let found = c.deref.result.now in
     let there = subst (λ xs. slice_get xs c.args.at ≡ Some seat) c.deref.ensures.value (slice_get_read found (length found) c.args.at seat refl look.3.0 look.1) in
-    let on = subst (λ s. IsContinued contents s c.write.new.self.scribe (c.head-head.result ∷ [])) (ap (λ t. t.scribe) same) c.in_ok-write.ensures.continues in
+    let on = subst (λ s. IsContinued contents s c.write.new.self.scribe (waiting (c.head-head.result ∷ []))) (ap (λ t. t.scribe) same) c.in_ok-write.ensures.continues in
     head_files contents old.seats.items c.args.at seat old.scribe c.write.new.self.scribe c.head-head.result there c.head-head.ensures.down c.head-head.ensures.life on
 
 pub returns-clause-same : goal.returns-clause-same
