@@ -1,4 +1,10 @@
 //! What is decided, and what may be given out of it.
+ghost use Rattle.std.specs.Prelude.{◌≡◌, ◌++◌, ◌∷◌, [], OnOk};
+ghost use Rattle.model.specs.declared.event.Job.{Job as TheJob};
+ghost use Rattle.world.specs.View.{output_of, outputs_of};
+ghost use Rattle.playback.specs.Scenes.{scene_of, wording};
+ghost use Rattle.playback.specs.Words.{refused_word, word_of};
+
 use crate::play::Play;
 use crate::told::Word;
 use fault::{Refusal, Text};
@@ -27,36 +33,67 @@ pub struct Decided {
 
 impl Play {
     /// What may be printed from here on, and what is decided.
-    pub(crate) fn hear_all(&mut self, job: &Job, outputs: &[Output]) -> Result<(), StoreRefusal> {
+    pub(crate) fn hear_all(&mut self, job: &Job, outputs: &[Output]) -> Result<(), StoreRefusal>
+        ensures { OnOk result (scene_of self.new ≡ wording (scene_of self.old) job.now (outputs_of outputs.now)) }
+    {
         for output in outputs {
-            match output {
-                Output::Applied(member, told) => self.hear_told(*member, told)?,
-                Output::Refused(_, refusal) => self.hear_refusal(job, refusal)?,
-                _ => {}
-            }
+            self.hear_output(job, output)?;
         }
         Ok(())
     }
 
-    fn hear_told(&mut self, member: Member, told: &Told) -> Result<(), StoreRefusal> {
+    fn hear_output(&mut self, job: &Job, output: &Output) -> Result<(), StoreRefusal>
+        ensures { OnOk result (scene_of self.new ≡ wording (scene_of self.old) job.now (output_of output.now ∷ [])) }
+    {
+        match output {
+            Output::Applied(member, told) => self.hear_told(*member, told),
+            Output::Refused(_, refusal) => self.hear_refusal(job, refusal),
+            Output::Sent(..) => Ok(()),
+            Output::Answered(..) => Ok(()),
+        }
+    }
+
+    fn hear_told(&mut self, member: Member, told: &Told) -> Result<(), StoreRefusal>
+        ensures { OnOk result (scene_of self.new ≡ record (scene_of self.old) { words = (scene_of self.old).words ++ word_of told.now ∷ [] }) }
+    {
         self.words.push(Word::of(told)?)?;
         self.decide(member, told)
     }
 
-    fn hear_refusal(&mut self, job: &Job, refusal: &Refusal) -> Result<(), StoreRefusal> {
-        if let Job::Local(Input::Submit { request, .. }) = job {
-            let outcome = Err(refusal.clone()?);
-            self.words.push(Word {
-                client: request.client,
-                number: request.number,
-                outcome,
-            })?;
+    fn hear_refusal(&mut self, job: &Job, refusal: &Refusal) -> Result<(), StoreRefusal>
+        ensures { OnOk result (scene_of self.new ≡ record (scene_of self.old) { words = (scene_of self.old).words ++ refused_word job.now refusal.now }) }
+    {
+        match job {
+            Job::Local(input) => self.hear_refused(input, refusal),
+            Job::Delivery { .. } => Ok(()),
         }
-        Ok(())
+    }
+
+    // An input that is handed to a member is refused.
+    fn hear_refused(&mut self, input: &Input, refusal: &Refusal) -> Result<(), StoreRefusal>
+        ensures { OnOk result (scene_of self.new ≡ record (scene_of self.old) { words = (scene_of self.old).words ++ refused_word (TheJob.Local input.now) refusal.now }) }
+    {
+        match input {
+            Input::Submit { request, .. } => {
+                let outcome = Err(refusal.clone()?);
+                self.words.push(Word {
+                    client: request.client,
+                    number: request.number,
+                    outcome,
+                })?;
+                Ok(())
+            }
+            Input::Timeout => Ok(()),
+            Input::Beat => Ok(()),
+            Input::Close { .. } => Ok(()),
+            Input::Floor { .. } => Ok(()),
+        }
     }
 
     // A request that a member tells of, if nobody told of it before.
-    fn decide(&mut self, member: Member, told: &Told) -> Result<(), StoreRefusal> {
+    fn decide(&mut self, member: Member, told: &Told) -> Result<(), StoreRefusal>
+        ensures { scene_of self.new ≡ scene_of self.old }
+    {
         let last = match self.decided.last() {
             Some(decided) => decided.index,
             None => 0,

@@ -1,4 +1,8 @@
 //! What databases hold at the end.
+ghost use Rattle.std.specs.Prelude.{OnOk};
+ghost use Rattle.playback.specs.Playing.{IsCompared};
+ghost use Rattle.playback.specs.Scenes.{scene_of};
+
 use crate::play::Play;
 use journal::Summary;
 use model::entry::Entry;
@@ -38,7 +42,9 @@ impl Play {
         member: Member,
         found: &Summary,
         entries: &[Entry],
-    ) -> Result<(), StoreRefusal> {
+    ) -> Result<(), StoreRefusal>
+        ensures { OnOk result (IsCompared (scene_of self.old) member (scene_of self.new)) }
+    {
         self.close(member, found)?;
         self.start(member)?;
         let is_same = self.stored(member)? == Some(*found);

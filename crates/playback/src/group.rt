@@ -213,10 +213,4 @@ impl Group {
             None => Ok(None),
         }
     }
-
-    /// Up to which index a member has applied its log, none where it is down.
-    pub fn commit(&self, member: Member) -> Option<usize> {
-        let at = self.place(member)?;
-        self.seats[at].commit()
-    }
 }

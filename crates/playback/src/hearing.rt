@@ -1,4 +1,8 @@
 //! The lines of journals, one after the other.
+ghost use Rattle.std.specs.Prelude.{◌≡◌, [], true, OnOk, length};
+ghost use Rattle.playback.specs.Playing.{Plays};
+ghost use Rattle.playback.specs.Scenes.{scene_of};
+
 use crate::play::{Play, bad_line};
 use journal::Line;
 use store::StoreRefusal;
@@ -6,7 +10,9 @@ use store::past::Hears;
 
 impl Play {
     // A journal begins, before which so many marks were given out. The first one that is there tells how many, where others are away.
-    fn open(&mut self, marks: u64) -> Result<(), StoreRefusal> {
+    fn open(&mut self, marks: u64) -> Result<(), StoreRefusal>
+        ensures { OnOk result (scene_of self.new ≡ record (scene_of self.old) { before = length (scene_of self.old).sent; is_head = true; words = [] }) }
+    {
         self.sessions = self.sessions.saturating_add(1);
         self.before = self.posts.len();
         self.is_head = true;
@@ -23,6 +29,8 @@ impl Play {
 }
 
 impl Hears for Play {
+    ghost hears = { λ old line new. Plays (scene_of old) line (scene_of new) };
+
     fn hear(&mut self, line: Line) -> Result<(), StoreRefusal> {
         match line {
             Line::Opens { marks, .. } => self.open(marks),

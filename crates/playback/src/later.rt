@@ -1,4 +1,9 @@
 //! Journals that go on from others, which are away.
+ghost use Rattle.std.specs.Prelude.{◌≡◌, ◌⊎◌, None, IfOk, OnOk};
+ghost use Rattle.playback.specs.Playing.{IsCompared};
+ghost use Rattle.playback.specs.Scenes.{outset, scene_of, standings};
+
+use crate::actor::Actor;
 use crate::group::Group;
 use crate::play::Play;
 use crate::stage::Stage;
@@ -11,6 +16,15 @@ use store::StoreRefusal;
 use store::beginnings::beginning_of;
 use store::held::HeldLog;
 
+// It is not known what members go on from.
+fn forget_all(actors: &mut [Actor])
+    ensures { standings actors.new ≡ standings actors.old }
+{
+    for actor in actors.iter_mut() {
+        actor.forget();
+    }
+}
+
 impl Play {
     /// Before the journal of this number, where those before it are away: each member goes on from what this journal tells that it has
     /// stored, with the beginning of a log that is held, of its own database or of another one. No lives are kept. 16 for another number
@@ -21,15 +35,15 @@ impl Play {
         schema: Schema,
         journal: u64,
         held: Vec<Option<HeldLog>>,
-    ) -> Result<Play, StoreRefusal> {
+    ) -> Result<Play, StoreRefusal>
+        ensures { IfOk result (λ play. scene_of play ≡ outset members None) }
+    {
         if members < 3 || members > 7 {
             return Err(StoreRefusal::Refused(Refusal::OutOfRange));
         }
         let stage = Stage::Group(Group::new(alloc, schema, members)?);
         let mut play = Play::on(alloc, members, stage, false)?;
-        for actor in play.actors.iter_mut() {
-            actor.is_known = false;
-        }
+        forget_all(play.actors.as_mut_slice());
         play.first = journal;
         play.held = held;
         Ok(play)
@@ -37,7 +51,9 @@ impl Play {
 
     /// A member is met for the first time, with this stored: it goes on from there. 51 where it was told to have something else; 55 of the
     /// journal before the first one, where no log that is held begins so.
-    pub(crate) fn meet(&mut self, member: Member, found: &Summary) -> Result<(), StoreRefusal> {
+    pub(crate) fn meet(&mut self, member: Member, found: &Summary) -> Result<(), StoreRefusal>
+        ensures { scene_of self.new ≡ scene_of self.old }
+    {
         let at = self.place(member)?;
         if self.actors[at].is_known {
             return Ok(());
@@ -52,14 +68,23 @@ impl Play {
             });
         };
         self.stage.load(member, found.hard, entries)?;
+        self.know(member)
+    }
+
+    // It is known what a member goes on from.
+    fn know(&mut self, member: Member) -> Result<(), StoreRefusal>
+        ensures { scene_of self.new ≡ scene_of self.old }
+    {
         let at = self.place(member)?;
-        self.actors[at].is_known = true;
+        self.actors[at].know();
         Ok(())
     }
 
     /// Whether a member's database, whose log is held and which holds this, is what the journals give: 49 where it isn't, with the first
     /// entry that differs, where it is known.
-    pub fn check_held(&mut self, member: Member, found: &Summary) -> Result<(), StoreRefusal> {
+    pub fn check_held(&mut self, member: Member, found: &Summary) -> Result<(), StoreRefusal>
+        ensures { OnOk result (IsCompared (scene_of self.old) member (scene_of self.new) ⊎ (scene_of self.new ≡ scene_of self.old)) }
+    {
         match self.meet(member, found) {
             Err(StoreRefusal::Refused(Refusal::BrokenLife { .. })) => {
                 return Err(StoreRefusal::Altered {

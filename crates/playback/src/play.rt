@@ -1,5 +1,9 @@
 //! Playing journals.
-ghost use Rattle.std.specs.Prelude.{◌≡◌, ◌<◌, ◌+◌, IfOk, vec_len};
+ghost use Rattle.std.specs.Prelude.{◌≡◌, ◌<◌, ◌+◌, [], ◌∷◌, None, Some, IfOk, OnErr, OnOk, pos, replicate, vec_len};
+ghost use Rattle.world.specs.View.{event_of, outputs_of};
+ghost use Rattle.playback.specs.Histories.{history_of, HasShown, IsGiven};
+ghost use Rattle.playback.specs.Scenes.{happened, outset, scene_of, standings};
+ghost use Rattle.playback.specs.Standings.{standing_of, Down};
 
 use crate::actor::Actor;
 use crate::decided::Decided;
@@ -23,7 +27,8 @@ use world::output::Output;
 /// stored. A line whose events don't give what it tells is refused:
 /// 51 where a member begins with what it does not have there, or is about to store what it does not come to; 52 where it takes a
 /// message that was not sent to it; 54 where it tells other outcomes, or an answer or a printed outcome is another one. One that may not
-/// stand there is refused 50.
+/// stand there is refused 50. One that is not refused lets exactly the events happen that it tells of: a step whole as its end is told,
+/// or cut short as the member is started again. After a refusal it is of no use.
 #[derive(Drop)]
 pub struct Play {
     pub(crate) alloc: Global,
@@ -67,7 +72,10 @@ pub(crate) fn mark_of(number: u64) -> Result<Mark, StoreRefusal> {
 }
 
 // So many members of which nothing is told.
-fn new_actors(alloc: Global, members: usize) -> Result<Vec<Actor>, AllocError> {
+#[tactic(auto, using(crate::proofs::Members::standings_push))]
+fn new_actors(alloc: Global, members: usize) -> Result<Vec<Actor>, AllocError>
+    ensures { IfOk result (λ actors. standings actors.items ≡ replicate members Down) }
+{
     let mut actors = Vec::new(alloc);
     for _ in 0..members {
         actors.push(Actor::new(alloc))?;
@@ -99,7 +107,9 @@ impl Play {
         members: usize,
         schema: Schema,
         keeps: bool,
-    ) -> Result<Play, StoreRefusal> {
+    ) -> Result<Play, StoreRefusal>
+        ensures { IfOk result (λ play. scene_of play ≡ outset members (Some (record { tables = schema; members = members; events = [] }))) }
+    {
         if members < 3 || members > 7 {
             return Err(StoreRefusal::Refused(Refusal::OutOfRange));
         }
@@ -113,7 +123,9 @@ impl Play {
         members: usize,
         stage: Stage,
         keeps: bool,
-    ) -> Result<Play, AllocError> {
+    ) -> Result<Play, AllocError>
+        ensures { IfOk result (λ play. scene_of play ≡ outset members (history_of stage)) }
+    {
         let actors = new_actors(alloc, members)?;
         let answers = no_answers(alloc, members)?;
         Ok(Play {
@@ -189,8 +201,13 @@ impl Play {
         Ok(self.actors[at].mark)
     }
 
-    /// What an event gives.
-    pub(crate) fn happen(&mut self, event: Event) -> Result<Vec<Output>, AllocError> {
-        self.stage.happen(self.alloc, event)
+    /// Lets an event happen, and gives what comes of it.
+    pub(crate) fn happen(&mut self, event: Event) -> Result<Vec<Output>, AllocError>
+        ensures ok { OnOk result (scene_of self.new ≡ happened (scene_of self.old) (event_of event)) }
+        ensures err { OnErr result (scene_of self.new ≡ scene_of self.old) }
+        ensures gives { IfOk result (λ outs. IsGiven (scene_of self.old).history (event_of event) (outputs_of outs.items)) }
+        ensures shown { IfOk result (λ outs. HasShown (scene_of self.old).history event outs.items) }
+    {
+        self.stage.happen(event)
     }
 }

@@ -178,14 +178,6 @@ impl Seat {
         }
     }
 
-    /// Up to which index it has applied its log, none where it is down.
-    pub fn commit(&self) -> Option<usize> {
-        match &self.node {
-            Some(node) => node.commit(),
-            None => None,
-        }
-    }
-
     /// What it answers.
     pub fn ask(&self, query: &Query) -> Result<Answer, Refusal> {
         match &self.node {

@@ -1,10 +1,14 @@
 //! What journals are played on.
+ghost use Rattle.std.specs.Prelude.{◌≡◌, IfOk, OnErr, OnOk};
+ghost use Rattle.world.specs.View.{event_of, outputs_of};
+ghost use Rattle.playback.specs.Histories.{and_then, history_of, HasShown, HasTables, IsGiven};
+
 use crate::group::Group;
 use keep::HardState;
 use model::entry::Entry;
 use model::member::Member;
 use schema::Schema;
-use std::alloc::{AllocError, Global};
+use std::alloc::AllocError;
 use world::StoredState;
 use world::event::Event;
 use world::history::World;
@@ -18,24 +22,24 @@ pub(crate) enum Stage {
 }
 
 impl Stage {
-    pub fn schema(&self) -> &Schema {
+    pub fn schema(&self) -> &Schema
+        ensures { HasTables (history_of self.now) result.now }
+    {
         match self {
             Stage::World(world) => world.schema(),
             Stage::Group(group) => group.schema(),
         }
     }
 
-    /// What an event gives.
-    pub fn happen(&mut self, alloc: Global, event: Event) -> Result<Vec<Output>, AllocError> {
+    /// Lets an event happen, and gives what comes of it.
+    pub fn happen(&mut self, event: Event) -> Result<Vec<Output>, AllocError>
+        ensures ok { OnOk result (history_of self.new ≡ and_then (history_of self.old) (event_of event)) }
+        ensures err { OnErr result (history_of self.new ≡ history_of self.old) }
+        ensures gives { IfOk result (λ outs. IsGiven (history_of self.old) (event_of event) (outputs_of outs.items)) }
+        ensures shown { IfOk result (λ outs. HasShown (history_of self.old) event outs.items) }
+    {
         match self {
-            Stage::World(world) => {
-                let events = [event];
-                let mut outs = world.run(&events)?;
-                Ok(match outs.pop() {
-                    Some(outputs) => outputs,
-                    None => Vec::new(alloc),
-                })
-            }
+            Stage::World(world) => world.step(&event),
             Stage::Group(group) => group.happen(event),
         }
     }
@@ -46,7 +50,9 @@ impl Stage {
         member: Member,
         hard: HardState,
         entries: &[Entry],
-    ) -> Result<(), AllocError> {
+    ) -> Result<(), AllocError>
+        ensures { history_of self.new ≡ history_of self.old }
+    {
         match self {
             Stage::World(_) => Ok(()),
             Stage::Group(group) => group.load(member, hard, entries),
@@ -54,7 +60,9 @@ impl Stage {
     }
 
     /// What a member has stored, none where it is down.
-    pub fn durable(&mut self, member: Member) -> Result<Option<StoredState>, AllocError> {
+    pub fn durable(&mut self, member: Member) -> Result<Option<StoredState>, AllocError>
+        ensures { history_of self.new ≡ history_of self.old }
+    {
         match self {
             Stage::World(world) => world.durable(member),
             Stage::Group(group) => Ok(group.durable(member)),
@@ -62,18 +70,12 @@ impl Stage {
     }
 
     /// The entry at an index of a member's log, none where it is down.
-    pub fn entry(&mut self, member: Member, index: usize) -> Result<Option<Entry>, AllocError> {
+    pub fn entry(&mut self, member: Member, index: usize) -> Result<Option<Entry>, AllocError>
+        ensures { history_of self.new ≡ history_of self.old }
+    {
         match self {
             Stage::World(world) => world.entry(member, index),
             Stage::Group(group) => group.entry(member, index),
-        }
-    }
-
-    /// Up to which index a member has applied its log, none where it is down.
-    pub fn commit(&self, member: Member) -> Option<usize> {
-        match self {
-            Stage::World(world) => world.commit(member),
-            Stage::Group(group) => group.commit(member),
         }
     }
 }

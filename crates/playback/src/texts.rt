@@ -1,4 +1,9 @@
 //! The texts of outcomes.
+ghost use Rattle.std.specs.Prelude.{◌≡◌, ◌++◌, ◌∷◌, [], Ok, IfOk, IfSome, OnOk};
+ghost use Rattle.flight.specs.Telling.{outcome_of, outcomes_of, told_text};
+ghost use Rattle.world.specs.View.{output_of, outputs_of};
+ghost use Rattle.playback.specs.Words.{first_told, noted_after, told_in};
+
 use fault::Text;
 use flight::outcome::Outcome;
 use model::entry::Told;
@@ -11,6 +16,7 @@ use world::output::Output;
 struct Accepted {
     stamp: Stamp,
     text: Text,
+    ghost said: { text ≡ told_text (Ok stamp) },
 }
 
 /// The texts of what was told of requests, by the indices of their entries. All members tell the same of a request, and tell it again
@@ -31,7 +37,9 @@ impl Texts {
     }
 
     // The text that was made of this outcome.
-    fn find(&self, told: &Told) -> Option<&Text> {
+    fn find(&self, told: &Told) -> Option<&Text>
+        ensures { IfSome result (λ text. text.now ≡ told_text told.now.outcome) }
+    {
         let Ok(stamp) = &told.outcome else {
             return None;
         };
@@ -42,7 +50,9 @@ impl Texts {
     }
 
     // Keeps the text of an acceptance.
-    fn keep(&mut self, told: &Told, text: &Text) -> Result<(), AllocError> {
+    fn keep(&mut self, told: &Told, text: &Text) -> Result<(), AllocError>
+        requires { text.now ≡ told_text told.now.outcome }
+    {
         let Ok(stamp) = &told.outcome else {
             return Ok(());
         };
@@ -60,7 +70,9 @@ impl Texts {
     }
 
     /// What is recorded of what was told.
-    pub fn outcome(&mut self, told: &Told) -> Result<Outcome, AllocError> {
+    pub fn outcome(&mut self, told: &Told) -> Result<Outcome, AllocError>
+        ensures { IfOk result (λ outcome. outcome ≡ outcome_of told.now) }
+    {
         if let Some(text) = self.find(told) {
             let text = text.clone()?;
             return Ok(Outcome {
@@ -80,28 +92,70 @@ impl Texts {
         &mut self,
         outputs: &[Output],
         noted: usize,
-    ) -> Result<(Vec<Outcome>, usize), AllocError> {
-        let mut noted = noted;
+    ) -> Result<(Vec<Outcome>, usize), AllocError>
+        ensures first { IfOk result (λ found. found.0.items ≡ outcomes_of (first_told noted (told_in (outputs_of outputs.now)))) }
+        ensures noted { IfOk result (λ found. found.1 ≡ noted_after noted (told_in (outputs_of outputs.now))) }
+    {
+        let mut last = noted;
         let mut first = Vec::new(self.alloc);
         for output in outputs {
-            if let Output::Applied(_, told) = output {
-                if told.index > noted {
-                    noted = told.index;
-                    first.push(self.outcome(told)?)?;
-                }
-            }
+            last = self.put_first(output, last, &mut first)?;
         }
-        Ok((first, noted))
+        Ok((first, last))
+    }
+
+    // Adds what an output tells of an entry past an index. The last index that is told of then.
+    fn put_first(
+        &mut self,
+        output: &Output,
+        noted: usize,
+        first: &mut Vec<Outcome>,
+    ) -> Result<usize, AllocError>
+        ensures first { OnOk result (first.new.items ≡ first.old.items ++ outcomes_of (first_told noted (told_in (output_of output.now ∷ [])))) }
+        ensures noted { IfOk result (λ last. last ≡ noted_after noted (told_in (output_of output.now ∷ []))) }
+    {
+        match output {
+            Output::Applied(_, told) => self.put_told(told, noted, first),
+            Output::Sent(..) => Ok(noted),
+            Output::Refused(..) => Ok(noted),
+            Output::Answered(..) => Ok(noted),
+        }
+    }
+
+    fn put_told(
+        &mut self,
+        told: &Told,
+        noted: usize,
+        first: &mut Vec<Outcome>,
+    ) -> Result<usize, AllocError>
+        ensures first { OnOk result (first.new.items ≡ first.old.items ++ outcomes_of (first_told noted (told.now ∷ []))) }
+        ensures noted { IfOk result (λ last. last ≡ noted_after noted (told.now ∷ [])) }
+    {
+        if noted >= told.index {
+            return Ok(noted);
+        }
+        first.push(self.outcome(told)?)?;
+        Ok(told.index)
     }
 
     /// All that outputs tell of requests.
-    pub fn all_told(&mut self, outputs: &[Output]) -> Result<Vec<Outcome>, AllocError> {
+    pub fn all_told(&mut self, outputs: &[Output]) -> Result<Vec<Outcome>, AllocError>
+        ensures { IfOk result (λ all. all.items ≡ outcomes_of (told_in (outputs_of outputs.now))) }
+    {
         let mut all = Vec::new(self.alloc);
         for output in outputs {
-            if let Output::Applied(_, told) = output {
-                all.push(self.outcome(told)?)?;
-            }
+            self.put_any(output, &mut all)?;
         }
         Ok(all)
+    }
+
+    // Adds what an output tells.
+    fn put_any(&mut self, output: &Output, all: &mut Vec<Outcome>) -> Result<(), AllocError>
+        ensures { OnOk result (all.new.items ≡ all.old.items ++ outcomes_of (told_in (output_of output.now ∷ []))) }
+    {
+        if let Output::Applied(_, told) = output {
+            all.push(self.outcome(told)?)?;
+        }
+        Ok(())
     }
 }

@@ -1,4 +1,8 @@
 //! The outcomes that may be given out of requests.
+ghost use Rattle.std.specs.Prelude.{◌≡◌, true, Any, IfOk, string_bytes};
+ghost use Rattle.flight.specs.Telling.{told_text};
+ghost use Rattle.playback.specs.Words.{word_of, IsOf, IsSaid};
+
 use fault::Refusal;
 use flight::outcome::Outcome;
 use model::entry::Told;
@@ -16,7 +20,9 @@ pub(crate) struct Word {
 
 impl Word {
     /// That of what a member tells.
-    pub fn of(told: &Told) -> Result<Word, AllocError> {
+    pub fn of(told: &Told) -> Result<Word, AllocError>
+        ensures { IfOk result (λ word. word ≡ word_of told.now) }
+    {
         let outcome = match &told.outcome {
             Ok(stamp) => Ok(*stamp),
             Err(refusal) => Err(refusal.clone()?),
@@ -30,7 +36,9 @@ impl Word {
 }
 
 // Whether two outcomes are the same.
-fn is_same(one: &Outcome, other: &Outcome) -> bool {
+fn is_same(one: &Outcome, other: &Outcome) -> bool
+    ensures { result ≡ true → one.now ≡ other.now }
+{
     one.index == other.index
         && one.client == other.client
         && one.number == other.number
@@ -38,7 +46,9 @@ fn is_same(one: &Outcome, other: &Outcome) -> bool {
 }
 
 /// Whether these are the same, one by one.
-pub(crate) fn are_same(some: &[Outcome], others: &[Outcome]) -> bool {
+pub(crate) fn are_same(some: &[Outcome], others: &[Outcome]) -> bool
+    ensures { result ≡ true → some.now ≡ others.now }
+{
     if some.len() != others.len() {
         return false;
     }
@@ -52,7 +62,9 @@ pub(crate) fn are_same(some: &[Outcome], others: &[Outcome]) -> bool {
 }
 
 // The words that an outcome is given out with.
-fn words_of(alloc: Global, outcome: &Result<Stamp, Refusal>) -> Result<String, AllocError> {
+fn words_of(alloc: Global, outcome: &Result<Stamp, Refusal>) -> Result<String, AllocError>
+    ensures { IfOk result (λ text. string_bytes text ≡ told_text outcome.now) }
+{
     match outcome {
         Ok(stamp) => {
             let instant = stamp.instant();
@@ -62,14 +74,16 @@ fn words_of(alloc: Global, outcome: &Result<Stamp, Refusal>) -> Result<String, A
     }
 }
 
-/// Whether these words are those of one of the outcomes that may be given out of a request.
-pub(crate) fn is_said(
+// Whether these words are those of one of the outcomes that may be given out of a request.
+fn is_said(
     alloc: Global,
     said: &[Word],
     client: Client,
     number: RequestNumber,
     words: &str,
-) -> Result<bool, AllocError> {
+) -> Result<bool, AllocError>
+    ensures { IfOk result (λ is. is ≡ true → Any (IsOf client number words.now) said.now) }
+{
     for word in said {
         if word.client == client && word.number == number {
             let own = words_of(alloc, &word.outcome)?;
@@ -79,4 +93,20 @@ pub(crate) fn is_said(
         }
     }
     Ok(false)
+}
+
+/// Whether these words may be given out of a request: that nothing is known of it, or one of these outcomes.
+pub(crate) fn is_given_out(
+    alloc: Global,
+    said: &[Word],
+    client: Client,
+    number: RequestNumber,
+    words: &str,
+) -> Result<bool, AllocError>
+    ensures { IfOk result (λ is. is ≡ true → IsSaid said.now client number words.now) }
+{
+    if words == "unanswered" {
+        return Ok(true);
+    }
+    is_said(alloc, said, client, number, words)
 }

@@ -1,0 +1,4 @@
+pub mod Members
+pub mod Sendings
+pub mod Tellings
+pub mod Turns

@@ -1,0 +1,6 @@
+pub mod Histories
+pub mod Standings
+pub mod Posts
+pub mod Words
+pub mod Scenes
+pub mod Playing
