@@ -1,6 +1,7 @@
 mod Turned
 mod Fine
 mod Transacted
+mod Reading
 mod Entries
 mod Answered
 mod Refusing

@@ -8,12 +8,14 @@ ghost use Rattle.rowlaws.specs.Transactions.{TransactionsFollow};
 ghost use Rattle.rowlaws.specs.Whole.{ComesFromWhole, WholeItself, WholeThen};
 ghost use Rattle.sqlread.specs.Meaning.{language_of, meaning};
 ghost use Rattle.sqlread.specs.Shapes.{statement_of};
-ghost use Rattle.current.specs.Current.{rows_of, schema_in, table_count};
+ghost use Rattle.sqlread.specs.Texts.{transaction_in};
+ghost use Rattle.current.specs.Current.{rows_of, schema_in, table_count, most_columns};
 ghost use Rattle.current.specs.Touched.{removed_in, added_in};
 ghost use Rattle.current.specs.Laws.{OfSomeState};
 ghost use Rattle.sysversion.specs.Versions.{versions_of};
 ghost use Rattle.sysversion.specs.Versions as stored;
 ghost use Rattle.apply.specs.Executing.{IsTransacted, IsRefusedWhole, AreBack, IsExecuted};
+ghost use Rattle.apply.specs.Reads.{FewReadsEach};
 
 use current::{Current, Touched, laws};
 use fault::Refusal;
@@ -47,18 +49,23 @@ fn is_no_memory(refusal: &Refusal) -> bool
 // Runs statements in order, and after the last one checks the references, by what was touched before and by these; tells
 // what all of these touched. At a refusal the statements that ran are undone, from the last back to the first. After
 // `NoMemory` the rows may be any.
+//
+// The count rises by the rows that are read to run the statements, few for each; not by those that are read to undo them, or
+// to check references.
 pub(crate) fn transact(
     alloc: Global,
     current: &mut Current,
     statements: &[Statement],
     t: Stamp,
     before: Touched,
+    count: &mut Count,
 ) -> Result<Touched, Refusal>
     ensures ok { IfOk result (λ touched. ComesFromWhole (language_of (schema_in current.old)) (rows_of current.old) (removed_in before) (added_in before) → IsTransacted (language_of (schema_in current.old)) t (map meaning (map statement_of statements.now)) (rows_of current.old) (rows_of current.new) (removed_in touched) (added_in touched)) }
     ensures err { IfErr result (λ refusal. ComesFromWhole (language_of (schema_in current.old)) (rows_of current.old) (removed_in before) (added_in before) → IsRefusedWhole (language_of (schema_in current.old)) t (map meaning (map statement_of statements.now)) (rows_of current.old) (rows_of current.new) refusal) }
     ensures back { IfErr result (λ refusal. (refusal ≡ NoMemory) ⊎ AreBack (rows_of current.old) (rows_of current.new)) }
     ensures schema { schema_in current.new ≡ schema_in current.old }
     ensures tables { IfOk result (λ touched. length touched.tables.items ≤ table_count current.old) }
+    ensures few { (state : State) → AllListed (rows_of current.old) state → FewReadsEach t (map statement_of statements.now) (most_columns current.old) state count.old count.new }
 {
     row_laws();
     let Some((statement, rest)) = statements.split_first() else {
@@ -66,9 +73,9 @@ pub(crate) fn transact(
         let tables = Vec::new(alloc);
         return Ok(Touched { tables });
     };
-    let touched = current.run(statement, t, &mut Count::new())?;
+    let touched = current.run(statement, t, count)?;
     let all = before.joined(alloc, &touched)?;
-    match transact(alloc, current, rest, t, all) {
+    match transact(alloc, current, rest, t, all, count) {
         Ok(later) => Ok(touched.then(alloc, later)?),
         Err(refusal) => {
             if !is_no_memory(&refusal) {
@@ -81,7 +88,7 @@ pub(crate) fn transact(
 
 // The statements of a text, none of one that does not read.
 fn statements(alloc: Global, schema: &Schema, text: &str) -> Result<Vec<Statement>, AllocError>
-    ensures { IfOk result (λ all. map meaning (map statement_of all.items) ≡ result_unwrap_or ((language_of schema.now).reads text.now) []) }
+    ensures { IfOk result (λ all. map statement_of all.items ≡ result_unwrap_or (transaction_in schema.now text.now) []) }
 {
     match read_transaction(alloc, schema, text) {
         Ok(transaction) => Ok(transaction.statements),
@@ -96,22 +103,28 @@ fn statements(alloc: Global, schema: &Schema, text: &str) -> Result<Vec<Statemen
 
 /// Executes a transaction's text at an instant, and gives its outcome, of rows in which no day is without a parent. A
 /// refused transaction changes no row and no version. After an error for want of memory both may be any.
+///
+/// The count rises by the rows that are read to run the statements, few for each; not by those that are read to undo them,
+/// or to check references.
 pub(crate) fn execute(
     alloc: Global,
     current: &mut Current,
     versions: &mut Versions,
     text: &str,
     t: Stamp,
+    count: &mut Count,
 ) -> Result<Outcome, AllocError>
     ensures executed { IfOk result (λ outcome. (state : State) → AllListed (rows_of current.old) state → stored.schema_in versions.old ≡ schema_in current.old → first_orphan (language_of (schema_in current.old)) state ≡ None → IsExecuted (language_of (schema_in current.old)) t text.now state (rows_of current.new) (versions_of versions.old) (versions_of versions.new) outcome) }
     ensures current_schema { schema_in current.new ≡ schema_in current.old }
     ensures versions_schema { stored.schema_in versions.new ≡ stored.schema_in versions.old }
+    ensures few { (state : State) → AllListed (rows_of current.old) state → FewReadsEach t (result_unwrap_or (transaction_in (schema_in current.old) text.now) []) (most_columns current.old) state count.old count.new }
 {
     laws::nothing_beyond();
     rowlaws::whole_itself();
     let statements = statements(alloc, current.schema(), text)?;
     let tables = Vec::new(alloc);
-    match transact(alloc, current, statements.as_slice(), t, Touched { tables }) {
+    let before = Touched { tables };
+    match transact(alloc, current, statements.as_slice(), t, before, count) {
         Ok(touched) => {
             versions.commit(touched, t)?;
             Ok(Ok(t))

@@ -26,6 +26,7 @@ use current::Current;
 use fault::Refusal;
 use model::entry::{Entry, Request};
 use model::stamp::Stamp;
+use overlaps::Count;
 use retry::{Judged, Outcome, Requests};
 use schema::Schema;
 use sqlread::query::Query;
@@ -131,6 +132,7 @@ impl Tables {
             &mut self.versions,
             request.text.as_str(),
             entry.stamp,
+            &mut Count::new(),
         )?;
         let kept = copy_of(&outcome)?;
         self.requests.keep(request.client, request.number, kept)?;

@@ -1,17 +1,19 @@
-use Rattle.std.proofs.Common.{◌≡◌, ℕ, map, [], ◌∷◌, sym, ap, subst, inl, inr}
+use Rattle.std.proofs.Common.{◌≡◌, ℕ, refl, map, [], ◌∷◌, sym, ap, subst, inl, inr}
 use Rattle.std.proofs.lemmas.Result.{err_from_is_err_and}
 use Rattle.rowlaws.proofs.RowFacts.{both}
 use Rattle.rowlaws.specs.Statements.{AllListed}
 use Rattle.rowlaws.specs.Whole.{ComesFromWhole}
 use Rattle.sqlread.specs.Meaning.{language_of, meaning}
 use Rattle.sqlread.specs.Shapes.{statement_of}
-use Rattle.current.specs.Current.{rows_of, schema_in}
+use Rattle.current.specs.Current.{rows_of, schema_in, most_columns}
 use Rattle.current.specs.Places.{rows_at}
 use Rattle.current.specs.declared.touched.Touched.{Touched}
 use Rattle.current.specs.Touched.{removed_of, added_of, removed_in, added_in}
 use Rattle.apply.specs.Executing.{IsTransacted, IsRefusedWhole}
 use Rattle.apply.proofs.Fine.{statement_fine}
 use Rattle.apply.proofs.Transacted.{checked, unchecked, whole_more, then_rest, stopped, undoable, undone, back_again, no_items}
+use Rattle.apply.specs.Reads.{FewReadsEach}
+use Rattle.apply.proofs.Reading.{few_first, few_more}
 use Rattle.apply.proofs.executing.+transact.Goals as goal
 use Rattle.apply.proofs.executing.+transact.Goals.{then-not-is_no_memory+in_ok-undo-in-Err, else-not-is_no_memory}
 
@@ -101,3 +103,57 @@ returns-after-not-is_no_memory-clause-back t c =
           c.in_ok-touched.ensures.ok c.in-Err.ensures.back w.in_ok-undo-in-Err.ensures.ok)
       | else-not-is_no_memory w ↦ inl (c.is_no_memory.ensures.0 w.if-not-is_no_memory.false)
     ]
+
+pub returns-in_err-check_touched-clause-few : goal.returns-in_err-check_touched-clause-few
+returns-in_err-check_touched-clause-few t c = λ state listed.
+    let e = no_items c.args.statements.now c.in_default.ensures.cases in
+    subst (λ ss. FewReadsEach c.args.t (map statement_of ss) (most_columns c.args.current.now) state c.args.count.now c.args.count.now) (sym e) refl
+
+pub returns-in_default-clause-few : goal.returns-in_default-clause-few
+returns-in_default-clause-few t c = λ state listed.
+    let e = no_items c.args.statements.now c.in_default.ensures.cases in
+    subst (λ ss. FewReadsEach c.args.t (map statement_of ss) (most_columns c.args.current.now) state c.args.count.now c.args.count.now) (sym e) refl
+
+pub returns-in_err-touched-clause-few : goal.returns-in_err-touched-clause-few
+returns-in_err-touched-clause-few t c = λ state listed.
+    let e : c.args.statements.now ≡ c.in-Some.statement.now ∷ c.in-Some.rest.now = c.in-Some.ensures.cases.0 in
+    subst (λ ss. FewReadsEach c.args.t (map statement_of ss) (most_columns c.args.current.now) state c.args.count.now c.run.new.count) (sym e)
+    (few_first c.args.t (statement_of c.in-Some.statement.now) (map statement_of c.in-Some.rest.now) (most_columns c.args.current.now) (rows_of c.args.current.now) state c.args.count.now c.run.new.count listed c.run.ensures.few)
+
+pub returns-in_err-all-clause-few : goal.returns-in_err-all-clause-few
+returns-in_err-all-clause-few t c = λ state listed.
+    let e : c.args.statements.now ≡ c.in-Some.statement.now ∷ c.in-Some.rest.now = c.in-Some.ensures.cases.0 in
+    subst (λ ss. FewReadsEach c.args.t (map statement_of ss) (most_columns c.args.current.now) state c.args.count.now c.run.new.count) (sym e)
+    (few_first c.args.t (statement_of c.in-Some.statement.now) (map statement_of c.in-Some.rest.now) (most_columns c.args.current.now) (rows_of c.args.current.now) state c.args.count.now c.run.new.count listed c.run.ensures.few)
+
+pub returns-in_err-then-in-Ok-clause-few : goal.returns-in_err-then-in-Ok-clause-few
+returns-in_err-then-in-Ok-clause-few t c = λ state listed.
+    let e : c.args.statements.now ≡ c.in-Some.statement.now ∷ c.in-Some.rest.now = c.in-Some.ensures.cases.0 in
+    let touched = c.in_ok-touched.touched in
+    subst (λ ss. FewReadsEach c.args.t (map statement_of ss) (most_columns c.args.current.now) state c.args.count.now c.transact.new.count) (sym e)
+    (few_more c.args.t (statement_of c.in-Some.statement.now) (map statement_of c.in-Some.rest.now) (most_columns c.args.current.now) (most_columns c.run.new.self) (rows_of c.args.current.now) (rows_of c.run.new.self)
+    (removed_in touched) (added_in touched) c.args.count.now c.run.new.count c.transact.new.count c.run.ensures.few c.in_ok-touched.ensures.ok c.run.ensures.columns c.transact.ensures.few state listed)
+
+pub returns-in_ok-then-in-Ok-clause-few : goal.returns-in_ok-then-in-Ok-clause-few
+returns-in_ok-then-in-Ok-clause-few t c = λ state listed.
+    let e : c.args.statements.now ≡ c.in-Some.statement.now ∷ c.in-Some.rest.now = c.in-Some.ensures.cases.0 in
+    let touched = c.in_ok-touched.touched in
+    subst (λ ss. FewReadsEach c.args.t (map statement_of ss) (most_columns c.args.current.now) state c.args.count.now c.transact.new.count) (sym e)
+    (few_more c.args.t (statement_of c.in-Some.statement.now) (map statement_of c.in-Some.rest.now) (most_columns c.args.current.now) (most_columns c.run.new.self) (rows_of c.args.current.now) (rows_of c.run.new.self)
+    (removed_in touched) (added_in touched) c.args.count.now c.run.new.count c.transact.new.count c.run.ensures.few c.in_ok-touched.ensures.ok c.run.ensures.columns c.transact.ensures.few state listed)
+
+pub returns-in_err-undo-in-Err-clause-few : goal.returns-in_err-undo-in-Err-clause-few
+returns-in_err-undo-in-Err-clause-few t c = λ state listed.
+    let e : c.args.statements.now ≡ c.in-Some.statement.now ∷ c.in-Some.rest.now = c.in-Some.ensures.cases.0 in
+    let touched = c.in_ok-touched.touched in
+    subst (λ ss. FewReadsEach c.args.t (map statement_of ss) (most_columns c.args.current.now) state c.args.count.now c.transact.new.count) (sym e)
+    (few_more c.args.t (statement_of c.in-Some.statement.now) (map statement_of c.in-Some.rest.now) (most_columns c.args.current.now) (most_columns c.run.new.self) (rows_of c.args.current.now) (rows_of c.run.new.self)
+    (removed_in touched) (added_in touched) c.args.count.now c.run.new.count c.transact.new.count c.run.ensures.few c.in_ok-touched.ensures.ok c.run.ensures.columns c.transact.ensures.few state listed)
+
+pub returns-after-not-is_no_memory-clause-few : goal.returns-after-not-is_no_memory-clause-few
+returns-after-not-is_no_memory-clause-few t c = λ state listed.
+    let e : c.args.statements.now ≡ c.in-Some.statement.now ∷ c.in-Some.rest.now = c.in-Some.ensures.cases.0 in
+    let touched = c.in_ok-touched.touched in
+    subst (λ ss. FewReadsEach c.args.t (map statement_of ss) (most_columns c.args.current.now) state c.args.count.now c.transact.new.count) (sym e)
+    (few_more c.args.t (statement_of c.in-Some.statement.now) (map statement_of c.in-Some.rest.now) (most_columns c.args.current.now) (most_columns c.run.new.self) (rows_of c.args.current.now) (rows_of c.run.new.self)
+    (removed_in touched) (added_in touched) c.args.count.now c.run.new.count c.transact.new.count c.run.ensures.few c.in_ok-touched.ensures.ok c.run.ensures.columns c.transact.ensures.few state listed)
