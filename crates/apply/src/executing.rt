@@ -50,7 +50,7 @@ fn is_no_memory(refusal: &Refusal) -> bool
 // what all of these touched. At a refusal the statements that ran are undone, from the last back to the first. After
 // `NoMemory` the rows may be any.
 //
-// The count rises by the rows that are read to run the statements, few for each; not by those that are read to undo them, or
+// The count rises by the rows that are read to run the statements and to undo them, few for each; not by those that are read
 // to check references.
 pub(crate) fn transact(
     alloc: Global,
@@ -65,7 +65,7 @@ pub(crate) fn transact(
     ensures back { IfErr result (λ refusal. (refusal ≡ NoMemory) ⊎ AreBack (rows_of current.old) (rows_of current.new)) }
     ensures schema { schema_in current.new ≡ schema_in current.old }
     ensures tables { IfOk result (λ touched. length touched.tables.items ≤ table_count current.old) }
-    ensures few { (state : State) → AllListed (rows_of current.old) state → FewReadsEach t (map statement_of statements.now) (most_columns current.old) state count.old count.new }
+    ensures few { (state : State) → AllListed (rows_of current.old) state → FewReadsEach (table_count current.old) t (map statement_of statements.now) (most_columns current.old) state count.old count.new }
 {
     row_laws();
     let Some((statement, rest)) = statements.split_first() else {
@@ -79,7 +79,7 @@ pub(crate) fn transact(
         Ok(later) => Ok(touched.then(alloc, later)?),
         Err(refusal) => {
             if !is_no_memory(&refusal) {
-                current.undo(&touched)?;
+                current.undo(&touched, count)?;
             }
             Err(refusal)
         }
@@ -104,8 +104,8 @@ fn statements(alloc: Global, schema: &Schema, text: &str) -> Result<Vec<Statemen
 /// Executes a transaction's text at an instant, and gives its outcome, of rows in which no day is without a parent. A
 /// refused transaction changes no row and no version. After an error for want of memory both may be any.
 ///
-/// The count rises by the rows that are read to run the statements, few for each; not by those that are read to undo them,
-/// or to check references.
+/// The count rises by the rows that are read to run the statements and to undo them, few for each; not by those that are
+/// read to check references.
 pub(crate) fn execute(
     alloc: Global,
     current: &mut Current,
@@ -117,7 +117,7 @@ pub(crate) fn execute(
     ensures executed { IfOk result (λ outcome. (state : State) → AllListed (rows_of current.old) state → stored.schema_in versions.old ≡ schema_in current.old → first_orphan (language_of (schema_in current.old)) state ≡ None → IsExecuted (language_of (schema_in current.old)) t text.now state (rows_of current.new) (versions_of versions.old) (versions_of versions.new) outcome) }
     ensures current_schema { schema_in current.new ≡ schema_in current.old }
     ensures versions_schema { stored.schema_in versions.new ≡ stored.schema_in versions.old }
-    ensures few { (state : State) → AllListed (rows_of current.old) state → FewReadsEach t (result_unwrap_or (transaction_in (schema_in current.old) text.now) []) (most_columns current.old) state count.old count.new }
+    ensures few { (state : State) → AllListed (rows_of current.old) state → FewReadsEach (table_count current.old) t (result_unwrap_or (transaction_in (schema_in current.old) text.now) []) (most_columns current.old) state count.old count.new }
 {
     laws::nothing_beyond();
     rowlaws::whole_itself();

@@ -20,6 +20,7 @@ pub mod OfKey
 pub mod Naming
 pub mod NamedKey
 pub mod Reading
+mod Counting
 pub mod KeyCorrection
 pub mod Orphans
 pub mod Checked

@@ -1,9 +1,10 @@
 -- How far a statement may raise the count of rows that are read, from `old` to `new`.
-use Rattle.std.specs.Prelude.{◌≡◌, ℕ, ◌+◌, ◌^◌, ◌<◌, ◌≤◌, Bool, List, length, filter, unwrap_or}
+use Rattle.std.specs.Prelude.{◌≡◌, ℕ, zero, suc, ◌+◌, ◌*◌, ◌^◌, ◌<◌, ◌≤◌, Bool, List, length, filter, unwrap_or}
 use Rattle.model.specs.declared.value.Value.{Value}
 use Rattle.model.specs.Values.{same_key}
 use Rattle.model.specs.Tables.{Period, Row}
 use Rattle.rowlaws.specs.Rows.{Has}
+use Rattle.rowlaws.specs.Statements.{Rows}
 use Rattle.rowlaws.specs.Changes.{clashes}
 use Rattle.sqlchecks.specs.declared.comparison.Comparison.{Comparison}
 use Rattle.sqlread.specs.Shapes.{StatementShape, Insert, Update, Delete}
@@ -14,10 +15,14 @@ use Rattle.current.specs.Named.{IsNamed}
 abbrev pub is_of : List Value → Row → Bool
 is_of key r = same_key r.key key
 
--- one row of a key is looked for by halves, as INSERT does: of fewer rows of the key than two to the power of `digits`,
--- `digits` and one more are read at most
+-- one row of a key is looked for by halves: of fewer rows of the key than two to the power of `digits`, `digits` and one
+-- more are read at most
 abbrev pub FewToFind : List Value → List Row → ℕ → ℕ → Type 0
 FewToFind key rows old new = (digits : ℕ) → length (filter (is_of key) rows) < 2 ^ digits → new ≤ old + digits + 1
+
+-- INSERT looks so for a row that clashes, and by halves for the place of its own
+abbrev pub FewToInsert : List Value → List Row → ℕ → ℕ → Type 0
+FewToInsert key rows old new = (digits : ℕ) → length (filter (is_of key) rows) < 2 ^ digits → new ≤ old + digits + digits + 1
 
 -- UPDATE and DELETE of one key: twice `digits` and one more besides the key's rows that have a day of the portion
 abbrev pub FewToCorrect : List Value → Period → List Row → ℕ → ℕ → Type 0
@@ -33,6 +38,17 @@ NoMoreThanAll rows old new = (digits : ℕ) → length rows < 2 ^ digits → new
 
 -- by what the statement is, of the rows of its table
 abbrev pub FewReads : StatementShape → ℕ → List Row → ℕ → ℕ → Type 0
-FewReads (Insert s) columns rows old new = FewToFind s.key rows old new
+FewReads (Insert s) columns rows old new = FewToInsert s.key rows old new
 FewReads (Update s) columns rows old new = FewIfNamed s.conditions (unwrap_or s.portion all_days) columns rows old new × NoMoreThanAll rows old new
 FewReads (Delete s) columns rows old new = FewIfNamed s.conditions (unwrap_or s.portion all_days) columns rows old new × NoMoreThanAll rows old new
+
+-- how many rows of the first n tables went and came
+abbrev pub rows_touched : ℕ → Rows → Rows → ℕ
+rows_touched zero removed added = 0
+rows_touched (suc n) removed added = rows_touched n removed added + (length (removed n) + length (added n))
+
+-- a statement is undone on so many tables: of tables that have fewer rows, with those that come back, than two to the power of
+-- `digits`, twice `digits` and two for each row that went or came
+abbrev pub FewToUndo : ℕ → Rows → Rows → Rows → ℕ → ℕ → Type 0
+FewToUndo tables rows removed added old new =
+    (digits : ℕ) → ((n : ℕ) → length (rows n) + length (removed n) < 2 ^ digits) → new ≤ old + rows_touched tables removed added * (digits + digits + 2)

@@ -66,7 +66,7 @@ fn action_laws()
 
 impl Current {
     ghost use Rattle.current.specs.Current.{rows_of, schema_in, table_count, is_failed, most_columns, columns_of};
-    ghost use Rattle.current.specs.Reads.{FewReads, FewIfNamed, NoMoreThanAll};
+    ghost use Rattle.current.specs.Reads.{FewReads, FewIfNamed, NoMoreThanAll, FewToUndo};
 
     /// The tables of a schema, without rows.
     pub fn new(alloc: Global, schema: &Schema) -> Result<Current, AllocError>
@@ -192,8 +192,8 @@ impl Current {
     /// have more than 20,000 rows; `NoMemory`, always once it has failed, and for a statement on a table
     /// that is not there, which only another schema has.
     ///
-    /// The count rises by the rows of the table that were read, and becomes at least how many go. An INSERT searches its
-    /// key's rows by halves. An UPDATE or DELETE that has `=` for each column of a key searches that key's rows by halves,
+    /// The count rises by the rows of the table that were read, and is then at least how many go. An INSERT searches its
+    /// key's rows by halves, twice. An UPDATE or DELETE that has `=` for each column of a key searches that key's rows by halves,
     /// and reads those of them that have a day of its portion; one that does not reads all rows.
     pub fn run(
         &mut self,
@@ -223,14 +223,15 @@ impl Current {
     }
 
     // Gives the rows of each table before a statement. Want of memory leaves some of them away.
-    fn undo_tables(&mut self, touched: &Touched) -> Result<(), AllocError>
+    fn undo_tables(&mut self, touched: &Touched, count: &mut Count) -> Result<(), AllocError>
         requires { AllUndoable (rows_of self.old) (removed_in touched.now) (added_in touched.now) }
         ensures ok { OnOk result ((n : ℕ) → n < table_count self.old → HaveSame (rows_without (rows_of self.old n) (added_in touched.now n) ++ removed_in touched.now n) (rows_of self.new n)) }
         ensures schema { schema_in self.new ≡ schema_in self.old }
         ensures columns { (n most : ℕ) → most_columns self.old n ≤ most → ((r : TableRow) → Has (removed_in touched.now n) r → length r.key ≤ most) → most_columns self.new n ≤ most }
+        ensures few { FewToUndo (table_count self.old) (rows_of self.old) (removed_in touched.now) (added_in touched.now) count.old count.new }
     {
         for n in 0..self.tables.len() {
-            self.tables[n].undo(touched.removed(n), touched.added(n))?;
+            self.tables[n].undo(touched.removed(n), touched.added(n), count)?;
         }
         Ok(())
     }
@@ -238,7 +239,9 @@ impl Current {
     /// Gives the rows before the statement that touched this, which must be what the last statement
     /// touched that is not yet undone. Want of memory loses rows: the value has then failed, and
     /// answers only that.
-    pub fn undo(&mut self, touched: &Touched) -> Result<(), AllocError>
+    ///
+    /// The count rises by the rows that were read: each row that was touched is searched for by halves, twice at most.
+    pub fn undo(&mut self, touched: &Touched, count: &mut Count) -> Result<(), AllocError>
         requires tables { length touched.now.tables.items ≤ table_count self.old }
         requires touched { AllUndoable (rows_of self.old) (removed_in touched.now) (added_in touched.now) }
         ensures ok { OnOk result (IsUndone (rows_of self.old) (rows_of self.new) (removed_in touched.now) (added_in touched.now)) }
@@ -247,13 +250,14 @@ impl Current {
         ensures schema { schema_in self.new ≡ schema_in self.old }
         ensures once_failed { is_failed self.old ≡ true → result ≡ Err alloc_error }
         ensures columns { (n most : ℕ) → most_columns self.old n ≤ most → ((r : TableRow) → Has (removed_in touched.now n) r → length r.key ≤ most) → most_columns self.new n ≤ most }
+        ensures few { FewToUndo (table_count self.old) (rows_of self.old) (removed_in touched.now) (added_in touched.now) count.old count.new }
     {
         if self.failed {
             return Err(AllocError);
         }
         rowlaws::undo();
         rowlaws::same_rows();
-        let undone = self.undo_tables(touched);
+        let undone = self.undo_tables(touched, count);
         self.failed = undone.is_err();
         undone
     }

@@ -1,19 +1,21 @@
-use Rattle.std.proofs.Common.{◌≡◌, ℕ, refl, map, [], ◌∷◌, sym, ap, subst, inl, inr}
+use Rattle.std.proofs.Common.{◌≡◌, ℕ, refl, map, [], ◌∷◌, ◌∙◌, length, sym, ap, subst, inl, inr}
 use Rattle.std.proofs.lemmas.Result.{err_from_is_err_and}
 use Rattle.rowlaws.proofs.RowFacts.{both}
+use Rattle.model.specs.Transactions.{State}
 use Rattle.rowlaws.specs.Statements.{AllListed}
 use Rattle.rowlaws.specs.Whole.{ComesFromWhole}
 use Rattle.sqlread.specs.Meaning.{language_of, meaning}
 use Rattle.sqlread.specs.Shapes.{statement_of}
-use Rattle.current.specs.Current.{rows_of, schema_in, most_columns}
+use Rattle.current.specs.Current.{rows_of, schema_in, table_count, most_columns}
 use Rattle.current.specs.Places.{rows_at}
+use Rattle.current.specs.Reads.{FewToUndo}
 use Rattle.current.specs.declared.touched.Touched.{Touched}
 use Rattle.current.specs.Touched.{removed_of, added_of, removed_in, added_in}
 use Rattle.apply.specs.Executing.{IsTransacted, IsRefusedWhole}
 use Rattle.apply.proofs.Fine.{statement_fine}
 use Rattle.apply.proofs.Transacted.{checked, unchecked, whole_more, then_rest, stopped, undoable, undone, back_again, no_items}
 use Rattle.apply.specs.Reads.{FewReadsEach}
-use Rattle.apply.proofs.Reading.{few_first, few_more}
+use Rattle.apply.proofs.Reading.{few_first, few_more, few_undone}
 use Rattle.apply.proofs.executing.+transact.Goals as goal
 use Rattle.apply.proofs.executing.+transact.Goals.{then-not-is_no_memory+in_ok-undo-in-Err, else-not-is_no_memory}
 
@@ -107,53 +109,73 @@ returns-after-not-is_no_memory-clause-back t c =
 pub returns-in_err-check_touched-clause-few : goal.returns-in_err-check_touched-clause-few
 returns-in_err-check_touched-clause-few t c = λ state listed.
     let e = no_items c.args.statements.now c.in_default.ensures.cases in
-    subst (λ ss. FewReadsEach c.args.t (map statement_of ss) (most_columns c.args.current.now) state c.args.count.now c.args.count.now) (sym e) refl
+    subst (λ ss. FewReadsEach (table_count c.args.current.now) c.args.t (map statement_of ss) (most_columns c.args.current.now) state c.args.count.now c.args.count.now) (sym e) refl
 
 pub returns-in_default-clause-few : goal.returns-in_default-clause-few
 returns-in_default-clause-few t c = λ state listed.
     let e = no_items c.args.statements.now c.in_default.ensures.cases in
-    subst (λ ss. FewReadsEach c.args.t (map statement_of ss) (most_columns c.args.current.now) state c.args.count.now c.args.count.now) (sym e) refl
+    subst (λ ss. FewReadsEach (table_count c.args.current.now) c.args.t (map statement_of ss) (most_columns c.args.current.now) state c.args.count.now c.args.count.now) (sym e) refl
 
 pub returns-in_err-touched-clause-few : goal.returns-in_err-touched-clause-few
 returns-in_err-touched-clause-few t c = λ state listed.
     let e : c.args.statements.now ≡ c.in-Some.statement.now ∷ c.in-Some.rest.now = c.in-Some.ensures.cases.0 in
-    subst (λ ss. FewReadsEach c.args.t (map statement_of ss) (most_columns c.args.current.now) state c.args.count.now c.run.new.count) (sym e)
-    (few_first c.args.t (statement_of c.in-Some.statement.now) (map statement_of c.in-Some.rest.now) (most_columns c.args.current.now) (rows_of c.args.current.now) state c.args.count.now c.run.new.count listed c.run.ensures.few)
+    subst (λ ss. FewReadsEach (table_count c.args.current.now) c.args.t (map statement_of ss) (most_columns c.args.current.now) state c.args.count.now c.run.new.count) (sym e)
+    (few_first (table_count c.args.current.now) c.args.t (statement_of c.in-Some.statement.now) (map statement_of c.in-Some.rest.now) (most_columns c.args.current.now) (rows_of c.args.current.now) state c.args.count.now c.run.new.count listed c.run.ensures.few)
 
 pub returns-in_err-all-clause-few : goal.returns-in_err-all-clause-few
 returns-in_err-all-clause-few t c = λ state listed.
     let e : c.args.statements.now ≡ c.in-Some.statement.now ∷ c.in-Some.rest.now = c.in-Some.ensures.cases.0 in
-    subst (λ ss. FewReadsEach c.args.t (map statement_of ss) (most_columns c.args.current.now) state c.args.count.now c.run.new.count) (sym e)
-    (few_first c.args.t (statement_of c.in-Some.statement.now) (map statement_of c.in-Some.rest.now) (most_columns c.args.current.now) (rows_of c.args.current.now) state c.args.count.now c.run.new.count listed c.run.ensures.few)
+    subst (λ ss. FewReadsEach (table_count c.args.current.now) c.args.t (map statement_of ss) (most_columns c.args.current.now) state c.args.count.now c.run.new.count) (sym e)
+    (few_first (table_count c.args.current.now) c.args.t (statement_of c.in-Some.statement.now) (map statement_of c.in-Some.rest.now) (most_columns c.args.current.now) (rows_of c.args.current.now) state c.args.count.now c.run.new.count listed c.run.ensures.few)
 
 pub returns-in_err-then-in-Ok-clause-few : goal.returns-in_err-then-in-Ok-clause-few
 returns-in_err-then-in-Ok-clause-few t c = λ state listed.
     let e : c.args.statements.now ≡ c.in-Some.statement.now ∷ c.in-Some.rest.now = c.in-Some.ensures.cases.0 in
     let touched = c.in_ok-touched.touched in
-    subst (λ ss. FewReadsEach c.args.t (map statement_of ss) (most_columns c.args.current.now) state c.args.count.now c.transact.new.count) (sym e)
-    (few_more c.args.t (statement_of c.in-Some.statement.now) (map statement_of c.in-Some.rest.now) (most_columns c.args.current.now) (most_columns c.run.new.self) (rows_of c.args.current.now) (rows_of c.run.new.self)
-    (removed_in touched) (added_in touched) c.args.count.now c.run.new.count c.transact.new.count c.run.ensures.few c.in_ok-touched.ensures.ok c.run.ensures.columns c.transact.ensures.few state listed)
+    let tables = table_count c.args.current.now in
+    let rest = subst (λ n. (state : State) → AllListed (rows_of c.run.new.self) state → FewReadsEach n c.args.t (map statement_of c.in-Some.rest.now) (most_columns c.run.new.self) state c.run.new.count c.transact.new.count) (ap length c.run.ensures.schema) c.transact.ensures.few in
+    subst (λ ss. FewReadsEach tables c.args.t (map statement_of ss) (most_columns c.args.current.now) state c.args.count.now c.transact.new.count) (sym e)
+    (few_more tables c.args.t (statement_of c.in-Some.statement.now) (map statement_of c.in-Some.rest.now) (most_columns c.args.current.now) (most_columns c.run.new.self) (rows_of c.args.current.now) (rows_of c.run.new.self)
+    (removed_in touched) (added_in touched) c.args.count.now c.run.new.count c.transact.new.count c.run.ensures.few c.in_ok-touched.ensures.ok c.run.ensures.columns rest state listed)
 
 pub returns-in_ok-then-in-Ok-clause-few : goal.returns-in_ok-then-in-Ok-clause-few
 returns-in_ok-then-in-Ok-clause-few t c = λ state listed.
     let e : c.args.statements.now ≡ c.in-Some.statement.now ∷ c.in-Some.rest.now = c.in-Some.ensures.cases.0 in
     let touched = c.in_ok-touched.touched in
-    subst (λ ss. FewReadsEach c.args.t (map statement_of ss) (most_columns c.args.current.now) state c.args.count.now c.transact.new.count) (sym e)
-    (few_more c.args.t (statement_of c.in-Some.statement.now) (map statement_of c.in-Some.rest.now) (most_columns c.args.current.now) (most_columns c.run.new.self) (rows_of c.args.current.now) (rows_of c.run.new.self)
-    (removed_in touched) (added_in touched) c.args.count.now c.run.new.count c.transact.new.count c.run.ensures.few c.in_ok-touched.ensures.ok c.run.ensures.columns c.transact.ensures.few state listed)
+    let tables = table_count c.args.current.now in
+    let rest = subst (λ n. (state : State) → AllListed (rows_of c.run.new.self) state → FewReadsEach n c.args.t (map statement_of c.in-Some.rest.now) (most_columns c.run.new.self) state c.run.new.count c.transact.new.count) (ap length c.run.ensures.schema) c.transact.ensures.few in
+    subst (λ ss. FewReadsEach tables c.args.t (map statement_of ss) (most_columns c.args.current.now) state c.args.count.now c.transact.new.count) (sym e)
+    (few_more tables c.args.t (statement_of c.in-Some.statement.now) (map statement_of c.in-Some.rest.now) (most_columns c.args.current.now) (most_columns c.run.new.self) (rows_of c.args.current.now) (rows_of c.run.new.self)
+    (removed_in touched) (added_in touched) c.args.count.now c.run.new.count c.transact.new.count c.run.ensures.few c.in_ok-touched.ensures.ok c.run.ensures.columns rest state listed)
 
 pub returns-in_err-undo-in-Err-clause-few : goal.returns-in_err-undo-in-Err-clause-few
 returns-in_err-undo-in-Err-clause-few t c = λ state listed.
     let e : c.args.statements.now ≡ c.in-Some.statement.now ∷ c.in-Some.rest.now = c.in-Some.ensures.cases.0 in
     let touched = c.in_ok-touched.touched in
-    subst (λ ss. FewReadsEach c.args.t (map statement_of ss) (most_columns c.args.current.now) state c.args.count.now c.transact.new.count) (sym e)
-    (few_more c.args.t (statement_of c.in-Some.statement.now) (map statement_of c.in-Some.rest.now) (most_columns c.args.current.now) (most_columns c.run.new.self) (rows_of c.args.current.now) (rows_of c.run.new.self)
-    (removed_in touched) (added_in touched) c.args.count.now c.run.new.count c.transact.new.count c.run.ensures.few c.in_ok-touched.ensures.ok c.run.ensures.columns c.transact.ensures.few state listed)
+    let tables = table_count c.args.current.now in
+    let same = ap length c.run.ensures.schema in
+    let rest = subst (λ n. (state : State) → AllListed (rows_of c.run.new.self) state → FewReadsEach n c.args.t (map statement_of c.in-Some.rest.now) (most_columns c.run.new.self) state c.run.new.count c.transact.new.count) same c.transact.ensures.few in
+    let few = subst (λ n. FewToUndo n (rows_of c.transact.new.current) (removed_in touched) (added_in touched) c.transact.new.count c.undo.new.count) (ap length c.transact.ensures.schema ∙ same) c.undo.ensures.few in
+    subst (λ ss. FewReadsEach tables c.args.t (map statement_of ss) (most_columns c.args.current.now) state c.args.count.now c.undo.new.count) (sym e)
+    (few_undone tables c.args.t (statement_of c.in-Some.statement.now) (map statement_of c.in-Some.rest.now) (most_columns c.args.current.now) (most_columns c.run.new.self) (rows_of c.args.current.now) (rows_of c.run.new.self)
+    (removed_in touched) (added_in touched) c.args.count.now c.run.new.count c.transact.new.count c.run.ensures.few c.in_ok-touched.ensures.ok c.run.ensures.columns rest
+    c.in-Err.refusal (rows_of c.transact.new.current) c.undo.new.count (λ h. both (c.is_no_memory.ensures.1 h) c.if-not-is_no_memory.true) c.in-Err.ensures.back few state listed)
 
 pub returns-after-not-is_no_memory-clause-few : goal.returns-after-not-is_no_memory-clause-few
 returns-after-not-is_no_memory-clause-few t c = λ state listed.
     let e : c.args.statements.now ≡ c.in-Some.statement.now ∷ c.in-Some.rest.now = c.in-Some.ensures.cases.0 in
     let touched = c.in_ok-touched.touched in
-    subst (λ ss. FewReadsEach c.args.t (map statement_of ss) (most_columns c.args.current.now) state c.args.count.now c.transact.new.count) (sym e)
-    (few_more c.args.t (statement_of c.in-Some.statement.now) (map statement_of c.in-Some.rest.now) (most_columns c.args.current.now) (most_columns c.run.new.self) (rows_of c.args.current.now) (rows_of c.run.new.self)
-    (removed_in touched) (added_in touched) c.args.count.now c.run.new.count c.transact.new.count c.run.ensures.few c.in_ok-touched.ensures.ok c.run.ensures.columns c.transact.ensures.few state listed)
+    let tables = table_count c.args.current.now in
+    let same = ap length c.run.ensures.schema in
+    let rest = subst (λ n. (state : State) → AllListed (rows_of c.run.new.self) state → FewReadsEach n c.args.t (map statement_of c.in-Some.rest.now) (most_columns c.run.new.self) state c.run.new.count c.transact.new.count) same c.transact.ensures.few in
+    subst (λ ss. FewReadsEach tables c.args.t (map statement_of ss) (most_columns c.args.current.now) state c.args.count.now c.if-not-is_no_memory.count) (sym e)
+    (elim c.if-not-is_no_memory.branch [
+      | then-not-is_no_memory+in_ok-undo-in-Err w ↦
+          let few = subst (λ n. FewToUndo n (rows_of c.transact.new.current) (removed_in touched) (added_in touched) c.transact.new.count w.undo.new.count) (ap length c.transact.ensures.schema ∙ same) w.undo.ensures.few in
+          rw w.count-is (few_undone tables c.args.t (statement_of c.in-Some.statement.now) (map statement_of c.in-Some.rest.now) (most_columns c.args.current.now) (most_columns c.run.new.self) (rows_of c.args.current.now) (rows_of c.run.new.self)
+    (removed_in touched) (added_in touched) c.args.count.now c.run.new.count c.transact.new.count c.run.ensures.few c.in_ok-touched.ensures.ok c.run.ensures.columns rest
+    c.in-Err.refusal (rows_of c.transact.new.current) w.undo.new.count (λ h. both (c.is_no_memory.ensures.1 h) w.if-not-is_no_memory.true) c.in-Err.ensures.back few state listed)
+      | else-not-is_no_memory w ↦
+          rw w.count-is (few_more tables c.args.t (statement_of c.in-Some.statement.now) (map statement_of c.in-Some.rest.now) (most_columns c.args.current.now) (most_columns c.run.new.self) (rows_of c.args.current.now) (rows_of c.run.new.self)
+          (removed_in touched) (added_in touched) c.args.count.now c.run.new.count c.transact.new.count c.run.ensures.few c.in_ok-touched.ensures.ok c.run.ensures.columns rest state listed)
+    ])

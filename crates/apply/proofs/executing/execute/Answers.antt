@@ -34,24 +34,24 @@ returns-clause-executed c = λ state listed same none.
 
 pub returns-in_err-statements-clause-few : goal.returns-in_err-statements-clause-few
 returns-in_err-statements-clause-few c = λ state listed.
-    few_none c.args.t (result_unwrap_or (transaction_in (schema_in c.args.current.now) c.args.text.now) []) (most_columns c.args.current.now) (rows_of c.args.current.now) state c.args.count.now listed
+    few_none (table_count c.args.current.now) c.args.t (result_unwrap_or (transaction_in (schema_in c.args.current.now) c.args.text.now) []) (most_columns c.args.current.now) (rows_of c.args.current.now) state c.args.count.now listed
 
 pub returns-in-Ok-clause-few : goal.returns-in-Ok-clause-few
 returns-in-Ok-clause-few c = λ state listed.
     let shapes = ap (λ xs. map statement_of xs) c.as_slice.ensures.value ∙ c.in_ok-statements.ensures ∙ ap (λ tables. result_unwrap_or (transaction_in tables c.args.text.now) []) c.schema.ensures in
-    subst (λ ss. FewReadsEach c.args.t ss (most_columns c.args.current.now) state c.args.count.now c.transact.new.count) shapes (c.transact.ensures.few state listed)
+    subst (λ ss. FewReadsEach (table_count c.args.current.now) c.args.t ss (most_columns c.args.current.now) state c.args.count.now c.transact.new.count) shapes (c.transact.ensures.few state listed)
 
 pub returns-in_err-commit-in-Ok-clause-few : goal.returns-in_err-commit-in-Ok-clause-few
 returns-in_err-commit-in-Ok-clause-few c = λ state listed.
     let shapes = ap (λ xs. map statement_of xs) c.as_slice.ensures.value ∙ c.in_ok-statements.ensures ∙ ap (λ tables. result_unwrap_or (transaction_in tables c.args.text.now) []) c.schema.ensures in
-    subst (λ ss. FewReadsEach c.args.t ss (most_columns c.args.current.now) state c.args.count.now c.transact.new.count) shapes (c.transact.ensures.few state listed)
+    subst (λ ss. FewReadsEach (table_count c.args.current.now) c.args.t ss (most_columns c.args.current.now) state c.args.count.now c.transact.new.count) shapes (c.transact.ensures.few state listed)
 
 pub returns-then-is_no_memory-clause-few : goal.returns-then-is_no_memory-clause-few
 returns-then-is_no_memory-clause-few c = λ state listed.
     let shapes = ap (λ xs. map statement_of xs) c.as_slice.ensures.value ∙ c.in_ok-statements.ensures ∙ ap (λ tables. result_unwrap_or (transaction_in tables c.args.text.now) []) c.schema.ensures in
-    subst (λ ss. FewReadsEach c.args.t ss (most_columns c.args.current.now) state c.args.count.now c.transact.new.count) shapes (c.transact.ensures.few state listed)
+    subst (λ ss. FewReadsEach (table_count c.args.current.now) c.args.t ss (most_columns c.args.current.now) state c.args.count.now c.transact.new.count) shapes (c.transact.ensures.few state listed)
 
 pub returns-clause-few : goal.returns-clause-few
 returns-clause-few c = λ state listed.
     let shapes = ap (λ xs. map statement_of xs) c.as_slice.ensures.value ∙ c.in_ok-statements.ensures ∙ ap (λ tables. result_unwrap_or (transaction_in tables c.args.text.now) []) c.schema.ensures in
-    subst (λ ss. FewReadsEach c.args.t ss (most_columns c.args.current.now) state c.args.count.now c.transact.new.count) shapes (c.transact.ensures.few state listed)
+    subst (λ ss. FewReadsEach (table_count c.args.current.now) c.args.t ss (most_columns c.args.current.now) state c.args.count.now c.transact.new.count) shapes (c.transact.ensures.few state listed)
