@@ -326,7 +326,8 @@ impl Replay {
             return Err(AuditFault::Wrong { node, mark });
         }
         let left = self.left_by(node, next)?;
-        self.happen(mark, Event::Torn(node, job, left))?;
+        let torn = Event::torn(self.alloc, node, job, left)?;
+        self.happen(mark, torn)?;
         Ok(())
     }
 
@@ -350,7 +351,8 @@ impl Replay {
             Err(Refusal::NoMemory) => return Err(AuditFault::NoMemory),
             Err(_) => return Err(AuditFault::Wrong { node, mark }),
         };
-        let outs = self.happen(mark, Event::Ask(node, query))?;
+        let asked = Event::ask(self.alloc, node, query)?;
+        let outs = self.happen(mark, asked)?;
         if !is_text(self.alloc, &outs, &recorded.answer)? {
             return Err(AuditFault::Wrong { node, mark });
         }

@@ -34,7 +34,7 @@ impl Play {
     fn tear(&mut self, member: Member, begun: Begun, is_old: bool) -> Result<(), StoreRefusal> {
         let Begun { job, step, .. } = begun;
         let left = if is_old { Left::Old } else { Left::New };
-        let _ = self.happen(Event::Torn(member, job, left))?;
+        let _ = self.happen(Event::torn(self.alloc, member, job, left)?)?;
         let ending = match step {
             Some(step) => Ending::Torn(step),
             None => Ending::Stopped,

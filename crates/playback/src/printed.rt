@@ -64,7 +64,7 @@ impl Play {
     ) -> Result<(), StoreRefusal> {
         let mark = self.mark(member)?;
         let asked = self.read_asked(member, mark, &query)?;
-        let outputs = self.happen(Event::Ask(member, asked))?;
+        let outputs = self.happen(Event::ask(self.alloc, member, asked)?)?;
         let is_same = match answer_text(self.alloc, &outputs)? {
             Some(text) => text.as_str() == answer.as_str(),
             None => false,

@@ -105,7 +105,8 @@ impl Play {
         ensures plays { Plays self.old.world result self.new (asked (tables_of self.old) (members_of self.old) (stage_of self.old) node (Ok (query_of question))) (P.printed printer.old) (P.printed printer.new) }
         ensures whose { IfErr result (IsFaultOf P.fails printer.new) }
     {
-        let outputs = self.world.step(&Event::Ask(node, question))?;
+        let asked = Event::ask(self.alloc, node, question)?;
+        let outputs = self.world.step(&asked)?;
         print_outputs(self.alloc, &outputs, printer)
     }
 
@@ -284,7 +285,7 @@ impl Play {
             return Ok(());
         }
         match self.torn_job(node, job)? {
-            Some(job) => self.happen(Event::Torn(node, job, left), printer),
+            Some(job) => self.happen(Event::torn(self.alloc, node, job, left)?, printer),
             None => Ok(()),
         }
     }

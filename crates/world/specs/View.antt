@@ -47,8 +47,8 @@ event_of (Hand m input) = model.Hand m input
 event_of (Deliver k reading) = model.Deliver k reading
 event_of (Stop m) = model.Stop m
 event_of (Start m) = model.Start m
-event_of (Torn m job left) = model.Torn m job left
-event_of (Ask m query) = model.Ask m (select_of (query_of query))
+event_of (Torn m job left) = model.Torn m job.value left
+event_of (Ask m query) = model.Ask m (select_of (query_of query.value))
 
 abbrev pub output_of : Out → Output
 output_of (SentOut number message) = Sent number message
@@ -66,7 +66,7 @@ HasColumns tables table out = Unit {0}
 
 -- what an Ask gives has the columns of the table that was asked
 abbrev pub ShowsColumns : Tables → Given → List Out → Type 0
-ShowsColumns tables (Ask m query) outs = All (HasColumns tables query.table) outs
+ShowsColumns tables (Ask m query) outs = All (HasColumns tables query.value.table) outs
 ShowsColumns tables event outs = Unit {0}
 
 -- each of these events, with what it gives in its turn
