@@ -18,6 +18,7 @@ use std::{env, fs};
 use store::announcing::Announces;
 use store::{Device, StoreRefusal};
 use storeaudit::{Audited, Later, Verdict};
+use storecommands::dot::Form;
 use storecommands::{Command, ExportRows, ImportRows, NewStore, OpenStore};
 use storefolder::{Kept, Opened, reading_of};
 use transfer::{Export, Import, Order, Versions};
@@ -190,6 +191,15 @@ fn columns(rt: &HostRuntime) -> usize {
     }
 }
 
+// How answers are shown at first: as the command line says, else as tables at a terminal, and as lines elsewhere.
+fn form_of(open: OpenStore<'_>, is_terminal: bool) -> Form {
+    match open.form {
+        Some(form) => form,
+        None if is_terminal => Form::Table,
+        None => Form::Lines,
+    }
+}
+
 // A sitting over standard input.
 fn sit_at_input<'a>(
     rt: &HostRuntime,
@@ -203,6 +213,7 @@ fn sit_at_input<'a>(
         name: "-",
         is_terminal,
         width: if is_terminal { Some(columns(rt)) } else { None },
+        form: form_of(open, is_terminal),
     };
     match sit(rt, alloc, place, rt.reader(), open.syncs, clock) {
         Ok(status) => Ok(status),
@@ -230,6 +241,7 @@ fn run_open<'a>(rt: &HostRuntime, alloc: Global, open: OpenStore<'a>) -> Result<
         name,
         is_terminal: false,
         width: None,
+        form: form_of(open, false),
     };
     match sit(rt, alloc, place, file, open.syncs, clock) {
         Ok(status) => Ok(status),

@@ -26,6 +26,8 @@ pub(crate) struct Place<'a> {
     pub is_terminal: bool,
     /// How many columns a table may have; none for any number.
     pub width: Option<usize>,
+    /// How answers are shown at first.
+    pub form: Form,
 }
 
 /// A sitting.
@@ -61,11 +63,6 @@ where
         found: &'a Found,
         clock: Option<i64>,
     ) -> Session<'a, K> {
-        let form = if place.is_terminal {
-            Form::Table
-        } else {
-            Form::Lines
-        };
         Session {
             alloc,
             place,
@@ -73,7 +70,7 @@ where
             found,
             clock,
             manner: Manner {
-                form,
+                form: place.form,
                 is_terminal: place.is_terminal,
                 width: place.width,
             },

@@ -5,6 +5,8 @@ use Rattle.clap.specs.Simple.{App, new_app, new_rule, with_rule, with_subcommand
 use Rattle.clap.specs.declared.builder.action.ArgAction.TheVariants.{Set, SetTrue}
 use Rattle.clap.specs.declared.builder.value_parser.ValueParser.TheVariants as parser
 use Rattle.storecommands.specs.Given.{GivesFlag, GivesLine, GivesNumber}
+use Rattle.storecommands.specs.declared.dot.Form.{Form}
+use Rattle.storecommands.specs.Dot.{form_text}
 use Rattle.storecommands.specs.declared.command.Command.{Command}
 use Rattle.storecommands.specs.declared.command.Command.TheVariants.{New, Open, Log, Flights, Audit, Import, Export}
 use Rattle.storecommands.specs.declared.command.ExportRows.{ExportRows}
@@ -58,6 +60,14 @@ clock_rule = record (new_rule (codes "clock")) {
   parser = Some (parser.Unsigned 0 18446744073709551615);
 }
 
+-- [--format FORM]
+abbrev pub format_rule : Rule
+format_rule = record (new_rule (codes "format")) {
+  long = Some (codes "format");
+  value_names = 1;
+  action = Some Set;
+}
+
 -- TABLE
 abbrev pub table_rule : Rule
 table_rule = record (new_rule (codes "TABLE")) { required = true; action = Some Set }
@@ -93,9 +103,9 @@ all_rule = record (new_rule (codes "all")) {
 abbrev pub new_app_words : App
 new_app_words = with_rule (with_rule (with_rule (new_app (codes "new")) nodes_rule) schema_rule) dir_rule
 
--- open [--sync YESNO] [--clock T] DIR [FILE]
+-- open [--sync YESNO] [--clock T] [--format FORM] DIR [FILE]
 abbrev pub open_app : App
-open_app = with_rule (with_rule (with_rule (with_rule (new_app (codes "open")) sync_rule) clock_rule) dir_rule) file_rule
+open_app = with_rule (with_rule (with_rule (with_rule (with_rule (new_app (codes "open")) sync_rule) clock_rule) format_rule) dir_rule) file_rule
 
 -- log DIR
 abbrev pub log_app : App
@@ -128,6 +138,11 @@ abbrev pub GivesSync : Option Text → Bool → Type 0
 GivesSync None syncs = syncs ≡ true
 GivesSync (Some word) syncs = ((word ≡ codes "yes") × (syncs ≡ true)) ⊎ ((word ≡ codes "no") × (syncs ≡ false))
 
+-- the word of `--format`, or none, says how answers are shown
+abbrev pub GivesForm : Option Text → Option Form → Type 0
+GivesForm None form = form ≡ None
+GivesForm (Some word) form = (given : Form) × (word ≡ form_text given) × (form ≡ Some given)
+
 -- the matches of `new` give these values
 pub record AsksNew (rows : List Row) (made : NewStore) : Type 0 where
   pub nodes : GivesNumber (codes "nodes") rows made.members
@@ -140,6 +155,7 @@ pub record AsksOpen (rows : List Row) (opened : OpenStore) : Type 0 where
   pub script : option_map (λ text. text.now) opened.script ≡ first_of (codes "FILE") rows
   pub sync : GivesSync (first_of (codes "sync") rows) opened.syncs
   pub clock : GivesClock rows opened.clock
+  pub format : GivesForm (first_of (codes "format") rows) opened.form
 
 -- the matches of `import` give these values
 pub record AsksImport (rows : List Row) (import : ImportRows) : Type 0 where

@@ -1,6 +1,8 @@
 //! What a command line asks for.
 ghost use Rattle.std.specs.Prelude.{◌≤◌};
 
+use crate::dot::Form;
+
 /// What a command line asks `new` for.
 #[derive(Debug, PartialEq, Clone, Copy)]
 pub struct NewStore<'a> {
@@ -26,6 +28,8 @@ pub struct OpenStore<'a> {
     pub syncs: bool,
     /// What clocks show, in microseconds since 1970, below 2^63; none for what the system's clock shows.
     pub clock: Option<u64>,
+    /// How answers are shown at first; none for tables at a terminal and lines elsewhere.
+    pub form: Option<Form>,
 }
 
 /// What a command line asks `import` for.

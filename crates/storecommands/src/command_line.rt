@@ -7,15 +7,16 @@ ghost use Rattle.storecommands.specs.declared.command.NewStore.{NewStore as Made
 ghost use Rattle.storecommands.specs.declared.command.OpenStore.{OpenStore as Opened};
 ghost use Rattle.storecommands.specs.declared.command.ExportRows.{ExportRows as Exported};
 ghost use Rattle.storecommands.specs.declared.command.ImportRows.{ImportRows as Imported};
-ghost use Rattle.storecommands.specs.CommandLine.{AsksExport, AsksFor, AsksImport, AsksNew, AsksOpen, GivesClock, GivesSync, all_rule, as_of_rule, csv_rule, from_line_rule, table_rule, import_app, export_app, clock_rule, dir_rule, file_rule, nodes_rule, out_rule, schema_rule, sync_rule, new_app_words, open_app, log_app, flights_app, with_store_commands};
+ghost use Rattle.storecommands.specs.CommandLine.{AsksExport, AsksFor, AsksImport, AsksNew, AsksOpen, GivesClock, GivesForm, GivesSync, all_rule, as_of_rule, csv_rule, from_line_rule, table_rule, import_app, export_app, clock_rule, format_rule, dir_rule, file_rule, nodes_rule, out_rule, schema_rule, sync_rule, new_app_words, open_app, log_app, flights_app, with_store_commands};
 
 use crate::command::{Command, ExportRows, ImportRows, NewStore, OpenStore};
+use crate::dot::{Form, form_of};
 use crate::given::{flag_of, line_of, text_of};
 use clap::{Arg, ArgAction, ArgMatches, Command as Parser, value_parser};
 use std::alloc::{AllocError, Global};
 
 /// What is wrong with a command line that `clap` takes and for which `command_of` finds nothing.
-pub const ASKS_NOTHING: &str = "--sync takes yes or no";
+pub const ASKS_NOTHING: &str = "--sync takes yes or no, and --format lines, table, csv or json";
 
 const NEW_END: &str = "Example:
   bitable new pay --nodes 3 --schema pay.sql
@@ -34,7 +35,8 @@ const OPEN_END: &str = "Example:
   last 2026-01-05 09:12:59.370867
   ..
 
-A line that ends with ; is a request or a question; .help tells what else can be typed.
+A line that ends with ; is a request or a question; .help tells what else can be typed. With
+--format csv, or json, answers are shown so from the first one on.
 
 Exit status:
   0  all lines were taken
@@ -156,6 +158,16 @@ fn clock_word<'a>(alloc: Global) -> Arg<'a>
         .help("What clocks show, in microseconds since 1970, in place of the system's clock")
 }
 
+fn format_word<'a>(alloc: Global) -> Arg<'a>
+    ensures { (rule_of result ≡ format_rule) × (result.global ≡ false) }
+{
+    Arg::new(alloc, "format")
+        .long("format")
+        .value_name("FORM")
+        .action(ArgAction::Set)
+        .help("How answers are shown at first: lines, table, csv or json")
+}
+
 fn table_word<'a>(alloc: Global) -> Arg<'a>
     ensures { (rule_of result ≡ table_rule) × (result.global ≡ false) }
 {
@@ -222,6 +234,7 @@ fn open_words<'a>(alloc: Global) -> Result<Parser<'a>, AllocError>
         .after_help(OPEN_END)
         .arg(sync_word(alloc))?
         .arg(clock_word(alloc))?
+        .arg(format_word(alloc))?
         .arg(dir_word(alloc))?
         .arg(file_word(alloc))
 }
@@ -314,6 +327,20 @@ fn sync_of(word: Option<&str>) -> Option<bool>
     }
 }
 
+// How answers are shown, if that is said; none where the word names no form.
+fn format_of(word: Option<&str>) -> Option<Option<Form>>
+    ensures some { IfSome result (GivesForm (option_map (λ text. text.now) word.entry)) }
+    ensures none { IfNone result ((form : _) → ¬ GivesForm (option_map (λ text. text.now) word.entry) form) }
+{
+    let Some(word) = word else {
+        return Some(None);
+    };
+    match form_of(word) {
+        Some(form) => Some(Some(form)),
+        None => None,
+    }
+}
+
 fn clock_of(matches: &ArgMatches) -> Option<u64>
     ensures { GivesClock (rows_of (found_of matches.now)) result }
 {
@@ -326,11 +353,13 @@ fn open_of<'a>(matches: &ArgMatches<'a>) -> Option<OpenStore<'a>>
 {
     let dir = text_of(matches, "DIR")?;
     let syncs = sync_of(text_of(matches, "sync"))?;
+    let form = format_of(text_of(matches, "format"))?;
     Some(OpenStore {
         dir,
         script: text_of(matches, "FILE"),
         syncs,
         clock: clock_of(matches),
+        form,
     })
 }
 
@@ -413,7 +442,8 @@ fn flights_of<'a>(matches: &ArgMatches<'a>) -> Option<Command<'a>>
 }
 
 /// What the subcommand of this name, with what `clap` found in its words, asks for: none where it is no command over a store's
-/// folder, or one that asks for nothing, as `open` where `--sync` is neither yes nor no.
+/// folder, or one that asks for nothing, as `open` where `--sync` is neither yes nor no, or `--format` names no
+/// form.
 pub fn command_of<'a>(name: &str, matches: &ArgMatches<'a>) -> Option<Command<'a>>
     ensures some { IfSome result (AsksFor name.now (rows_of (found_of matches.now))) }
     ensures none { IfNone result ((command : Asked) → ¬ AsksFor name.now (rows_of (found_of matches.now)) command) }

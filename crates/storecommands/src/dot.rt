@@ -45,7 +45,8 @@ pub enum DotCommand<'a> {
     Submit(Client, RequestNumber, &'a str),
 }
 
-fn form_of(word: &str) -> Option<Form>
+/// The form of this name.
+pub(crate) fn form_of(word: &str) -> Option<Form>
     ensures some { IfSome result (λ form. word.now ≡ form_text form) }
     ensures none { IfNone result ((form : _) → word.now ≢ form_text form) }
 {

@@ -11,5 +11,6 @@ returns c =
     let local : (out-Command c.after_help.result).has_globals ≡ false = search rules in
     let sync = with_arg _ _ _ _ _ c.in_ok-arg.ensures (start, local) c.sync_word.ensures in
     let clock = with_arg _ _ _ _ _ c.in_ok-arg-2.ensures sync c.clock_word.ensures in
-    let dir = with_arg _ _ _ _ _ c.in_ok-arg-3.ensures clock c.dir_word.ensures in
-    IfOk-weaker c.arg-4.result _ _ (λ r added. with_arg _ _ _ _ _ added dir c.file_word.ensures) c.arg-4.ensures
+    let format = with_arg _ _ _ _ _ c.in_ok-arg-3.ensures clock c.format_word.ensures in
+    let dir = with_arg _ _ _ _ _ c.in_ok-arg-4.ensures format c.dir_word.ensures in
+    IfOk-weaker c.arg-5.result _ _ (λ r added. with_arg _ _ _ _ _ added dir c.file_word.ensures) c.arg-5.ensures
