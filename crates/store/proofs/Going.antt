@@ -3,7 +3,7 @@ use Rattle.std.proofs.Common.{◌≡◌, ◌∙◌, ℕ, zero, suc, ◌+◌, ◌
 use Rattle.std.specs.Prelude.{ℤ}
 use Rattle.std.specs.List.{All}
 use Rattle.std.proofs.lemmas.List.{length_push}
-use Rattle.std.proofs.lemmas.List.Elements.{All-push, All-nil, All-cons, All-head, All-tail, Contains-append_left, Contains-append_right}
+use Rattle.std.proofs.lemmas.List.Elements.{All-append, All-push, All-nil, All-cons, All-head, All-tail, Contains-append_left, Contains-append_right}
 use Rattle.std.proofs.lemmas.Option.{IfSome_then, slice_get_past}
 use Rattle.fault.specs.declared.refusal.Refusal.{Refusal as Reason}
 use Rattle.model.specs.Lists.{nth, with_nth}
@@ -11,12 +11,12 @@ use Rattle.model.specs.Members as model
 use Rattle.model.specs.declared.entry.Told.{Told}
 use Rattle.model.specs.declared.message.Message.{Message}
 use Rattle.model.specs.Worlds.{World, Event, Start, Stop, Output, started, with_node, starts as starts_of, stops as stops_of}
-use Rattle.model.specs.Worlds.Output.{Refused as Refuses}
+use Rattle.model.specs.Worlds.Output.{Applied, Refused as Refuses}
 use Rattle.keep.specs.Durable.{Durable}
 use Rattle.sessions.proofs.Lists.{with_length}
 use Rattle.sqlchecks.specs.Columns.{Tables}
 use Rattle.sqlread.specs.Meaning.{language_of}
-use Rattle.runlaws.specs.Going.{AreSeated, WasTold, after_stop}
+use Rattle.runlaws.specs.Going.{AreSeated, HasGiven, WasTold, after_stop}
 use Rattle.runlaws.proofs.Going.{goes_nowhere, goes_both, given_before, given_then, told_before, told_then, nowhere_events, same_world, start_goes, starts_at, stop_goes, stops_at, stops_twice, By}
 use Rattle.runlaws.proofs.Seats.{nth_next, set_next, seated, seated_anew, sent_before, sent_next}
 use Rattle.store.specs.declared.store.Store.{Store}
@@ -30,15 +30,16 @@ use Rattle.journal.specs.declared.line.Line.{Line}
 use Rattle.journal.specs.declared.line.Line.TheVariants.{Ends, Life, Takes}
 use Rattle.journal.specs.declared.stored.Summary.{Summary}
 use Rattle.store.specs.declared.scribe.Scribe.{Scribe}
-use Rattle.store.specs.Lines.{Lines, and_then, no_lines, waiting}
-use Rattle.store.specs.Recording.{AreRecorded, IsSilent, IsStartOrStop, Records, job_of, last_reading}
+use Rattle.store.specs.Lines.{Lines, and_then, lines_in, no_lines, waiting}
+use Rattle.store.specs.Recording.{AreRecorded, IsQuiet, IsSilent, IsStartOrStop, IsTrue, Records, job_of, last_reading}
 use Rattle.store.specs.Continuing.{IsContinued, IsKeptOn, reading_in}
 use Rattle.store.specs.Journals.{IsSpent}
 use Rattle.store.specs.Seats.{HasMember, IsClean}
 use Rattle.node.specs.Work.{Work}
 use Rattle.store.proofs.Continuing.{continued_both, continued_reading, continued_same, continued_spent, kept_both, kept_is, kept_none, kept_same}
-use Rattle.store.proofs.Recording.{last_both, recorded_after, recorded_both, recorded_idle, recorded_late, recorded_silent}
-use Rattle.store.specs.Going.{Anywhere, AreClean, AreFiled, AreUnderWay, BeginsStep, Changes, ComesOf, GoesOn, GoesOnFrom, GoesOnSo, HasSent, Heard, Hears, IsAmong, IsBrought, IsIn, IsOutcome, Publishes, StartsOne, Stops, WentOn, with_begun}
+use Rattle.store.proofs.Recording.{all_more, last_both, recorded_after, recorded_both, recorded_idle, recorded_late, recorded_silent, silent_quiet, silent_true}
+use Rattle.store.proofs.Lines.{lines_then}
+use Rattle.store.specs.Going.{Anywhere, AreClean, AreFiled, AreToldIn, AreUnderWay, BeginsStep, Changes, ComesOf, GoesOn, GoesOnFrom, GoesOnSo, HasSent, Heard, Hears, IsAmong, IsBrought, IsIn, IsOutcome, Publishes, PublishesSo, StartsOne, Stops, WentOn, with_begun}
 
 -- ---- what is heard
 
@@ -115,6 +116,35 @@ module _ (one two : List (List Output)) where
       (λ (m, k). inr (m, given_then one two (Refuses m reason) k)) c
   outcome_then old mid Unanswered h c = tt
 
+-- outcomes in lines
+module _ (one two : List (List Output)) where
+  pub lines_before : (lines : List Line) → AreToldIn one lines → AreToldIn (one ++ two) lines
+  lines_before lines t = all_more (λ m told. HasGiven one (Applied m told)) (λ m told. HasGiven (one ++ two) (Applied m told)) (λ m told g. given_before one two (Applied m told) g) lines t
+
+  pub lines_after : (lines : List Line) → AreToldIn two lines → AreToldIn (one ++ two) lines
+  lines_after lines t = all_more (λ m told. HasGiven two (Applied m told)) (λ m told. HasGiven (one ++ two) (Applied m told)) (λ m told g. given_then one two (Applied m told) g) lines t
+
+  -- those of two calls
+  pub told_both : (early late : Lines) → AreToldIn one (lines_in early) → AreToldIn two (lines_in late) → AreToldIn (one ++ two) (lines_in (and_then early late))
+  told_both early late a b =
+      subst (AreToldIn (one ++ two)) (sym (lines_then early late))
+      (All-append (IsTrue (λ m told. HasGiven (one ++ two) (Applied m told))) (lines_in early) (lines_in late) (lines_before (lines_in early) a) (lines_after (lines_in late) b))
+
+-- lines that have none
+pub told_silent : (gave : List (List Output)) (lines : List Line) → All IsSilent lines → AreToldIn gave lines
+told_silent gave lines s = silent_true (λ m told. HasGiven gave (Applied m told)) lines s
+
+pub one_told : (gave : List (List Output)) (line : Line) → IsTrue (λ m told. HasGiven gave (Applied m told)) line → AreToldIn gave (line ∷ [])
+one_told gave line t = All-cons (IsTrue (λ m told. HasGiven gave (Applied m told))) line [] t (All-nil (IsTrue (λ m told. HasGiven gave (Applied m told))))
+
+-- a line that has none in front of others
+pub told_behind : (gave : List (List Output)) (line : Line) (lines : Lines) → IsTrue (λ m told. HasGiven gave (Applied m told)) line → AreToldIn gave (lines_in lines) → AreToldIn gave (lines_in (with_begun (line ∷ []) lines))
+told_behind gave line lines a b =
+    subst (AreToldIn gave) (sym (lines_then (waiting (line ∷ [])) lines)) (All-cons (IsTrue (λ m told. HasGiven gave (Applied m told))) line (lines_in lines) a b)
+
+told_rest : (gave : List (List Output)) (line : Line) (lines : Lines) → AreToldIn gave (lines_in (with_begun (line ∷ []) lines)) → AreToldIn gave (line ∷ lines_in lines)
+told_rest gave line lines t = subst (AreToldIn gave) (lines_then (waiting (line ∷ [])) lines) t
+
 -- a request that had no outcome yet
 pub outcome_comes : (watched : Option Watched) (v : Watched) (o : Outcome) (gave : List (List Output)) → watched ≡ Some v → v.outcome ≡ None → IsOutcome watched o gave → ComesOf v.client v.number o gave
 outcome_comes watched v o gave is none c = go o (subst (λ (x : Option Watched). IsOutcome x o gave) is c)
@@ -179,12 +209,12 @@ module _ {K J I : Type 0} {an : _} {g : _} {s : _} {d : _} (contents : J → Opt
   -- ---- a store that goes on goes on
 
   -- a run that went on, and then went on
-  pub record WentBoth (a b c : Store K J I an g s d) (w : World) (one two : Lines) (x : WentOn held holds (AreFiled a b one w) a b w) (y : WentOn held holds (AreFiled b c two x.world) b c x.world) : Type 0 where
-    pub went : WentOn held holds (AreFiled a c (and_then one two) w) a c w
+  pub record WentBoth (a b c : Store K J I an g s d) (w : World) (one two : Lines) (x : WentOn held holds one a b w) (y : WentOn held holds two b c x.world) : Type 0 where
+    pub went : WentOn held holds (and_then one two) a c w
     pub gave : went.goes.gave ≡ x.goes.gave ++ y.goes.gave
 
   pub went_both : (a b c : Store K J I an g s d) → b.schema ≡ a.schema → length b.seats.items ≡ length a.seats.items → (one two : Lines) → IsContinued contents a.scribe b.scribe one → IsContinued contents b.scribe c.scribe two →
-      (w : World) (x : WentOn held holds (AreFiled a b one w) a b w) (y : WentOn held holds (AreFiled b c two x.world) b c x.world) → WentBoth a b c w one two x y
+      (w : World) (x : WentOn held holds one a b w) (y : WentOn held holds two b c x.world) → WentBoth a b c w one two x y
   went_both a b c schema count one two early late w x y =
       let language = language_of a.schema in
       let n = length a.seats.items in
@@ -197,7 +227,7 @@ module _ {K J I : Type 0} {an : _} {g : _} {s : _} {d : _} (contents : J → Opt
       let filed = recorded_both language n w x.world (reading_in a.scribe) (reading_in b.scribe) one two x.goes.events y.goes.events (IsSpent b.scribe) (IsSpent c.scribe) x.goes.leads (continued_reading contents a.scribe b.scribe one early)
       (λ spent. let stays = continued_spent contents b.scribe c.scribe two late spent in stays.1) (λ spent. let stays = continued_spent contents b.scribe c.scribe two late spent in subst IsSpent (sym stays.0) spent) x.events_are then_filed in
       record {
-        went = record { world = y.world; goes = both.goes; events_are = subst (AreFiled a c (and_then one two) w) (sym both.events_are) filed.0; is_in = y.is_in; hears = subst (λ (outs : List (List Output)). Hears (WasTold outs) a.watched c.watched) (sym both.gave_is) hears };
+        went = record { world = y.world; goes = both.goes; events_are = subst (AreFiled a c (and_then one two) w) (sym both.events_are) filed.0; outcomes_are = subst (λ (outs : List (List Output)). AreToldIn outs (lines_in (and_then one two))) (sym both.gave_is) (told_both x.goes.gave y.goes.gave one two x.outcomes_are y.outcomes_are); is_in = y.is_in; hears = subst (λ (outs : List (List Output)). Hears (WasTold outs) a.watched c.watched) (sym both.gave_is) hears };
         gave = both.gave_is;
       }
 
@@ -214,6 +244,7 @@ module _ {K J I : Type 0} {an : _} {g : _} {s : _} {d : _} (contents : J → Opt
           world = w;
           goes = goes;
           events_are = recorded_silent (language_of t.schema) (length t.seats.items) w (reading_in t.scribe) no_lines goes.events (IsSpent t.scribe) (nowhere_events (language_of t.schema) (length t.seats.items) w) (All-nil IsSilent);
+          outcomes_are = told_silent goes.gave [] (All-nil IsSilent);
           is_in = i;
           hears = hears_same (WasTold goes.gave) t.watched t.watched refl;
         };
@@ -396,8 +427,36 @@ module _ {K J I : Type 0} {an : _} {g : _} {s : _} {d : _} (contents : J → Opt
     clean = λ k. subst (All (IsClean honest holds)) p.seats k;
     went = λ k w i.
         let goes = goes_nowhere (language_of a.schema) (length a.seats.items) w in
-        record { world = w; goes = goes; events_are = recorded_silent (language_of a.schema) (length a.seats.items) w (reading_in a.scribe) p.journal.0 goes.events (IsSpent b.scribe) (nowhere_events (language_of a.schema) (length a.seats.items) w) p.journal.1; is_in = same_in a b [] p w i; hears = passes a b [] [] p (WasTold goes.gave) (nobody (WasTold goes.gave)) };
+        record { world = w; goes = goes; events_are = recorded_silent (language_of a.schema) (length a.seats.items) w (reading_in a.scribe) p.journal.0 goes.events (IsSpent b.scribe) (nowhere_events (language_of a.schema) (length a.seats.items) w) p.journal.1; outcomes_are = told_silent goes.gave (lines_in p.journal.0) p.journal.1; is_in = same_in a b [] p w i; hears = passes a b [] [] p (WasTold goes.gave) (nobody (WasTold goes.gave)) };
   }
+
+  -- ---- a step is over
+
+  -- nothing that is told came to the journal
+  pub publishes_so : (tells : ℕ → Told → Type 0) (a b : Store K J I an g s d) (messages : List Message) (told : List Told) → Publishes contents a b messages told → PublishesSo contents tells a b messages told
+  publishes_so tells a b messages told p = record {
+    schema = p.schema;
+    seats = p.seats;
+    journal = (p.journal.0, silent_quiet tells (lines_in p.journal.0) p.journal.1, p.journal.2);
+    spent = p.spent;
+    letters = p.letters;
+    hears = p.hears;
+  }
+
+  -- a line came there first, and up to where outcomes are written is another
+  pub made_then : (tells : ℕ → Told → Type 0) (line : Line) (old first mid new : Store K J I an g s d) (messages : List Message) (told : List Told) → IsQuiet tells line → first ≡ record old { noted = first.noted } → mid ≡ record first { scribe = mid.scribe } → (IsSpent first.scribe → ⊥) →
+      IsContinued contents first.scribe mid.scribe (waiting (line ∷ [])) → Publishes contents mid new messages told → PublishesSo contents tells old new messages told
+  made_then tells line old first mid new messages told quiet is on live came p =
+      let one : IsContinued contents old.scribe mid.scribe (waiting (line ∷ [])) = subst (λ (s : Option (Scribe J)). IsContinued contents s mid.scribe (waiting (line ∷ []))) (ap (λ t. t.scribe) is) came in
+      let all = All-cons (IsQuiet tells) line (lines_in p.journal.0) quiet (silent_quiet tells (lines_in p.journal.0) p.journal.1) in
+      record {
+        schema = p.schema ∙ ap (λ t. t.schema) on ∙ ap (λ t. t.schema) is;
+        seats = p.seats ∙ ap (λ t. t.seats.items) on ∙ ap (λ t. t.seats.items) is;
+        journal = (and_then (waiting (line ∷ [])) p.journal.0, subst (All (IsQuiet tells)) (sym (lines_then (waiting (line ∷ [])) p.journal.0)) all, continued_both contents old.scribe mid.scribe new.scribe (waiting (line ∷ [])) p.journal.0 one p.journal.2);
+        spent = λ k. absurd (live (subst IsSpent (sym (ap (λ t. t.scribe) is)) k));
+        letters = λ up before u. p.letters up before (under_same old.queue.items mid.queue.items old.sent mid.sent before (ap (λ t. t.queue.items) on ∙ ap (λ t. t.queue.items) is) (ap (λ t. t.sent) on ∙ ap (λ t. t.sent) is) u);
+        hears = subst (λ (w : Option Watched). Hears (IsAmong told) w new.watched) (ap (λ t. t.watched) on ∙ ap (λ t. t.watched) is) p.hears;
+      }
 
   -- nothing but who leads is another
   pub only_leader : (old new : Store K J I an g s d) → new ≡ record old { leader = new.leader } → On old new
@@ -428,7 +487,7 @@ module _ {K J I : Type 0} {an : _} {g : _} {s : _} {d : _} (contents : J → Opt
     clean = x.clean;
     went = λ k w i p.
         let on = x.went k w (record { seated = i.seated; under_way = i.under_way }) tt in
-        (record { world = on.0.world; goes = on.0.goes; events_are = on.0.events_are; is_in = record { seated = on.0.is_in.seated; under_way = on.0.is_in.under_way }; hears = tt }, on.1);
+        (record { world = on.0.world; goes = on.0.goes; events_are = on.0.events_are; outcomes_are = on.0.outcomes_are; is_in = record { seated = on.0.is_in.seated; under_way = on.0.is_in.under_way }; hears = tt }, on.1);
   }
 
   -- ---- a letter that is taken out
@@ -447,7 +506,7 @@ module _ {K J I : Type 0} {an : _} {g : _} {s : _} {d : _} (contents : J → Opt
             let on = y.went k w
             (record { seated = i.seated; under_way = λ live. let u = rest live in (u.0, All-tail (λ (l : Letter). nth w.sent l.number ≡ Some l.message) letter mid.queue.items u.1) })
             (λ live. let u = rest live in All-head (λ (l : Letter). nth w.sent l.number ≡ Some l.message) letter mid.queue.items u.1) in
-            record { world = on.0.world; goes = on.0.goes; events_are = on.0.events_are; is_in = on.0.is_in; hears = on.0.hears };
+            record { world = on.0.world; goes = on.0.goes; events_are = on.0.events_are; outcomes_are = on.0.outcomes_are; is_in = on.0.is_in; hears = on.0.hears };
       }
 
   -- ---- a step that is begun
@@ -469,7 +528,13 @@ module _ {K J I : Type 0} {an : _} {g : _} {s : _} {d : _} (contents : J → Opt
             let filed : AreFiled old new (and_then (waiting (before ++ Takes m taken ∷ [])) y.lines) w on.0.goes.events =
             recorded_after (language_of old.schema) (length old.seats.items) w first before (Takes m taken) y.lines on.0.goes.events (IsSpent new.scribe) silent
             (subst (λ (r : Option ℤ). AreRecorded (language_of old.schema) (length old.seats.items) w r (with_begun (Takes m taken ∷ []) y.lines) on.0.goes.events (IsSpent new.scribe)) (sym shown) on.0.events_are) in
-            (record { world = on.0.world; goes = on.0.goes; events_are = filed; is_in = on.0.is_in; hears = on.0.hears }, on.1);
+            let gave = on.0.goes.gave in
+            let front = before ++ Takes m taken ∷ [] in
+            let P : Line → Type 0 = IsTrue (λ k told. HasGiven gave (Applied k told)) in
+            let rest = All-tail P (Takes m taken) (lines_in y.lines) (told_rest gave (Takes m taken) y.lines on.0.outcomes_are) in
+            let told : AreToldIn gave (lines_in (and_then (waiting front) y.lines)) =
+            subst (AreToldIn gave) (sym (lines_then (waiting front) y.lines)) (All-append P front (lines_in y.lines) (All-push P before (Takes m taken) (told_silent gave before silent) tt) rest) in
+            (record { world = on.0.world; goes = on.0.goes; events_are = filed; outcomes_are = told; is_in = on.0.is_in; hears = on.0.hears }, on.1);
       }
 
   -- ---- one event
@@ -480,9 +545,9 @@ module _ {K J I : Type 0} {an : _} {g : _} {s : _} {d : _} (contents : J → Opt
 
   -- an event happened, of a store in which nothing is heard
   pub by_one : (event : Event) (land : World → World) (old new : Store K J I an g s d) → new.schema ≡ old.schema → length new.seats.items ≡ length old.seats.items → new.watched ≡ old.watched → (AreClean honest holds new → AreClean honest holds old) →
-      (lines : Lines) → IsContinued contents old.scribe new.scribe lines → ((w : World) → AreFiled old new lines w (event ∷ [])) →
+      (lines : Lines) → IsContinued contents old.scribe new.scribe lines → ((gave : List (List Output)) → AreToldIn gave (lines_in lines)) → ((w : World) → AreFiled old new lines w (event ∷ [])) →
       ((w : World) → By (language_of old.schema) (length old.seats.items) w (land w) event) → (AreClean honest holds new → (w : World) → IsIn held holds old w → IsIn held holds new (land w)) → On old new
-  by_one event land old new schema count watched clean lines journal filed by lands = record {
+  by_one event land old new schema count watched clean lines journal told filed by lands = record {
     schema = schema;
     count = count;
     lines = lines;
@@ -490,7 +555,7 @@ module _ {K J I : Type 0} {an : _} {g : _} {s : _} {d : _} (contents : J → Opt
     clean = clean;
     went = λ k w i.
         let b = by w in
-        record { world = land w; goes = b.goes; events_are = subst (AreFiled old new lines w) (sym b.events_are) (filed w); is_in = lands k w i; hears = hears_same (WasTold b.goes.gave) old.watched new.watched watched };
+        record { world = land w; goes = b.goes; events_are = subst (AreFiled old new lines w) (sym b.events_are) (filed w); outcomes_are = told b.goes.gave; is_in = lands k w i; hears = hears_same (WasTold b.goes.gave) old.watched new.watched watched };
   }
 
   -- only lines came to the journal of a store that is not spent
@@ -504,6 +569,7 @@ module _ {K J I : Type 0} {an : _} {g : _} {s : _} {d : _} (contents : J → Opt
       let first = reading_in old.scribe in
       by_one (Stop m) (λ w. stops_of w m (nth w.nodes m)) old new as_old.schema as_old.count as_old.watched as_old.clean (waiting (Ends m ∷ []))
       (subst (λ (x : Option (Scribe J)). IsContinued contents old.scribe x (waiting (Ends m ∷ []))) (sym as_old.scribe) came)
+      (λ gave. one_told gave (Ends m) tt)
       (λ w. one_idle old new (Ends m) (Stop m) w (m, inr refl) refl)
       (λ w. stop_goes (language_of old.schema) (length old.seats.items) w m)
       (λ k w i. as_old.went k w (record { seated = i.seated; under_way = λ other. i.under_way live }))
@@ -515,6 +581,7 @@ module _ {K J I : Type 0} {an : _} {g : _} {s : _} {d : _} (contents : J → Opt
       by_one (Stop m) (λ w. stops_of w m (nth w.nodes m)) first new (stops.schema ∙ ap (λ t. t.schema) is ∙ fell.schema) (stops.count ∙ ap (λ t. length t.seats.items) is ∙ fell.count) (stops.watched ∙ ap (λ t. t.watched) is ∙ fell.watched)
       (λ k. fell.clean (neat k)) (waiting (Ends m ∷ []))
       (subst (λ (x : Option (Scribe J)). IsContinued contents x new.scribe (waiting (Ends m ∷ []))) fell.scribe (subst (λ (x : Option (Scribe J)). IsContinued contents old.scribe x (waiting (Ends m ∷ []))) (sym stops.scribe) came))
+      (λ gave. one_told gave (Ends m) tt)
       (λ w. one_idle first new (Ends m) (Stop m) w (m, inr refl) refl)
       (λ w. stop_goes (language_of first.schema) (length first.seats.items) w m)
       (λ k w i.
@@ -528,6 +595,7 @@ module _ {K J I : Type 0} {an : _} {g : _} {s : _} {d : _} (contents : J → Opt
       by_one (Stop m) (λ w. stops_of w m (nth w.nodes m)) first new (ap (λ t. t.schema) is ∙ fell.schema) (ap (λ t. length t.seats.items) is ∙ fell.count) (ap (λ t. t.watched) is ∙ fell.watched)
       (λ k. fell.clean (neat k)) no_lines
       (subst (λ (x : Option (Scribe J)). IsContinued contents x new.scribe no_lines) fell.scribe came)
+      (λ gave. told_silent gave [] (All-nil IsSilent))
       (λ w. recorded_late (language_of first.schema) (length first.seats.items) w (reading_in first.scribe) (Stop m) (IsSpent new.scribe) (m, inr refl) spent)
       (λ w. stop_goes (language_of first.schema) (length first.seats.items) w m)
       (λ k w i.
@@ -542,6 +610,7 @@ module _ {K J I : Type 0} {an : _} {g : _} {s : _} {d : _} (contents : J → Opt
       by_one (Start m) (λ w. starts_of w m (nth w.nodes m)) old new (ap (λ t. t.schema) is ∙ starts.schema) (ap (λ t. length t.seats.items) is ∙ starts.count) (ap (λ t. t.watched) is ∙ starts.watched)
       (λ k. starts.clean (subst (λ (t : Store K J I an g s d). AreClean honest holds t) is k)) (waiting (Life m stored ∷ []))
       (subst (λ (x : Option (Scribe J)). IsContinued contents x new.scribe (waiting (Life m stored ∷ []))) starts.scribe came)
+      (λ gave. one_told gave (Life m stored) tt)
       (λ w. one_idle old new (Life m stored) (Start m) w (m, inl refl) refl)
       (λ w. start_goes (language_of old.schema) (length old.seats.items) w m)
       (λ k w i. written_in mid new is live (starts_of w m (nth w.nodes m)) (starts.went (subst (λ (t : Store K J I an g s d). AreClean honest holds t) is k) w i))
@@ -553,6 +622,7 @@ module _ {K J I : Type 0} {an : _} {g : _} {s : _} {d : _} (contents : J → Opt
       by_one (Start m) (λ w. starts_of w m (nth w.nodes m)) old new (ap (λ t. t.schema) is ∙ starts.schema) (ap (λ t. length t.seats.items) is ∙ starts.count) (ap (λ t. t.watched) is ∙ starts.watched)
       (λ k. starts.clean (subst (λ (t : Store K J I an g s d). AreClean honest holds t) is k)) no_lines
       (subst (λ (x : Option (Scribe J)). IsContinued contents x new.scribe no_lines) starts.scribe came)
+      (λ gave. told_silent gave [] (All-nil IsSilent))
       (λ w. recorded_late (language_of old.schema) (length old.seats.items) w (reading_in old.scribe) (Start m) (IsSpent new.scribe) (m, inl refl) spent)
       (λ w. start_goes (language_of old.schema) (length old.seats.items) w m)
       (λ k w i.
@@ -670,6 +740,7 @@ module _ {K J I : Type 0} {an : _} {g : _} {s : _} {d : _} (contents : J → Opt
             world = w;
             goes = goes;
             events_are = recorded_silent (language_of old.schema) (length old.seats.items) w (reading_in old.scribe) no_lines goes.events (IsSpent new.scribe) (nowhere_events (language_of old.schema) (length old.seats.items) w) (All-nil IsSilent);
+            outcomes_are = told_silent goes.gave [] (All-nil IsSilent);
             is_in = stays_in scribe w w x.0 x.0 i (turn (tidy k) x.0 x.2) (sym (same_world w (at + 1) x.0 x.0 x.1 refl));
             hears = hears_same (WasTold goes.gave) old.watched new.watched C.watched;
           };

@@ -6,8 +6,10 @@ pub mod Going
 pub mod Heard
 pub mod Helds
 pub mod Lines
+pub mod Lives
 pub mod Links
 pub mod Missing
+pub mod Noting
 pub mod Opening
 pub mod Ranges
 pub mod Reading

@@ -6,12 +6,13 @@ use Rattle.std.specs.Prelude.{ℤ, is_none}
 use Rattle.std.proofs.Math.Seq.{take-add}
 use Rattle.std.proofs.lemmas.Grind.{flat_map-append}
 use Rattle.std.proofs.lemmas.List.{length-append}
-use Rattle.std.proofs.lemmas.List.Elements.{All-cons, All-head, All-nil, All-tail}
+use Rattle.std.proofs.lemmas.List.Elements.{All-append, All-cons, All-head, All-nil, All-tail}
 use Rattle.std.proofs.lemmas.Option.{same_Some, slice_get_within}
 use Rattle.model.specs.Lists.{nth, with_nth}
 use Rattle.model.specs.Members as model
 use Rattle.model.specs.Transactions.{Language}
-use Rattle.model.specs.Worlds.{World, Event, Start, started, starts}
+use Rattle.model.specs.Worlds.{World, Event, Output, Start, started, starts}
+use Rattle.model.specs.Worlds.Output.{Applied}
 use Rattle.model.specs.declared.message.Message.{Message}
 use Rattle.journal.specs.declared.line.Line.{Line}
 use Rattle.journal.specs.declared.line.Line.TheVariants.{Life, Rests}
@@ -21,8 +22,8 @@ use Rattle.sessions.specs.Kills.{opened}
 use Rattle.sessions.proofs.Lists.{further, get_short, get_there}
 use Rattle.sqlchecks.specs.Columns.{Tables}
 use Rattle.sqlread.specs.Meaning.{language_of}
-use Rattle.runlaws.specs.Going.{AreSeated, Goes}
-use Rattle.runlaws.proofs.Going.{further_events, goes_further, goes_named, goes_nowhere, goes_to, nowhere_events, start_goes, starts_at, to_events}
+use Rattle.runlaws.specs.Going.{AreSeated, Goes, HasGiven}
+use Rattle.runlaws.proofs.Going.{further_events, goes_both, goes_further, goes_named, goes_nowhere, goes_to, nowhere_events, start_goes, starts_at, to_events}
 use Rattle.runlaws.proofs.Seats.{nth_next, set_next}
 use Rattle.store.specs.declared.members.Members.{Members}
 use Rattle.store.specs.declared.scribe.Scribe.{Scribe}
@@ -31,18 +32,19 @@ use Rattle.store.specs.declared.steps.Letter.{Letter}
 use Rattle.store.specs.declared.store.Store.{Store}
 use Rattle.store.specs.Became.{Became, EachBecame}
 use Rattle.store.specs.Continuing.{IsContinued, IsKeptOn, reading_in}
-use Rattle.store.specs.Going.{AreClean, GoesOn, IsIn, IsRunOf}
+use Rattle.store.specs.Going.{AreClean, AreToldIn, GoesOn, IsIn, IsRunOf}
 use Rattle.node.specs.declared.node.Node.{Node}
 use Rattle.store.specs.Journals.{IsSpent}
 use Rattle.store.specs.Lines.{and_then, lines_in, waiting}
 use Rattle.store.specs.Nodes.{IsNodeOf, Rests as AreRests}
-use Rattle.store.specs.Recording.{AreRecorded, IsStartOrStop, RecordAll, Records}
+use Rattle.store.specs.Recording.{AreRecorded, IsStartOrStop, IsTrue, NobodyTells, RecordAll, Records}
 use Rattle.store.specs.Seats.{HasMember, IsClean}
 use Rattle.store.specs.Opening.{AreFound, AreLaid, AreMembers, AreOpened, Begins, Files, Starts, risen, starts_of}
 use Rattle.store.specs.Tales.{Told, tale_of}
 use Rattle.store.proofs.Continuing.{continued_both, continued_reading}
 use Rattle.store.proofs.Lines.{lines_then}
-use Rattle.store.proofs.Recording.{record_both, recorded_both, recorded_idle, silent_records}
+use Rattle.store.proofs.Recording.{all_more, nobody_less, record_both, recorded_both, recorded_idle, silent_records, silent_true}
+use Rattle.store.proofs.Going.{lines_after, told_both}
 
 -- what stands in a list with one more at its end
 pub pushed : {A : Type 0} (xs : List A) (y z : A) (i : ℕ) → slice_get (xs ++ y ∷ []) i ≡ Some z → (slice_get xs i ≡ Some z) ⊎ ((i ≡ length xs) × (z ≡ y))
@@ -80,14 +82,15 @@ on_became (Err e) turn old at before after there turned = tt
 
 module _ {J : Type 0} (contents : J → Option (List ℕ)) where
   pub files_silent : (s t : Option (Scribe J)) → IsKeptOn contents s t → Files contents s t []
-  files_silent s t (lines, silent, on) = (lines, on, silent_records (reading_in s) (lines_in lines) silent)
+  files_silent s t (lines, silent, on) = (lines, on, silent_records (reading_in s) (lines_in lines) silent, silent_true NobodyTells (lines_in lines) silent)
 
   pub files_both : (s t u : Option (Scribe J)) (a b : List Event) → Files contents s t a → Files contents t u b → Files contents s u (a ++ b)
-  files_both s t u a b (one, first, x) (two, second, y) = (
+  files_both s t u a b (one, first, x, none) (two, second, y, neither) = (
     and_then one two,
     continued_both contents s t u one two first second,
     subst (λ (lines : List Line). RecordAll (reading_in s) lines (a ++ b)) (sym (lines_then one two))
         (record_both (reading_in s) (lines_in one) (lines_in two) a b x (subst (λ (r : Option ℤ). RecordAll r (lines_in two) b) (continued_reading contents s t one first) y)),
+    subst (All (IsTrue NobodyTells)) (sym (lines_then one two)) (All-append (IsTrue NobodyTells) (lines_in one) (lines_in two) none neither),
   )
 
   pub files_on : (s t u : Option (Scribe J)) (events : List Event) → Files contents s t events → IsKeptOn contents t u → Files contents s u events
@@ -219,6 +222,14 @@ module _ {K J I : Type 0} {an : _} {g : _} {s : _} {d : _} where
       go None is = subst (λ (l : Line). Records reading l (start_of seat)) (sym (down is)) (ap (λ (o : Option (Node K I g s)). if is_none o then [] else (Start seat.member ∷ [])) is)
       go (Some node) is = let l = life node is in subst (λ (l : Line). Records reading l (start_of seat)) (sym l.1) (ap (λ (o : Option (Node K I g s)). if is_none o then [] else (Start seat.member ∷ [])) is)
 
+  -- and has no outcome
+  head_true : (seat : Seat K J I an g s d) (line : Line) → (seat.node ≡ None → line ≡ Rests seat.member seat.tale.stored) → ForSome seat.node (λ node. (stored : Summary) × (line ≡ Life seat.member stored)) → IsTrue NobodyTells line
+  head_true seat line down life = go seat.node refl
+    where
+      go : (o : Option (Node K I g s)) → seat.node ≡ o → IsTrue NobodyTells line
+      go None is = subst (IsTrue NobodyTells) (sym (down is)) tt
+      go (Some node) is = let l = life node is in subst (IsTrue NobodyTells) (sym l.1) tt
+
   -- the starts of the first of these seats, and of the next one
   pub next_starts : (seats : List (Seat K J I an g s d)) (at : ℕ) → starts_of (take (at + 1) seats) ≡ starts_of (take at seats) ++ starts_of (take 1 (drop at seats))
   next_starts seats at = ap starts_of (take-add at 1 seats) ∙ flat_map-append start_of (take at seats) (take 1 (drop at seats))
@@ -239,7 +250,7 @@ module _ {K J I : Type 0} {an : _} {g : _} {s : _} {d : _} where
   pub head_files : (contents : J → Option (List ℕ)) (seats : List (Seat K J I an g s d)) (at : ℕ) (seat : Seat K J I an g s d) (old new : Option (Scribe J)) (line : Line) → slice_get seats at ≡ Some seat → (seat.node ≡ None → line ≡ Rests seat.member seat.tale.stored) →
       ForSome seat.node (λ node. (stored : Summary) × (line ≡ Life seat.member stored)) → IsContinued contents old new (waiting (line ∷ [])) → Files contents old new (starts_of (take 1 (drop at seats)))
   head_files contents seats at seat old new line there down life on =
-      (waiting (line ∷ []), on, subst (λ (xs : List (Seat K J I an g s d)). RecordAll (reading_in old) (line ∷ []) (starts_of xs)) (sym (one_there seats at seat there)) (head_records seat line (reading_in old) down life))
+      (waiting (line ∷ []), on, subst (λ (xs : List (Seat K J I an g s d)). RecordAll (reading_in old) (line ∷ []) (starts_of xs)) (sym (one_there seats at seat there)) (head_records seat line (reading_in old) down life), All-cons (IsTrue NobodyTells) line [] (head_true seat line down life) (All-nil (IsTrue NobodyTells)))
 
   -- starts start members
   pub starts_idle : (seats : List (Seat K J I an g s d)) → All IsStartOrStop (starts_of seats)
@@ -260,6 +271,12 @@ module _ {K J I : Type 0} {an : _} {g : _} {s : _} {d : _} where
       two
       ∙ ap (λ (x : Store K J I an g s d). record x { scribe = new.scribe }) one
       ∙ ap (λ (n : ℕ). record old { scribe = new.scribe; noted = n }) (sym (ap (λ (x : Store K J I an g s d). x.noted) two))
+
+  pub noted_again : (old mid new : Store K J I an g s d) (noted : ℕ) → mid ≡ record old { noted = mid.noted } → new ≡ record mid { noted = noted } → new ≡ record old { noted = new.noted }
+  noted_again old mid new noted one two =
+      two
+      ∙ ap (λ (x : Store K J I an g s d). record x { noted = noted }) one
+      ∙ ap (λ (n : ℕ). record old { noted = n }) (sym (ap (λ (x : Store K J I an g s d). x.noted) two))
 
   pub only_both : (old mid new : Store K J I an g s d) → mid ≡ record old { scribe = mid.scribe; noted = mid.noted } → new ≡ record mid { scribe = new.scribe; noted = new.noted } → new ≡ record old { scribe = new.scribe; noted = new.noted }
   only_both old mid new one two = two ∙ ap (λ (x : Store K J I an g s d). record x { scribe = new.scribe; noted = new.noted }) one
@@ -359,7 +376,7 @@ module _ {K J I : Type 0} {an : _} {g : _} {s : _} {d : _} (honest : K → Type 
   -- its first lines were written, and then it went on
   pub begins : (contents : J → Option (List ℕ)) (members : Members K J I an g s d) (scribe : Scribe J) (head last : Store K J I an g s d) → head.schema ≡ members.schema → head.seats.items ≡ members.seats.items → head.queue.items ≡ [] → head.sent ≡ 0 →
       Files contents (Some scribe) head.scribe (starts_of members.seats.items) → GoesOn contents honest held holds head last → Begins contents honest held holds members scribe last
-  begins contents members scribe head last schema seats queue sent (lines, on, recorded) later = record {
+  begins contents members scribe head last schema seats queue sent (lines, on, recorded, untold) later = record {
     schema = later.schema ∙ schema;
     count = later.count ∙ ap length seats;
     lines = and_then lines later.lines;
@@ -376,25 +393,37 @@ module _ {K J I : Type 0} {an : _} {g : _} {s : _} {d : _} (honest : K → Type 
         subst (λ (k : ℕ). AreRecorded language k w (reading_in head.scribe) later.lines went.goes.events (IsSpent last.scribe)) (ap length seats)
         (subst (λ (t : Tables). AreRecorded (language_of t) (length head.seats.items) w (reading_in head.scribe) later.lines went.goes.events (IsSpent last.scribe)) schema went.events_are) in
         let all = recorded_both language n u w scribe.reading (reading_in head.scribe) lines later.lines starts.events went.goes.events ⊥ (IsSpent last.scribe) starts.leads (continued_reading contents (Some scribe) head.scribe lines on) (λ never. absurd never) (λ never. absurd never) first after in
-        (went.world, named.goes, went.is_in, subst (λ (es : List Event). AreRecorded language n u scribe.reading (and_then lines later.lines) (starts.events ++ es) (IsSpent last.scribe)) (sym named.events_are) all.0);
+        let told : AreToldIn went.goes.gave (lines_in (and_then lines later.lines)) = told_both [] went.goes.gave lines later.lines (all_more NobodyTells (λ m one. HasGiven [] (Applied m one)) (nobody_less (λ m one. HasGiven [] (Applied m one))) (lines_in lines) untold) went.outcomes_are in (
+          went.world,
+          named.goes,
+          went.is_in,
+          subst (λ (es : List Event). AreRecorded language n u scribe.reading (and_then lines later.lines) (starts.events ++ es) (IsSpent last.scribe)) (sym named.events_are) all.0,
+          subst (λ (outs : List (List Output)). AreToldIn outs (lines_in (and_then lines later.lines))) (sym named.gave_is) told,
+        );
   }
 
   -- A store that was begun with members that were opened is a run from what the databases held, and the lines that came to its journal
   -- record that run.
   pub runs_recorded : (contents : J → Option (List ℕ)) (told : Told) (images : List (Option I)) (members : Members K J I an g s d) (scribe : Scribe J) (store : Store K J I an g s d) → AreOpened honest held holds told images members → (B : Begins contents honest held holds members scribe store) → AreClean honest holds store →
-      (found : List model.Node) → AreFound holds images found → (w : World) × (goes : Goes (language_of store.schema) (length store.seats.items) (opened found) w) × IsIn held holds store w × AreRecorded (language_of store.schema) (length store.seats.items) (opened found) scribe.reading B.lines goes.events (IsSpent store.scribe)
+      (found : List model.Node) → AreFound holds images found → (w : World) × (goes : Goes (language_of store.schema) (length store.seats.items) (opened found) w) × IsIn held holds store w × AreRecorded (language_of store.schema) (length store.seats.items) (opened found) scribe.reading B.lines goes.events (IsSpent store.scribe) × AreToldIn goes.gave (lines_in B.lines)
   runs_recorded contents told images members scribe store O B k found F =
       let o : HasStarted members.schema (length members.seats.items) found members.seats.items = subst (λ (n : ℕ). HasStarted members.schema n found members.seats.items) (sym O.count) (O.went (B.clean k) found F) in
       let b = B.went k (opened found) o.0 o.1 o.2 o.3 o.4 in
       let language = language_of members.schema in
       let n = length members.seats.items in
-      let all = goes_further language n (opened found) o.0 b.0 o.1 b.1 in
-      let named = goes_named (language_of store.schema) language (length store.seats.items) n (opened found) b.0 (ap language_of (sym B.schema)) (sym B.count) all in
-      let events : named.goes.events ≡ o.1.events ++ b.1.events = named.events_are ∙ further_events language n (opened found) o.0 b.0 o.1 b.1 in
+      let all = goes_both language language n n (opened found) o.0 b.0 refl refl o.1 b.1 in
+      let named = goes_named (language_of store.schema) language (length store.seats.items) n (opened found) b.0 (ap language_of (sym B.schema)) (sym B.count) all.goes in
+      let events : named.goes.events ≡ o.1.events ++ b.1.events = named.events_are ∙ all.events_are in
+      let gave : named.goes.gave ≡ o.1.gave ++ b.1.gave = named.gave_is ∙ all.gave_is in
       let filed : AreRecorded (language_of store.schema) (length store.seats.items) (opened found) scribe.reading B.lines (o.1.events ++ b.1.events) (IsSpent store.scribe) =
       subst (λ (k : ℕ). AreRecorded (language_of store.schema) k (opened found) scribe.reading B.lines (o.1.events ++ b.1.events) (IsSpent store.scribe)) (sym B.count)
-      (subst (λ (t : Tables). AreRecorded (language_of t) n (opened found) scribe.reading B.lines (o.1.events ++ b.1.events) (IsSpent store.scribe)) (sym B.schema) b.3) in
-      (b.0, named.goes, b.2, subst (λ (es : List Event). AreRecorded (language_of store.schema) (length store.seats.items) (opened found) scribe.reading B.lines es (IsSpent store.scribe)) (sym events) filed)
+      (subst (λ (t : Tables). AreRecorded (language_of t) n (opened found) scribe.reading B.lines (o.1.events ++ b.1.events) (IsSpent store.scribe)) (sym B.schema) b.3) in (
+        b.0,
+        named.goes,
+        b.2,
+        subst (λ (es : List Event). AreRecorded (language_of store.schema) (length store.seats.items) (opened found) scribe.reading B.lines es (IsSpent store.scribe)) (sym events) filed,
+        subst (λ (outs : List (List Output)). AreToldIn outs (lines_in B.lines)) (sym gave) (lines_after o.1.gave b.1.gave (lines_in B.lines) b.4),
+      )
 
   pub runs : (contents : J → Option (List ℕ)) (told : Told) (images : List (Option I)) (members : Members K J I an g s d) (scribe : Scribe J) (store : Store K J I an g s d) → AreOpened honest held holds told images members → Begins contents honest held holds members scribe store → AreClean honest holds store →
       (found : List model.Node) → AreFound holds images found → (events : List Event) × IsRunOf held holds found events store

@@ -1,8 +1,12 @@
 -- Lines that record events, one after another.
-use Rattle.std.proofs.Common.{◌≡◌, ◌∙◌, ◌⊎◌, ⊎_elim, inl, inr, ℕ, ℤ, Option, List, [], ◌∷◌, ◌++◌, flat_map, refl, sym, ap, subst, append-nil, append_assoc}
+use Rattle.std.proofs.Common.{◌≡◌, ◌∙◌, ⊎_elim, inl, inr, ℕ, ℤ, Option, List, [], ◌∷◌, ◌++◌, flat_map, refl, sym, ap, subst, append-nil, append_assoc}
 use Rattle.std.specs.Prelude.{All}
+use Rattle.std.specs.List.{Contains}
 use Rattle.std.proofs.lemmas.Grind.{flat_map-append}
-use Rattle.std.proofs.lemmas.List.Elements.{All-nil, All-cons, All-head, All-tail}
+use Rattle.std.proofs.lemmas.List.Elements.{All-append, All-nil, All-cons, All-head, All-push, All-tail, All-weaker}
+use Rattle.flight.specs.declared.outcome.Outcome.{Outcome}
+use Rattle.flight.specs.Telling.{outcome_of}
+use Rattle.model.specs.declared.entry.Told.{Told}
 use Rattle.model.specs.Lists.{IsBeginning}
 use Rattle.model.specs.Transactions.{Language}
 use Rattle.model.specs.Worlds.{World, Event, happens, run}
@@ -13,7 +17,7 @@ use Rattle.journal.specs.declared.line.Line.{Line}
 use Rattle.journal.specs.declared.line.Line.TheVariants.{Opens, Rests, Life, Clock, Takes, Saves, Made, Ends, Answer, Printed}
 use Rattle.store.specs.Going.{with_begun}
 use Rattle.store.specs.Lines.{Lines, and_then, filed_in, lines_in, no_lines, waiting}
-use Rattle.store.specs.Recording.{AreRecorded, IsSilent, IsStartOrStop, RecordAll, Records, last_reading, reading_after}
+use Rattle.store.specs.Recording.{AreOf, AreRecorded, IsQuiet, IsSilent, IsStartOrStop, IsTrue, NobodyTells, OneTells, RecordAll, Records, last_reading, reading_after}
 use Rattle.store.proofs.Lines.{then_none}
 use Rattle.store.proofs.Storing.{idle_left, idle_run, idle_stores}
 
@@ -33,35 +37,110 @@ record_split reading (line ∷ one) two events (first, rest, h, more, is) =
     let split = record_split (reading_after reading line) one two rest more in
     (first ++ split.0, split.1, is ∙ ap (λ (z : List Event). first ++ z) split.2 ∙ sym (append_assoc first split.0 split.1), (first, split.0, h, split.3, refl), split.4)
 
+-- ---- what lines tell of requests
+
+-- what is told to some is told to more
+abbrev pub SaysLess : (few more : ℕ → Told → Type 0) → Type 0
+SaysLess few more = (m : ℕ) (told : Told) → few m told → more m told
+
+pub of_none : (tells : Told → Type 0) (outcomes : List Outcome) → outcomes ≡ [] → AreOf tells outcomes
+of_none tells outcomes none = subst (AreOf tells) (sym none) (All-nil (λ (o : Outcome). (told : Told) × tells told × (o ≡ outcome_of told)))
+
+of_more : (few more : Told → Type 0) → ((told : Told) → few told → more told) → (outcomes : List Outcome) → AreOf few outcomes → AreOf more outcomes
+of_more few more less outcomes t =
+    All-weaker (λ (o : Outcome). (told : Told) × few told × (o ≡ outcome_of told)) (λ (o : Outcome). (told : Told) × more told × (o ≡ outcome_of told)) (λ o (told, says, is). (told, less told says, is)) outcomes t
+
+-- one more
+pub of_one : (all : List Told) (outcomes : List Outcome) (one : Told) → Contains all one → AreOf (Contains all) outcomes → AreOf (Contains all) (outcomes ++ outcome_of one ∷ [])
+of_one all outcomes one has t = All-push (λ (o : Outcome). (told : Told) × Contains all told × (o ≡ outcome_of told)) outcomes (outcome_of one) t (one, has, refl)
+
+-- what is written of what one member told
+pub made_told : (member : ℕ) (told : List Told) (outcomes : List Outcome) → AreOf (Contains told) outcomes → IsQuiet (OneTells member told) (Made member outcomes)
+made_told member told outcomes t = of_more (Contains told) (OneTells member told member) (λ one has. (refl, has)) outcomes t
+
+pub true_more : (few more : ℕ → Told → Type 0) → SaysLess few more → (line : Line) → IsTrue few line → IsTrue more line
+true_more few more less (Opens journal sum marks) t = tt
+true_more few more less (Rests m stored) t = tt
+true_more few more less (Life m stored) t = tt
+true_more few more less (Clock now) t = tt
+true_more few more less (Takes m taken) t = tt
+true_more few more less (Saves m stored) t = tt
+true_more few more less (Made m outcomes) t = of_more (few m) (more m) (less m) outcomes t
+true_more few more less (Ends m) t = tt
+true_more few more less (Answer m query answer) t = tt
+true_more few more less (Printed client number words) t = tt
+
+pub quiet_true : (tells : ℕ → Told → Type 0) (line : Line) → IsQuiet tells line → IsTrue tells line
+quiet_true tells (Opens journal sum marks) q = tt
+quiet_true tells (Rests m stored) q = tt
+quiet_true tells (Life m stored) q = absurd q
+quiet_true tells (Clock now) q = tt
+quiet_true tells (Takes m taken) q = absurd q
+quiet_true tells (Saves m stored) q = tt
+quiet_true tells (Made m outcomes) q = q
+quiet_true tells (Ends m) q = absurd q
+quiet_true tells (Answer m query answer) q = tt
+quiet_true tells (Printed client number words) q = tt
+
+quiet_more : (few more : ℕ → Told → Type 0) → SaysLess few more → (line : Line) → IsQuiet few line → IsQuiet more line
+quiet_more few more less (Opens journal sum marks) q = tt
+quiet_more few more less (Rests m stored) q = tt
+quiet_more few more less (Life m stored) q = q
+quiet_more few more less (Clock now) q = tt
+quiet_more few more less (Takes m taken) q = q
+quiet_more few more less (Saves m stored) q = tt
+quiet_more few more less (Made m outcomes) q = of_more (few m) (more m) (less m) outcomes q
+quiet_more few more less (Ends m) q = q
+quiet_more few more less (Answer m query answer) q = tt
+quiet_more few more less (Printed client number words) q = tt
+
+pub nobody_less : (tells : ℕ → Told → Type 0) → SaysLess NobodyTells tells
+nobody_less tells m told none = absurd none
+
+-- the same of some lines
+pub all_more : (few more : ℕ → Told → Type 0) → SaysLess few more → (lines : List Line) → All (IsTrue few) lines → All (IsTrue more) lines
+all_more few more less lines t = All-weaker (IsTrue few) (IsTrue more) (true_more few more less) lines t
+
+pub all_true : (few more : ℕ → Told → Type 0) → SaysLess few more → (lines : List Line) → All (IsQuiet few) lines → All (IsTrue more) lines
+all_true few more less lines q = All-weaker (IsQuiet few) (IsTrue more) (λ line quiet. true_more few more less line (quiet_true few line quiet)) lines q
+
+pub silent_true : (tells : ℕ → Told → Type 0) (lines : List Line) → All IsSilent lines → All (IsTrue tells) lines
+silent_true tells lines s = all_true NobodyTells tells (nobody_less tells) lines s
+
+pub silent_quiet : (tells : ℕ → Told → Type 0) (lines : List Line) → All IsSilent lines → All (IsQuiet tells) lines
+silent_quiet tells lines s = All-weaker IsSilent (IsQuiet tells) (quiet_more NobodyTells tells (nobody_less tells)) lines s
+
 -- ---- lines that record nothing
 
-silent_none : (reading : Option ℤ) (line : Line) → IsSilent line → Records reading line []
-silent_none reading (Opens journal sum marks) s = refl
-silent_none reading (Rests m stored) s = refl
-silent_none reading (Life m stored) s = absurd s
-silent_none reading (Clock now) s = refl
-silent_none reading (Takes m taken) s = absurd s
-silent_none reading (Saves m stored) s = refl
-silent_none reading (Made m outcomes) s = refl
-silent_none reading (Ends m) s = absurd s
-silent_none reading (Answer m query answer) s = refl
-silent_none reading (Printed client number words) s = refl
+quiet_none : (tells : ℕ → Told → Type 0) (reading : Option ℤ) (line : Line) → IsQuiet tells line → Records reading line []
+quiet_none tells reading (Opens journal sum marks) q = refl
+quiet_none tells reading (Rests m stored) q = refl
+quiet_none tells reading (Life m stored) q = absurd q
+quiet_none tells reading (Clock now) q = refl
+quiet_none tells reading (Takes m taken) q = absurd q
+quiet_none tells reading (Saves m stored) q = refl
+quiet_none tells reading (Made m outcomes) q = refl
+quiet_none tells reading (Ends m) q = absurd q
+quiet_none tells reading (Answer m query answer) q = refl
+quiet_none tells reading (Printed client number words) q = refl
+
+quiet_records : (tells : ℕ → Told → Type 0) (reading : Option ℤ) (lines : List Line) → All (IsQuiet tells) lines → RecordAll reading lines []
+quiet_records tells reading [] q = refl
+quiet_records tells reading (line ∷ lines) q = ([], [], quiet_none tells reading line (All-head (IsQuiet tells) line lines q), quiet_records tells (reading_after reading line) lines (All-tail (IsQuiet tells) line lines q), refl)
 
 pub silent_records : (reading : Option ℤ) (lines : List Line) → All IsSilent lines → RecordAll reading lines []
-silent_records reading [] s = refl
-silent_records reading (line ∷ lines) s = ([], [], silent_none reading line (All-head IsSilent line lines s), silent_records (reading_after reading line) lines (All-tail IsSilent line lines s), refl)
+silent_records reading lines s = quiet_records NobodyTells reading lines s
 
 pub silent_both : (one two : List Line) → All IsSilent one → All IsSilent two → All IsSilent (one ++ two)
-silent_both [] two a b = b
-silent_both (line ∷ one) two a b = All-cons IsSilent line (one ++ two) (All-head IsSilent line one a) (silent_both one two (All-tail IsSilent line one a) b)
+silent_both one two a b = All-append IsSilent one two a b
 
-pub silent_left : (one two : List Line) → All IsSilent (one ++ two) → All IsSilent one
-silent_left [] two s = All-nil IsSilent
-silent_left (line ∷ one) two s = All-cons IsSilent line one (All-head IsSilent line (one ++ two) s) (silent_left one two (All-tail IsSilent line (one ++ two) s))
+quiet_left : (tells : ℕ → Told → Type 0) (one two : List Line) → All (IsQuiet tells) (one ++ two) → All (IsQuiet tells) one
+quiet_left tells [] two q = All-nil (IsQuiet tells)
+quiet_left tells (line ∷ one) two q = All-cons (IsQuiet tells) line one (All-head (IsQuiet tells) line (one ++ two) q) (quiet_left tells one two (All-tail (IsQuiet tells) line (one ++ two) q))
 
-pub silent_right : (one two : List Line) → All IsSilent (one ++ two) → All IsSilent two
-silent_right [] two s = s
-silent_right (line ∷ one) two s = silent_right one two (All-tail IsSilent line (one ++ two) s)
+quiet_right : (tells : ℕ → Told → Type 0) (one two : List Line) → All (IsQuiet tells) (one ++ two) → All (IsQuiet tells) two
+quiet_right tells [] two q = q
+quiet_right tells (line ∷ one) two q = quiet_right tells one two (All-tail (IsQuiet tells) line (one ++ two) q)
 
 pub silent_one : (line : Line) → IsSilent line → All IsSilent (line ∷ [])
 silent_one line s = All-cons IsSilent line [] s (All-nil IsSilent)
@@ -123,11 +202,11 @@ module _ (language : Language) (n : ℕ) where
   }
 
   -- a step that was begun, which stored nothing else unless a block was written
-  pub recorded_step : (w : World) (reading : Option ℤ) (m : ℕ) (taken : Taken) (lines : Lines) (event : Event) (spent : Type 0) → Records reading (Takes m taken) (event ∷ []) → All IsSilent (lines_in lines) → (lines.groups ≡ [] → durable (happens language n w event) ≡ durable w) →
+  pub recorded_step : (tells : ℕ → Told → Type 0) (w : World) (reading : Option ℤ) (m : ℕ) (taken : Taken) (lines : Lines) (event : Event) (spent : Type 0) → Records reading (Takes m taken) (event ∷ []) → All (IsQuiet tells) (lines_in lines) → (lines.groups ≡ [] → durable (happens language n w event) ≡ durable w) →
       AreRecorded language n w reading (with_begun (Takes m taken ∷ []) lines) (event ∷ []) spent
-  recorded_step w reading m taken lines event spent r silent same = go lines.groups lines.rest silent same
+  recorded_step tells w reading m taken lines event spent r silent same = go lines.groups lines.rest silent same
     where
-      go : (groups : List (List Line)) (rest : List Line) → All IsSilent (flat_map (λ (g : List Line). g) groups ++ rest) → (groups ≡ [] → durable (happens language n w event) ≡ durable w) →
+      go : (groups : List (List Line)) (rest : List Line) → All (IsQuiet tells) (flat_map (λ (g : List Line). g) groups ++ rest) → (groups ≡ [] → durable (happens language n w event) ≡ durable w) →
           AreRecorded language n w reading (with_begun (Takes m taken ∷ []) (record { groups = groups; rest = rest })) (event ∷ []) spent
       go [] rest quiet keeps = record {
         filed = [];
@@ -135,7 +214,7 @@ module _ (language : Language) (n : ℕ) where
         lost = [];
         events_are = refl;
         on_device = refl;
-        in_buffer = (event ∷ [], [], r, silent_records reading rest quiet, refl);
+        in_buffer = (event ∷ [], [], r, quiet_records tells reading rest quiet, refl);
         idle = All-nil IsStartOrStop;
         none = inl refl;
         stored = keeps refl;
@@ -147,8 +226,8 @@ module _ (language : Language) (n : ℕ) where
             waiting = [];
             lost = [];
             events_are = refl;
-            on_device = (event ∷ [], [], r, silent_records reading more (silent_left more rest quiet), refl);
-            in_buffer = silent_records (last_reading reading (Takes m taken ∷ more)) rest (silent_right more rest quiet);
+            on_device = (event ∷ [], [], r, quiet_records tells reading more (quiet_left tells more rest quiet), refl);
+            in_buffer = quiet_records tells (last_reading reading (Takes m taken ∷ more)) rest (quiet_right tells more rest quiet);
             idle = All-nil IsStartOrStop;
             none = inl refl;
             stored = refl;

@@ -117,6 +117,12 @@ at_rest_there {N} {I} o i image P R Q none some there =
     let a : MatchOption i Q R = subst (λ (x : Option N). MatchOption x (MatchOption i Q R) P) none there in
     subst (λ (x : Option I). MatchOption x Q R) some a
 
+-- and back
+pub rests_clean : {N I : Type 0} (o : Option N) (i : Option I) (image : I) (R : I → Type 0) (P : N → Type 0) → o ≡ None → i ≡ Some image → R image → MatchOption o (MatchOption i (Unit {0}) R) P
+rests_clean {N} {I} o i image R P none some rests =
+    let a : MatchOption i (Unit {0}) R = subst (λ (x : Option I). MatchOption x (Unit {0}) R) (sym some) rests in
+    subst (λ (x : Option N). MatchOption x (MatchOption i (Unit {0}) R) P) (sym none) a
+
 -- what is said of a node that is there
 pub at_some : {N : Type 0} (o : Option N) (node : N) (Q : Type 0) (P : N → Type 0) → o ≡ Some node → MatchOption o Q P → P node
 at_some o node Q P some there = subst (λ x. MatchOption x Q P) some there

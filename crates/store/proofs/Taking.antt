@@ -1,6 +1,7 @@
 -- A step of a member of a store, as events of a run.
 use Rattle.std.proofs.Common.{◌≡◌, ◌∙◌, ℕ, ◌+◌, ◌⊎◌, ⊎_elim, inl, inr, Bool, true, false, Option, Some, Result, Ok, Err, IsErr, MatchBool, List, [], ◌∷◌, length, refl, sym, ap, subst, append-nil, arith}
 use Rattle.std.specs.List.{All, Contains}
+use Rattle.std.proofs.lemmas.List.Elements.{All-append}
 use Rattle.std.specs.Option.{option_map_or}
 use Rattle.std.proofs.lemmas.Bool.{eq-eqb}
 use Rattle.std.specs.Prelude.{◌==◌, ℤ}
@@ -36,18 +37,17 @@ use Rattle.store.specs.Journals.{IsSpent}
 use Rattle.store.specs.Nodes.{StepsTo}
 use Rattle.store.specs.Seats.{IsClean}
 use Rattle.journal.specs.declared.line.Taken.{Taken}
-use Rattle.journal.specs.declared.line.Line.{Line}
 use Rattle.journal.specs.declared.line.Line.TheVariants.{Takes}
 use Rattle.store.specs.Lines.{Lines, and_then, behind, lines_in}
-use Rattle.store.specs.Recording.{IsSilent, IsStep, job_of}
+use Rattle.store.specs.Recording.{IsQuiet, IsStep, NobodyTells, OneTells, job_of}
 use Rattle.store.specs.declared.scribe.Scribe.{Scribe}
 use Rattle.store.specs.Continuing.{IsContinued, reading_in}
-use Rattle.store.specs.Going.{AreFiled, Changes, GoesOnFrom, HasSent, HasStepped, Hears, IsAmong, IsBrought, IsIn, Publishes, SaysWhy, Stops, with_begun}
+use Rattle.store.specs.Going.{AreFiled, Changes, GoesOnFrom, HasSent, HasStepped, Hears, IsAmong, IsBrought, IsIn, PublishesSo, SaysWhy, Stops, with_begun}
 use Rattle.store.proofs.Continuing.{continued_both, kept_same}
 use Rattle.store.proofs.Lines.{lines_then, none_first}
-use Rattle.store.proofs.Recording.{recorded_step, silent_both}
+use Rattle.store.proofs.Recording.{SaysLess, all_true, recorded_step, silent_quiet}
 use Rattle.store.proofs.Storing.{same_stored}
-use Rattle.store.proofs.Going.{TellsLess, from_weaker, hears_more, hears_same, same_count, seat_in, seats_as, sits, spent_publishes, tidy, was_tidy, world_with}
+use Rattle.store.proofs.Going.{TellsLess, from_weaker, hears_more, hears_same, publishes_so, same_count, seat_in, seats_as, sits, spent_publishes, tidy, told_behind, told_silent, was_tidy, world_with}
 
 -- what a step sends, and what it tells
 abbrev pub messages_of : Result Out Fault → List Message
@@ -123,23 +123,24 @@ module _ {K J I : Type 0} {an : _} {g : _} {s : _} {d : _} (contents : J → Opt
   So m taken now work gives old new = GoesOnFrom contents honest held holds (Takes m taken ∷ []) (IsBrought old m (job_of now taken) work) gives old new
 
   -- the events of the step, in the lines
-  filed : (old new : Store K J I an g s d) (m : ℕ) (taken : Taken) (now : ℤ) (lines : Lines) (w v : World) (goes : Goes (language_of old.schema) (length old.seats.items) w v) → reading_in old.scribe ≡ Some now → All IsSilent (lines_in lines) → (event : Event) × IsStep m (job_of now taken) event × (goes.events ≡ event ∷ []) →
+  filed : (tells : ℕ → Told → Type 0) (old new : Store K J I an g s d) (m : ℕ) (taken : Taken) (now : ℤ) (lines : Lines) (w v : World) (goes : Goes (language_of old.schema) (length old.seats.items) w v) → reading_in old.scribe ≡ Some now → All (IsQuiet tells) (lines_in lines) → (event : Event) × IsStep m (job_of now taken) event × (goes.events ≡ event ∷ []) →
       (lines.groups ≡ [] → durable v ≡ durable w) → AreFiled old new (with_begun (Takes m taken ∷ []) lines) w goes.events
-  filed old new m taken now lines w v goes shown silent (event, is, are) same =
+  filed tells old new m taken now lines w v goes shown silent (event, is, are) same =
       let language = language_of old.schema in
       let n = length old.seats.items in
       subst (AreFiled old new (with_begun (Takes m taken ∷ []) lines) w) (sym are)
-      (recorded_step language n w (reading_in old.scribe) m taken lines event (IsSpent new.scribe) (now, shown, event, is, refl) silent
+      (recorded_step language n tells w (reading_in old.scribe) m taken lines event (IsSpent new.scribe) (now, shown, event, is, refl) silent
       (λ none. ap durable (sym (goes.leads ∙ ap (run language n w) are)) ∙ same none))
 
   -- a member took a step, what it sent came under way, and what it told was heard
-  pub step_on : (old mid new : Store K J I an g s d) (at : ℕ) (taken : Taken) (now : ℤ) (work : Work) (result : Result Out Fault) → reading_in old.scribe ≡ Some now → HasStepped contents honest held holds old mid at work result → (IsSpent old.scribe → ⊥) → Publishes contents mid new (messages_of result) (told_of result) →
+  pub step_on : (old mid new : Store K J I an g s d) (at : ℕ) (taken : Taken) (now : ℤ) (work : Work) (result : Result Out Fault) → reading_in old.scribe ≡ Some now → HasStepped contents honest held holds old mid at work result → (IsSpent old.scribe → ⊥) → PublishesSo contents (OneTells (at + 1) (told_of result)) mid new (messages_of result) (told_of result) →
       So (at + 1) taken now work (Says (at + 1) result) old new
   step_on old mid new at taken now work result shown h live p =
       let C = h.changes in
       let m = at + 1 in
       let lines = and_then C.journal.0 p.journal.0 in
-      let silent = subst (All IsSilent) (sym (lines_then C.journal.0 p.journal.0)) (silent_both (lines_in C.journal.0) (lines_in p.journal.0) C.journal.1 p.journal.1) in
+      let tells = OneTells m (told_of result) in
+      let quiet = subst (All (IsQuiet tells)) (sym (lines_then C.journal.0 p.journal.0)) (All-append (IsQuiet tells) (lines_in C.journal.0) (lines_in p.journal.0) (silent_quiet tells (lines_in C.journal.0) C.journal.1) p.journal.1) in
       record {
         schema = p.schema ∙ C.schema;
         count = ap length p.seats ∙ same_count contents honest held holds old mid at h.before h.after C;
@@ -155,12 +156,14 @@ module _ {K J I : Type 0} {an : _} {g : _} {s : _} {d : _} (contents : J → Opt
             let turned = turn old.schema (length old.seats.items) m work w sat.0 sat.1 (job_of now taken) b.0 b.1 t.0 result t.1.1 in
             let there = seat_in contents honest held holds old mid at h.before h.after C (λ was. absurd (live was)) w t.0 i t.1.0 in
             let less : TellsLess (IsAmong (told_of result)) (WasTold turned.goes.gave) = λ client number o one. record { member = m; told = one.0; client_is = one.2; number_is = one.3; outcome_is = one.4; given = turned.tells one.0 one.1 } in
+            let given : SaysLess tells (λ k told. HasGiven turned.goes.gave (Applied k told)) = λ k told (is, has). subst (λ (i : ℕ). HasGiven turned.goes.gave (Applied i told)) (sym is) (turned.tells told has) in
             let hears = hears_more (IsAmong (told_of result)) (WasTold turned.goes.gave) less mid.watched new.watched p.hears in
             let v = with_node w m t.0 (messages_of result) in (
               record {
                 world = v;
                 goes = turned.goes;
-                events_are = filed old new m taken now lines w v turned.goes shown silent turned.events_are (λ none. same_stored w m sat.0 t.0 (messages_of result) sat.1 (h.stored (none_first C.journal.0.groups (behind C.journal.0.rest p.journal.0.groups) none) seat_clean old.schema (length old.seats.items) m sat.0 t.0 sat.2 t.1.0 t.1.1));
+                events_are = filed tells old new m taken now lines w v turned.goes shown quiet turned.events_are (λ none. same_stored w m sat.0 t.0 (messages_of result) sat.1 (h.stored (none_first C.journal.0.groups (behind C.journal.0.rest p.journal.0.groups) none) seat_clean old.schema (length old.seats.items) m sat.0 t.0 sat.2 t.1.0 t.1.1));
+                outcomes_are = told_behind turned.goes.gave (Takes m taken) lines tt (all_true tells (λ k told. HasGiven turned.goes.gave (Applied k told)) given (lines_in lines) quiet);
                 is_in = record {
                   seated = seats_as contents honest held holds mid new p.schema p.seats (world_with (with_nth w.nodes m t.0) w.sent) there;
                   under_way = λ up. p.letters up w.sent (there.under_way (λ was. up (p.spent was)));
@@ -172,16 +175,18 @@ module _ {K J I : Type 0} {an : _} {g : _} {s : _} {d : _} (contents : J → Opt
       }
 
   -- the same of a member by its number
-  pub stepped : (old mid new : Store K J I an g s d) (at m : ℕ) (taken : Taken) (now : ℤ) (work : Work) (result : Result Out Fault) → m ≡ at + 1 → reading_in old.scribe ≡ Some now → HasStepped contents honest held holds old mid at work result → (IsSpent old.scribe → ⊥) → Publishes contents mid new (messages_of result) (told_of result) →
+  pub stepped : (old mid new : Store K J I an g s d) (at m : ℕ) (taken : Taken) (now : ℤ) (work : Work) (result : Result Out Fault) → m ≡ at + 1 → reading_in old.scribe ≡ Some now → HasStepped contents honest held holds old mid at work result → (IsSpent old.scribe → ⊥) → PublishesSo contents (OneTells m (told_of result)) mid new (messages_of result) (told_of result) →
       So m taken now work (Says m result) old new
-  stepped old mid new at m taken now work result is shown h live p = subst (λ (k : ℕ). So k taken now work (Says k result) old new) (sym is) (step_on old mid new at taken now work result shown h live p)
+  stepped old mid new at m taken now work result is shown h live p =
+      subst (λ (k : ℕ). So k taken now work (Says k result) old new) (sym is)
+      (step_on old mid new at taken now work result shown h live (subst (λ (k : ℕ). PublishesSo contents (OneTells k (told_of result)) mid new (messages_of result) (told_of result)) is p))
 
   -- the store was spent in the midst of it
   pub stepped_last : (old mid : Store K J I an g s d) (at m : ℕ) (taken : Taken) (now : ℤ) (work : Work) → m ≡ at + 1 → reading_in old.scribe ≡ Some now → ((result : Result Out Fault) × HasStepped contents honest held holds old mid at work result) → (IsSpent old.scribe → ⊥) → IsSpent mid.scribe →
       So m taken now work (λ gave. Unit {0}) old mid
   stepped_last old mid at m taken now work is shown h live spent =
       from_weaker contents honest held holds (Takes m taken ∷ []) (IsBrought old m (job_of now taken) work) (IsBrought old m (job_of now taken) work) (Says m h.0) (λ gave. Unit {0}) old mid (λ w b. b) (λ gave says. tt)
-      (stepped old mid mid at m taken now work h.0 is shown h.1 live (spent_publishes contents honest held holds mid mid (messages_of h.0) (told_of h.0) refl refl refl (kept_same contents mid.scribe) spent))
+      (stepped old mid mid at m taken now work h.0 is shown h.1 live (publishes_so contents honest held holds (OneTells m (told_of h.0)) mid mid (messages_of h.0) (told_of h.0) (spent_publishes contents honest held holds mid mid (messages_of h.0) (told_of h.0) refl refl refl (kept_same contents mid.scribe) spent)))
 
   -- the member went down, and its node was stopped, which is no event
   pub stepped_down : (old mid new : Store K J I an g s d) (at m : ℕ) (taken : Taken) (now : ℤ) (work : Work) (error : StoreError) → m ≡ at + 1 → reading_in old.scribe ≡ Some now → HasStepped contents honest held holds old mid at work (Err (Down error)) → (IsSpent old.scribe → ⊥) →
@@ -213,7 +218,8 @@ module _ {K J I : Type 0} {an : _} {g : _} {s : _} {d : _} (contents : J → Opt
                   record {
                     world = v;
                     goes = turned.goes;
-                    events_are = filed old new (at + 1) taken now C.journal.0 w v turned.goes shown C.journal.1 turned.events_are (λ none. same_stored w (at + 1) sat.0 t.0 [] sat.1 (h.stored none seat_clean old.schema (length old.seats.items) (at + 1) sat.0 t.0 sat.2 t.1.0 t.1.1));
+                    events_are = filed NobodyTells old new (at + 1) taken now C.journal.0 w v turned.goes shown C.journal.1 turned.events_are (λ none. same_stored w (at + 1) sat.0 t.0 [] sat.1 (h.stored none seat_clean old.schema (length old.seats.items) (at + 1) sat.0 t.0 sat.2 t.1.0 t.1.1));
+                    outcomes_are = told_behind turned.goes.gave (Takes (at + 1) taken) C.journal.0 tt (told_silent turned.goes.gave (lines_in C.journal.0) C.journal.1);
                     is_in = subst (IsIn held holds new) still (S.went k v in_mid);
                     hears = hears_same (WasTold turned.goes.gave) old.watched new.watched (S.watched ∙ C.watched);
                   },

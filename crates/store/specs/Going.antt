@@ -8,7 +8,7 @@ use Rattle.model.specs.declared.entry.Told.{Told}
 use Rattle.model.specs.declared.event.Job.{Job}
 use Rattle.model.specs.declared.message.Message.{Message}
 use Rattle.model.specs.Worlds.{World, Event, Output, run, effect, is_for, starts, stops}
-use Rattle.model.specs.Worlds.Output.{Refused as Refuses}
+use Rattle.model.specs.Worlds.Output.{Applied, Refused as Refuses}
 use Rattle.keep.specs.Durable.{Durable}
 use Rattle.sqlread.specs.Meaning.{language_of}
 use Rattle.node.specs.declared.node.Out.{Out}
@@ -26,9 +26,9 @@ use Rattle.store.specs.declared.steps.Watched.{Watched}
 use Rattle.store.specs.declared.outcome.Outcome.{Outcome}
 use Rattle.store.specs.declared.outcome.Outcome.TheVariants.{Accepted, Refused, Unanswered}
 use Rattle.store.specs.declared.refusal.StoreRefusal.{StoreRefusal}
-use Rattle.store.specs.Continuing.{IsContinued, IsKeptOn, reading_in}
-use Rattle.store.specs.Lines.{Lines, behind, rest_behind, waiting}
-use Rattle.store.specs.Recording.{AreRecorded, IsSilent}
+use Rattle.store.specs.Continuing.{IsContinued, IsKeptOn, IsKeptSo, reading_in}
+use Rattle.store.specs.Lines.{Lines, behind, lines_in, rest_behind, waiting}
+use Rattle.store.specs.Recording.{AreRecorded, IsSilent, IsTrue, NobodyTells}
 use Rattle.journal.specs.declared.line.Taken.{Taken}
 use Rattle.journal.specs.declared.line.Line.{Line}
 use Rattle.journal.specs.declared.line.Line.TheVariants.{Takes}
@@ -74,6 +74,10 @@ ComesOf client number (Accepted stamp) gave = WasTold gave client number (Ok sta
 ComesOf client number (Refused reason) gave = WasTold gave client number (Err reason) ⊎ ((m : ℕ) × HasGiven gave (Refuses m reason))
 ComesOf client number Unanswered gave = Unit {0}
 
+-- each outcome that these lines have of a member it told in one of these events
+abbrev pub AreToldIn : List (List Output) → List Line → Type 0
+AreToldIn gave lines = All (IsTrue (λ m told. HasGiven gave (Applied m told))) lines
+
 -- a refusal of a step is one that the member gave
 abbrev pub SaysWhy : ℕ → Result Stepped StoreRefusal → List (List Output) → Type 0
 SaysWhy m (Ok stepped.Done) gave = Unit {0}
@@ -104,17 +108,19 @@ module _ {K J I : Type 0} {an : _} {g : _} {s : _} {d : _} where
   abbrev pub IsRunOf : (held : K → Durable → Type 0) (holds : I → Durable → Type 0) → List Node → List Event → Store K J I an g s d → Type 0
   IsRunOf held holds found events store = IsIn held holds store (run (language_of store.schema) (length store.seats.items) (opened found) events)
 
-  -- a store was in this world, and is where events lead from there of which this holds
-  pub record WentOn (held : K → Durable → Type 0) (holds : I → Durable → Type 0) (are : List Event → Type 0) (old new : Store K J I an g s d) (w : World) : Type 0 where
-    pub world : World
-    pub goes : Goes (language_of old.schema) (length old.seats.items) w world
-    pub events_are : are goes.events
-    pub is_in : IsIn held holds new world
-    pub hears : Hears (WasTold goes.gave) old.watched new.watched
-
   -- the events of a store that went on from this world are what these lines of its journal record
   abbrev pub AreFiled : Store K J I an g s d → Store K J I an g s d → Lines → World → List Event → Type 0
   AreFiled old new lines w events = AreRecorded (language_of old.schema) (length old.seats.items) w (reading_in old.scribe) lines events (IsSpent new.scribe)
+
+  -- A store was in this world, and is where events lead from there that these lines record. Each outcome in the lines its member told in these
+  -- events.
+  pub record WentOn (held : K → Durable → Type 0) (holds : I → Durable → Type 0) (lines : Lines) (old new : Store K J I an g s d) (w : World) : Type 0 where
+    pub world : World
+    pub goes : Goes (language_of old.schema) (length old.seats.items) w world
+    pub events_are : AreFiled old new lines w goes.events
+    pub outcomes_are : AreToldIn goes.gave (lines_in lines)
+    pub is_in : IsIn held holds new world
+    pub hears : Hears (WasTold goes.gave) old.watched new.watched
 
   -- the run of a store goes on, and lines came to its journal that record it
   pub record GoesOn (contents : J → Option (List ℕ)) (honest : K → Type 0) (held : K → Durable → Type 0) (holds : I → Durable → Type 0) (old new : Store K J I an g s d) : Type 0 where
@@ -123,7 +129,7 @@ module _ {K J I : Type 0} {an : _} {g : _} {s : _} {d : _} where
     pub lines : Lines
     pub journal : IsContinued contents old.scribe new.scribe lines
     pub clean : AreClean honest holds new → AreClean honest holds old
-    pub went : AreClean honest holds new → (w : World) → IsIn held holds old w → WentOn held holds (AreFiled old new lines w) old new w
+    pub went : AreClean honest holds new → (w : World) → IsIn held holds old w → WentOn held holds lines old new w
 
   -- The run goes on from each world of which this holds, by events that gave what this holds of. Lines that were in the buffer before, and
   -- then those that came to the journal, record it.
@@ -133,7 +139,7 @@ module _ {K J I : Type 0} {an : _} {g : _} {s : _} {d : _} where
     pub lines : Lines
     pub journal : IsContinued contents old.scribe new.scribe lines
     pub clean : AreClean honest holds new → AreClean honest holds old
-    pub went : AreClean honest holds new → (w : World) → IsIn held holds old w → from w → (on : WentOn held holds (AreFiled old new (with_begun begun lines) w) old new w) × gives on.goes.gave
+    pub went : AreClean honest holds new → (w : World) → IsIn held holds old w → from w → (on : WentOn held holds (with_begun begun lines) old new w) × gives on.goes.gave
 
   -- the same where no such lines were in the buffer
   abbrev pub GoesOnSo : (contents : J → Option (List ℕ)) (honest : K → Type 0) (held : K → Durable → Type 0) (holds : I → Durable → Type 0) (from : World → Type 0) (gives : List (List Output) → Type 0) (old new : Store K J I an g s d) → Type 0
@@ -159,16 +165,21 @@ module _ {K J I : Type 0} {an : _} {g : _} {s : _} {d : _} where
 
   -- ---- the parts of a step
 
-  -- The members stay. These messages come under way, but in a spent store, and this is heard. What came to the journal records no event.
-  pub record Publishes (contents : J → Option (List ℕ)) (old new : Store K J I an g s d) (messages : List Message) (told : List Told) : Type 0 where
+  -- The members stay. These messages come under way, but in a spent store, and this is heard. What came to the journal records no event, and
+  -- its outcomes are true.
+  pub record PublishesSo (contents : J → Option (List ℕ)) (tells : ℕ → Told → Type 0) (old new : Store K J I an g s d) (messages : List Message) (told : List Told) : Type 0 where
     pub schema : new.schema ≡ old.schema
     pub seats : new.seats.items ≡ old.seats.items
-    pub journal : IsKeptOn contents old.scribe new.scribe
+    pub journal : IsKeptSo contents tells old.scribe new.scribe
     pub spent : IsSpent old.scribe → IsSpent new.scribe
     pub letters : (IsSpent new.scribe → ⊥) → (sent : List Message) → AreUnderWay old.queue.items old.sent sent → AreUnderWay new.queue.items new.sent (sent ++ messages)
     pub hears : Hears (IsAmong told) old.watched new.watched
 
-  -- the seat of one member is another; nothing else is, but for the journal, to which lines came that record no event
+  -- the same where no outcome came to the journal
+  abbrev pub Publishes : (contents : J → Option (List ℕ)) (old new : Store K J I an g s d) (messages : List Message) (told : List Told) → Type 0
+  Publishes contents old new messages told = PublishesSo contents NobodyTells old new messages told
+
+  -- the seat of one member is another; nothing else is, but for the journal, to which lines came that record no event and have no outcome
   pub record Changes (contents : J → Option (List ℕ)) (honest : K → Type 0) (holds : I → Durable → Type 0) (old new : Store K J I an g s d) (at : ℕ) (before after : Seat K J I an g s d) : Type 0 where
     pub there : slice_get old.seats.items at ≡ Some before
     pub seats : new.seats.items ≡ slice_set old.seats.items at after

@@ -11,7 +11,9 @@ pub mod Held
 pub mod HeldAt
 pub mod Journals
 pub mod Lines
+pub mod Lives
 pub mod Nodes
+pub mod Noting
 pub mod Opening
 pub mod Pasts
 pub mod Recording

@@ -16,10 +16,10 @@ use Rattle.store.specs.Nodes.{Rests}
 use Rattle.store.specs.Seats.{HasMember, IsClean}
 use Rattle.store.specs.declared.scribe.Scribe.{Scribe}
 use Rattle.store.specs.Continuing.{IsContinued, reading_in}
-use Rattle.store.specs.Going.{AreClean, IsIn, IsRunOf}
+use Rattle.store.specs.Going.{AreClean, AreToldIn, IsIn, IsRunOf}
 use Rattle.store.specs.Journals.{IsSpent}
 use Rattle.store.specs.Lines.{Lines, lines_in}
-use Rattle.store.specs.Recording.{AreRecorded, RecordAll}
+use Rattle.store.specs.Recording.{AreRecorded, IsTrue, NobodyTells, RecordAll}
 use Rattle.store.specs.Tales.{Told, tale_of}
 
 -- how many of these databases are there
@@ -30,9 +30,9 @@ there_in images = count_by is_some images
 abbrev pub AreMost : {I : Type 0} → List (Option I) → Type 0
 AreMost images = length images < there_in images + there_in images
 
--- lines came to the journal that record these events
+-- lines came to the journal that record these events and have no outcome
 abbrev pub Files : {J : Type 0} → (contents : J → Option (List ℕ)) → Option (Scribe J) → Option (Scribe J) → List Event → Type 0
-Files contents old new events = (lines : Lines) × IsContinued contents old new lines × RecordAll (reading_in old) (lines_in lines) events
+Files contents old new events = (lines : Lines) × IsContinued contents old new lines × RecordAll (reading_in old) (lines_in lines) events × All (IsTrue NobodyTells) (lines_in lines)
 
 -- these members are down, and each has stored what its database holds, if it is there and holds anything
 abbrev pub AreFound : {I : Type 0} → (holds : I → Durable → Type 0) → List (Option I) → List Node → Type 0
@@ -69,7 +69,7 @@ module _ {K J I : Type 0} {an : _} {g : _} {s : _} {d : _} where
         (v : World) × (goes : Goes (language_of members.schema) (length images) (opened found) v) × (goes.events ≡ starts_of members.seats.items) × (v.sent ≡ []) × AreMembers held holds members.schema (length images) members.seats.items v
 
   -- From a world to which the starts of these members led, and in which no message is under way, events lead to one that the store is in. The
-  -- lines that came to the journal record the starts and these events.
+  -- lines that came to the journal record the starts and these events, and each outcome in them its member told in these.
   pub record Begins (contents : J → Option (List ℕ)) (honest : K → Type 0) (held : K → Durable → Type 0) (holds : I → Durable → Type 0) (members : Members K J I an g s d) (scribe : Scribe J) (store : Store K J I an g s d) : Type 0 where
     pub schema : store.schema ≡ members.schema
     pub count : length store.seats.items ≡ length members.seats.items
@@ -77,7 +77,7 @@ module _ {K J I : Type 0} {an : _} {g : _} {s : _} {d : _} where
     pub journal : IsContinued contents (Some scribe) store.scribe lines
     pub clean : AreClean honest holds store → All (IsClean honest holds) members.seats.items
     pub went : AreClean honest holds store → (u w : World) (starts : Goes (language_of members.schema) (length members.seats.items) u w) → starts.events ≡ starts_of members.seats.items → w.sent ≡ [] → AreMembers held holds members.schema (length members.seats.items) members.seats.items w →
-        (v : World) × (goes : Goes (language_of members.schema) (length members.seats.items) w v) × IsIn held holds store v × AreRecorded (language_of members.schema) (length members.seats.items) u scribe.reading lines (starts.events ++ goes.events) (IsSpent store.scribe)
+        (v : World) × (goes : Goes (language_of members.schema) (length members.seats.items) w v) × IsIn held holds store v × AreRecorded (language_of members.schema) (length members.seats.items) u scribe.reading lines (starts.events ++ goes.events) (IsSpent store.scribe) × AreToldIn goes.gave (lines_in lines)
 
   -- while nothing wrong was taken as true, a store is the run of some events from what these databases held
   abbrev pub IsRunFrom : (honest : K → Type 0) (held : K → Durable → Type 0) (holds : I → Durable → Type 0) (images : List (Option I)) → Store K J I an g s d → Type 0

@@ -1,5 +1,9 @@
 -- Which events of a run the lines of a journal record.
 use Rattle.std.specs.Prelude.{◌≡◌, ◌⊎◌, ℕ, ℤ, Option, Some, List, [], ◌∷◌, ◌++◌, fold, All, ⊤}
+use Rattle.std.specs.List.{Contains}
+use Rattle.flight.specs.declared.outcome.Outcome.{Outcome}
+use Rattle.flight.specs.Telling.{outcome_of}
+use Rattle.model.specs.declared.entry.Told.{Told}
 use Rattle.model.specs.declared.event.Job.{Job}
 use Rattle.model.specs.declared.event.Job.TheVariants.{Local, Delivery}
 use Rattle.model.specs.declared.event.Left.{Left}
@@ -10,7 +14,7 @@ use Rattle.sessions.specs.Kills.{durable, whole}
 use Rattle.journal.specs.declared.line.Taken.{Taken}
 use Rattle.journal.specs.declared.line.Taken.TheVariants.{Timeout, Beat, Close, Floor, Submit, Message}
 use Rattle.journal.specs.declared.line.Line.{Line}
-use Rattle.journal.specs.declared.line.Line.TheVariants.{Life, Clock, Takes, Ends}
+use Rattle.journal.specs.declared.line.Line.TheVariants.{Life, Clock, Takes, Made, Ends}
 use Rattle.store.specs.Lines.{Lines, filed_in}
 
 -- what clocks show behind a line, and behind some
@@ -46,12 +50,35 @@ abbrev pub RecordAll : Option ℤ → List Line → List Event → Type 0
 RecordAll reading [] events = events ≡ []
 RecordAll reading (line ∷ lines) events = (first rest : List Event) × Records reading line first × RecordAll (reading_after reading line) lines rest × (events ≡ first ++ rest)
 
--- it records no event
+-- ---- what lines tell of requests
+
+-- each of these outcomes is of something that is told so
+abbrev pub AreOf : (Told → Type 0) → List Outcome → Type 0
+AreOf tells outcomes = All (λ (o : Outcome). (told : Told) × tells told × (o ≡ outcome_of told)) outcomes
+
+-- each outcome that a line has of a member is of something that this member tells
+abbrev pub IsTrue : (ℕ → Told → Type 0) → Line → Type 0
+IsTrue tells (Made m outcomes) = AreOf (tells m) outcomes
+IsTrue tells line = ⊤
+
+-- it records no event, and its outcomes, if any, are true
+abbrev pub IsQuiet : (ℕ → Told → Type 0) → Line → Type 0
+IsQuiet tells (Life m stored) = ⊥
+IsQuiet tells (Takes m taken) = ⊥
+IsQuiet tells (Ends m) = ⊥
+IsQuiet tells line = IsTrue tells line
+
+-- this member tells these
+abbrev pub OneTells : ℕ → List Told → ℕ → Told → Type 0
+OneTells member all m told = (m ≡ member) × Contains all told
+
+-- nobody tells anything
+abbrev pub NobodyTells : ℕ → Told → Type 0
+NobodyTells m told = ⊥
+
+-- it records no event and has no outcome
 abbrev pub IsSilent : Line → Type 0
-IsSilent (Life m stored) = ⊥
-IsSilent (Takes m taken) = ⊥
-IsSilent (Ends m) = ⊥
-IsSilent line = ⊤
+IsSilent line = IsQuiet NobodyTells line
 
 -- it starts or stops a member, which stores nothing
 abbrev pub IsStartOrStop : Event → Type 0

@@ -1,9 +1,10 @@
 //! How members stand, and are stopped and started.
-ghost use Rattle.std.specs.Prelude.{◌≡◌, ◌≢◌, ◌⊎◌, ◌-◌, ℕ, IfErr, IfOk, IsErr, IsSome, None, OnErr, OnOk, slice_get, if◌then◌else◌};
+ghost use Rattle.std.specs.Prelude.{◌≡◌, ◌≢◌, ◌⊎◌, ◌-◌, ℕ, IfErr, IfOk, IfSome, IsErr, IsSome, None, OnErr, OnOk, slice_get, if◌then◌else◌};
 ghost use Rattle.store.specs.Became.{EachBecame};
 ghost use Rattle.store.specs.Closing.{IsDownIn, MayRest};
 ghost use Rattle.store.specs.Going.{GoesOn, StartsOne, Stops};
 ghost use Rattle.store.specs.Journals.{IsAllOn, IsLonger, IsPartOn, IsSpent, device_in};
+ghost use Rattle.store.specs.Lives.{HasStored};
 ghost use Rattle.store.specs.Refusals.{IsOfJournal};
 ghost use Rattle.store.specs.Statuses.{IsStatus, leads};
 
@@ -64,6 +65,7 @@ where
 
     // Starts a member's node: what it has stored; none where it was up before.
     fn start_node(&mut self, member: Member) -> Result<Option<Summary>, StoreRefusal>
+        ensures stored { IfOk result (λ r. IfSome r (HasStored K.is_honest K.may_hold K.holds self.new member)) }
         ensures starts { IfOk result (λ stored. IsSome stored → StartsOne K.is_honest K.may_hold K.holds member self.old self.new) }
         ensures still { IfOk result (λ stored. stored ≡ None → GoesOn K.Journal.contents K.is_honest K.may_hold K.holds self.old self.new) }
         ensures goes { OnErr result (GoesOn K.Journal.contents K.is_honest K.may_hold K.holds self.old self.new) }

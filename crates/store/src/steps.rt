@@ -1,12 +1,15 @@
 //! Steps of the members, and what comes of them.
 ghost use Rattle.std.specs.Prelude.{◌≡◌, ◌≢◌, ◌<◌, ◌+◌, ◌-◌, ℕ, ℤ, Some, [], ◌∷◌, IfOk, IfErr, OnOk, OnErr, length, slice_get};
+ghost use Rattle.std.specs.List.{Contains};
 ghost use Rattle.store.specs.Became.{EachBecame};
 ghost use Rattle.store.specs.Closing.{IsDownIn, MayRest};
 ghost use Rattle.model.specs.declared.event.Job.TheVariants.{Local as TheLocal};
 ghost use Rattle.journal.specs.declared.line.Taken.{Taken as TheTaken};
 ghost use Rattle.store.specs.Continuing.{IsKeptOn, reading_in};
-ghost use Rattle.store.specs.Going.{Anywhere, BeginsStep, GoesOn, GoesOnFrom, GoesOnSo, HasSent, HasStepped, Hears, IsAmong, IsBrought, MayHaveStepped, Publishes, SaysWhy, Stops};
-ghost use Rattle.store.specs.Recording.{job_of};
+ghost use Rattle.store.specs.Going.{Anywhere, BeginsStep, GoesOn, GoesOnFrom, GoesOnSo, HasSent, HasStepped, Hears, IsAmong, IsBrought, MayHaveStepped, Publishes, PublishesSo, SaysWhy, Stops};
+ghost use Rattle.flight.specs.Telling.{outcomes_of};
+ghost use Rattle.store.specs.Noting.{Rise, new_in};
+ghost use Rattle.store.specs.Recording.{AreOf, OneTells, job_of};
 ghost use Rattle.store.specs.Journals.{IsSpent, HasLast};
 ghost use Rattle.store.specs.Refusals.{IsOfJournal};
 
@@ -166,7 +169,7 @@ where
     fn end_step(&mut self, member: Member, out: Out) -> Result<(), StoreRefusal>
         ensures why { IfErr result IsOfJournal }
         ensures fails { OnErr result (IsSpent self.new.scribe) }
-        ensures passes { Publishes K.Journal.contents self.old self.new out.messages.items out.told.items }
+        ensures passes { PublishesSo K.Journal.contents (OneTells member out.told.items) self.old self.new out.messages.items out.told.items }
     {
         let Out {
             messages,
@@ -185,6 +188,8 @@ where
 
     // What is written of what a step told: each outcome at the first member that tells it.
     fn note(&mut self, told: &[Told]) -> Result<Outcomes, AllocError>
+        ensures tells { IfOk result (AreOf (Contains told.now)) }
+        ensures all { IfOk result (λ outcomes. Rise told.now → outcomes ≡ outcomes_of (new_in self.old.noted told.now)) }
         ensures same { self.new ≡ record self.old { noted = self.new.noted } }
     {
         let mut outcomes = Vec::new(self.alloc);

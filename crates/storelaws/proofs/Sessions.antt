@@ -1,5 +1,5 @@
 -- What a store leaves, and how its session goes on.
-use Rattle.std.proofs.Common.{◌≡◌, ◌≢◌, ◌∙◌, ◌⊎◌, ⊎_elim, inl, inr, ℕ, zero, suc, ◌+◌, Bool, true, false, Option, Some, None, Result, List, [], ◌∷◌, ◌++◌, MatchOption, MatchBool, flat_map, length, map, slice_get, string_bytes, refl, sym, ap, subst, append-nil, append_assoc, arith}
+use Rattle.std.proofs.Common.{◌≡◌, ◌≢◌, ◌∙◌, ◌⊎◌, ⊎_elim, inl, inr, ℕ, zero, suc, ◌+◌, Bool, true, false, Option, Some, None, Result, List, [], ◌∷◌, ◌++◌, MatchOption, MatchBool, length, map, slice_get, string_bytes, refl, sym, ap, subst, append-nil, arith}
 use Rattle.std.specs.Prelude.{All, IsSome}
 use Rattle.std.specs.Io.KnownBytes.{append_known}
 use Rattle.std.proofs.lemmas.List.Elements.{All-get_or}
@@ -39,7 +39,7 @@ use Rattle.store.specs.declared.store.Store.{Store}
 use Rattle.store.specs.Asking.{IsAnswerOf}
 use Rattle.store.specs.Nodes.{IsMember, IsNodeOf, Rests, rested}
 use Rattle.store.specs.Seats.{HasMember, IsClean}
-use Rattle.store.specs.Going.{Anywhere, AreClean, GoesOn, GoesOnSo, IsIn, IsRunOf}
+use Rattle.store.specs.Going.{Anywhere, AreClean, AreToldIn, GoesOn, GoesOnSo, IsIn, IsRunOf}
 use Rattle.journal.specs.declared.line.Line.{Line}
 use Rattle.journal.specs.Blocks.{block_text, blocks_text, last_sum}
 use Rattle.store.specs.declared.device.DeviceError.{DeviceError}
@@ -48,11 +48,12 @@ use Rattle.store.specs.declared.scribe.Scribe.{Scribe}
 use Rattle.store.specs.Continuing.{IsContinued, bodies_of, left_of, reading_in}
 use Rattle.store.specs.Journals.{IsSpent}
 use Rattle.store.specs.Opening.{AreFound, AreOpened, Begins}
-use Rattle.store.specs.Lines.{and_then, filed_in}
+use Rattle.store.specs.Lines.{and_then, filed_in, lines_in}
 use Rattle.store.specs.Recording.{AreRecorded, RecordAll, last_reading}
 use Rattle.store.specs.Tales.{Told}
 use Rattle.store.specs.Writing.{lines_text}
 use Rattle.store.proofs.Continuing.{bodies_alone, continued_both, continued_reading, continued_spent, left_alone}
+use Rattle.store.proofs.Going.{told_both}
 use Rattle.store.proofs.Opening.{runs_recorded}
 use Rattle.store.proofs.Recording.{recorded_both}
 use Rattle.store.proofs.Texts.{no_text}
@@ -227,11 +228,14 @@ module _ {K J I : Type 0} {an : _} {g : _} {s : _} {d : _} (held : K → Durable
       let here : T language n after.0.goes.events = subst (T language n) (sym after.1.events_are) both in
       let counted : T language (length new.seats.items) after.0.goes.events = subst (λ (c : ℕ). T language c after.0.goes.events) (sym x.count) here in
       let named : T (language_of new.schema) (length new.seats.items) after.0.goes.events = subst (λ (t : Tables). T (language_of t) (length new.seats.items) after.0.goes.events) (sym x.schema) counted in
+      let told : AreToldIn after.0.goes.gave (lines_in lines) =
+      subst (λ (outs : List (List Output)). AreToldIn outs (lines_in lines)) (sym after.1.gave_is) (told_both before.came.goes.gave on.goes.gave before.lines x.lines before.outcomes_are on.outcomes_are) in
       let all : IsFiled contents held holds found scribe new = record {
         lines = lines;
         journal = continued_both contents (Some scribe) old.scribe new.scribe before.lines x.lines before.journal x.journal;
         came = after.0;
         recorded = named.0;
+        outcomes_are = told;
       } in
       (all, named.1)
 
@@ -240,7 +244,7 @@ module _ {K J I : Type 0} {an : _} {g : _} {s : _} {d : _} (held : K → Durable
       Begins contents honest held holds members scribe store → AreClean honest holds store → IsFiled contents held holds found scribe store
   files_first contents honest told images found scribe members store are O B k =
       let ran = runs_recorded honest held holds contents told images members scribe store O B k found are in
-      record { lines = B.lines; journal = B.journal; came = record { world = ran.0; goes = ran.1; is_in = ran.2 }; recorded = ran.3 }
+      record { lines = B.lines; journal = B.journal; came = record { world = ran.0; goes = ran.1; is_in = ran.2 }; recorded = ran.3; outcomes_are = ran.4 }
 
   -- what its file has
   pub on_file : (contents : J → Option (List ℕ)) (found : List model.Node) (scribe : Scribe J) (store : Store K J I an g s d) → string_bytes scribe.buffer ≡ [] → (filed : IsFiled contents held holds found scribe store) → IsOnFile contents scribe filed.came

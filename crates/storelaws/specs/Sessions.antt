@@ -25,11 +25,11 @@ use Rattle.store.specs.Asking.{IsAnswerOf}
 use Rattle.store.specs.declared.scribe.Scribe.{Scribe}
 use Rattle.store.specs.Continuing.{IsContinued}
 use Rattle.store.specs.Journals.{IsSpent}
-use Rattle.store.specs.Lines.{Lines}
+use Rattle.store.specs.Lines.{Lines, lines_in}
 use Rattle.store.specs.Recording.{AreRecorded, RecordAll}
 use Rattle.store.specs.Writing.{lines_text}
 use Rattle.store.specs.declared.store.Store.{Store}
-use Rattle.store.specs.Going.{IsIn}
+use Rattle.store.specs.Going.{AreToldIn, IsIn}
 use Rattle.store.specs.Opening.{AreFound}
 
 -- these sessions followed one another, the first one over members that were never started, and these databases hold what they left
@@ -59,12 +59,14 @@ module _ {K J I : Type 0} {an : _} {g : _} {s : _} {d : _} where
     pub gave_is : after.goes.gave ≡ before.goes.gave ++ gave
     pub gives_so : gives gave
 
-  -- the lines that came to its journal, since that was at this scribe, record how a store came to where it is
+  -- the lines that came to its journal, since that was at this scribe, record how a store came to where it is, and each outcome in them its
+  -- member told on the way
   pub record IsFiled (contents : J → Option (List ℕ)) (held : K → Durable → Type 0) (holds : I → Durable → Type 0) (found : List Node) (scribe : Scribe J) (store : Store K J I an g s d) : Type 0 where
     pub lines : Lines
     pub journal : IsContinued contents (Some scribe) store.scribe lines
     pub came : Came held holds found store
     pub recorded : AreRecorded (language_of store.schema) (length store.seats.items) (opened found) scribe.reading lines came.goes.events (IsSpent store.scribe)
+    pub outcomes_are : AreToldIn came.goes.gave (lines_in lines)
 
   -- What the file of its journal has of a session. Behind what was there as the store began come blocks, each with the lines of a group and the
   -- sum of the block before, none empty, and then a beginning of the next at most, which is nothing unless the journal is spent. The lines of

@@ -1,1 +1,0 @@
-use Rattle.store.proofs.announcing.announce.Goals as goal

@@ -1,6 +1,5 @@
 use Rattle.std.proofs.Common.{Some, [], subst, sym, refl}
 use Rattle.store.specs.Continuing.{IsKeptOn}
-use Rattle.store.specs.Going.{Publishes}
 use Rattle.store.proofs.Continuing.{kept_none}
 use Rattle.store.proofs.Going.{only_scribe, publishes_at, publishes_none, publishes_on}
 use Rattle.store.proofs.store.Store.spend.Goals as goal

@@ -2,6 +2,7 @@ use Rattle.std.proofs.Common.{◌≡◌, ◌+◌, length, refl, rules}
 use Rattle.std.proofs.lemmas.Option.{slice_get_read}
 use Rattle.store.proofs.Continuing.{kept_same}
 use Rattle.store.proofs.Going.{begun_seat, same_seat, starts_one, stayed_seat, stays}
+use Rattle.store.proofs.Lives.{starts_stored}
 use Rattle.store.proofs.Written.{on_err}
 use Rattle.store.proofs.store.Store.start_node.Goals as goal
 
@@ -43,3 +44,12 @@ returns-clause-starts g c = λ some.
     starts_one g.K.Journal.Device.contents g.K.LogReader.is_honest g.K.LogReader.may_hold g.K.Keeper.holds old _ at before c.start.new.self
     (record { there = slice_get_read old.seats.items n at before refl c.in-Some.ensures.some.0 c.index_mut-seat.ensures.value; seats = refl; schema = refl; queue = refl; sent = refl; watched = refl; journal = kept_same g.K.Journal.Device.contents old.scribe; clean = c.start.ensures.clean })
     c.args.member c.in-Some.ensures.some.1 refl (λ neat x has. begun_seat g.K.Journal.Device.contents g.K.LogReader.is_honest g.K.LogReader.may_hold g.K.Keeper.holds before c.start.new.self old.schema c.in_ok-schema.schema n c.len-members.result (at + 1) named count (c.in_ok-start.ensures.starts (search rules) neat) x has)
+
+pub returns-clause-stored : goal.returns-clause-stored
+returns-clause-stored g c =
+    let old = c.args.self.now in
+    let at = c.in-Some.at in
+    let before = c.index_mut-seat.result.now in
+    starts_stored g.K.Journal.Device.contents g.K.LogReader.is_honest g.K.LogReader.may_hold g.K.Keeper.holds old _ at before c.start.new.self
+    (record { there = slice_get_read old.seats.items (length old.seats.items) at before refl c.in-Some.ensures.some.0 c.index_mut-seat.ensures.value; seats = refl; schema = refl; queue = refl; sent = refl; watched = refl; journal = kept_same g.K.Journal.Device.contents old.scribe; clean = c.start.ensures.clean })
+    c.args.member c.in-Some.ensures.some.1 c.stored.result c.stored.ensures

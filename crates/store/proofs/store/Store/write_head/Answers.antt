@@ -1,8 +1,10 @@
-use Rattle.std.proofs.Common.{◌≡◌, ◌∙◌, ◌∷◌, [], ap, arith, drop, length, refl, rules, subst, sym, take}
+use Rattle.std.proofs.Common.{◌≡◌, ◌∙◌, [], ap, arith, drop, length, refl, rules, subst, sym, take}
 use Rattle.std.proofs.lemmas.List.{take_all}
+use Rattle.std.proofs.lemmas.List.Elements.{All-nil}
 use Rattle.journal.specs.declared.line.Line.TheVariants.{Opens}
 use Rattle.store.specs.Opening.{Files, starts_of}
 use Rattle.store.specs.Lines.{no_lines}
+use Rattle.store.specs.Recording.{IsTrue, NobodyTells}
 use Rattle.store.proofs.Continuing.{continued_same, kept_by}
 use Rattle.store.proofs.Opening.{files_both, files_on, files_silent, next_starts, only_both, only_then}
 use Rattle.store.proofs.Written.{longer_none, longer_more, on_opened, then_ok}
@@ -11,7 +13,7 @@ use Rattle.store.proofs.store.Store.write_head.Goals as goal
 pub loop-at-init : goal.loop-at-init
 loop-at-init g c = record {
   longer = longer_none c.write.new.self.scribe;
-  heads = (no_lines, continued_same g.K.Journal.Device.contents c.write.new.self.scribe, refl);
+  heads = (no_lines, continued_same g.K.Journal.Device.contents c.write.new.self.scribe, refl, All-nil (IsTrue NobodyTells));
   same = refl;
 }
 
