@@ -5,6 +5,9 @@ use Rattle.std.proofs.Common.{◌≡◌, ℕ, zero, suc, ◌+◌, ◌<◌, ◌�
 use Rattle.std.specs.Prelude.{◌-◌, ◌==◌, nat_lt, slice_get, unwrap_or, ◌&&◌}
 use Rattle.std.proofs.lemmas.Bool.{cases_Bool, eq-eqb, eqb-true}
 use Rattle.std.proofs.lemmas.List.{reverse-append}
+use Rattle.std.proofs.Math.Logic.{∥∥₁_elim}
+use Rattle.std.proofs.lemmas.Grind.{merely}
+use Rattle.std.proofs.Props.{props}
 use Rattle.fault.specs.declared.refusal.Refusal.TheVariants as refusals
 use Rattle.model.specs.Lists.{nth}
 use Rattle.model.specs.declared.entry.Request.{Request}
@@ -30,7 +33,8 @@ use Rattle.sysversion.specs.Versions as versions
 use Rattle.retry.specs.Judging.{Verdict, New, Gap, number_of, outcomes_of, again, judged_by, judged, with_outcome}
 use Rattle.apply.specs.declared.tables.Tables.{Tables}
 use Rattle.apply.specs.Executing.{IsCommitted, unless_new}
-use Rattle.apply.specs.View.{AreTables}
+use Rattle.apply.specs.Reads.{FewToApply, FewForAll, AreFew}
+use Rattle.apply.specs.View.{AreTables, reads_in}
 use Rattle.apply.proofs.Turned.{whole}
 
 -- ---- judging
@@ -156,11 +160,17 @@ module _ (tables : columns.Tables) (list : List Entry) (e : Entry) where
   kept_is o client h = ap (kept language client) more ∙ ap (λ r. kept_after r client) h
 
   module _ (stays_held : EntryStays) (old : Tables) (are : AreTables tables list old) where
+    reads_more : (reads : ℕ) → (IsStamped list → FewToApply tables before e (reads_in old) reads) → AreFew tables all reads
+    unfolding FewForAll AreFew
+    reads_more reads few stamped =
+        let s = stamped_before list (e ∷ []) stamped in
+        ∥∥₁_elim (are.reads s) (hlevel props) (λ earlier. merely (subst (λ es. FewForAll tables es reads) (sym more) (reads_in old, earlier, few s)))
+
     -- nothing is executed
-    same : (new : Tables) → new.current ≡ old.current → new.versions ≡ old.versions → new.requests ≡ old.requests → new.last ≡ Some e.stamp
+    same : (new : Tables) → new.current ≡ old.current → new.versions ≡ old.versions → new.requests ≡ old.requests → new.last ≡ Some e.stamp → reads_in new ≡ reads_in old
         → state_after language (reverse all) ≡ state_after language before → ((c : ℕ) → executed c (reverse all) ≡ executed c before) → ((c : ℕ) → kept language c (reverse all) ≡ kept language c before)
         → AreTables tables all new
-    same new c v r l state numbers outcomes = record {
+    same new c v r l n state numbers outcomes = record {
       rows = subst (λ (s : State). AllListed (current.rows_of new.current) s) (sym state) (subst (λ (x : Current). AllListed (current.rows_of x) (state_after language before)) (sym c) are.rows);
       numbers = λ k. ap (λ x. number_of x k) r ∙ are.numbers k ∙ sym (numbers k);
       outcomes = λ k. ap (λ x. outcomes_of x k) r ∙ are.outcomes k ∙ sym (outcomes k);
@@ -169,10 +179,11 @@ module _ (tables : columns.Tables) (list : List Entry) (e : Entry) where
           (stays_held language n list e (versions.versions_of old.versions n) s (are.held (stamped_before list (e ∷ []) s) n) (ap (λ (x : State). x n) state));
       current_schema = ap current.schema_in c ∙ are.current_schema;
       versions_schema = ap versions.schema_in v ∙ are.versions_schema;
+      reads = reads_more (reads_in new) (λ s. inl n);
     }
 
-    pub a_close : (new : Tables) → new.current ≡ old.current → new.versions ≡ old.versions → new.requests ≡ old.requests → new.last ≡ Some e.stamp → e.request ≡ None → AreTables tables all new
-    a_close new c v r l h = same new c v r l (state_is None h) (λ k. executed_is None k h) (λ k. kept_is None k h)
+    pub a_close : (new : Tables) → new.current ≡ old.current → new.versions ≡ old.versions → new.requests ≡ old.requests → new.last ≡ Some e.stamp → reads_in new ≡ reads_in old → e.request ≡ None → AreTables tables all new
+    a_close new c v r l n h = same new c v r l n (state_is None h) (λ k. executed_is None k h) (λ k. kept_is None k h)
 
     -- a request that was judged before
     module _ (r : Request) (asks : e.request ≡ Some r) (o : Outcome) (known : unless_new (judged old.requests r.client r.number) ≡ Some o) where
@@ -197,8 +208,8 @@ module _ (tables : columns.Tables) (list : List Entry) (e : Entry) where
       state_same : after_request e.stamp (Some r) before (state_after language before) ≡ state_after language before
       state_same = rw is_later refl
 
-      pub asked_again : (new : Tables) → new.current ≡ old.current → new.versions ≡ old.versions → new.requests ≡ old.requests → new.last ≡ Some e.stamp → AreTables tables all new
-      asked_again new c v q l = same new c v q l (state_is (Some r) asks ∙ state_same) (λ k. executed_is (Some r) k asks ∙ none_more k) (λ k. kept_is (Some r) k asks ∙ kept_same k)
+      pub asked_again : (new : Tables) → new.current ≡ old.current → new.versions ≡ old.versions → new.requests ≡ old.requests → new.last ≡ Some e.stamp → reads_in new ≡ reads_in old → AreTables tables all new
+      asked_again new c v q l n = same new c v q l n (state_is (Some r) asks ∙ state_same) (λ k. executed_is (Some r) k asks ∙ none_more k) (λ k. kept_is (Some r) k asks ∙ kept_same k)
 
       pub outcome_again : o ≡ outcome language e.stamp r before
       unfolding outcome
@@ -209,7 +220,7 @@ module _ (tables : columns.Tables) (list : List Entry) (e : Entry) where
 
     -- a request that is executed
     module _ (r : Request) (asks : e.request ≡ Some r) (unknown : unless_new (judged old.requests r.client r.number) ≡ None) where
-      is_next : (r.number == executed r.client before + 1) ≡ true
+      pub is_next : (r.number == executed r.client before + 1) ≡ true
       is_next = subst (λ n. (r.number == n + 1) ≡ true) (are.numbers r.client) (new_number (number_of old.requests r.client) (outcomes_of old.requests r.client) r.number unknown)
 
       abbrev next : State
@@ -255,8 +266,8 @@ module _ (tables : columns.Tables) (list : List Entry) (e : Entry) where
             → ((c : ℕ) → number_of new.requests c ≡ cond (c == r.client) r.number (number_of old.requests c))
             → ((c : ℕ) → outcomes_of new.requests c ≡ cond (c == r.client) (with_outcome o (outcomes_of old.requests r.client)) (outcomes_of old.requests c))
             → new.last ≡ Some e.stamp → current.schema_in new.current ≡ current.schema_in old.current → versions.schema_in new.versions ≡ versions.schema_in old.versions
-            → AreTables tables all new
-        executed_first commit by_key held_before fine reads new rows versioned numbers outcomes last made made' = record {
+            → (IsStamped list → FewToApply tables before e (reads_in old) (reads_in new)) → AreTables tables all new
+        executed_first commit by_key held_before fine reads new rows versioned numbers outcomes last made made' few = record {
           rows = subst (λ (s : State). AllListed (current.rows_of new.current) s) (sym state) rows;
           numbers = λ c. numbers c ∙ number_more c ∙ sym (executed_is (Some r) c asks);
           outcomes = λ c. outcomes c ∙ kept_more c ∙ sym (kept_is (Some r) c asks);
@@ -264,6 +275,7 @@ module _ (tables : columns.Tables) (list : List Entry) (e : Entry) where
           held = λ s n. by s n (versioned n);
           current_schema = made ∙ are.current_schema;
           versions_schema = made' ∙ are.versions_schema;
+          reads = reads_more (reads_in new) few;
         }
           where
             state : state_after language (reverse all) ≡ next
@@ -286,9 +298,9 @@ module _ (tables : columns.Tables) (list : List Entry) (e : Entry) where
 -- ---- before any entry
 
 pub of_no_entry : NoVersions → LogsOnRows → (tables : columns.Tables) (new : Tables) → ((n : ℕ) → current.rows_of new.current n ≡ []) → ((n : ℕ) → versions.versions_of new.versions n ≡ []) → ((c : ℕ) → number_of new.requests c ≡ 0) → ((c : ℕ) → outcomes_of new.requests c ≡ []) → new.last ≡ None
-    → current.schema_in new.current ≡ tables → versions.schema_in new.versions ≡ tables → AreTables tables [] new
-unfolding state_after executed first_outcomes rows_after
-of_no_entry none logs tables new rows kept' numbers outcomes last made made' = record {
+    → current.schema_in new.current ≡ tables → versions.schema_in new.versions ≡ tables → reads_in new ≡ 0 → AreTables tables [] new
+unfolding state_after executed first_outcomes rows_after FewForAll AreFew
+of_no_entry none logs tables new rows kept' numbers outcomes last made made' no_reads = record {
   rows = λ n. subst (λ (x : List Row). Lists x (state_after (language_of tables) [] n)) (sym (rows n)) (logs (language_of tables) [] tt n);
   numbers = numbers;
   outcomes = outcomes;
@@ -296,4 +308,5 @@ of_no_entry none logs tables new rows kept' numbers outcomes last made made' = r
   held = λ s n. subst (λ (x : List Version). Holds x (λ u. state_at (language_of tables) [] u n) 0 empty_table) (sym (kept' n)) (none (λ u. state_at (language_of tables) [] u n));
   current_schema = made;
   versions_schema = made';
+  reads = λ s. merely no_reads;
 }

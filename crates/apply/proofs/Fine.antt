@@ -48,7 +48,7 @@ statement_fine (read.Delete d) = portion_fine d.portion
 
 -- ---- steps that did not refuse
 
-bind_ok : {A B : Type 0} (r : Result A Refusal) (f : A → Result B Refusal) (b : B) → (r >>= f) ≡ Ok b → (a : A) × (r ≡ Ok a) × (f a ≡ Ok b)
+pub bind_ok : {A B : Type 0} (r : Result A Refusal) (f : A → Result B Refusal) (b : B) → (r >>= f) ≡ Ok b → (a : A) × (r ≡ Ok a) × (f a ≡ Ok b)
 bind_ok (Ok a) f b e = (a, refl, e)
 bind_ok (Err q) f b e = absurd cc
 
@@ -56,7 +56,7 @@ made : {A B : Type 0} (r : Result A Refusal) (f : A → B) (b : B) → (r >>= λ
 made (Ok a) f b e = (a, cc)
 made (Err q) f b e = absurd cc
 
-then_ok : {B : Type 0} (r : Result (Unit {0}) Refusal) (s : Result B Refusal) (b : B) → (r >> s) ≡ Ok b → (r ≡ Ok tt) × (s ≡ Ok b)
+pub then_ok : {B : Type 0} (r : Result (Unit {0}) Refusal) (s : Result B Refusal) (b : B) → (r >> s) ≡ Ok b → (r ≡ Ok tt) × (s ≡ Ok b)
 then_ok (Ok u) s b e = (refl, e)
 then_ok (Err q) s b e = absurd cc
 
@@ -64,7 +64,7 @@ passed : (test : Bool) (r : Refusal) → refuse_if (not test) r ≡ Ok tt → te
 passed true r e = refl
 passed false r e = absurd cc
 
-some_of : {A : Type 0} (r : Refusal) (o : Option A) (a : A) → or_refuse r o ≡ Ok a → o ≡ Some a
+pub some_of : {A : Type 0} (r : Refusal) (o : Option A) (a : A) → or_refuse r o ≡ Ok a → o ≡ Some a
 some_of r None a e = absurd cc
 some_of r (Some b) a e = let k : b ≡ a = cc in cc
 
@@ -132,7 +132,7 @@ given_in calendar x g e =
     let k : (x.0.0, a.0) ≡ g = let h = a.2 in cc in
     subst (λ (y : Given). is_in_calendar y.1 ≡ true) k (calendar x.0.1 x.1 a.0 a.1)
 
-each_in : {A B : Type 0} (f : A → Result B Refusal) (P : B → Type 0) → ((a : A) (b : B) → f a ≡ Ok b → P b) → (as' : List A) (bs : List B) → each_of f as' ≡ Ok bs → (b : B) → Has bs b → P b
+pub each_in : {A B : Type 0} (f : A → Result B Refusal) (P : B → Type 0) → ((a : A) (b : B) → f a ≡ Ok b → P b) → (as' : List A) (bs : List B) → each_of f as' ≡ Ok bs → (b : B) → Has bs b → P b
 each_in {A} {B} f P h [] bs e b has = let k : bs ≡ [] = cc in absurd (subst (λ (z : List B). Has z b) k has)
 each_in {A} {B} f P h (a ∷ as') bs e b has =
     let x = bind_ok (f a) _ bs e in
@@ -212,7 +212,7 @@ all_fine : (ss : List StatementShape) → ((s : StatementShape) → Has ss s →
 all_fine [] h = tt
 all_fine (s ∷ ss) h = (h s (inl refl), all_fine ss (λ x g. h x (inr g)))
 
-unless_long : {A : Type 0} (b : Bool) (r : Refusal) (x : Result A Refusal) (a : A) → cond b (Err r) x ≡ Ok a → x ≡ Ok a
+pub unless_long : {A : Type 0} (b : Bool) (r : Refusal) (x : Result A Refusal) (a : A) → cond b (Err r) x ≡ Ok a → x ≡ Ok a
 unless_long true r x a e = absurd cc
 unless_long false r x a e = e
 

@@ -1,15 +1,15 @@
 -- What the laws of `refused` rest on besides the clauses that they speak of.
-use Rattle.std.proofs.Common.{◌≡◌, ◌≢◌, ℕ, ◌+◌, ◌==◌, Bool, true, false, cond, ◌&&◌, if◌then◌else◌, nat_lt, ◌<◌, ◌≤◌, Option, Some, None, option_map, Result, Ok, Err, List, [], ◌∷◌, ◌++◌, reverse, take, slice_get, refl, sym, ap, ◌∙◌, subst, arith, inl, inr}
+use Rattle.std.proofs.Common.{◌≡◌, ◌≢◌, ℕ, ◌==◌, Bool, true, false, if◌then◌else◌, nat_lt, ◌<◌, ◌≤◌, Option, Some, None, option_map, Result, Ok, Err, List, [], ◌∷◌, ◌++◌, reverse, slice_get, refl, sym, ap, ◌∙◌, subst, arith, inl, inr}
 use Rattle.std.specs.Prelude.{IfErr, IfOk, IfSome, IsErr}
 use Rattle.std.proofs.lemmas.List.{reverse-append}
 use Rattle.std.specs.Result.{result_unwrap_or}
 use Rattle.fault.specs.declared.refusal.Refusal.{Refusal}
-use Rattle.fault.specs.declared.refusal.Refusal.TheVariants.{NoMemory, KeyOverlap, NumberRange, RowLimit, NoParent}
+use Rattle.fault.specs.declared.refusal.Refusal.TheVariants.{NoMemory}
 use Rattle.model.specs.Tables.{Table}
-use Rattle.model.specs.Statements.{insert_overlaps, inserted, set_overflows, updated, deleted, row_count}
+use Rattle.model.specs.Statements.{insert_overlaps, set_overflows, row_count}
 use Rattle.model.specs.Transactions.{State, Language, Statement, Action, Insert, Update, Delete, Place, changed, and_then, within_limit, with_table, run_statement, run_statements, first_orphan, unless_orphan, transacted, executed_text}
 use Rattle.model.specs.Answers.{Select, read_at}
-use Rattle.model.specs.Logs.{Outcome, outcome_at, is_first, first_outcome, first_outcomes, kept, outcome, executed}
+use Rattle.model.specs.Logs.{Outcome, outcome_at, is_first, first_outcome, first_outcomes, kept, outcome}
 use Rattle.model.specs.declared.entry.Entry.{Entry}
 use Rattle.model.specs.declared.entry.Request.{Request}
 use Rattle.std.proofs.lemmas.Bool.Decides.{eqb_tells}

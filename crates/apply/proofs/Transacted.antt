@@ -23,7 +23,7 @@ use Rattle.sysversion.specs.declared.Versions.{Versions}
 use Rattle.sysversion.specs.Versions.{versions_of, versions_of_table, table_count}
 use Rattle.sqlchecks.specs.Columns.{Tables}
 use Rattle.sqlread.specs.declared.statement.Statement.{Statement as Read}
-use Rattle.sqlread.specs.Shapes.{statement_of}
+use Rattle.sqlread.specs.Shapes.{StatementShape, statement_of}
 use Rattle.sqlread.specs.Meaning.{meaning, meanings, language_of}
 use Rattle.sqlread.specs.Texts.{transaction_in}
 use Rattle.apply.specs.Executing.{IsTurned, IsTransacted, IsRefusedWhole, AreBack, IsExecuted}
@@ -181,11 +181,17 @@ refused language t text ss rows more old r e (inr h) n state listed =
 
 -- ---- texts
 
-pub read_is : (tables : Tables) (text : List ℕ) (items : List Read) → transaction_in tables text ≡ Ok (map statement_of items) → map meaning (map statement_of items) ≡ result_unwrap_or ((language_of tables).reads text) []
-unfolding language_of
-read_is tables text items e = sym (ap (λ r. result_unwrap_or (meanings r) []) e)
+pub read_is : (tables : Tables) (text : List ℕ) (items : List Read) → transaction_in tables text ≡ Ok (map statement_of items) → map statement_of items ≡ result_unwrap_or (transaction_in tables text) []
+read_is tables text items e = sym (ap (λ r. result_unwrap_or r []) e)
 
-pub unread_is : (tables : Tables) (text : List ℕ) (items : List Read) (r : Refusal) → items ≡ [] → (r ≡ refusals.NoMemory → ⊥) → (r ≡ refusals.NoMemory) ⊎ (transaction_in tables text ≡ Err r) → map meaning (map statement_of items) ≡ result_unwrap_or ((language_of tables).reads text) []
-unfolding language_of
+pub unread_is : (tables : Tables) (text : List ℕ) (items : List Read) (r : Refusal) → items ≡ [] → (r ≡ refusals.NoMemory → ⊥) → (r ≡ refusals.NoMemory) ⊎ (transaction_in tables text ≡ Err r) → map statement_of items ≡ result_unwrap_or (transaction_in tables text) []
 unread_is tables text items r none n (inl h) = absurd (n h)
-unread_is tables text items r none n (inr e) = ap (λ xs. map meaning (map statement_of xs)) none ∙ sym (ap (λ x. result_unwrap_or (meanings x) []) e)
+unread_is tables text items r none n (inr e) = ap (λ xs. map statement_of xs) none ∙ sym (ap (λ x. result_unwrap_or x []) e)
+
+meanings_are : (r : Result (List StatementShape) Refusal) → map meaning (result_unwrap_or r []) ≡ result_unwrap_or (meanings r) []
+meanings_are (Ok ss) = refl
+meanings_are (Err r) = refl
+
+pub said_is : (tables : Tables) (text : List ℕ) (ss : List StatementShape) → ss ≡ result_unwrap_or (transaction_in tables text) [] → map meaning ss ≡ result_unwrap_or ((language_of tables).reads text) []
+unfolding language_of
+said_is tables text ss e = ap (λ xs. map meaning xs) e ∙ meanings_are (transaction_in tables text)

@@ -1,3 +1,4 @@
+pub mod Reads
 pub mod Executing
 pub mod View
 pub mod Asking

@@ -14,6 +14,7 @@ use Rattle.rowlaws.proofs.RowFacts.{one_row}
 use Rattle.rowlaws.proofs.Keys.{apart_from_sorted}
 use Rattle.versionlaws.specs.Versions.{Version, IsBefore, IsAlive, Holds}
 use Rattle.apply.specs.declared.tables.Tables.{Tables}
+use Rattle.apply.specs.Reads.{AreFew}
 use Rattle.apply.specs.View.{AreTables}
 
 -- ---- values and rows
@@ -131,5 +132,9 @@ shape_set = hlevel (props, kind_set, reference_set)
 schema_set : IsSet columns.Tables
 schema_set = hlevel (props, shape_set)
 
+pub few_prop : (schema : columns.Tables) (list : List Entry) (reads : ℕ) → IsProp (AreFew schema list reads)
+unfolding AreFew
+few_prop schema list reads = hlevel props
+
 pub tables_prop : (schema : columns.Tables) (list : List Entry) (tables : Tables) → IsProp (AreTables schema list tables)
-tables_prop schema list tables = hlevel (props, lists_prop, holds_prop, schema_set)
+tables_prop schema list tables = hlevel (props, lists_prop, holds_prop, schema_set, few_prop)

@@ -18,9 +18,14 @@ use Rattle.retry.specs.Judging.{number_of, outcomes_of}
 use Rattle.current.specs.Current as current
 use Rattle.sysversion.specs.Versions as versions
 use Rattle.apply.specs.declared.tables.Tables.{Tables}
+use Rattle.apply.specs.Reads.{AreFew}
 
 abbrev pub is_failed : Tables → Bool
 is_failed tables = tables.failed
+
+-- how many rows they have counted as read
+abbrev pub reads_in : Tables → ℕ
+reads_in tables = tables.count
 
 -- the tables are those of the schema, and what the list of entries leaves
 pub record AreTables (schema : columns.Tables) (list : List Entry) (tables : Tables) : Type 0 where
@@ -31,6 +36,7 @@ pub record AreTables (schema : columns.Tables) (list : List Entry) (tables : Tab
   pub held : IsStamped list → (n : ℕ) → Holds (versions.versions_of tables.versions n) (λ u. state_at (language_of schema) list u n) (least_stamp list) (state_after (language_of schema) (reverse list) n)
   pub current_schema : current.schema_in tables.current ≡ schema
   pub versions_schema : versions.schema_in tables.versions ≡ schema
+  pub reads : AreFew schema list (reads_in tables)
 
 -- the answer in the list to a question that is closed at this closed time, or 33 where it is not; or there was no memory
 abbrev pub IsAskedOf : Language → QueryShape → List Entry → Option ℕ → Result Answer Refusal → Type 0

@@ -24,6 +24,7 @@ use current::{Current, Touched};
 use fault::Refusal;
 use model::entry::Entry;
 use model::stamp::Stamp;
+use overlaps::Count;
 use retry::Outcome;
 use sqlread::query::Query;
 use sqlread::statement::Statement;
@@ -48,12 +49,13 @@ fn refused_leaves_its_rows(
     statements: &[Statement],
     t: Stamp,
     before: Touched,
+    count: &mut Count,
 ) -> Result<Touched, Refusal>
     ghost state: { State }
     requires { AllListed (rows_of current.old) state }
     ensures { IfErr result (λ refusal. refusal ≢ NoMemory → AllListed (rows_of current.new) state) }
 {
-    transact(alloc, current, statements, t, before)
+    transact(alloc, current, statements, t, before, count)
 }
 
 /// A function that tells want of memory as an outcome does not meet the contract of `execute`.
@@ -63,6 +65,7 @@ fn wants_memory_as_outcome(
     versions: &mut Versions,
     text: &str,
     t: Stamp,
+    count: &mut Count,
 ) -> Result<Outcome, AllocError>
     ghost state: { State }
     requires listed { AllListed (rows_of current.old) state }
@@ -70,7 +73,7 @@ fn wants_memory_as_outcome(
     requires whole { first_orphan (language_of (schema_in current.old)) state ≡ None }
     ensures { IfOk result (λ outcome. outcome ≢ Err NoMemory) }
 {
-    execute(alloc, current, versions, text, t)
+    execute(alloc, current, versions, text, t, count)
 }
 
 /// A function that answers a question about a later instant than is closed does not meet the contract of `ask`.

@@ -4,6 +4,7 @@ ghost use Rattle.std.specs.Option.{option_map};
 ghost use Rattle.fault.specs.declared.refusal.Refusal.TheVariants.{NoMemory};
 ghost use Rattle.model.specs.declared.entry.Entry as entries;
 ghost use Rattle.model.specs.Logs.{IsStamped, closed, outcome};
+ghost use Rattle.current.specs.Current.{schema_in, AreNarrow};
 ghost use Rattle.sqlchecks.specs.Columns as columns;
 ghost use Rattle.sqlread.specs.Calendar.{LiteralsInCalendar};
 ghost use Rattle.sqlread.specs.Meaning.{language_of};
@@ -11,7 +12,7 @@ ghost use Rattle.sqlread.specs.Shapes.{query_of};
 ghost use Rattle.answer.specs.Answers.{columns_in};
 ghost use Rattle.retry.specs.Judging.{judged};
 ghost use Rattle.apply.specs.Executing.{unless_new};
-ghost use Rattle.apply.specs.View.{AreTables, IsAskedOf, is_failed};
+ghost use Rattle.apply.specs.Reads.{key_columns, FewToApply, FewForAll};
 ghost use Rattle.rowlaws.specs.Logs.{LogsOnRows, FineLogs};
 ghost use Rattle.rowlaws.specs.Whole.{NoOrphanAfter};
 ghost use Rattle.versionlaws.specs.Versions.{NoVersions, HeldBefore};
@@ -26,6 +27,7 @@ use current::Current;
 use fault::Refusal;
 use model::entry::{Entry, Request};
 use model::stamp::Stamp;
+use overlaps::Count;
 use retry::{Judged, Outcome, Requests};
 use schema::Schema;
 use sqlread::query::Query;
@@ -42,6 +44,8 @@ pub struct Tables {
     pub(crate) requests: Requests,
     pub(crate) last: Option<Stamp>,
     pub(crate) failed: bool,
+    pub(crate) count: Count,
+    ghost narrow: { AreNarrow (key_columns (schema_in current)) current },
 }
 
 // What a log leaves before any entry, that its references hold, what one more entry does to versions, and that what is
@@ -92,6 +96,8 @@ fn unless_new(requests: &Requests, request: &Request) -> Result<Option<Outcome>,
 }
 
 impl Tables {
+    ghost use Rattle.apply.specs.View.{AreTables, IsAskedOf, is_failed, reads_in};
+
     /// The tables of a schema before any entry.
     pub fn new(alloc: Global, schema: &Schema) -> Result<Tables, AllocError>
         ensures tables { IfOk result (λ tables. AreTables schema.now [] tables) }
@@ -108,6 +114,7 @@ impl Tables {
             requests,
             last: None,
             failed: false,
+            count: Count::new(),
         })
     }
 
@@ -116,6 +123,7 @@ impl Tables {
         ensures kept { OnOk result ((schema : columns.Tables) (list : List entries.Entry) → AreTables schema list self.old → AreTables schema (list ++ entry.now ∷ []) self.new) }
         ensures outcome { IfOk result (λ o. (schema : columns.Tables) (list : List entries.Entry) → AreTables schema list self.old → o ≡ option_map (λ r. outcome (language_of schema) entry.now.stamp r (reverse list)) entry.now.request) }
         ensures failed { is_failed self.new ≡ is_failed self.old }
+        ensures few { (schema : columns.Tables) (list : List entries.Entry) → AreTables schema list self.old → IsStamped list → FewToApply schema (reverse list) entry.now (reads_in self.old) (reads_in self.new) }
     {
         log_laws();
         self.last = Some(entry.stamp);
@@ -131,6 +139,7 @@ impl Tables {
             &mut self.versions,
             request.text.as_str(),
             entry.stamp,
+            &mut self.count,
         )?;
         let kept = copy_of(&outcome)?;
         self.requests.keep(request.client, request.number, kept)?;
@@ -148,6 +157,7 @@ impl Tables {
         ensures err { OnErr result (is_failed self.new ≡ true) }
         ensures up { OnOk result (is_failed self.new ≡ false) }
         ensures once_failed { is_failed self.old ≡ true → result ≡ Err alloc_error }
+        ensures few { (schema : columns.Tables) (list : List entries.Entry) → AreTables schema list self.old → IsStamped list → FewToApply schema (reverse list) entry.now (reads_in self.old) (reads_in self.new) }
     {
         if self.failed {
             return Err(AllocError);
@@ -184,6 +194,15 @@ impl Tables {
         }
         log_laws();
         asking::ask(self.alloc, &self.versions, query, closed)
+    }
+
+    /// How many rows of tables and versions were read as the entries were applied, few for each of them; at the greatest `u64` it
+    /// stays. Questions read besides.
+    pub fn reads(&self) -> u64
+        ensures is { result ≡ reads_in self.now }
+        ensures few { (schema : columns.Tables) (list : List entries.Entry) → AreTables schema list self.now → IsStamped list → ∥ FewForAll schema (reverse list) result ∥₁ }
+    {
+        self.count.reads()
     }
 
     /// Whether a call has found no memory.

@@ -2,6 +2,7 @@
 use Rattle.std.proofs.Common.{◌≡◌, ℕ, zero, suc, ◌<◌, ◌≤◌, ◌==◌, inl, inr, Bool, true, false, ◌&&◌, cond, List, [], ◌∷◌, ◌++◌, map, filter, length, Option, Some, None, Result, Ok, Err, refl, sym, ap, ◌∙◌, subst, arith}
 use Rattle.std.specs.Prelude.{nat_le, slice_get, IfOk}
 use Rattle.std.specs.List.{list_all}
+use Rattle.std.specs.Option.{option_or}
 use Rattle.std.proofs.lemmas.Bool.{cases_Bool, and_parts, eqb-true}
 use Rattle.model.specs.declared.value.Value.{Value}
 use Rattle.model.specs.Tables.{Row, inside}
@@ -17,13 +18,14 @@ use Rattle.sqlread.specs.declared.term.Term.{Term}
 use Rattle.sqlread.specs.declared.term.Term.TheVariants as terms'
 use Rattle.sqlread.specs.Shapes.{term_of}
 use Rattle.sqlread.specs.Meaning.{term_passes}
+use Rattle.current.specs.Named.{equal_at}
 use Rattle.current.proofs.Naming.{said}
 use Rattle.versionlaws.specs.Versions.{Version}
 use Rattle.versionlaws.specs.ByKey.{is_of}
 use Rattle.versionlaws.specs.Answering.{is_before}
 use Rattle.sysversion.specs.Days.{has_day, nearly_has}
 use Rattle.asof.specs.Asking.{is_found_by}
-use Rattle.asof.specs.Named.{equal_at, said_by, or_else, said_at, day_of, IsNamed, IsFew, IsFewOnDay}
+use Rattle.asof.specs.Named.{said_by, said_at, day_of, IsNamed, IsFew, IsFewOnDay}
 
 -- ---- places of lists
 
@@ -83,7 +85,7 @@ where_says place (t ∷ ts) w h row passes = by (said_by place t) refl h (λ g. 
     parts : (term_passes (term_of t) row ≡ true) × (list_all (λ s. term_passes s row) (map term_of ts) ≡ true)
     parts = and_parts (term_passes (term_of t) row) (list_all (λ s. term_passes s row) (map term_of ts)) passes
 
-    by : (o : Option Value) → said_by place t ≡ o → or_else o (said_at place ts) ≡ Some w → (said_at place ts ≡ Some w → slice_get row.key place ≡ Some w) → slice_get row.key place ≡ Some w
+    by : (o : Option Value) → said_by place t ≡ o → option_or o (said_at place ts) ≡ Some w → (said_at place ts ≡ Some w → slice_get row.key place ≡ Some w) → slice_get row.key place ≡ Some w
     by None e g more = more g
     by (Some v) e g more = term_says place t w (e ∙ g) row parts.0
 

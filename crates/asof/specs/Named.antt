@@ -1,35 +1,25 @@
 -- The key and the day that a WHERE names, and how many versions a question tests.
-use Rattle.std.specs.Prelude.{◌≡◌, ℕ, ◌<◌, ◌≤◌, ◌==◌, Option, Some, None, List, [], ◌∷◌, length, filter, slice_get, if◌then◌else◌}
+use Rattle.std.specs.Prelude.{◌≡◌, ℕ, ◌<◌, ◌≤◌, Option, Some, None, List, [], ◌∷◌, length, filter, slice_get}
+use Rattle.std.specs.Option.{option_or}
 use Rattle.model.specs.declared.value.Value.{Value}
 use Rattle.model.specs.Tables.{Table, Row, IsRow}
 use Rattle.rowlaws.specs.Rows.{Has}
-use Rattle.sqlsyntax.specs.declared.forms.Operator.{Operator}
-use Rattle.sqlsyntax.specs.declared.forms.Operator.TheVariants.{Equal}
-use Rattle.sqlchecks.specs.declared.field.Field.{Field}
-use Rattle.sqlchecks.specs.declared.field.Field.TheVariants.{Key}
 use Rattle.sqlread.specs.declared.term.Term.{Term}
 use Rattle.sqlread.specs.declared.term.Term.TheVariants.{Compares, ContainsDay}
 use Rattle.versionlaws.specs.Versions.{Version, Holds}
 use Rattle.versionlaws.specs.ByKey.{is_of}
 use Rattle.sysversion.specs.Days.{nearly_has}
+use Rattle.current.specs.Named.{equal_at}
 
--- what the key column at this place is to be equal to, if a comparison says so
-abbrev pub equal_at : ℕ → Operator → Field → Value → Option Value
-equal_at place Equal (Key column) v = if column == place then Some v else None
-equal_at place _ _ v = None
-
+-- what a term says that the key column at this place is to be equal to
 abbrev pub said_by : ℕ → Term → Option Value
 said_by place (Compares c) = equal_at place c.operator c.field c.value
 said_by place _ = None
 
-abbrev pub or_else : {A : Type 0} → Option A → Option A → Option A
-or_else None o = o
-or_else (Some v) o = Some v
-
 -- the first term of WHERE that says it counts
 abbrev pub said_at : ℕ → List Term → Option Value
 said_at place [] = None
-said_at place (t ∷ ts) = or_else (said_by place t) (said_at place ts)
+said_at place (t ∷ ts) = option_or (said_by place t) (said_at place ts)
 
 -- WHERE has `=` for each column of the key
 abbrev pub IsNamed : List Term → List Value → Type 0
@@ -42,7 +32,7 @@ day_by _ = None
 -- the day of the first term of WHERE that asks whether the period contains a day
 abbrev pub day_of : List Term → Option ℕ
 day_of [] = None
-day_of (t ∷ ts) = or_else (day_by t) (day_of ts)
+day_of (t ∷ ts) = option_or (day_by t) (day_of ts)
 
 -- where WHERE names a key with as many columns as the versions' keys have, there are at most as many tests as versions of it
 abbrev pub IsFew : List Term → List Version → ℕ → Type 0

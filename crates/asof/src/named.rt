@@ -1,7 +1,8 @@
 //! The key and the day that a WHERE names, so that only the key's versions near the day need be looked at.
 ghost use Rattle.std.specs.Prelude.{◌≡◌, ◌<◌, ℕ, None, length, option_map, IfOk, IfSome};
 ghost use Rattle.std.specs.Option.{option_copied};
-ghost use Rattle.asof.specs.Named.{equal_at, said_by, said_at, day_by, day_of, IsNamed};
+ghost use Rattle.current.specs.Named.{equal_at};
+ghost use Rattle.asof.specs.Named.{said_by, said_at, day_by, day_of, IsNamed};
 
 use model::value::Value;
 use overlaps::Key;

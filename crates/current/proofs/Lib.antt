@@ -20,6 +20,7 @@ pub mod OfKey
 pub mod Naming
 pub mod NamedKey
 pub mod Reading
+mod Counting
 pub mod KeyCorrection
 pub mod Orphans
 pub mod Checked
@@ -29,3 +30,5 @@ pub mod Among
 pub mod States
 pub mod Meeting
 mod Refusing
+pub mod Costs
+pub mod Seeking

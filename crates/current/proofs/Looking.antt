@@ -1,7 +1,7 @@
 -- A search for the first day without a parent: what it has looked at.
-use Rattle.std.proofs.Common.{leb, ltb, ◌++◌, ◌&&◌, Result, Ok, Err, ◌≡◌, ℕ, zero, suc, ◌+◌, ◌-◌, ◌<◌, ◌≤◌, ◌⊎◌, inl, inr, Bool, true, List, [], ◌∷◌, map, drop, length, get_or, Option, Some, None, option_map, refl, sym, ap, ◌∙◌, subst, arith, Ordering}
-use Rattle.std.proofs.lemmas.Bool.{cases_Bool, cases_lt, and_parts, leb-true, ltb-true}
-use Rattle.std.specs.Prelude.{find, ◌↔◌, IsOk, IfOk}
+use Rattle.std.proofs.Common.{leb, ltb, ◌++◌, ◌&&◌, ◌||◌, Result, Ok, Err, ◌≡◌, ℕ, zero, suc, ◌+◌, ◌-◌, ◌<◌, ◌≤◌, ◌==◌, ◌⊎◌, inl, inr, Bool, true, List, [], ◌∷◌, map, drop, length, get_or, Option, Some, None, option_map, refl, sym, ap, ◌∙◌, subst, arith, Ordering}
+use Rattle.std.proofs.lemmas.Bool.{cases_Bool, cases_lt, and_parts, leb-true, ltb-true, eqb-true}
+use Rattle.std.specs.Prelude.{find, ◌↔◌, IsOk, IfOk, IfSome, is_some}
 use Rattle.std.specs.Result.{result_ok}
 use Rattle.std.specs.BTreeMap.{IsOrdered}
 use Rattle.std.specs.BTreeSet.{insert_key}
@@ -11,7 +11,7 @@ use Rattle.std.specs.declared.cmp.Ordering.TheVariants.{Less, Equal, Greater}
 use Rattle.model.specs.declared.value.Value.{Value}
 use Rattle.model.specs.Values.{key_cmp, same_key}
 use Rattle.model.specs.Tables.{Period, Row, inside}
-use Rattle.model.specs.Periods.{is_free}
+use Rattle.model.specs.Periods.{period_of, is_free}
 use Rattle.model.specs.Statements.{days_of}
 use Rattle.model.specs.Transactions.{Reference, Place}
 use Rattle.rowlaws.specs.Rows.{Has}
@@ -26,6 +26,7 @@ use Rattle.rowlaws.proofs.Members.{filter_has, has_cases, range_has}
 use Rattle.period.specs.declared.day.Day.{Day}
 use Rattle.period.specs.declared.period.Period.{Period as DeclaredPeriod}
 use Rattle.rowlaws.proofs.RowFacts.{both}
+use Rattle.overlaps.specs.Key.{same_key-ties}
 use Rattle.current.specs.declared.row.Row.{Row as Declared}
 use Rattle.current.specs.declared.suspects.Lost.{Lost}
 use Rattle.current.specs.declared.suspects.Search.{Search}
@@ -34,7 +35,7 @@ use Rattle.current.specs.declared.references.Place.{Place as Held}
 use Rattle.current.specs.Orphans.{place_of}
 use Rattle.current.specs.ByKey.{Map, rows_in, strands_of, in_strand}
 use Rattle.current.specs.Suspects.{IsIn, IsLost, IsFirstOf, rows_by, references_by, LooksAt}
-use Rattle.current.proofs.Lists.{drop_here, drop_none}
+use Rattle.current.proofs.Lists.{drop_here, drop_none, no_items}
 use Rattle.current.proofs.Planning.{Entry}
 use Rattle.current.proofs.Undoing.{not_in_strand}
 
@@ -131,6 +132,19 @@ pub kept_key : (k l : List Value) (xs : Keys) → Has xs l → Has (insert_key k
 kept_key k l [] h = absurd h
 kept_key k l (x ∷ xs) h = key_kept k l x xs (key_cmp k x) h (kept_key k l xs)
 
+or_kept : (k l x : List Value) (xs : Keys) (o : Ordering) → Has (match_ordering o (k ∷ x ∷ xs) (x ∷ xs) (x ∷ insert_key key_cmp xs k)) l → (Has (insert_key key_cmp xs k) l → (l ≡ k) ⊎ Has xs l) → (l ≡ k) ⊎ Has (x ∷ xs) l
+or_kept k l x xs Less (inl e) more = inl e
+or_kept k l x xs Less (inr h) more = inr h
+or_kept k l x xs Equal h more = inr h
+or_kept k l x xs Greater (inl e) more = inr (inl e)
+or_kept k l x xs Greater (inr h) more = elim (more h) [ inl e ↦ inl e | inr g ↦ inr (inr g) ]
+
+-- and no others came
+pub put_or_kept : (k l : List Value) (xs : Keys) → Has (insert_key key_cmp xs k) l → (l ≡ k) ⊎ Has xs l
+put_or_kept k l [] (inl e) = inl e
+put_or_kept k l [] (inr h) = absurd h
+put_or_kept k l (x ∷ xs) h = or_kept k l x xs (key_cmp k x) h (put_or_kept k l xs)
+
 -- a key of the set is found
 pub key_found : (k : List Value) (xs : Keys) → Has xs k → list_any (λ x. is_eq (key_cmp k x)) xs ≡ true
 key_found k xs h = has_any (λ x. is_eq (key_cmp k x)) xs k h (ap is_eq (key_itself k))
@@ -210,3 +224,26 @@ from_first f p d start o e some h y =
 pub period_made : {E : Type 0} (r : Result DeclaredPeriod E) (o : Option DeclaredPeriod) (start end : Day) (d : ℕ) → o ≡ result_ok r → IsOk r ↔ (start.number < end.number) → IfOk r (λ p. (p.start ≡ start) × (p.end ≡ end)) → start.number ≤ d → d < end.number → IsIn o d
 period_made (Ok p) o start end d e is value a b = subst (λ x. IsIn x d) (sym e) (subst (λ (x : Day). x.number ≤ d) (sym value.0) a, subst (λ (x : Day). d < x.number) (sym value.1) b)
 period_made (Err x) o start end d e is value a b = absurd (both (is.1 (omega (arith, a, b))) refl)
+
+-- the day that is found is one of the period's
+pub day_found : (f : ℕ → Bool) (p : Period) → p.start < p.end → (d : ℕ) (o : Option ℕ) → o ≡ find f (days_of p) → o ≡ Some d → (p.start ≤ d) × (is_some (find f (days_of p)) ≡ true)
+day_found f p full d o e is =
+    let least : IsLeast f p.start p.end (Some d) = subst (IsLeast f p.start p.end) (sym e ∙ is) (find_day f p (omega (arith, full))) in
+    (least.0, ap is_some (sym e ∙ is))
+
+pub period_within : {E : Type 0} (r : Result DeclaredPeriod E) (o : Option DeclaredPeriod) (start end : Day) (p : DeclaredPeriod) (f : ℕ → Bool) → o ≡ result_ok r → IfOk r (λ q. (q.start ≡ start) × (q.end ≡ end)) → p.start.number ≤ start.number → end.number ≤ p.end.number → is_some (find f (days_of (period_of p))) ≡ true
+    → IfSome o (λ s. (p.start.number ≤ s.start.number) × (s.end.number ≤ p.end.number) × (is_some (find f (days_of (period_of p))) ≡ true))
+period_within (Ok q) o start end p f e value a b some = subst (λ x. IfSome x (λ s. (p.start.number ≤ s.start.number) × (s.end.number ≤ p.end.number) × (is_some (find f (days_of (period_of p))) ≡ true))) (sym e)
+    (subst (λ (x : Day). p.start.number ≤ x.number) (sym value.0) a, subst (λ (x : Day). x.number ≤ p.end.number) (sym value.1) b, some)
+period_within (Err x) o start end p f e value a b some = subst (λ x. IfSome x (λ s. (p.start.number ≤ s.start.number) × (s.end.number ≤ p.end.number) × (is_some (find f (days_of (period_of p))) ≡ true))) (sym e) tt
+
+-- the test by which a set is searched, and that of the same keys
+abbrev pub key_among_test : List Value → List (List Value) → Bool
+key_among_test k xs = list_any (λ x. is_eq (key_cmp k x)) xs
+
+pub key_among : (k : List Value) (xs : Keys) → list_any (same_key k) xs ≡ key_among_test k xs
+key_among k [] = refl
+key_among k (x ∷ xs) = ap (λ b. b || list_any (same_key k) xs) (same_key-ties k x) ∙ ap (λ b. is_eq (key_cmp k x) || b) (key_among k xs)
+
+pub none_in_strand : (e : Entry) → (length e.1 == 0) ≡ true → (r : Row) → Has (map row_of e.1) r → ⊥
+none_in_strand e none r h = subst (λ (rows : List Declared). Has (map row_of rows) r) (no_items e.1 (eqb-true (length e.1) 0 none)) h

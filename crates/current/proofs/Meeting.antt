@@ -1,23 +1,22 @@
 -- The rows of a key that have a day of a period: they stand together among its rows.
-use Rattle.std.proofs.Common.{◌≡◌, ℕ, zero, suc, ◌+◌, ◌-◌, ◌<◌, ◌≤◌, Bool, true, false, not, ◌||◌, leb, ltb, leb-true, List, [], ◌∷◌, map, take, drop, length, get_or, refl, sym, ap, ◌∙◌, subst, inl, inr, arith}
-use Rattle.std.specs.Prelude.{find, All}
-use Rattle.std.specs.List.{list_any, range_with_len, slice_range}
-use Rattle.std.specs.List.Sorted.{IsNonDecreasingBy, IsPartitionPoint}
-use Rattle.std.proofs.lemmas.Bool.{cases_Bool, cases_lt, and_left, and_right, ltb-false, lt-leb, le-ltb}
-use Rattle.std.proofs.lemmas.List.{length-drop, get_or-drop}
+use Rattle.std.proofs.Common.{◌≡◌, ℕ, zero, suc, ◌+◌, ◌-◌, ◌<◌, ◌≤◌, ◌⊎◌, Bool, true, false, not, ◌&&◌, ◌||◌, leb-true, ltb-true, List, [], ◌∷◌, ◌++◌, map, filter, length, get_or, refl, sym, ap, ◌∙◌, subst, inl, inr, arith}
+use Rattle.std.specs.Prelude.{find, All, nat_lt}
+use Rattle.std.specs.List.{list_any, list_all, range_with_len}
+use Rattle.std.proofs.lemmas.Bool.{cases_Bool, and_parts, and_from, lt-ltb}
 use Rattle.std.proofs.lemmas.List.Kept.{AllPairs-cons}
-use Rattle.model.specs.declared.value.Value.{Value}
 use Rattle.model.specs.Tables.{Period, Row, inside}
 use Rattle.model.specs.Periods.{StartInOrder, is_free}
 use Rattle.model.specs.Statements.{days_of}
-use Rattle.overlaps.specs.Index.{AreApart}
+use Rattle.overlaps.specs.Index.{AreApart, AreSharing, shares_day}
 use Rattle.rowlaws.specs.Rows.{Has}
-use Rattle.overlaps.proofs.Sharing.{apart_at, tail_apart}
+use Rattle.rowlaws.proofs.Anys.{has_any}
+use Rattle.rowlaws.proofs.Members.{map_has}
+use Rattle.rowlaws.proofs.RowFacts.{both}
+use Rattle.overlaps.proofs.Sharing.{tail_apart}
 use Rattle.current.specs.declared.row.Row.{Row as Declared}
 use Rattle.current.specs.Rows.{row_of}
-use Rattle.current.specs.ByKey.{in_strand}
-use Rattle.current.proofs.InStrand.{begins_strand}
-use Rattle.current.proofs.Placed.{days_of_row}
+use Rattle.current.specs.Reads.{total}
+use Rattle.current.proofs.Placed.{days_of_row, Sharing}
 
 pub twice : (rows : List Declared) → map (λ r. r.period) (map row_of rows) ≡ map days_of_row rows
 twice [] = refl
@@ -32,163 +31,129 @@ starts_in_order (r ∷ rows) apart =
     let later : All (λ q. r.period.start.number ≤ q.start) (map days_of_row rows) = λ k d l. let after = apart 0 (suc k) d (omega arith) (omega arith) in omega (arith, some, after) in
     AllPairs-cons (λ p q. p.start ≤ q.start) (days_of_row r) (map days_of_row rows) later (starts_in_order rows (tail_apart days_of_row r rows apart))
 
-pub ends_rise : (rows : List Declared) → AreApart (map days_of_row rows) → IsNonDecreasingBy (λ r. r.period.end.number) rows
-ends_rise rows apart i j d l m = elim (cases_lt i j) [
-  | inl before ↦ let after = apart_at days_of_row rows i j d apart before m in let some = (get_or rows j d).period.ordered in omega (arith, after, some)
-  | inr from ↦ let same : i ≡ j = omega arith in subst (λ k. (get_or rows i d).period.end.number ≤ (get_or rows k d).period.end.number) same (omega arith)
-]
-
-pub starts_rise : (rows : List Declared) → AreApart (map days_of_row rows) → IsNonDecreasingBy (λ r. r.period.start.number) rows
-starts_rise rows apart i j d l m = elim (cases_lt i j) [
-  | inl before ↦ let after = apart_at days_of_row rows i j d apart before m in let some = (get_or rows i d).period.ordered in omega (arith, after, some)
-  | inr from ↦ let same : i ≡ j = omega arith in subst (λ k. (get_or rows i d).period.start.number ≤ (get_or rows k d).period.start.number) same (omega arith)
-]
-
-dropped_apart : (n : ℕ) (rows : List Declared) → AreApart (map days_of_row rows) → AreApart (map days_of_row (drop n rows))
-dropped_apart zero [] apart = apart
-dropped_apart zero (r ∷ rows) apart = apart
-dropped_apart (suc n) [] apart = apart
-dropped_apart (suc n) (r ∷ rows) apart = dropped_apart n rows (tail_apart days_of_row r rows apart)
-
-taken_all : (P : Period → Type 0) (n : ℕ) (rows : List Declared) → All P (map days_of_row rows) → All P (map days_of_row (take n rows))
-taken_all P zero rows h = λ k d l. absurd (omega arith)
-taken_all P (suc n) [] h = h
-taken_all P (suc n) (r ∷ rows) h = λ k d l. elim k as (λ m. m < length (map days_of_row (take (suc n) (r ∷ rows))) → P (get_or (map days_of_row (take (suc n) (r ∷ rows))) m d)) [
+all_front : (P : Period → Type 0) (xs ys : List Declared) → All P (map days_of_row (xs ++ ys)) → All P (map days_of_row xs)
+all_front P [] ys h = λ k d l. absurd (omega arith)
+all_front P (x ∷ xs) ys h = λ k d l. elim k as (λ m. m < length (map days_of_row (x ∷ xs)) → P (get_or (map days_of_row (x ∷ xs)) m d)) [
   | zero ↦ λ some. h 0 d (omega arith)
-  | suc m ↦ λ some. taken_all P n rows (λ j e less. h (suc j) e (omega arith)) m d (omega arith)
+  | suc m ↦ λ some. all_front P xs ys (λ j e less. h (suc j) e (omega arith)) m d (omega arith)
 ] l
 
-taken_apart : (n : ℕ) (rows : List Declared) → AreApart (map days_of_row rows) → AreApart (map days_of_row (take n rows))
-taken_apart zero rows apart = λ i j d l m. absurd (omega arith)
-taken_apart (suc n) [] apart = apart
-taken_apart (suc n) (r ∷ rows) apart =
-    let later : All (λ q. r.period.end.number ≤ q.start) (map days_of_row rows) = λ k d l. apart 0 (suc k) d (omega arith) (omega arith) in
-    AllPairs-cons (λ p q. p.end ≤ q.start) (days_of_row r) (map days_of_row (take n rows)) (taken_all (λ q. r.period.end.number ≤ q.start) n rows later) (taken_apart n rows (tail_apart days_of_row r rows apart))
+apart_front : (xs ys : List Declared) → AreApart (map days_of_row (xs ++ ys)) → AreApart (map days_of_row xs)
+apart_front [] ys apart = λ i j d l m. absurd (omega arith)
+apart_front (x ∷ xs) ys apart =
+    let later : All (λ q. x.period.end.number ≤ q.start) (map days_of_row (xs ++ ys)) = λ k d l. apart 0 (suc k) d (omega arith) (omega arith) in
+    AllPairs-cons (λ p q. p.end ≤ q.start) (days_of_row x) (map days_of_row xs) (all_front (λ q. x.period.end.number ≤ q.start) xs ys later) (apart_front xs ys (tail_apart days_of_row x (xs ++ ys) apart))
 
-pub part_apart : (i j : ℕ) (rows : List Declared) → AreApart (map days_of_row rows) → AreApart (map days_of_row (slice_range rows i j))
-part_apart i j rows apart = taken_apart (j - i) (drop i rows) (dropped_apart i rows apart)
+apart_back : (xs ys : List Declared) → AreApart (map days_of_row (xs ++ ys)) → AreApart (map days_of_row ys)
+apart_back [] ys apart = apart
+apart_back (x ∷ xs) ys apart = apart_back xs ys (tail_apart days_of_row x (xs ++ ys) apart)
 
 -- ---- a test that passes in a part alone
 
-none_at : {A : Type 0} (f : A → Bool) (xs : List A) → ((k : ℕ) (d : A) → k < length xs → f (get_or xs k d) ≡ false) → list_any f xs ≡ false
-none_at f [] h = refl
-none_at f (x ∷ xs) h = rw (h 0 x (omega arith)) (none_at f xs (λ k d l. h (suc k) d (omega arith)))
+none_front : {A : Type 0} (f : A → Bool) (xs ys : List A) → list_any f xs ≡ false → list_any f (xs ++ ys) ≡ list_any f ys
+none_front f [] ys h = refl
+none_front f (x ∷ xs) ys h = elim (cases_Bool (f x)) [
+  | inl y ↦ let e : list_any f (x ∷ xs) ≡ true = rw y refl in absurd (both e h)
+  | inr n ↦ let e : list_any f (x ∷ xs) ≡ list_any f xs = rw n refl in rw n (none_front f xs ys (sym e ∙ h))
+]
 
-any_taken : {A : Type 0} (f : A → Bool) (n : ℕ) (xs : List A) → ((k : ℕ) (d : A) → n ≤ k → k < length xs → f (get_or xs k d) ≡ false) → list_any f (take n xs) ≡ list_any f xs
-any_taken f zero xs h = sym (none_at f xs (λ k d l. h k d (omega arith) l))
-any_taken f (suc n) [] h = refl
-any_taken f (suc n) (x ∷ xs) h = ap (λ b. f x || b) (any_taken f n xs (λ k d l m. h (suc k) d (omega arith) (omega arith)))
-
-any_dropped : {A : Type 0} (f : A → Bool) (n : ℕ) (xs : List A) → ((k : ℕ) (d : A) → k < n → k < length xs → f (get_or xs k d) ≡ false) → list_any f (drop n xs) ≡ list_any f xs
-any_dropped f zero [] h = refl
-any_dropped f zero (x ∷ xs) h = refl
-any_dropped f (suc n) [] h = refl
-any_dropped f (suc n) (x ∷ xs) h = rw (h 0 x (omega arith) (omega arith)) (any_dropped f n xs (λ k d l m. h (suc k) d (omega arith) (omega arith)))
+pub none_back : {A : Type 0} (f : A → Bool) (xs ys : List A) → list_any f ys ≡ false → list_any f (xs ++ ys) ≡ list_any f xs
+none_back f [] ys h = h
+none_back f (x ∷ xs) ys h = ap (λ b. f x || b) (none_back f xs ys h)
 
 any_of_days : (test : Period → Bool) (rows : List Declared) → list_any test (map days_of_row rows) ≡ list_any (λ r. test (days_of_row r)) rows
 any_of_days test [] = refl
 any_of_days test (r ∷ rows) = ap (λ b. test (days_of_row r) || b) (any_of_days test rows)
 
--- ---- rows in a part
+has_parts : (xs ys : List Declared) (r : Row) → Has (map row_of (xs ++ ys)) r → Has (map row_of xs) r ⊎ Has (map row_of ys) r
+has_parts [] ys r h = inr h
+has_parts (x ∷ xs) ys r (inl e) = inl (inl e)
+has_parts (x ∷ xs) ys r (inr h) = elim (has_parts xs ys r h) [ inl g ↦ inl (inr g) | inr g ↦ inr g ]
 
-row_of_rest : (n : ℕ) (rows : List Declared) (r : Row) → Has (map row_of (drop n rows)) r → Has (map row_of rows) r
-row_of_rest zero [] r h = h
-row_of_rest zero (x ∷ rows) r h = h
-row_of_rest (suc n) [] r h = h
-row_of_rest (suc n) (x ∷ rows) r h = inr (row_of_rest n rows r h)
+has_front : (xs ys : List Declared) (r : Row) → Has (map row_of xs) r → Has (map row_of (xs ++ ys)) r
+has_front [] ys r h = absurd h
+has_front (x ∷ xs) ys r (inl e) = inl e
+has_front (x ∷ xs) ys r (inr h) = inr (has_front xs ys r h)
 
-row_of_front : (n : ℕ) (rows : List Declared) (r : Row) → Has (map row_of (take n rows)) r → Has (map row_of rows) r
-row_of_front zero rows r h = absurd h
-row_of_front (suc n) [] r h = h
-row_of_front (suc n) (x ∷ rows) r (inl e) = inl e
-row_of_front (suc n) (x ∷ rows) r (inr h) = inr (row_of_front n rows r h)
+has_back : (xs ys : List Declared) (r : Row) → Has (map row_of ys) r → Has (map row_of (xs ++ ys)) r
+has_back [] ys r h = h
+has_back (x ∷ xs) ys r h = inr (has_back xs ys r h)
 
--- a row that stands nowhere else
-in_rest : (n : ℕ) (rows : List Declared) (r : Row) → Has (map row_of rows) r → ((k : ℕ) (d : Declared) → k < n → k < length rows → r ≡ row_of (get_or rows k d) → ⊥) → Has (map row_of (drop n rows)) r
-in_rest zero [] r h f = h
-in_rest zero (x ∷ rows) r h f = h
-in_rest (suc n) [] r h f = h
-in_rest (suc n) (x ∷ rows) r (inl e) f = absurd (f 0 x (omega arith) (omega arith) e)
-in_rest (suc n) (x ∷ rows) r (inr h) f = in_rest n rows r h (λ k d l m. f (suc k) d (omega arith) (omega arith))
+-- what those come to that pass
+total_back : (cost : Row → ℕ) (test : Row → Bool) (xs ys : List Declared) → total cost (filter test (map row_of ys)) ≤ total cost (filter test (map row_of (xs ++ ys)))
+total_back cost test [] ys = omega arith
+total_back cost test (x ∷ xs) ys =
+    let rest = total_back cost test xs ys in
+    elim (cases_Bool (test (row_of x))) [ inl y ↦ rw y (omega (arith, rest)) | inr n ↦ rw n rest ]
 
-in_front : (n : ℕ) (rows : List Declared) (r : Row) → Has (map row_of rows) r → ((k : ℕ) (d : Declared) → n ≤ k → k < length rows → r ≡ row_of (get_or rows k d) → ⊥) → Has (map row_of (take n rows)) r
-in_front zero [] r h f = h
-in_front zero (x ∷ rows) r (inl e) f = absurd (f 0 x (omega arith) (omega arith) e)
-in_front zero (x ∷ rows) r (inr h) f = in_front zero rows r h (λ k d l m. f (suc k) d (omega arith) (omega arith))
-in_front (suc n) [] r h f = h
-in_front (suc n) (x ∷ rows) r (inl e) f = inl e
-in_front (suc n) (x ∷ rows) r (inr h) f = inr (in_front n rows r h (λ k d l m. f (suc k) d (omega arith) (omega arith)))
+total_front : (cost : Row → ℕ) (test : Row → Bool) (xs ys : List Declared) → list_all (λ x. test (row_of x)) xs ≡ true → total cost (map row_of xs) ≤ total cost (filter test (map row_of (xs ++ ys)))
+total_front cost test [] ys h = omega arith
+total_front cost test (x ∷ xs) ys h =
+    let ps = and_parts (test (row_of x)) (list_all (λ z. test (row_of z)) xs) h in
+    let rest = total_front cost test xs ys ps.1 in
+    rw ps.0 (omega (arith, rest))
 
--- rows of a strand are apart
-later_in_strand : (k : List Value) (d : ℕ) (rows : List Declared) → in_strand k d (map row_of rows) ≡ true → All (λ q. d ≤ q.start) (map days_of_row rows)
-later_in_strand k d [] h = λ i e l. absurd (omega arith)
-later_in_strand k d (r ∷ rows) h =
-    let b = begins_strand k d (row_of r) (map row_of rows) h in
-    let from : d ≤ r.period.start.number = b.from in
-    let some = r.period.ordered in
-    let rest = later_in_strand k r.period.end.number rows b.later in
-    λ i e l. elim i as (λ m. m < length (map days_of_row (r ∷ rows)) → d ≤ (get_or (map days_of_row (r ∷ rows)) m e).start) [
-      | zero ↦ λ less. from
-      | suc m ↦ λ less. let after = rest m e (omega arith) in omega (arith, from, some, after)
-    ] l
+all_same : {A : Type 0} (f g : A → Bool) (xs : List A) → ((x : A) → f x ≡ g x) → list_all f xs ≡ list_all g xs
+all_same f g [] h = refl
+all_same f g (x ∷ xs) h = ap (λ b. b && list_all f xs) (h x) ∙ ap (λ b. g x && b) (all_same f g xs h)
 
-pub strand_apart : (k : List Value) (d : ℕ) (rows : List Declared) → in_strand k d (map row_of rows) ≡ true → AreApart (map days_of_row rows)
-strand_apart k d [] h = λ i j e l m. absurd (omega arith)
-strand_apart k d (r ∷ rows) h =
-    let b = begins_strand k d (row_of r) (map row_of rows) h in
-    AllPairs-cons (λ p q. p.end ≤ q.start) (days_of_row r) (map days_of_row rows) (later_in_strand k r.period.end.number rows b.later) (strand_apart k r.period.end.number rows b.later)
+-- ---- the part that has a day of a period
 
--- ---- the part that meets a period
-
-module _ (rows : List Declared) (p : Period) (some : p.start < p.end) (from to : ℕ) (apart : AreApart (map days_of_row rows))
-    (after : IsPartitionPoint (λ r. leb r.period.end.number p.start ≡ true) (λ r. leb r.period.end.number p.start ≡ false) rows from)
-    (before : IsPartitionPoint (λ r. ltb r.period.start.number p.end ≡ true) (λ r. ltb r.period.start.number p.end ≡ false) rows to) where
-  ended : (k : ℕ) (d : Declared) → k < from → (get_or rows k d).period.end.number ≤ p.start
-  ended k d l = leb-true _ _ (after.0 k d (omega arith) l)
-
-  later : (k : ℕ) (d : Declared) → to ≤ k → k < length rows → p.end ≤ (get_or rows k d).period.start.number
-  later k d l m = ltb-false _ _ (before.1 k d l m)
-
-  turn_at : (d : Declared) → to ≤ length rows → from ≤ length rows → from ≤ to
-  turn_at d most all = elim (cases_lt to from) [
-    | inr g ↦ g
-    | inl l ↦
-        let end = ended to d l in
-        let start = later to d (omega arith) (omega arith) in
-        let full = (get_or rows to d).period.ordered in
-        absurd (omega (arith, end, start, full))
+module _ (law : Sharing) (p : Period) (some : p.start < p.end) where
+  has_day : (d : ℕ) (rows : List Declared) → p.start ≤ d → d < p.end → list_any (λ r. shares_day p (days_of_row r)) rows ≡ false → list_any (λ r. inside (days_of_row r) d) rows ≡ false
+  has_day d [] a b h = refl
+  has_day d (r ∷ rows) a b h = elim (cases_Bool (shares_day p (days_of_row r))) [
+    | inl y ↦ let e : list_any (λ x. shares_day p (days_of_row x)) (r ∷ rows) ≡ true = rw y refl in absurd (both e h)
+    | inr n ↦
+        let e : list_any (λ x. shares_day p (days_of_row x)) (r ∷ rows) ≡ list_any (λ x. shares_day p (days_of_row x)) rows = rw n refl in
+        let rest = has_day d rows a b (sym e ∙ h) in
+        elim (cases_Bool (inside (days_of_row r) d)) [
+          | inr m ↦ rw m rest
+          | inl m ↦
+              let ps = and_parts _ _ m in
+              let from : r.period.start.number ≤ d = leb-true _ _ ps.0 in
+              let to : d < r.period.end.number = ltb-true _ _ ps.1 in
+              let yes : shares_day p (days_of_row r) ≡ true = law p (days_of_row r) some r.period.ordered ∙ and_from _ _ (lt-ltb r.period.start.number p.end (omega (arith, from))) (lt-ltb p.start r.period.end.number (omega (arith, to))) in
+              absurd (both yes n)
+        ]
   ]
 
-  turn : (xs : List Declared) → xs ≡ rows → to ≤ length rows → from ≤ length rows → from ≤ to
-  turn [] e most all = let none = ap length e in omega (arith, none, all)
-  turn (x ∷ xs) e most all = turn_at x most all
+  module _ (items found : List Declared) (place : ℕ) (s : AreSharing days_of_row p items place found) where
+    pub met_apart : AreApart (map days_of_row items) → AreApart (map days_of_row found)
+    met_apart apart = apart_front found s.after (apart_back s.before (found ++ s.after) (subst (λ (rows : List Declared). AreApart (map days_of_row rows)) s.all apart))
 
-  pub in_turn : to ≤ length rows → from ≤ length rows → from ≤ to
-  in_turn most all = turn rows refl most all
+    pub met_free : (d : ℕ) → p.start ≤ d → d < p.end → is_free (map days_of_row found) d ≡ is_free (map days_of_row items) d
+    met_free d a b =
+        let test : Declared → Bool = λ r. inside (days_of_row r) d in
+        let back = none_back test found s.after (has_day d s.after a b s.none_after) in
+        let front = none_front test s.before (found ++ s.after) (has_day d s.before a b s.none_before) in
+        ap not (any_of_days (λ q. inside q d) found ∙ sym back ∙ sym front ∙ ap (list_any test) (sym s.all) ∙ sym (any_of_days (λ q. inside q d) items))
 
-  pub free_in_part : (day : ℕ) → p.start ≤ day → day < p.end → is_free (map days_of_row (slice_range rows from to)) day ≡ is_free (map days_of_row rows) day
-  free_in_part day a b =
-      let test : Declared → Bool = λ r. inside (days_of_row r) day in
-      let front : (k : ℕ) (d : Declared) → k < from → k < length rows → test (get_or rows k d) ≡ false = λ k d l m. let end = ended k d l in and_right _ _ (le-ltb day (get_or rows k d).period.end.number (omega (arith, end))) in
-      let back : (k : ℕ) (d : Declared) → to - from ≤ k → k < length (drop from rows) → test (get_or (drop from rows) k d) ≡ false =
-      λ k d l m.
-      let long = length-drop from rows in
-      let start = later (from + k) d (omega arith) (omega (arith, long)) in
-      subst (λ r. test r ≡ false) (sym (get_or-drop from rows k d)) (and_left _ _ (lt-leb (get_or rows (from + k) d).period.start.number day (omega (arith, start)))) in
-      ap not (any_of_days (λ q. inside q day) (slice_range rows from to) ∙ any_taken test (to - from) (drop from rows) back ∙ any_dropped test from rows front ∙ sym (any_of_days (λ q. inside q day) rows))
+    pub met_among : (r : Row) → Has (map row_of found) r → Has (map row_of items) r
+    met_among r h = subst (λ (rows : List Declared). Has (map row_of rows) r) (sym s.all) (has_back s.before (found ++ s.after) r (has_front found s.after r h))
 
-  pub among_part : (r : Row) → Has (map row_of (slice_range rows from to)) r → Has (map row_of rows) r
-  among_part r h = row_of_rest from rows r (row_of_front (to - from) (drop from rows) r h)
+    not_past : (rows : List Declared) (r : Row) → list_any (λ x. shares_day p (days_of_row x)) rows ≡ false → Has (map row_of rows) r → r.period.start < p.end → p.start < r.period.end → ⊥
+    not_past rows r none h a b =
+        let x = map_has row_of rows r h in
+        let start = ap (λ (z : Row). z.period.start) x.2 in
+        let end = ap (λ (z : Row). z.period.end) x.2 in
+        let yes : shares_day p (days_of_row x.0) ≡ true = law p (days_of_row x.0) some x.0.period.ordered ∙ and_from _ _ (lt-ltb x.0.period.start.number p.end (omega (arith, start, a))) (lt-ltb p.start x.0.period.end.number (omega (arith, end, b))) in
+        both (has_any (λ z. shares_day p (days_of_row z)) rows x.0 x.1 yes) none
 
-  pub each_in_part : (r : Row) → Has (map row_of rows) r → r.period.start < p.end → p.start < r.period.end → Has (map row_of (slice_range rows from to)) r
-  each_in_part r h a b =
-      let rest = in_rest from rows r h (λ k d l m e. let end = ended k d l in let same : r.period.end ≡ (get_or rows k d).period.end.number = ap (λ (x : Row). x.period.end) e in omega (arith, end, same, b)) in
-      in_front (to - from) (drop from rows) r rest
-      (λ k d l m e.
-      let long = length-drop from rows in
-      let start = later (from + k) d (omega arith) (omega (arith, long)) in
-      let same : r.period.start ≡ (get_or rows (from + k) d).period.start.number = ap (λ (x : Row). x.period.start) e ∙ ap (λ (x : Declared). x.period.start.number) (get_or-drop from rows k d) in
-      omega (arith, start, same, a))
+    pub met_each : (r : Row) → Has (map row_of items) r → r.period.start < p.end → p.start < r.period.end → Has (map row_of found) r
+    met_each r h a b = elim (has_parts s.before (found ++ s.after) r (subst (λ (rows : List Declared). Has (map row_of rows) r) s.all h)) [
+      | inl g ↦ absurd (not_past s.before r s.none_before g a b)
+      | inr g ↦ elim (has_parts found s.after r g) [ inl f ↦ f | inr f ↦ absurd (not_past s.after r s.none_after f a b) ]
+    ]
+
+    -- what they come to, among all that have a day of the period
+    pub met_total : (cost : Row → ℕ) → total cost (map row_of found) ≤ total cost (filter (λ r. nat_lt r.period.start p.end && nat_lt p.start r.period.end) (map row_of items))
+    met_total cost =
+        let test : Row → Bool = λ r. nat_lt r.period.start p.end && nat_lt p.start r.period.end in
+        let each : list_all (λ x. test (row_of x)) found ≡ true = all_same (λ x. test (row_of x)) (λ x. shares_day p (days_of_row x)) found (λ x. sym (law p (days_of_row x) some x.period.ordered)) ∙ s.each in
+        let front = total_front cost test found s.after each in
+        let back = total_back cost test s.before (found ++ s.after) in
+        subst (λ (rows : List Declared). total cost (map row_of found) ≤ total cost (filter test (map row_of rows))) (sym s.all) (omega (arith, front, back))
 
 -- ---- the first day that is free
 

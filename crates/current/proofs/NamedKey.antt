@@ -11,7 +11,8 @@ use Rattle.sqlchecks.specs.declared.comparison.Comparison.{Comparison}
 use Rattle.sqlchecks.specs.declared.field.Field.{Field}
 use Rattle.sqlchecks.specs.declared.field.Field.TheVariants as field
 use Rattle.sqlchecks.specs.Comparisons.{compares, passes_all}
-use Rattle.current.specs.Named.{equal_at, or_else, said_at, IsNamed}
+use Rattle.std.specs.Option.{option_or}
+use Rattle.current.specs.Named.{equal_at, said_at, IsNamed}
 use Rattle.current.proofs.Naming.{said}
 
 -- ---- places of lists
@@ -63,7 +64,7 @@ where_says place (c ∷ cs) w h row passes = by (equal_at place c.operator c.fie
     parts : (compares c row.key row.values ≡ true) × (list_all (λ s. compares s row.key row.values) cs ≡ true)
     parts = and_parts (compares c row.key row.values) (list_all (λ s. compares s row.key row.values) cs) passes
 
-    by : (o : Option Value) → equal_at place c.operator c.field c.value ≡ o → or_else o (said_at place cs) ≡ Some w → (said_at place cs ≡ Some w → slice_get row.key place ≡ Some w) → slice_get row.key place ≡ Some w
+    by : (o : Option Value) → equal_at place c.operator c.field c.value ≡ o → option_or o (said_at place cs) ≡ Some w → (said_at place cs ≡ Some w → slice_get row.key place ≡ Some w) → slice_get row.key place ≡ Some w
     by None e g more = more g
     by (Some v) e g more = let says = equal_says place c.operator c.field c.value w (e ∙ g) in said c place says.0 says.1 row parts.0 ∙ ap Some says.2
 

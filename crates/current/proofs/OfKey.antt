@@ -12,8 +12,7 @@ use Rattle.std.specs.Ordering.{is_eq}
 use Rattle.model.specs.declared.value.Value.{Value}
 use Rattle.model.specs.Values.{key_cmp, same_key}
 use Rattle.model.specs.Tables.{Row}
-use Rattle.model.specs.Periods.{StartInOrder}
-use Rattle.rowlaws.specs.Covering.{PeriodsInOrder, periods_of}
+use Rattle.rowlaws.specs.Covering.{periods_of}
 use Rattle.rowlaws.specs.Rows.{Has}
 use Rattle.rowlaws.proofs.Keys.{key_itself, same_key-true, same_key-itself}
 use Rattle.rowlaws.proofs.RowFacts.{both}
@@ -21,7 +20,7 @@ use Rattle.current.specs.Rows.{row_of}
 use Rattle.current.specs.ByKey.{Map, strand_in, strands_of, rows_in, in_strand}
 use Rattle.current.proofs.InStrand.{begins_strand}
 use Rattle.current.proofs.Planning.{Entry}
-use Rattle.current.proofs.Sorted.{entry_in_strand, map_sorted}
+use Rattle.current.proofs.Sorted.{entry_in_strand}
 
 abbrev of_key : List Value → Row → Bool
 of_key k r = same_key r.key k
@@ -55,7 +54,7 @@ later_differs k l less = elim (cases_Bool (same_key l k)) [
   | inr n ↦ n
 ]
 
-none_later : (k : List Value) (es : List Entry) → AllByRecursion (λ l. key_cmp k l ≡ Less) (map (λ e. e.0) es) → ((e : Entry) → Has es e → in_strand e.0 0 (map row_of e.1) ≡ true) → filter (of_key k) (rows_in es) ≡ []
+pub none_later : (k : List Value) (es : List Entry) → AllByRecursion (λ l. key_cmp k l ≡ Less) (map (λ e. e.0) es) → ((e : Entry) → Has es e → in_strand e.0 0 (map row_of e.1) ≡ true) → filter (of_key k) (rows_in es) ≡ []
 none_later k [] less h = refl
 none_later k (e ∷ es) less h =
     filter-append (of_key k) (map row_of e.1) (rows_in es)
@@ -86,6 +85,3 @@ module _ (m : Map) (ordered : IsOrdered key_cmp m) (in_strands : (k : List Value
 
   pub strand_periods : (k : List Value) → map (λ r. r.period) (strands_of m k) ≡ periods_of (rows_in m.entries) k
   strand_periods k = ap (map (λ r. r.period)) (sym (strand_of_key k))
-
-  pub strand_in_order : PeriodsInOrder → (k : List Value) → StartInOrder (map (λ r. r.period) (strands_of m k))
-  strand_in_order law k = subst (λ ps. StartInOrder ps) (sym (strand_periods k)) (law (rows_in m.entries) k (map_sorted m ordered in_strands))

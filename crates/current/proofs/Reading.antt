@@ -27,7 +27,7 @@ use Rattle.current.specs.Rows.{row_of}
 use Rattle.current.specs.ByKey.{Map, strands_of, rows_in, in_strand}
 use Rattle.current.specs.Corrections.{is_met, made, removed_at}
 use Rattle.current.specs.Named.{said_at, IsNamed}
-use Rattle.current.specs.Reads.{is_of, FewToFind, FewToCorrect, FewIfNamed, NoMoreThanAll}
+use Rattle.current.specs.Reads.{is_of, FewToFind, FewToInsert, FewToCorrect, FewIfNamed, NoMoreThanAll}
 use Rattle.current.proofs.InStrand.{begins_strand}
 use Rattle.current.proofs.NamedKey.{one_named, none_named}
 use Rattle.current.proofs.OfKey.{strand_of_key}
@@ -45,7 +45,7 @@ filter_less p q (x ∷ xs) h =
       | inr n ↦ elim (cases_Bool (q x)) [ inl y ↦ rw (n, y) (omega (arith, less)) | inr m ↦ rw (n, m) less ]
     ]
 
-no_more : {A : Type 0} (p : A → Bool) (xs : List A) → length (filter p xs) ≤ length xs
+pub no_more : {A : Type 0} (p : A → Bool) (xs : List A) → length (filter p xs) ≤ length xs
 no_more p [] = omega arith
 no_more p (x ∷ xs) = let rest = no_more p xs in elim (cases_Bool (p x)) [ inl y ↦ rw y (omega (arith, rest)) | inr n ↦ rw n (omega (arith, rest)) ]
 
@@ -90,15 +90,15 @@ module _ (law : Sharing) (k : List Value) (p : Period) (some : p.start < p.end) 
         | inr n ↦ elim (cases_Bool (clashes k p (row_of r))) [ inl y ↦ rw (n, y) (omega (arith, less)) | inr m ↦ rw (n, m) less ]
       ]
 
+pub items_long : (m : Map) (k : List Value) → length (strands_of m k) ≡ length (items_of m k)
+items_long m k = ap length (strand_items (get key_cmp m k)) ∙ length-map (items_of m k) row_of
+
 module _ (m : Map) (ordered : IsOrdered key_cmp m) (in_strands : (l : List Value) → in_strand l 0 (strands_of m l) ≡ true) (k : List Value) where
-  strand_length : length (filter (is_of k) (rows_in m.entries)) ≡ length (strands_of m k)
+  pub strand_length : length (filter (is_of k) (rows_in m.entries)) ≡ length (strands_of m k)
   strand_length = ap length (strand_of_key m ordered in_strands k)
 
-  items_length : length (strands_of m k) ≡ length (items_of m k)
-  items_length = ap length (strand_items (get key_cmp m k)) ∙ length-map (items_of m k) row_of
-
   pub few_to_find : (old new : ℕ) → ((digits : ℕ) → length (items_of m k) < 2 ^ digits → new ≤ old + digits + 1) → FewToFind k (rows_in m.entries) old new
-  few_to_find old new few digits short = few digits (subst (λ n. n < 2 ^ digits) (strand_length ∙ items_length) short)
+  few_to_find old new few digits short = few digits (subst (λ n. n < 2 ^ digits) (strand_length ∙ items_long m k) short)
 
   found_less : Sharing → (p : Period) → p.start < p.end → (place : ℕ) (found : List Declared) → AreSharing days_of_row p (items_of m k) place found → length found ≤ length (filter (clashes k p) (rows_in m.entries))
   found_less law p some place found s =
@@ -114,7 +114,7 @@ module _ (m : Map) (ordered : IsOrdered key_cmp m) (in_strands : (l : List Value
   pub few_to_correct : Sharing → (p : Period) → p.start < p.end → (place : ℕ) (found : List Declared) → AreSharing days_of_row p (items_of m k) place found →
       (old new : ℕ) → ((digits : ℕ) → length (items_of m k) < 2 ^ digits → new ≤ old + digits + digits + 1 + length found) → FewToCorrect k p (rows_in m.entries) old new
   few_to_correct law p some place found s old new few digits short =
-      let most = few digits (subst (λ n. n < 2 ^ digits) (strand_length ∙ items_length) short) in
+      let most = few digits (subst (λ n. n < 2 ^ digits) (strand_length ∙ items_long m k) short) in
       let less = found_less law p some place found s in
       omega (arith, most, less)
 
@@ -177,8 +177,8 @@ module _ (tables : List TableRows) (n : ℕ) (below : n < length tables) (x : Ta
   columns_here : x.columns ≡ columns_at tables n
   columns_here = ap (λ t. t.columns) here ∙ sym (columns_at-is tables n x below)
 
-  pub find_at : (key other : List Value) (old new : ℕ) → key ≡ other → FewToFind key (rows_of_table x) old new → FewToFind other (rows_at rows_of_table tables n) old new
-  find_at key other old new same few = subst (λ k. FewToFind k (rows_at rows_of_table tables n) old new) same (subst (λ rows. FewToFind key rows old new) rows_here few)
+  pub insert_at : (key other : List Value) (old new : ℕ) → key ≡ other → FewToInsert key (rows_of_table x) old new → FewToInsert other (rows_at rows_of_table tables n) old new
+  insert_at key other old new same few = subst (λ k. FewToInsert k (rows_at rows_of_table tables n) old new) same (subst (λ rows. FewToInsert key rows old new) rows_here few)
 
   pub named_at : (cs : List Comparison) (p : Period) (old new : ℕ) → FewIfNamed cs p x.columns (rows_of_table x) old new → FewIfNamed cs p (columns_at tables n) (rows_at rows_of_table tables n) old new
   named_at cs p old new few =
@@ -189,12 +189,12 @@ module _ (tables : List TableRows) (n : ℕ) (below : n < length tables) (x : Ta
 
 -- ---- how many columns the keys have, after one of the tables changed
 
-pub columns_more : (xs : List TableRows) (n : ℕ) (x y : TableRows) (k : ℕ) → n < length xs → x ≡ get_or xs n x → y.columns ≤ max x.columns k → (m : ℕ) → columns_at (set xs n y) m ≤ max (columns_at xs m) k
-columns_more [] n x y k l here more m = absurd (omega arith)
-columns_more (z ∷ zs) zero x y k l here more zero = let e = ap (λ t. t.columns) here in omega (arith, more, e)
-columns_more (z ∷ zs) zero x y k l here more (suc m) = omega arith
-columns_more (z ∷ zs) (suc n) x y k l here more zero = omega arith
-columns_more (z ∷ zs) (suc n) x y k l here more (suc m) = columns_more zs n x y k (omega (arith, l)) here more m
+pub columns_within : (xs : List TableRows) (n : ℕ) (x y : TableRows) (k : ℕ) (columns : ℕ → ℕ) → n < length xs → x ≡ get_or xs n x → y.columns ≤ max x.columns k → ((m : ℕ) → columns_at xs m ≤ columns m) → k ≤ columns n → (m : ℕ) → columns_at (set xs n y) m ≤ columns m
+columns_within [] n x y k columns l here more h enough m = absurd (omega arith)
+columns_within (z ∷ zs) zero x y k columns l here more h enough zero = let e = ap (λ t. t.columns) here in let f = h zero in omega (arith, more, e, enough, f)
+columns_within (z ∷ zs) zero x y k columns l here more h enough (suc m) = h (suc m)
+columns_within (z ∷ zs) (suc n) x y k columns l here more h enough zero = h zero
+columns_within (z ∷ zs) (suc n) x y k columns l here more h enough (suc m) = columns_within zs n x y k (λ i. columns (suc i)) (omega (arith, l)) here more (λ i. h (suc i)) enough m
 
 pub columns_same : (xs : List TableRows) (n : ℕ) (x y : TableRows) → n < length xs → x ≡ get_or xs n x → y.columns ≡ x.columns → (m : ℕ) → columns_at (set xs n y) m ≡ columns_at xs m
 columns_same [] n x y l here same m = absurd (omega arith)

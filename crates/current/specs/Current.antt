@@ -1,5 +1,5 @@
 -- What a contract sees of the current rows of all tables.
-use Rattle.std.specs.Prelude.{ℕ, zero, suc, Bool, List, [], ◌∷◌, length}
+use Rattle.std.specs.Prelude.{ℕ, zero, suc, ◌≤◌, Bool, List, [], ◌∷◌, length, ⊤}
 use Rattle.sqlchecks.specs.Columns.{Tables}
 use Rattle.sqlread.specs.Shapes.{StatementShape, Insert, Update, Delete}
 use Rattle.rowlaws.specs.Statements.{Rows}
@@ -33,8 +33,12 @@ columns_at (x ∷ xs) (suc n) = columns_at xs n
 abbrev pub most_columns : Current → ℕ → ℕ
 most_columns current = columns_at current.tables.items
 
--- how many columns the key has that the statement inserts
-abbrev pub columns_of : StatementShape → ℕ
-columns_of (Insert s) = length s.key
-columns_of (Update s) = 0
-columns_of (Delete s) = 0
+-- what the statement inserts has a key of no more columns than this for its table
+abbrev pub IsNarrow : (ℕ → ℕ) → StatementShape → Type 0
+IsNarrow columns (Insert s) = length s.key ≤ columns s.table
+IsNarrow columns (Update s) = ⊤
+IsNarrow columns (Delete s) = ⊤
+
+-- no table has had a key of more columns than this
+abbrev pub AreNarrow : (ℕ → ℕ) → Current → Type 0
+AreNarrow columns current = (n : ℕ) → most_columns current n ≤ columns n

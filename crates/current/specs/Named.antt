@@ -1,5 +1,6 @@
 -- The key that a WHERE names.
 use Rattle.std.specs.Prelude.{◌≡◌, ℕ, ◌<◌, ◌==◌, Option, Some, None, List, [], ◌∷◌, length, slice_get, if◌then◌else◌}
+use Rattle.std.specs.Option.{option_or}
 use Rattle.model.specs.declared.value.Value.{Value}
 use Rattle.sqlsyntax.specs.declared.forms.Operator.{Operator}
 use Rattle.sqlsyntax.specs.declared.forms.Operator.TheVariants.{Equal}
@@ -12,14 +13,10 @@ abbrev pub equal_at : ℕ → Operator → Field → Value → Option Value
 equal_at place Equal (Key column) v = if column == place then Some v else None
 equal_at place _ _ v = None
 
-abbrev pub or_else : {A : Type 0} → Option A → Option A → Option A
-or_else None o = o
-or_else (Some v) o = Some v
-
 -- the first comparison that says it counts
 abbrev pub said_at : ℕ → List Comparison → Option Value
 said_at place [] = None
-said_at place (c ∷ cs) = or_else (equal_at place c.operator c.field c.value) (said_at place cs)
+said_at place (c ∷ cs) = option_or (equal_at place c.operator c.field c.value) (said_at place cs)
 
 -- there is `=` for each column of the key
 abbrev pub IsNamed : List Comparison → List Value → Type 0

@@ -1,5 +1,5 @@
 //! The current rows of all tables.
-ghost use Rattle.std.specs.Prelude.{◌≡◌, ◌<◌, ◌≤◌, ◌++◌, ◌⊎◌, ℕ, [], true, false, Ok, Err, alloc_error, length, unwrap_or, OnOk, OnErr, IfOk, IfErr, max};
+ghost use Rattle.std.specs.Prelude.{◌≡◌, ◌<◌, ◌≤◌, ◌++◌, ◌⊎◌, ℕ, [], true, false, Ok, Err, alloc_error, length, unwrap_or, OnOk, OnErr, IfOk, IfErr};
 ghost use Rattle.std.specs.Option.{option_map};
 ghost use Rattle.fault.specs.declared.refusal.Refusal.TheVariants.{NoMemory, NoParent};
 ghost use Rattle.sqlread.specs.Shapes.{insert_of, update_of, delete_of, statement_of};
@@ -65,8 +65,8 @@ fn action_laws()
 }
 
 impl Current {
-    ghost use Rattle.current.specs.Current.{rows_of, schema_in, table_count, is_failed, most_columns, columns_of};
-    ghost use Rattle.current.specs.Reads.{FewReads, FewIfNamed, NoMoreThanAll};
+    ghost use Rattle.current.specs.Current.{rows_of, schema_in, table_count, is_failed, most_columns, IsNarrow, AreNarrow};
+    ghost use Rattle.current.specs.Reads.{FewReads, FewIfNamed, NoMoreThanAll, FewToUndo, FewToCheck};
 
     /// The tables of a schema, without rows.
     pub fn new(alloc: Global, schema: &Schema) -> Result<Current, AllocError>
@@ -98,7 +98,7 @@ impl Current {
         ensures tables { IfOk result (λ touched. length touched.tables.items ≤ table_count self.old) }
         ensures failed { is_failed self.new ≡ is_failed self.old }
         ensures few { FewReads (shapes.Insert (insert_of insert.now)) (most_columns self.old insert.now.table) (rows_of self.old insert.now.table) count.old count.new }
-        ensures columns { (n : ℕ) → most_columns self.new n ≤ max (most_columns self.old n) (length insert.now.key.items) }
+        ensures columns { (columns : ℕ → ℕ) → AreNarrow columns self.old → length insert.now.key.items ≤ columns insert.now.table → AreNarrow columns self.new }
         ensures each { IfOk result (λ touched. (n : ℕ) → length (removed_in touched n) ≤ count.new) }
     {
         action_laws();
@@ -192,8 +192,8 @@ impl Current {
     /// have more than 20,000 rows; `NoMemory`, always once it has failed, and for a statement on a table
     /// that is not there, which only another schema has.
     ///
-    /// The count rises by the rows of the table that were read, and becomes at least how many go. An INSERT searches its
-    /// key's rows by halves. An UPDATE or DELETE that has `=` for each column of a key searches that key's rows by halves,
+    /// The count rises by the rows of the table that were read, and is then at least how many go. An INSERT searches its
+    /// key's rows by halves, twice. An UPDATE or DELETE that has `=` for each column of a key searches that key's rows by halves,
     /// and reads those of them that have a day of its portion; one that does not reads all rows.
     pub fn run(
         &mut self,
@@ -209,7 +209,7 @@ impl Current {
         ensures failed { is_failed self.new ≡ is_failed self.old }
         ensures once_failed { is_failed self.old ≡ true → result ≡ Err NoMemory }
         ensures few { FewReads (statement_of statement.now) (most_columns self.old (table_of (statement_of statement.now))) (rows_of self.old (table_of (statement_of statement.now))) count.old count.new }
-        ensures columns { (n : ℕ) → most_columns self.new n ≤ max (most_columns self.old n) (columns_of (statement_of statement.now)) }
+        ensures columns { (columns : ℕ → ℕ) → AreNarrow columns self.old → IsNarrow columns (statement_of statement.now) → AreNarrow columns self.new }
         ensures each { IfOk result (λ touched. (n : ℕ) → length (removed_in touched n) ≤ count.new) }
     {
         if self.failed || statement.table() >= self.tables.len() {
@@ -223,14 +223,15 @@ impl Current {
     }
 
     // Gives the rows of each table before a statement. Want of memory leaves some of them away.
-    fn undo_tables(&mut self, touched: &Touched) -> Result<(), AllocError>
+    fn undo_tables(&mut self, touched: &Touched, count: &mut Count) -> Result<(), AllocError>
         requires { AllUndoable (rows_of self.old) (removed_in touched.now) (added_in touched.now) }
         ensures ok { OnOk result ((n : ℕ) → n < table_count self.old → HaveSame (rows_without (rows_of self.old n) (added_in touched.now n) ++ removed_in touched.now n) (rows_of self.new n)) }
         ensures schema { schema_in self.new ≡ schema_in self.old }
         ensures columns { (n most : ℕ) → most_columns self.old n ≤ most → ((r : TableRow) → Has (removed_in touched.now n) r → length r.key ≤ most) → most_columns self.new n ≤ most }
+        ensures few { FewToUndo (table_count self.old) (rows_of self.old) (removed_in touched.now) (added_in touched.now) count.old count.new }
     {
         for n in 0..self.tables.len() {
-            self.tables[n].undo(touched.removed(n), touched.added(n))?;
+            self.tables[n].undo(touched.removed(n), touched.added(n), count)?;
         }
         Ok(())
     }
@@ -238,7 +239,9 @@ impl Current {
     /// Gives the rows before the statement that touched this, which must be what the last statement
     /// touched that is not yet undone. Want of memory loses rows: the value has then failed, and
     /// answers only that.
-    pub fn undo(&mut self, touched: &Touched) -> Result<(), AllocError>
+    ///
+    /// The count rises by the rows that were read: each row that was touched is searched for by halves, twice at most.
+    pub fn undo(&mut self, touched: &Touched, count: &mut Count) -> Result<(), AllocError>
         requires tables { length touched.now.tables.items ≤ table_count self.old }
         requires touched { AllUndoable (rows_of self.old) (removed_in touched.now) (added_in touched.now) }
         ensures ok { OnOk result (IsUndone (rows_of self.old) (rows_of self.new) (removed_in touched.now) (added_in touched.now)) }
@@ -247,13 +250,14 @@ impl Current {
         ensures schema { schema_in self.new ≡ schema_in self.old }
         ensures once_failed { is_failed self.old ≡ true → result ≡ Err alloc_error }
         ensures columns { (n most : ℕ) → most_columns self.old n ≤ most → ((r : TableRow) → Has (removed_in touched.now n) r → length r.key ≤ most) → most_columns self.new n ≤ most }
+        ensures few { FewToUndo (table_count self.old) (rows_of self.old) (removed_in touched.now) (added_in touched.now) count.old count.new }
     {
         if self.failed {
             return Err(AllocError);
         }
         rowlaws::undo();
         rowlaws::same_rows();
-        let undone = self.undo_tables(touched);
+        let undone = self.undo_tables(touched, count);
         self.failed = undone.is_err();
         undone
     }
@@ -284,15 +288,22 @@ impl Current {
     ///
     /// `NoParent` with the first table in declared order, then its least key, then its least day without a parent;
     /// `NoMemory`, always once it has failed.
-    pub fn check_touched(&self, touched: &Touched) -> Result<(), Refusal>
+    ///
+    /// The count rises by the rows that were read. A row that came is searched for by halves, and so are its parents' rows that
+    /// have a day of it; for a row that went, those rows of its key that have a day of it. Where a key lost days, each key of a
+    /// table that refers to it is searched by halves for its rows among these days, and those that refer to such a key are
+    /// judged as rows that came.
+    pub fn check_touched(&self, touched: &Touched, count: &mut Count) -> Result<(), Refusal>
         ensures ok { OnOk result (ComesFromWhole (language_of (schema_in self.now)) (rows_of self.now) (removed_in touched.now) (added_in touched.now) → (state : State) → AllListed (rows_of self.now) state → unless_orphan (language_of (schema_in self.now)) state (first_orphan (language_of (schema_in self.now)) state) ≡ Ok state) }
         ensures err { IfErr result (λ refusal. (refusal ≡ NoMemory) ⊎ (ComesFromWhole (language_of (schema_in self.now)) (rows_of self.now) (removed_in touched.now) (added_in touched.now) → (state : State) → AllListed (rows_of self.now) state → unless_orphan (language_of (schema_in self.now)) state (first_orphan (language_of (schema_in self.now)) state) ≡ Err refusal)) }
         ensures once_failed { is_failed self.now ≡ true → result ≡ Err NoMemory }
+        ensures few { FewToCheck (schema_in self.now) (rows_of self.now) (removed_in touched.now) (added_in touched.now) count.old count.new }
     {
         if self.failed {
             return Err(Refusal::NoMemory);
         }
-        match first_touched_orphan(self.alloc, self.tables.as_slice(), &self.schema, touched)? {
+        let tables = self.tables.as_slice();
+        match first_touched_orphan(self.alloc, tables, &self.schema, touched, count)? {
             Some(place) => Err(no_parent(self.alloc, &self.schema, &place)?),
             None => Ok(()),
         }

@@ -1,10 +1,10 @@
 //! Foreign keys: the first day of a row that has no parent.
-ghost use Rattle.std.specs.Prelude.{◌≡◌, ◌<◌, ◌≤◌, ℕ, map, find, length, slice_get, slice_range, true, IfOk, IfSome};
+ghost use Rattle.std.specs.Prelude.{◌≡◌, ◌<◌, ◌≤◌, ℕ, map, find, length, slice_get, true, IfOk, IfSome};
 ghost use Rattle.std.specs.Option.{option_map, option_and_then, option_copied};
 ghost use Rattle.model.specs.Periods.{period_of, is_free};
 ghost use Rattle.model.specs.Statements.{days_of};
-ghost use Rattle.model.specs.Tables.{Row as TableRow};
 ghost use Rattle.rowlaws.specs.Rows.{Has};
+ghost use Rattle.rowlaws.specs.Losing.{is_uncovered};
 ghost use Rattle.rowlaws.specs.Covering as covering;
 ghost use Rattle.rowlaws.specs.Covering.{periods_of, rows_orphan};
 ghost use Rattle.overlaps.specs.Index.{AreApart};
@@ -15,6 +15,7 @@ ghost use Rattle.current.specs.ByKey.{rows_in};
 ghost use Rattle.current.specs.Table.{rows_of_table};
 ghost use Rattle.current.specs.Places.{rows_at};
 ghost use Rattle.current.specs.Orphans.{place_of};
+ghost use Rattle.current.specs.Reads.{CostsAtMost, searching, judging};
 ghost use Rattle.current.specs.Suspects.{IsIn};
 
 use crate::row::Row;
@@ -85,63 +86,61 @@ pub(crate) fn table_at(tables: &[TableRows], place: usize) -> Option<&TableRows>
     tables.get(place)
 }
 
-// The rows of a key, of a table that may not be there.
-fn rows_of_key<'a>(tables: &'a [TableRows], table: usize, key: &Key) -> &'a [Row]
-    ensures periods { map (λ r. r.period) (map row_of result.now) ≡ periods_of (rows_at rows_of_table tables.now table) key.now }
+// Those rows of a key that have a day of the period, of a table that may not be there. They are found by halves.
+fn rows_sharing<'a>(
+    tables: &'a [TableRows],
+    table: usize,
+    key: &Key,
+    period: Period,
+    count: &mut Count,
+) -> &'a [Row]
+    ensures free { (d : ℕ) → period.start.number ≤ d → d < period.end.number → is_free (map (λ r. period_of r.period) result.now) d ≡ is_free (periods_of (rows_at rows_of_table tables.now table) key.now) d }
     ensures apart { AreApart (map (λ r. period_of r.period) result.now) }
+    ensures few { CostsAtMost (rows_at rows_of_table tables.now) (λ digits. searching digits key.now (period_of period) (rows_at rows_of_table tables.now table)) count.old count.new }
 {
+    overlaps::laws::sharing_is_overlap();
     match table_at(tables, table) {
-        Some(rows) => rows.rows_of_key(key),
+        Some(rows) => rows.sharing(key, period, count).1,
         None => &[],
     }
 }
 
-// The rows from one place up to another.
-fn part(rows: &[Row], from: usize, to: usize) -> &[Row]
-    requires in_turn { from ≤ to }
-    requires within { to ≤ length rows.now }
-    ensures { result.now ≡ slice_range rows.now from to }
-{
-    &rows[from..to]
-}
-
-/// Those of a key's rows that have a day of the period. They stand together, and are found by halves.
-pub(crate) fn rows_meeting(rows: &[Row], period: Period) -> &[Row]
+// The least day of a period that none of these rows has, which stand in the order of their starts.
+fn first_free(alloc: Global, rows: &[Row], period: Period) -> Result<Option<Day>, AllocError>
     requires { AreApart (map (λ r. period_of r.period) rows.now) }
-    ensures among { (r : TableRow) → Has (map row_of result.now) r → Has (map row_of rows.now) r }
-    ensures each { (r : TableRow) → Has (map row_of rows.now) r → r.period.start < period.end.number → period.start.number < r.period.end → Has (map row_of result.now) r }
-    ensures free { (d : ℕ) → period.start.number ≤ d → d < period.end.number → is_free (map (λ r. period_of r.period) result.now) d ≡ is_free (map (λ r. period_of r.period) rows.now) d }
-    ensures apart { AreApart (map (λ r. period_of r.period) result.now) }
+    ensures { IfOk result (λ day. option_map (λ d. d.number) day ≡ find (is_free (map (λ r. period_of r.period) rows.now)) (days_of (period_of period))) }
 {
-    let from = rows.partition_point(|row| row.period.end.number <= period.start.number);
-    let to = rows.partition_point(|row| row.period.start.number < period.end.number);
-    part(rows, from, to)
+    let periods = periods(alloc, rows)?;
+    Ok(covered(period, periods.as_slice()).err())
 }
 
-/// The least day of a period that no row of the key has. The key's rows that have a day of the period are found by
-/// halves, and no others are looked at.
+/// The least day of a period that no row of the key has. The key's rows that have a day of the period are looked for by
+/// halves, and no others are read.
 pub(crate) fn first_free_day(
     alloc: Global,
     tables: &[TableRows],
     table: usize,
     key: &Key,
     period: Period,
+    count: &mut Count,
 ) -> Result<Option<Day>, AllocError>
-    ensures { IfOk result (λ day. option_map (λ d. d.number) day ≡ find (is_free (periods_of (rows_at rows_of_table tables.now table) key.now)) (days_of (period_of period))) }
+    ensures day { IfOk result (λ day. option_map (λ d. d.number) day ≡ find (is_free (periods_of (rows_at rows_of_table tables.now table) key.now)) (days_of (period_of period))) }
+    ensures few { CostsAtMost (rows_at rows_of_table tables.now) (λ digits. searching digits key.now (period_of period) (rows_at rows_of_table tables.now table)) count.old count.new }
 {
-    let rows = rows_of_key(tables, table, key);
-    let periods = periods(alloc, rows_meeting(rows, period))?;
-    Ok(covered(period, periods.as_slice()).err())
+    let rows = rows_sharing(tables, table, key, period, count);
+    first_free(alloc, rows, period)
 }
 
-// A day after each day of a period that none of these rows has, which stand in the order of their starts.
+// A day after each day of a period that none of these rows has, which stand in the order of their starts. It is no later than
+// the period's end.
 fn free_before(rows: &[Row], period: Period) -> Day
-    ensures { (d : ℕ) → d < period.end.number → is_free (map (λ r. period_of r.period) rows.now) d ≡ true → d < result.number }
+    ensures within { result.number ≤ period.end.number }
+    ensures free { (d : ℕ) → d < period.end.number → is_free (map (λ r. period_of r.period) rows.now) d ≡ true → d < result.number }
 {
     match rows.last() {
         Some(row) => {
             if row.period.end >= period.end {
-                row.period.start
+                row.period.start.min(period.end)
             } else {
                 period.end
             }
@@ -151,20 +150,23 @@ fn free_before(rows: &[Row], period: Period) -> Day
 }
 
 /// A period with all days of a period that no row of the key has, from the least of them on; none where each has a row. It
-/// looks at no more rows than `first_free_day`.
+/// reads the same rows as `first_free_day`.
 pub(crate) fn free_span(
     alloc: Global,
     tables: &[TableRows],
     table: usize,
     key: &Key,
     period: Period,
+    count: &mut Count,
 ) -> Result<Option<Period>, AllocError>
-    ensures { IfOk result (λ span. (d : ℕ) → Has (days_of (period_of period)) d → is_free (periods_of (rows_at rows_of_table tables.now table) key.now) d ≡ true → IsIn span d) }
+    ensures free { IfOk result (λ span. (d : ℕ) → Has (days_of (period_of period)) d → is_free (periods_of (rows_at rows_of_table tables.now table) key.now) d ≡ true → IsIn span d) }
+    ensures within { IfOk result (λ span. IfSome span (λ s. (period.start.number ≤ s.start.number) × (s.end.number ≤ period.end.number) × (is_uncovered (periods_of (rows_at rows_of_table tables.now table) key.now) (period_of period) ≡ true))) }
+    ensures few { CostsAtMost (rows_at rows_of_table tables.now) (λ digits. searching digits key.now (period_of period) (rows_at rows_of_table tables.now table)) count.old count.new }
 {
-    let Some(start) = first_free_day(alloc, tables, table, key, period)? else {
+    let rows = rows_sharing(tables, table, key, period, count);
+    let Some(start) = first_free(alloc, rows, period)? else {
         return Ok(None);
     };
-    let rows = rows_meeting(rows_of_key(tables, table, key), period);
     Ok(Period::new(start, free_before(rows, period)).ok())
 }
 
@@ -175,11 +177,14 @@ fn missing_by(
     table: &Table,
     reference: &Reference,
     row: &Row,
+    count: &mut Count,
 ) -> Result<Option<Day>, AllocError>
-    ensures { IfOk result (λ day. option_map (λ d. d.number) day ≡ find (is_free (periods_of (rows_at rows_of_table tables.now reference.now.parent) (values_at table.now reference.now.columns row.now.key (row_of row.now).values))) (days_of (period_of row.now.period))) }
+    ensures day { IfOk result (λ day. option_map (λ d. d.number) day ≡ find (is_free (periods_of (rows_at rows_of_table tables.now reference.now.parent) (values_at table.now reference.now.columns row.now.key (row_of row.now).values))) (days_of (period_of row.now.period))) }
+    ensures few { CostsAtMost (rows_at rows_of_table tables.now) (λ digits. searching digits (values_at table.now reference.now.columns row.now.key (row_of row.now).values) (period_of row.now.period) (rows_at rows_of_table tables.now reference.now.parent)) count.old count.new }
 {
     let key = referred_key(alloc, table, reference.columns(), row)?;
-    first_free_day(alloc, tables, reference.parent(), &key, row.period)
+    let parent = reference.parent();
+    first_free_day(alloc, tables, parent, &key, row.period, count)
 }
 
 // The lesser day, where there is one.
@@ -193,20 +198,24 @@ fn lesser(one: Option<Day>, other: Option<Day>) -> Option<Day>
     }
 }
 
-/// And by all foreign keys of its table, which stands at this place.
+/// And by all foreign keys of its table, which stands at this place. For each the parent's rows that have a day of the row
+/// are found by halves.
 pub(crate) fn missing(
     alloc: Global,
     tables: &[TableRows],
     place: usize,
     table: &Table,
     row: &Row,
+    count: &mut Count,
 ) -> Result<Option<Day>, AllocError>
-    ensures { IfOk result (λ day. option_map (λ d. d.number) day ≡ covering.missing (map (reference_of place table.now) table.now.references) (rows_at rows_of_table tables.now) place (row_of row.now)) }
+    ensures day { IfOk result (λ day. option_map (λ d. d.number) day ≡ covering.missing (map (reference_of place table.now) table.now.references) (rows_at rows_of_table tables.now) place (row_of row.now)) }
+    ensures few { CostsAtMost (rows_at rows_of_table tables.now) (λ digits. judging digits (rows_at rows_of_table tables.now) (map (reference_of place table.now) table.now.references) (row_of row.now)) count.old count.new }
 {
     let mut day = None;
     let references = table.references();
     for reference in references {
-        day = lesser(day, missing_by(alloc, tables, table, reference, row)?);
+        let next = missing_by(alloc, tables, table, reference, row, count)?;
+        day = lesser(day, next);
     }
     Ok(day)
 }
@@ -218,11 +227,12 @@ fn missing_in_rows<'a>(
     place: usize,
     table: &Table,
     rows: &'a [Row],
+    count: &mut Count,
 ) -> Result<Option<Place<'a>>, AllocError>
     ensures { IfOk result (λ found. option_map place_of found ≡ covering.missing_in_rows (map (reference_of place table.now) table.now.references) (rows_at rows_of_table tables.now) place (map row_of rows.now)) }
 {
     for row in rows {
-        if let Some(day) = missing(alloc, tables, place, table, row)? {
+        if let Some(day) = missing(alloc, tables, place, table, row, count)? {
             let key = &row.key;
             return Ok(Some(Place {
                 table: place,
@@ -250,7 +260,7 @@ fn missing_in_strands<'a>(
     let mut count = Count::new();
     for (_, rows) in strands {
         let rows = rows.all(&mut count);
-        if let Some(found) = missing_in_rows(alloc, tables, place, table, rows)? {
+        if let Some(found) = missing_in_rows(alloc, tables, place, table, rows, &mut count)? {
             return Ok(Some(found));
         }
     }

@@ -59,7 +59,7 @@ fn passes_over_a_hole(
     requires free { is_free (periods_of (rows_at rows_of_table tables.now table) key.now) day ≡ true }
     ensures { IfOk result (λ found. is_some found ≡ true) }
 {
-    first_free_day(alloc, tables, table, key, period)
+    first_free_day(alloc, tables, table, key, period, &mut Count::new())
 }
 
 /// A function that forgets a day of a row that went, where no row of its key has it or its key has no rows, does not meet the contract of `lost_with`.
@@ -75,5 +75,5 @@ fn forgets_a_lost_day(
     ensures keys { IfOk result (λ lost. Has lost.keys.keys of.0.key) }
     ensures span { IfOk result (λ lost. is_some lost.span ≡ true) }
 {
-    lost_with(alloc, tables, table, removed)
+    lost_with(alloc, tables, table, removed, &mut Count::new())
 }

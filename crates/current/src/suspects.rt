@@ -1,12 +1,13 @@
 //! Foreign keys after a transaction, judged where it touched: the rows that came, and those that have a day that a key they
 //! refer to lost. References that held before are judged so as by going through all.
-ghost use Rattle.std.specs.Prelude.{◌≡◌, ◌<◌, ◌≤◌, ◌⊎◌, ℕ, IsTrue, map, length, option_map, IfOk, IfSome};
+ghost use Rattle.std.specs.Prelude.{◌≡◌, ◌<◌, ◌≤◌, ◌⊎◌, ◌+◌, ℕ, List, IsTrue, true, map, filter, if◌then◌else◌, length, option_map, IfOk, IfSome};
+ghost use Rattle.model.specs.Periods.{period_of};
 ghost use Rattle.model.specs.Tables.{Row as TableRow};
 ghost use Rattle.model.specs.Transactions.{State};
 ghost use Rattle.model.specs.Transactions as model;
 ghost use Rattle.rowlaws.specs.Rows.{Has};
 ghost use Rattle.rowlaws.specs.Statements.{AllListed};
-ghost use Rattle.rowlaws.specs.Losing.{lost_days};
+ghost use Rattle.rowlaws.specs.Losing.{lost_days, has_lost_day};
 ghost use Rattle.rowlaws.specs.Whole.{ComesFromWhole};
 ghost use Rattle.rowlaws.specs.Suspects.{PickedOrphan, earlier as earlier_place};
 ghost use Rattle.sqlread.specs.Meaning.{references_from, language_of};
@@ -15,13 +16,14 @@ ghost use Rattle.current.specs.Table.{rows_of_table};
 ghost use Rattle.current.specs.Places.{rows_at};
 ghost use Rattle.current.specs.Orphans.{place_of};
 ghost use Rattle.current.specs.Touched.{removed_in, added_in};
-ghost use Rattle.current.specs.Suspects.{IsIn, IsLost, IsFirstPicked};
+ghost use Rattle.current.specs.Reads.{CostsAtMost, total, searching, judging, checking, FewToCheck};
+ghost use Rattle.current.specs.Suspects.{IsIn, IsAcross, IsLost, IsOfLost, IsFirstPicked, references_at};
 
-use crate::references::{Place, free_span, missing, referred_key, rows_meeting, table_at};
+use crate::references::{Place, free_span, missing, referred_key, table_at};
 use crate::row::Row;
 use crate::table::TableRows;
 use crate::touched::Touched;
-use overlaps::{Count, Key};
+use overlaps::{Count, Counted, Key};
 use period::Period;
 use schema::{Reference, Schema, Table};
 use std::alloc::{AllocError, Global};
@@ -67,6 +69,7 @@ fn earlier<'a>(one: Option<Place<'a>>, other: Option<Place<'a>>) -> Option<Place
 fn joined(one: Option<Period>, other: Period) -> Period
     ensures first { (d : ℕ) → IsIn one d → (result.start.number ≤ d) × (d < result.end.number) }
     ensures second { (d : ℕ) → other.start.number ≤ d → d < other.end.number → (result.start.number ≤ d) × (d < result.end.number) }
+    ensures across { (rows : List TableRow) → IfSome one (IsAcross rows) → IsAcross rows other → IsAcross rows result }
 {
     match one {
         Some(one) => Period {
@@ -79,7 +82,6 @@ fn joined(one: Option<Period>, other: Period) -> Period
 
 impl Lost {
     ghost use Rattle.model.specs.declared.value.Value.{Value};
-    ghost use Rattle.std.specs.Prelude.{List};
 
     // And what it lost with one row more.
     fn with(
@@ -88,11 +90,14 @@ impl Lost {
         tables: &[TableRows],
         table: usize,
         row: &Row,
+        count: &mut Count,
     ) -> Result<Lost, AllocError>
         ensures before { IfOk result (λ lost. (key : List Value) (d : ℕ) → IsLost self key d → IsLost lost key d) }
         ensures row { IfOk result (λ lost. (d : ℕ) → Has (lost_days (rows_at rows_of_table tables.now table) (row_of row.now)) d → IsLost lost row.now.key d) }
+        ensures of_lost { IfOk result (λ lost. (rows : List TableRow) → IsOfLost rows self → (has_lost_day (rows_at rows_of_table tables.now table) (row_of row.now) ≡ true → Has rows (row_of row.now)) → IsOfLost rows lost) }
+        ensures few { CostsAtMost (rows_at rows_of_table tables.now) (λ digits. searching digits row.now.key (period_of row.now.period) (rows_at rows_of_table tables.now table)) count.old count.new }
     {
-        let Some(more) = free_span(alloc, tables, table, &row.key, row.period)? else {
+        let Some(more) = free_span(alloc, tables, table, &row.key, row.period, count)? else {
             return Ok(self);
         };
         let Lost { mut keys, span } = self;
@@ -111,15 +116,18 @@ pub(crate) fn lost_with(
     tables: &[TableRows],
     table: usize,
     removed: &[Row],
+    count: &mut Count,
 ) -> Result<Lost, AllocError>
-    ensures { IfOk result (λ lost. (row : TableRow) (d : ℕ) → Has (map row_of removed.now) row → Has (lost_days (rows_at rows_of_table tables.now table) row) d → IsLost lost row.key d) }
+    ensures each { IfOk result (λ lost. (row : TableRow) (d : ℕ) → Has (map row_of removed.now) row → Has (lost_days (rows_at rows_of_table tables.now table) row) d → IsLost lost row.key d) }
+    ensures of_lost { IfOk result (λ lost. IsOfLost (filter (has_lost_day (rows_at rows_of_table tables.now table)) (map row_of removed.now)) lost) }
+    ensures few { CostsAtMost (rows_at rows_of_table tables.now) (λ digits. total (λ q. searching digits q.key q.period (rows_at rows_of_table tables.now table)) (map row_of removed.now)) count.old count.new }
 {
     let mut lost = Lost {
         keys: BTreeSet::new(alloc),
         span: None,
     };
     for row in removed {
-        let next = lost.with(alloc, tables, table, row)?;
+        let next = lost.with(alloc, tables, table, row, count)?;
         lost = next;
     }
     Ok(lost)
@@ -130,16 +138,24 @@ impl<'a> Search<'a> {
     ghost use Rattle.rowlaws.specs.Suspects.{rows_losing};
     ghost use Rattle.sqlread.specs.Meaning.{reference_of, values_at};
     ghost use Rattle.schema.specs.Shape.{ReferenceShape};
-    ghost use Rattle.current.specs.Suspects.{rows_by, LooksAt};
+    ghost use Rattle.overlaps.specs.Index.{AreApart};
+    ghost use Rattle.current.specs.Reads.{seeking, following};
+    ghost use Rattle.current.specs.Suspects.{rows_by, references_by, meets_span, refers_among, LooksAt};
 
     // Looks at a row.
-    fn row(&self, row: &'a Row, before: Option<Place<'a>>) -> Result<Option<Place<'a>>, AllocError>
+    fn row(
+        &self,
+        row: &'a Row,
+        before: Option<Place<'a>>,
+        count: &mut Count,
+    ) -> Result<Option<Place<'a>>, AllocError>
         requires { Has (rows_by self.now self.now.place) (row_of row.now) }
-        ensures { IfOk result (λ now. LooksAt self.now (λ r. r ≡ row_of row.now) (option_map place_of before.entry) (option_map place_of now)) }
+        ensures looks { IfOk result (λ now. LooksAt self.now (λ r. r ≡ row_of row.now) (option_map place_of before.entry) (option_map place_of now)) }
+        ensures few { CostsAtMost (rows_by self.now) (λ digits. judging digits (rows_by self.now) (references_by self.now) (row_of row.now)) count.old count.new }
     {
         let key = &row.key;
         let table = self.place;
-        match missing(self.alloc, self.tables, table, self.table, row)? {
+        match missing(self.alloc, self.tables, table, self.table, row, count)? {
             Some(day) => {
                 let here = Some(Place { table, key, day });
                 Ok(earlier(here, before))
@@ -149,12 +165,13 @@ impl<'a> Search<'a> {
     }
 
     // Whether the row stands in the table. It is searched for by halves.
-    fn stands(&self, row: &Row) -> bool
+    fn stands(&self, row: &Row, count: &mut Count) -> bool
         ensures stands { IsTrue result → Has (rows_by self.now self.now.place) (row_of row.now) }
         ensures each { Has (rows_by self.now self.now.place) (row_of row.now) → IsTrue result }
+        ensures few { CostsAtMost (rows_by self.now) (λ digits. digits + 1) count.old count.new }
     {
         match table_at(self.tables, self.place) {
-            Some(rows) => rows.has(row, &mut Count::new()),
+            Some(rows) => rows.has(row, count),
             None => false,
         }
     }
@@ -164,13 +181,15 @@ impl<'a> Search<'a> {
         &self,
         row: &'a Row,
         before: Option<Place<'a>>,
+        count: &mut Count,
     ) -> Result<Option<Place<'a>>, AllocError>
-        ensures { IfOk result (λ now. LooksAt self.now (λ r. (r ≡ row_of row.now) × Has (rows_by self.now self.now.place) r) (option_map place_of before.entry) (option_map place_of now)) }
+        ensures looks { IfOk result (λ now. LooksAt self.now (λ r. (r ≡ row_of row.now) × Has (rows_by self.now self.now.place) r) (option_map place_of before.entry) (option_map place_of now)) }
+        ensures few { CostsAtMost (rows_by self.now) (λ digits. digits + 1 + judging digits (rows_by self.now) (references_by self.now) (row_of row.now)) count.old count.new }
     {
-        if !self.stands(row) {
+        if !self.stands(row, count) {
             return Ok(before);
         }
-        self.row(row, before)
+        self.row(row, before, count)
     }
 
     // Looks at those rows that came and stand now.
@@ -178,12 +197,14 @@ impl<'a> Search<'a> {
         &self,
         added: &'a [Row],
         before: Option<Place<'a>>,
+        count: &mut Count,
     ) -> Result<Option<Place<'a>>, AllocError>
-        ensures { IfOk result (λ now. LooksAt self.now (λ r. Has (map row_of added.now) r × Has (rows_by self.now self.now.place) r) (option_map place_of before.entry) (option_map place_of now)) }
+        ensures looks { IfOk result (λ now. LooksAt self.now (λ r. Has (map row_of added.now) r × Has (rows_by self.now self.now.place) r) (option_map place_of before.entry) (option_map place_of now)) }
+        ensures few { CostsAtMost (rows_by self.now) (λ digits. total (λ r. digits + 1 + judging digits (rows_by self.now) (references_by self.now) r) (map row_of added.now)) count.old count.new }
     {
         let mut found = before;
         for row in added {
-            let next = self.came_row(row, found)?;
+            let next = self.came_row(row, found, count)?;
             found = next;
         }
         Ok(found)
@@ -196,15 +217,17 @@ impl<'a> Search<'a> {
         keys: &BTreeSet<Key>,
         row: &'a Row,
         before: Option<Place<'a>>,
+        count: &mut Count,
     ) -> Result<Option<Place<'a>>, AllocError>
         requires { Has (rows_by self.now self.now.place) (row_of row.now) }
-        ensures { IfOk result (λ now. LooksAt self.now (λ r. (r ≡ row_of row.now) × Has keys.now.keys (values_at self.now.table.now columns.now r.key r.values)) (option_map place_of before.entry) (option_map place_of now)) }
+        ensures looks { IfOk result (λ now. LooksAt self.now (λ r. (r ≡ row_of row.now) × Has keys.now.keys (values_at self.now.table.now columns.now r.key r.values)) (option_map place_of before.entry) (option_map place_of now)) }
+        ensures few { CostsAtMost (rows_by self.now) (λ digits. if refers_among self.now.table.now columns.now keys.now.keys (row_of row.now) then judging digits (rows_by self.now) (references_by self.now) (row_of row.now) else 0) count.old count.new }
     {
         let key = referred_key(self.alloc, self.table, columns, row)?;
         if !keys.contains(&key) {
             return Ok(before);
         }
-        self.row(row, before)
+        self.row(row, before, count)
     }
 
     // Looks at those of these rows that refer to one of the keys.
@@ -214,20 +237,43 @@ impl<'a> Search<'a> {
         keys: &BTreeSet<Key>,
         rows: &'a [Row],
         before: Option<Place<'a>>,
+        count: &mut Count,
     ) -> Result<Option<Place<'a>>, AllocError>
         requires { (r : TableRow) → Has (map row_of rows.now) r → Has (rows_by self.now self.now.place) r }
-        ensures { IfOk result (λ now. LooksAt self.now (λ r. Has (map row_of rows.now) r × Has keys.now.keys (values_at self.now.table.now columns.now r.key r.values)) (option_map place_of before.entry) (option_map place_of now)) }
+        ensures looks { IfOk result (λ now. LooksAt self.now (λ r. Has (map row_of rows.now) r × Has keys.now.keys (values_at self.now.table.now columns.now r.key r.values)) (option_map place_of before.entry) (option_map place_of now)) }
+        ensures few { CostsAtMost (rows_by self.now) (λ digits. total (λ r. if refers_among self.now.table.now columns.now keys.now.keys r then judging digits (rows_by self.now) (references_by self.now) r else 0) (map row_of rows.now)) count.old count.new }
     {
         let mut found = before;
         for row in rows {
-            let next = self.referring_row(columns, keys, row, found)?;
+            let next = self.referring_row(columns, keys, row, found, count)?;
             found = next;
         }
         Ok(found)
     }
 
-    // Looks at the rows of the table that refer to one of the keys and have a day of the span. Of each key's rows these are
-    // found by halves.
+    // Looks at those of a key's rows that refer to one of the keys and have a day of the span. Those that have one are found
+    // by halves.
+    fn meeting_of_key(
+        &self,
+        columns: &[usize],
+        keys: &BTreeSet<Key>,
+        span: Period,
+        strand: &'a Counted<Row>,
+        before: Option<Place<'a>>,
+        count: &mut Count,
+    ) -> Result<Option<Place<'a>>, AllocError>
+        requires apart { AreApart (map (λ r. period_of r.period) strand.now) }
+        requires among { (r : TableRow) → Has (map row_of strand.now) r → Has (rows_by self.now self.now.place) r }
+        requires short { length strand.now ≤ length (rows_by self.now self.now.place) }
+        ensures looks { IfOk result (λ now. LooksAt self.now (λ r. Has (map row_of strand.now) r × Has keys.now.keys (values_at self.now.table.now columns.now r.key r.values) × (r.period.start < span.end.number) × (span.start.number < r.period.end)) (option_map place_of before.entry) (option_map place_of now)) }
+        ensures few { CostsAtMost (rows_by self.now) (λ digits. (digits + digits + 1) + total (λ r. 1 + (if refers_among self.now.table.now columns.now keys.now.keys r then judging digits (rows_by self.now) (references_by self.now) r else 0)) (filter (meets_span span) (map row_of strand.now))) count.old count.new }
+    {
+        overlaps::laws::sharing_is_overlap();
+        let (_, met) = strand.sharing(span, count);
+        self.referring(columns, keys, met, before, count)
+    }
+
+    // The same of the rows of all keys. A key without rows is passed over.
     fn meeting(
         &self,
         columns: &[usize],
@@ -235,15 +281,18 @@ impl<'a> Search<'a> {
         span: Period,
         rows: &'a TableRows,
         before: Option<Place<'a>>,
+        count: &mut Count,
     ) -> Result<Option<Place<'a>>, AllocError>
         requires { rows_of_table rows.now ≡ rows_by self.now self.now.place }
-        ensures { IfOk result (λ now. LooksAt self.now (λ r. Has (rows_of_table rows.now) r × Has keys.now.keys (values_at self.now.table.now columns.now r.key r.values) × (r.period.start < span.end.number) × (span.start.number < r.period.end)) (option_map place_of before.entry) (option_map place_of now)) }
+        ensures looks { IfOk result (λ now. LooksAt self.now (λ r. Has (rows_of_table rows.now) r × Has keys.now.keys (values_at self.now.table.now columns.now r.key r.values) × (r.period.start < span.end.number) × (span.start.number < r.period.end)) (option_map place_of before.entry) (option_map place_of now)) }
+        ensures few { CostsAtMost (rows_by self.now) (λ digits. seeking digits (rows_by self.now) (references_by self.now) (meets_span span) (refers_among self.now.table.now columns.now keys.now.keys) (rows_of_table rows.now)) count.old count.new }
     {
-        let mut count = Count::new();
         let mut found = before;
         for (_, strand) in &rows.index.strands {
-            let met = rows_meeting(strand.all(&mut count), span);
-            let next = self.referring(columns, keys, met, found)?;
+            if strand.is_empty() {
+                continue;
+            }
+            let next = self.meeting_of_key(columns, keys, span, strand, found, count)?;
             found = next;
         }
         Ok(found)
@@ -256,11 +305,13 @@ impl<'a> Search<'a> {
         keys: &BTreeSet<Key>,
         span: Period,
         before: Option<Place<'a>>,
+        count: &mut Count,
     ) -> Result<Option<Place<'a>>, AllocError>
-        ensures { IfOk result (λ now. LooksAt self.now (λ r. Has (rows_by self.now self.now.place) r × Has keys.now.keys (values_at self.now.table.now columns.now r.key r.values) × (r.period.start < span.end.number) × (span.start.number < r.period.end)) (option_map place_of before.entry) (option_map place_of now)) }
+        ensures looks { IfOk result (λ now. LooksAt self.now (λ r. Has (rows_by self.now self.now.place) r × Has keys.now.keys (values_at self.now.table.now columns.now r.key r.values) × (r.period.start < span.end.number) × (span.start.number < r.period.end)) (option_map place_of before.entry) (option_map place_of now)) }
+        ensures few { CostsAtMost (rows_by self.now) (λ digits. seeking digits (rows_by self.now) (references_by self.now) (meets_span span) (refers_among self.now.table.now columns.now keys.now.keys) (rows_by self.now self.now.place)) count.old count.new }
     {
         match table_at(self.tables, self.place) {
-            Some(rows) => self.meeting(columns, keys, span, rows, before),
+            Some(rows) => self.meeting(columns, keys, span, rows, before, count),
             None => Ok(before),
         }
     }
@@ -271,12 +322,14 @@ impl<'a> Search<'a> {
         reference: &Reference,
         removed: &[Row],
         before: Option<Place<'a>>,
+        count: &mut Count,
     ) -> Result<Option<Place<'a>>, AllocError>
-        ensures { IfOk result (λ now. LooksAt self.now (λ r. (row : TableRow) × Has (map row_of removed.now) row × Has (rows_losing (reference_of self.now.place self.now.table.now reference.now) (rows_by self.now self.now.place) (rows_by self.now reference.now.parent) row) r) (option_map place_of before.entry) (option_map place_of now)) }
+        ensures looks { IfOk result (λ now. LooksAt self.now (λ r. (row : TableRow) × Has (map row_of removed.now) row × Has (rows_losing (reference_of self.now.place self.now.table.now reference.now) (rows_by self.now self.now.place) (rows_by self.now reference.now.parent) row) r) (option_map place_of before.entry) (option_map place_of now)) }
+        ensures few { CostsAtMost (rows_by self.now) (λ digits. following digits (rows_by self.now) (references_by self.now) (reference_of self.now.place self.now.table.now reference.now) (map row_of removed.now)) count.old count.new }
     {
-        let lost = lost_with(self.alloc, self.tables, reference.parent(), removed)?;
+        let lost = lost_with(self.alloc, self.tables, reference.parent(), removed, count)?;
         match lost.span {
-            Some(span) => self.spanned(reference.columns(), &lost.keys, span, before),
+            Some(span) => self.spanned(reference.columns(), &lost.keys, span, before, count),
             None => Ok(before),
         }
     }
@@ -286,14 +339,16 @@ impl<'a> Search<'a> {
         &self,
         touched: &Touched,
         before: Option<Place<'a>>,
+        count: &mut Count,
     ) -> Result<Option<Place<'a>>, AllocError>
-        ensures { IfOk result (λ now. LooksAt self.now (λ r. (f : ReferenceShape) × Has self.now.table.now.references f × (row : TableRow) × Has (removed_in touched.now f.parent) row × Has (rows_losing (reference_of self.now.place self.now.table.now f) (rows_by self.now self.now.place) (rows_by self.now f.parent) row) r) (option_map place_of before.entry) (option_map place_of now)) }
+        ensures looks { IfOk result (λ now. LooksAt self.now (λ r. (f : ReferenceShape) × Has self.now.table.now.references f × (row : TableRow) × Has (removed_in touched.now f.parent) row × Has (rows_losing (reference_of self.now.place self.now.table.now f) (rows_by self.now self.now.place) (rows_by self.now f.parent) row) r) (option_map place_of before.entry) (option_map place_of now)) }
+        ensures few { CostsAtMost (rows_by self.now) (λ digits. total (λ f. following digits (rows_by self.now) (references_by self.now) f (removed_in touched.now f.parent)) (references_by self.now)) count.old count.new }
     {
         let mut found = before;
         let references = self.table.references();
         for reference in references {
             let removed = touched.removed(reference.parent());
-            let next = self.losing(reference, removed, found)?;
+            let next = self.losing(reference, removed, found, count)?;
             found = next;
         }
         Ok(found)
@@ -307,9 +362,11 @@ fn first_in_table<'a>(
     schema: &'a Schema,
     place: usize,
     touched: &'a Touched,
+    count: &mut Count,
 ) -> Result<Option<Place<'a>>, AllocError>
     requires { place < length schema.now }
-    ensures { IfOk result (λ found. IsFirstPicked (references_from 0 schema.now) (rows_at rows_of_table tables.now) (removed_in touched.now) (added_in touched.now) place (option_map place_of found)) }
+    ensures picked { IfOk result (λ found. IsFirstPicked (references_from 0 schema.now) (rows_at rows_of_table tables.now) (removed_in touched.now) (added_in touched.now) place (option_map place_of found)) }
+    ensures few { CostsAtMost (rows_at rows_of_table tables.now) (λ digits. checking digits (rows_at rows_of_table tables.now) (removed_in touched.now) (added_in touched.now) place (references_at place schema.now)) count.old count.new }
 {
     let (_, table) = schema.table(place);
     if table.references().is_empty() {
@@ -321,8 +378,8 @@ fn first_in_table<'a>(
         place,
         table,
     };
-    let found = search.came(touched.added(place), None)?;
-    search.losing_any(touched, found)
+    let found = search.came(touched.added(place), None, count)?;
+    search.losing_any(touched, found, count)
 }
 
 /// The first day without a parent, where there was none before these rows went and came: of the
@@ -332,13 +389,15 @@ pub(crate) fn first_touched_orphan<'a>(
     tables: &'a [TableRows],
     schema: &'a Schema,
     touched: &'a Touched,
+    count: &mut Count,
 ) -> Result<Option<Place<'a>>, AllocError>
     ensures first { IfOk result (λ found. ComesFromWhole (language_of schema.now) (rows_at rows_of_table tables.now) (removed_in touched.now) (added_in touched.now) → (state : State) → AllListed (rows_at rows_of_table tables.now) state → option_map place_of found ≡ model.first_orphan (language_of schema.now) state) }
     ensures within { IfOk result (λ found. IfSome found (λ place. place.table < length schema.now)) }
+    ensures few { FewToCheck schema.now (rows_at rows_of_table tables.now) (removed_in touched.now) (added_in touched.now) count.old count.new }
 {
     rowlaws::picked_orphan();
     for place in 0..schema.len() {
-        if let Some(found) = first_in_table(alloc, tables, schema, place, touched)? {
+        if let Some(found) = first_in_table(alloc, tables, schema, place, touched, count)? {
             return Ok(Some(found));
         }
     }

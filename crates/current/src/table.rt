@@ -13,7 +13,7 @@ use crate::named::named_key;
 use crate::plan::{Plan, plan_correction, replace_strands};
 use crate::row::Row;
 use crate::strand::{Changes, correct_strand};
-use crate::strands::{keys_in_order, put_row, strand, take_row};
+use crate::strands::{keys_in_order, put_row, take_row};
 use fault::Refusal;
 use overlaps::{Count, Key, KeyIndex};
 use period::Period;
@@ -37,7 +37,7 @@ pub(crate) struct TableRows {
 }
 
 impl TableRows {
-    ghost use Rattle.std.specs.Prelude.{◌≡◌, ◌⊎◌, ◌+◌, ◌^◌, ◌<◌, ◌≤◌, ◌++◌, ◌∷◌, [], true, false, map, flat_map, min, max, OnOk, OnErr, IfOk, IfErr, length};
+    ghost use Rattle.std.specs.Prelude.{◌≡◌, ◌⊎◌, ◌+◌, ◌*◌, ◌^◌, ◌<◌, ◌≤◌, ◌++◌, ◌∷◌, [], true, false, map, filter, flat_map, min, max, OnOk, OnErr, IfOk, IfErr, length};
     ghost use Rattle.std.specs.List.{list_any};
     ghost use Rattle.fault.specs.declared.refusal.Refusal.TheVariants.{NoMemory, KeyOverlap, RowLimit, NumberRange};
     ghost use Rattle.rowlaws.specs.Changes.{clashes};
@@ -46,11 +46,10 @@ impl TableRows {
     ghost use Rattle.rowlaws.specs.Touching.{rows_without, same_row};
     ghost use Rattle.current.specs.Corrections.{action_of_correction, is_met};
     ghost use Rattle.current.specs.ByKey.{strands_of, strand_in};
-    ghost use Rattle.model.specs.Periods.{period_of, StartInOrder};
+    ghost use Rattle.model.specs.Periods.{period_of};
     ghost use Rattle.overlaps.specs.Index.{AreSharing};
     ghost use Rattle.overlaps.specs.Items.{items_of};
-    ghost use Rattle.rowlaws.specs.Covering.{periods_of};
-    ghost use Rattle.current.specs.Reads.{FewToFind, FewToCorrect, FewIfNamed, NoMoreThanAll};
+    ghost use Rattle.current.specs.Reads.{is_of, FewToFind, FewToInsert, FewToCorrect, FewIfNamed, NoMoreThanAll};
 
     /// No rows. Takes no memory.
     pub(crate) fn new(alloc: Global) -> TableRows
@@ -78,30 +77,23 @@ impl TableRows {
         self.index.find(&row.key, row.period, count).is_some()
     }
 
-    /// The rows of a key, in the order of their starts. Takes no memory.
-    pub(crate) fn rows_of_key(&self, key: &Key) -> &[Row]
-        ensures periods { map (λ r. r.period) (map row_of result.now) ≡ periods_of (rows_of_table self.now) key.now }
-        ensures in_order { StartInOrder (map (λ r. r.period) (map row_of result.now)) }
-    {
-        rowlaws::periods_in_order();
-        strand(&self.index.strands, key)
-    }
-
-    /// Adds a row. Want of memory changes nothing.
-    pub(crate) fn put(&mut self, row: Row) -> Result<(), AllocError>
+    /// Adds a row. Its place is searched for by halves. Want of memory changes nothing.
+    pub(crate) fn put(&mut self, row: Row, count: &mut Count) -> Result<(), AllocError>
         requires { list_any (clashes row.key (period_of row.period)) (strands_of self.old.index.strands row.key) ≡ false }
         ensures ok { OnOk result (IsWith (row_of row) (rows_of_table self.old) (rows_of_table self.new)) }
         ensures err { OnErr result (rows_of_table self.new ≡ rows_of_table self.old) }
         ensures columns { self.new.columns ≤ max self.old.columns (length row.key) }
+        ensures longer { length (rows_of_table self.new) ≤ length (rows_of_table self.old) + 1 }
+        ensures few { (digits : ℕ) → length (filter (is_of row.key) (rows_of_table self.old)) < 2 ^ digits → count.new ≤ count.old + digits }
     {
-        let Some(count) = self.count.checked_add(1) else {
+        let Some(total) = self.count.checked_add(1) else {
             return Err(AllocError);
         };
         let columns = self.columns.max(row.key.as_slice().len());
-        let added = put_row(&mut self.index, row);
+        let added = put_row(&mut self.index, row, count);
         keys_in_order(&self.index);
         added?;
-        self.count = count;
+        self.count = total;
         self.columns = columns;
         Ok(())
     }
@@ -109,11 +101,11 @@ impl TableRows {
     /// Adds a row as INSERT does. Each refusal changes nothing.
     ///
     /// `KeyOverlap` where a row of its key has a day of its period; then `RowLimit` where there are
-    /// 20,000 rows; `NoMemory`. A row that clashes is searched for by halves.
+    /// 20,000 rows; `NoMemory`. A row that clashes, and then the row's place, are searched for by halves.
     pub(crate) fn insert(&mut self, row: Row, count: &mut Count) -> Result<(), Refusal>
         ensures ok { IfOk result (λ u. IsInserted (row_of row) (rows_of_table self.old) (rows_of_table self.new)) }
         ensures err { IfErr result (λ refusal. (rows_of_table self.new ≡ rows_of_table self.old) × IsInsertRefused (row_of row) (rows_of_table self.old) refusal) }
-        ensures few { FewToFind row.key (rows_of_table self.old) count.old count.new }
+        ensures few { FewToInsert row.key (rows_of_table self.old) count.old count.new }
         ensures columns { self.new.columns ≤ max self.old.columns (length row.key) }
     {
         if self.has_clash(&row, count) {
@@ -122,12 +114,13 @@ impl TableRows {
         if self.count >= ROWS_MOST {
             return Err(Refusal::RowLimit);
         }
-        self.put(row)?;
+        self.put(row, count)?;
         Ok(())
     }
 
-    // The rows of a key that have a day of the period, after the place at which the first of them stands, counted from 0.
-    fn sharing(&self, key: &Key, period: Period, count: &mut Count) -> (usize, &[Row])
+    /// The rows of a key that have a day of the period, after the place at which the first of them stands, counted from 0.
+    /// They are searched for by halves. Takes no memory.
+    pub(crate) fn sharing(&self, key: &Key, period: Period, count: &mut Count) -> (usize, &[Row])
         ensures found { AreSharing (λ r. period_of r.period) (period_of period) (items_of self.now.index.strands key.now) result.0 result.1.now }
         ensures few { FewToCorrect key.now (period_of period) (rows_of_table self.now) count.old count.new }
         ensures each { length result.1.now ≤ count.new }
@@ -232,51 +225,62 @@ impl TableRows {
         }
     }
 
-    // Takes a row out, if it is there.
-    fn take(&mut self, row: &Row)
+    // Takes a row out, if it is there. It is searched for by halves, and then its place.
+    fn take(&mut self, row: &Row, count: &mut Count)
         ensures rows { IsWithout (row_of row.now ∷ []) (rows_of_table self.old) (rows_of_table self.new) }
         ensures columns { self.new.columns ≡ self.old.columns }
+        ensures shorter { length (rows_of_table self.new) ≤ length (rows_of_table self.old) }
+        ensures few { (digits : ℕ) → length (rows_of_table self.old) < 2 ^ digits → count.new ≤ count.old + (digits + digits + 2) }
     {
-        if !self.has(row, &mut Count::new()) {
+        if !self.has(row, count) {
             return;
         }
-        take_row(&mut self.index, row);
+        take_row(&mut self.index, row, count);
         keys_in_order(&self.index);
         self.count -= 1;
     }
 
     // Takes rows out, the last of them first: where all rows of a key go, none has to be moved then.
-    fn take_all(&mut self, rows: &[Row])
+    fn take_all(&mut self, rows: &[Row], count: &mut Count)
         ensures rows { IsWithout (map row_of rows.now) (rows_of_table self.old) (rows_of_table self.new) }
         ensures columns { self.new.columns ≡ self.old.columns }
+        ensures shorter { length (rows_of_table self.new) ≤ length (rows_of_table self.old) }
+        ensures few { (digits : ℕ) → length (rows_of_table self.old) < 2 ^ digits → count.new ≤ count.old + length rows.now * (digits + digits + 2) }
     {
         let mut left = rows;
         while let Some((row, others)) = left.split_last() {
-            self.take(row);
+            self.take(row, count);
             left = others;
         }
     }
 
     // Puts rows back. Want of memory leaves some of them away.
-    fn put_all(&mut self, rows: &[Row]) -> Result<(), AllocError>
+    fn put_all(&mut self, rows: &[Row], count: &mut Count) -> Result<(), AllocError>
         requires { CanPut (rows_of_table self.old) (map row_of rows.now) }
         ensures rows { OnOk result (IsJoined (map row_of rows.now) (rows_of_table self.old) (rows_of_table self.new)) }
         ensures columns { (most : ℕ) → self.old.columns ≤ most → ((r : TableRow) → Has (map row_of rows.now) r → length r.key ≤ most) → self.new.columns ≤ most }
+        ensures few { (digits : ℕ) → length (rows_of_table self.old) + length rows.now < 2 ^ digits → count.new ≤ count.old + length rows.now * digits }
     {
         for row in rows {
-            self.put(row.clone()?)?;
+            self.put(row.clone()?, count)?;
         }
         Ok(())
     }
 
-    /// Gives the rows before a statement, by what it touched. Want of memory leaves some of them
-    /// away.
-    pub(crate) fn undo(&mut self, removed: &[Row], added: &[Row]) -> Result<(), AllocError>
+    /// Gives the rows before a statement, by what it touched. Each row that it touched is searched for by halves, and then
+    /// its place. Want of memory leaves some of them away.
+    pub(crate) fn undo(
+        &mut self,
+        removed: &[Row],
+        added: &[Row],
+        count: &mut Count,
+    ) -> Result<(), AllocError>
         requires { CanUndo (rows_of_table self.old) (map row_of removed.now) (map row_of added.now) }
         ensures rows { OnOk result (HaveSame (rows_without (rows_of_table self.old) (map row_of added.now) ++ map row_of removed.now) (rows_of_table self.new)) }
         ensures columns { (most : ℕ) → self.old.columns ≤ most → ((r : TableRow) → Has (map row_of removed.now) r → length r.key ≤ most) → self.new.columns ≤ most }
+        ensures few { (digits : ℕ) → length (rows_of_table self.old) + length removed.now < 2 ^ digits → count.new ≤ count.old + (length removed.now + length added.now) * (digits + digits + 2) }
     {
-        self.take_all(added);
-        self.put_all(removed)
+        self.take_all(added, count);
+        self.put_all(removed, count)
     }
 }

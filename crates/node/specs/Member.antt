@@ -4,6 +4,7 @@ use Rattle.sqlchecks.specs.Columns.{Tables}
 use Rattle.model.specs.Members as model
 use Rattle.model.specs.Steps.{Effect}
 use Rattle.raft.specs.declared.state.Work.{Work}
+use Rattle.apply.specs.View.{reads_in}
 use Rattle.raft.specs.View.{node_of, works}
 use Rattle.node.specs.declared.node.Node.{Node}
 
@@ -27,6 +28,10 @@ module _ {K I : Type 0} {g : _} {s : _} where
   -- its tables, its group and its number are as they were
   abbrev pub IsSameSeat : Node K I g s → Node K I g s → Type 0
   IsSameSeat old new = (tables_of new ≡ tables_of old) × (members_of new ≡ members_of old) × (me_of new ≡ me_of old)
+
+  -- how many rows it has counted as read
+  abbrev pub reads_of : Node K I g s → ℕ
+  reads_of x = reads_in x.tables
 
   -- what the definitions say of this work at it
   abbrev pub effect_at : Node K I g s → Work → Effect

@@ -1,10 +1,11 @@
 //! A member over a keeper.
-ghost use Rattle.std.specs.Prelude.{◌≡◌, ◌≤◌, ◌+◌, ◌*◌, ◌⊎◌, true, false, length, take, slice_range, if◌then◌else◌, [], Some, None, Err, IfOk, IfErr, IfSome, IsOk, OnOk, OnErr, MatchOption};
+ghost use Rattle.std.specs.Prelude.{◌≡◌, ◌≤◌, ◌+◌, ◌*◌, ◌⊎◌, true, false, length, reverse, take, slice_range, if◌then◌else◌, [], Some, None, Err, IfOk, IfErr, IfSome, IsOk, OnOk, OnErr, MatchOption};
 ghost use Rattle.std.specs.Coded.{→_prop};
 ghost use Rattle.keep.specs.Log.{IsSmall};
 ghost use Rattle.sqlread.specs.Meaning.{language_of};
 ghost use Rattle.sqlread.specs.Shapes.{query_of};
 ghost use Rattle.answer.specs.Answers.{columns_in};
+ghost use Rattle.apply.specs.Reads.{FewForAll};
 ghost use Rattle.apply.specs.View.{AreTables, IsAskedOf};
 ghost use Rattle.node.specs.Once.{noted_prop, step_prop, tables_prop};
 ghost use Rattle.model.specs.Kept.{node_after};
@@ -221,7 +222,7 @@ fn take_step<K: Keeper>(
 }
 
 impl<K: Keeper> Node<K> {
-    ghost use Rattle.node.specs.Member.{effect_at, me_of, member_of, members_of, tables_of, IsSameSeat};
+    ghost use Rattle.node.specs.Member.{effect_at, me_of, member_of, members_of, reads_of, tables_of, IsSameSeat};
 
     /// Opens what the image holds, as a follower with the hard state and the log that are stored,
     /// which knows of no leader and has applied nothing. `me` is one of the group: from 1 to `members`, of
@@ -377,6 +378,15 @@ impl<K: Keeper> Node<K> {
             return Err(Refusal::NodeDown);
         }
         self.tables.ask(query, self.closed_time())
+    }
+
+    /// How many rows of its tables and versions were read as it applied its entries, few for each of them; at the greatest `u64` it
+    /// stays. Where it took over what it had applied before it went down, those reads are among it. Questions read besides.
+    pub fn reads(&self) -> u64
+        ensures is { result ≡ reads_of self.now }
+        ensures few { self.now.is_up ≡ true → K.is_honest self.now.keeper → ∥ FewForAll (tables_of self.now) (reverse (applied (member_of self.now))) result ∥₁ }
+    {
+        self.tables.reads()
     }
 
     /// Whether it takes steps and answers: no step has failed.

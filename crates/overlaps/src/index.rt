@@ -7,7 +7,7 @@ ghost use Rattle.overlaps.specs.Items.{items_of};
 use crate::counted::{Count, Counted};
 use crate::has_period::HasPeriod;
 use crate::key::Key;
-use crate::order::{first_sharing, insert_in_order, remove_from, sharing_places};
+use crate::order::{first_sharing, insert_in_order, remove_from};
 use period::Period;
 use std::alloc::{AllocError, Global};
 use std::collections::BTreeMap;
@@ -68,30 +68,32 @@ impl<T: HasPeriod> KeyIndex<T> {
         ensures each { length result.1.now ≤ count.new }
         ensures grows { count.old ≤ count.new }
     {
-        let Some(strand) = self.strands.get(key) else {
-            return (0, &[]);
-        };
-        let (start, end) = sharing_places(strand, p, count);
-        (start, strand.range(start, end, count))
+        match self.strands.get(key) {
+            Some(strand) => strand.sharing(p, count),
+            None => (0, &[]),
+        }
     }
 }
 
 impl<T: HasPeriod + Drop> KeyIndex<T> {
-    ghost use Rattle.std.specs.Prelude.{◌≡◌, ◌<◌, ◌≤◌, ◌+◌, [], find, length, map, None, OnOk, OnErr};
+    ghost use Rattle.std.specs.Prelude.{◌≡◌, ◌<◌, ◌≤◌, ◌+◌, ◌^◌, ℕ, [], find, length, map, None, OnOk, OnErr};
     ghost use Rattle.std.specs.List.{splice};
     ghost use Rattle.model.specs.Periods.{period_of};
     ghost use Rattle.overlaps.specs.Index.{AreApart, shares_day, same_period, with_item, without_period, changed_at};
     ghost use Rattle.overlaps.specs.Items.{items_of};
 
-    /// Stores an item of a key, which has no stored day of the item's period: `find` is the test. Want of memory
-    /// changes nothing.
-    pub fn insert(&mut self, key: Key, item: T) -> Result<(), AllocError>
+    /// Stores an item of a key, which has no stored day of the item's period: `find` is the test. Its place is searched
+    /// for by halves: where the key has fewer items than two to the power of `digits`, it reads `digits` of them at most.
+    /// Want of memory changes no item.
+    pub fn insert(&mut self, key: Key, item: T, count: &mut Count) -> Result<(), AllocError>
         requires { find (λ x. shares_day (T.period item) (T.period x)) (items_of self.old.strands key) ≡ None }
         ensures ok { OnOk result (items_of self.new.strands ≡ changed_at key (with_item T.period item) (items_of self.old.strands)) }
         ensures err { OnErr result (self.new.strands.entries ≡ self.old.strands.entries) }
+        ensures few { (digits : ℕ) → length (items_of self.old.strands key) < 2 ^ digits → count.new ≤ count.old + digits }
+        ensures grows { count.old ≤ count.new }
     {
         match self.strands.get_mut(&key) {
-            Some(strand) => insert_in_order(strand, item),
+            Some(strand) => insert_in_order(strand, item, count),
             None => self.insert_first(key, item),
         }
     }
@@ -120,14 +122,17 @@ impl<T: HasPeriod + Drop> KeyIndex<T> {
         }
     }
 
-    /// Takes the item of a key with this period out, and gives it. Where there is none, nothing changes. Takes no
-    /// memory.
-    pub fn remove(&mut self, key: &Key, period: Period) -> Option<T>
+    /// Takes the item of a key with this period out, and gives it. Where there is none, no item changes. It is searched
+    /// for by halves: where the key has fewer items than two to the power of `digits`, it reads `digits` and one more at
+    /// most. Takes no memory.
+    pub fn remove(&mut self, key: &Key, period: Period, count: &mut Count) -> Option<T>
         ensures found { result ≡ find (λ x. same_period (T.period x) (period_of period)) (items_of self.old.strands key.now) }
         ensures rest { items_of self.new.strands ≡ changed_at key.now (without_period T.period (period_of period)) (items_of self.old.strands) }
+        ensures few { (digits : ℕ) → length (items_of self.old.strands key.now) < 2 ^ digits → count.new ≤ count.old + digits + 1 }
+        ensures grows { count.old ≤ count.new }
     {
         let strand = self.strands.get_mut(key)?;
-        let found = remove_from(strand, period);
+        let found = remove_from(strand, period, count);
         self.forget_if_empty(key);
         found
     }

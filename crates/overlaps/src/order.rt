@@ -73,33 +73,57 @@ pub(crate) fn sharing_places<T: HasPeriod>(
     (start, last)
 }
 
-/// Adds an item, no day of which is in another, or is refused memory and changes nothing.
+impl<T: HasPeriod> Counted<T> {
+    ghost use Rattle.overlaps.specs.Index.{AreSharing};
+
+    /// All items whose periods have a day of `p`, of items in the order of their starts of which no two share a day, after the
+    /// place at which the first of them stands, counted from 0. It reads as many as `KeyIndex::sharing` does. Takes no memory.
+    pub fn sharing(&self, p: Period, count: &mut Count) -> (usize, &[T])
+        requires { AreApart (map T.period self.now) }
+        ensures found { AreSharing T.period (period_of p) self.now result.0 result.1.now }
+        ensures few { (digits : ℕ) → length self.now < 2 ^ digits → count.new ≤ count.old + digits + digits + 1 + length result.1.now }
+        ensures each { length result.1.now ≤ count.new }
+        ensures grows { count.old ≤ count.new }
+    {
+        let (start, end) = sharing_places(self, p, count);
+        (start, self.range(start, end, count))
+    }
+}
+
+/// Adds an item, no day of which is in another, or is refused memory and changes nothing. Its place is found by halves.
 pub(crate) fn insert_in_order<T: HasPeriod + Drop>(
     items: &mut Counted<T>,
     item: T,
+    count: &mut Count,
 ) -> Result<(), AllocError>
     requires apart { AreApart (map T.period items.old) }
     requires free { find (λ x. shares_day (T.period item) (T.period x)) items.old ≡ None }
     ensures ok { OnOk result (items.new ≡ with_item T.period item items.old) }
     ensures err { OnErr result (items.new ≡ items.old) }
+    ensures few { (digits : ℕ) → length items.old < 2 ^ digits → count.new ≤ count.old + digits }
+    ensures grows { count.old ≤ count.new }
 {
-    let mut count = Count::new();
-    let place = first_after(items, item.period().start, &mut count);
+    let place = first_after(items, item.period().start, count);
     items.insert(place, item)
 }
 
-/// Takes the item with this period out, and gives it; none, and no change, where none has it.
-pub(crate) fn remove_from<T: HasPeriod>(items: &mut Counted<T>, period: Period) -> Option<T>
+/// Takes the item with this period out, and gives it; none, and no change, where none has it. It is found by halves.
+pub(crate) fn remove_from<T: HasPeriod>(
+    items: &mut Counted<T>,
+    period: Period,
+    count: &mut Count,
+) -> Option<T>
     requires { AreApart (map T.period items.old) }
     ensures found { result ≡ find (λ x. same_period (T.period x) (period_of period)) items.old }
     ensures rest { items.new ≡ without_period T.period (period_of period) items.old }
+    ensures few { (digits : ℕ) → length items.old < 2 ^ digits → count.new ≤ count.old + digits + 1 }
+    ensures grows { count.old ≤ count.new }
 {
-    let mut count = Count::new();
-    let place = first_after(items, period.start, &mut count);
+    let place = first_after(items, period.start, count);
     if place >= items.len() {
         return None;
     }
-    if items.at(place, &mut count).period() != period {
+    if items.at(place, count).period() != period {
         return None;
     }
     Some(items.remove(place))

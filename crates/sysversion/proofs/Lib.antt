@@ -6,3 +6,4 @@ pub mod Tabled
 pub mod Open
 pub mod Reaching
 pub mod Near
+pub mod Counting

@@ -50,3 +50,9 @@ pub got : {A : Type 0} (xs : List A) (i : ℕ) (x : A) → i < length xs → x �
 got [] i x l e = absurd (omega arith)
 got (y ∷ xs) zero x l e = ap Some (sym e)
 got (y ∷ xs) (suc i) x l e = got xs i x (omega arith) e
+
+-- past the last there is nothing
+pub past_end : {A B : Type 0} (f : A → List B) (xs : List A) (i : ℕ) → length xs ≤ i → option_map_or f (slice_get xs i) [] ≡ []
+past_end f [] i l = refl
+past_end f (y ∷ xs) zero l = absurd (omega arith)
+past_end f (y ∷ xs) (suc i) l = past_end f xs i (omega arith)

@@ -1,4 +1,5 @@
 pub mod Days
 pub mod Lists
 pub mod Open
+pub mod Reads
 pub mod Versions

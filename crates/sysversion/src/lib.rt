@@ -2,6 +2,7 @@
 #![tactic(auto)]
 
 pub mod key_versions;
+pub mod laws;
 pub mod lists;
 mod reached;
 mod refused;

@@ -40,6 +40,7 @@ impl TableVersions {
     ghost use Rattle.versionlaws.specs.Committing.{ended, opened, committed};
     ghost use Rattle.sysversion.specs.Lists.{version_of, with_list, rows_of, versions_in};
     ghost use Rattle.sysversion.specs.Open.{open_from};
+    ghost use Rattle.sysversion.specs.Reads.{reads_to_end};
     ghost use Rattle.sysversion.specs.Versions.{list_of, versions_of_table};
 
     /// No versions. Takes no memory.
@@ -74,13 +75,13 @@ impl TableVersions {
         Ok(())
     }
 
-    // Ends the open versions of the rows that go.
-    fn end_all(&mut self, removed: &[Row], t: Stamp)
-        ensures { (key : List Value) → list_of self.new key ≡ map (ended t (rows_of key (map row_of removed.now))) (list_of self.old key) }
+    // Ends the open versions of the rows that go, and reads no others.
+    fn end_all(&mut self, removed: &[Row], t: Stamp, count: &mut Count)
+        ensures ended { (key : List Value) → list_of self.new key ≡ map (ended t (rows_of key (map row_of removed.now))) (list_of self.old key) }
+        ensures few { count.new ≤ count.old + reads_to_end (map row_of removed.now) (versions_of_table self.old) }
     {
-        let mut count = Count::new();
         for row in removed {
-            self.end(row, t, &mut count);
+            self.end(row, t, count);
         }
     }
 
@@ -95,12 +96,19 @@ impl TableVersions {
     }
 
     /// Ends the open versions of the rows that go, and adds an open version for each row that comes. Of the versions only
-    /// those that end are read: each is looked up by its key and start. Want of memory may leave some of it out.
-    pub(crate) fn commit(&mut self, changes: Changes, t: Stamp) -> Result<(), AllocError>
-        ensures { OnOk result (SameByKey (versions_of_table self.new) (committed t (removed_of changes) (added_of changes) (versions_of_table self.old))) }
+    /// those that end are read: each is looked up by its key and start, and the count rises by one for each of them,
+    /// whatever the outcome. Want of memory may leave some of it out.
+    pub(crate) fn commit(
+        &mut self,
+        changes: Changes,
+        t: Stamp,
+        count: &mut Count,
+    ) -> Result<(), AllocError>
+        ensures committed { OnOk result (SameByKey (versions_of_table self.new) (committed t (removed_of changes) (added_of changes) (versions_of_table self.old))) }
+        ensures few { count.new ≤ count.old + reads_to_end (removed_of changes) (versions_of_table self.old) }
     {
         let Changes { removed, added } = changes;
-        self.end_all(removed.as_slice(), t);
+        self.end_all(removed.as_slice(), t, count);
         self.open_all(added)
     }
 

@@ -1,5 +1,5 @@
 //! The versions of all tables.
-ghost use Rattle.std.specs.Prelude.{◌≡◌, ◌≢◌, ℕ, ◌<◌, [], true, false, length, Err, alloc_error, OnOk, OnErr, IfOk};
+ghost use Rattle.std.specs.Prelude.{◌≡◌, ◌≢◌, ℕ, ◌+◌, ◌<◌, ◌≤◌, [], true, false, length, Err, alloc_error, OnOk, OnErr, IfOk};
 ghost use Rattle.std.specs.Option.{option_map_or};
 ghost use Rattle.current.specs.Touched.{removed_of, added_of, removed_in, added_in};
 ghost use Rattle.versionlaws.specs.ByKey.{SameByKey};
@@ -8,6 +8,7 @@ ghost use Rattle.versionlaws.specs.Committing.{committed};
 use crate::table::TableVersions;
 use current::{Changes, Touched};
 use model::stamp::Stamp;
+use overlaps::counted::Count;
 use schema::Schema;
 use std::alloc::{AllocError, Global};
 
@@ -23,6 +24,7 @@ pub struct Versions {
 }
 
 impl Versions {
+    ghost use Rattle.sysversion.specs.Reads.{reads_to_end, reads_in_tables};
     ghost use Rattle.sysversion.specs.Versions.{versions_of, versions_of_table, schema_in, table_count, is_failed};
 
     /// The tables of a schema, without versions.
@@ -44,26 +46,39 @@ impl Versions {
         })
     }
 
-    // Takes in what was touched of a table, if it is there.
-    fn commit_table(&mut self, table: usize, changes: Changes, t: Stamp) -> Result<(), AllocError>
+    // Takes in what was touched of a table, if it is there. Of its versions those that end are read, and no others.
+    fn commit_table(
+        &mut self,
+        table: usize,
+        changes: Changes,
+        t: Stamp,
+        count: &mut Count,
+    ) -> Result<(), AllocError>
         ensures here { OnOk result (table < table_count self.old → SameByKey (versions_of self.new table) (committed t (removed_of changes) (added_of changes) (versions_of self.old table))) }
         ensures others { OnOk result ((n : ℕ) → n ≢ table → versions_of self.new n ≡ versions_of self.old n) }
         ensures schema { schema_in self.new ≡ schema_in self.old }
+        ensures few { count.new ≤ count.old + reads_to_end (removed_of changes) (versions_of self.old table) }
     {
         let Some(found) = self.tables.get_mut(table) else {
             return Ok(());
         };
-        found.commit(changes, t)
+        found.commit(changes, t, count)
     }
 
-    // Takes in what was touched of each table.
-    fn commit_tables(&mut self, touched: Touched, t: Stamp) -> Result<(), AllocError>
+    // Takes in what was touched of each table. Of the versions those that end are read, and no others.
+    fn commit_tables(
+        &mut self,
+        touched: Touched,
+        t: Stamp,
+        count: &mut Count,
+    ) -> Result<(), AllocError>
         ensures ok { OnOk result ((n : ℕ) → n < table_count self.old → SameByKey (versions_of self.new n) (committed t (removed_in touched n) (added_in touched n) (versions_of self.old n))) }
         ensures schema { schema_in self.new ≡ schema_in self.old }
+        ensures few { count.new ≤ count.old + reads_in_tables (table_count self.old) (removed_in touched) (versions_of self.old) }
     {
         current::laws::nothing_beyond();
         for (table, changes) in touched.tables.into_iter().enumerate() {
-            self.commit_table(table, changes, t)?;
+            self.commit_table(table, changes, t, count)?;
         }
         Ok(())
     }
@@ -73,20 +88,28 @@ impl Versions {
     ///
     /// Of the versions only those that end are read: each is looked up by its key and start, in a set of its key's open
     /// versions. So a commit costs the rows that it is given, each times the digits of the numbers of keys and of a key's
-    /// open versions, however many have ended.
+    /// open versions, however many have ended. Whatever the outcome, the count rises by one for each version that is read:
+    /// for each row that went, by at most the open versions of its key that start on its first day. Where the versions hold
+    /// the tables' histories there is at most one of these, as `laws::one_for_each_row` says.
     ///
     /// Want of memory may leave some of it out: the value has then failed, and each later commit is refused.
-    pub fn commit(&mut self, touched: Touched, t: Stamp) -> Result<(), AllocError>
+    pub fn commit(
+        &mut self,
+        touched: Touched,
+        t: Stamp,
+        count: &mut Count,
+    ) -> Result<(), AllocError>
         ensures ok { OnOk result ((n : ℕ) → n < table_count self.old → SameByKey (versions_of self.new n) (committed t (removed_in touched n) (added_in touched n) (versions_of self.old n))) }
         ensures err { OnErr result (is_failed self.new ≡ true) }
         ensures up { OnOk result ((is_failed self.old ≡ false) × (is_failed self.new ≡ false)) }
         ensures schema { schema_in self.new ≡ schema_in self.old }
         ensures once_failed { is_failed self.old ≡ true → result ≡ Err alloc_error }
+        ensures few { count.new ≤ count.old + reads_in_tables (table_count self.old) (removed_in touched) (versions_of self.old) }
     {
         if self.failed {
             return Err(AllocError);
         }
-        let committed = self.commit_tables(touched, t);
+        let committed = self.commit_tables(touched, t, count);
         self.failed = committed.is_err();
         committed
     }

@@ -1,17 +1,22 @@
-use Rattle.std.proofs.Common.{◌≡◌, ℕ, map, [], ◌∷◌, sym, ap, subst, inl, inr}
+use Rattle.std.specs.List.{AllByRecursion}
+use Rattle.std.proofs.Common.{arith, ◌≡◌, ℕ, map, [], ◌∷◌, ◌∙◌, length, sym, ap, subst, inl, inr}
 use Rattle.std.proofs.lemmas.Result.{err_from_is_err_and}
 use Rattle.rowlaws.proofs.RowFacts.{both}
+use Rattle.model.specs.Transactions.{State}
 use Rattle.rowlaws.specs.Statements.{AllListed}
 use Rattle.rowlaws.specs.Whole.{ComesFromWhole}
 use Rattle.sqlread.specs.Meaning.{language_of, meaning}
 use Rattle.sqlread.specs.Shapes.{statement_of}
-use Rattle.current.specs.Current.{rows_of, schema_in}
+use Rattle.current.specs.Current.{rows_of, schema_in, IsNarrow}
 use Rattle.current.specs.Places.{rows_at}
+use Rattle.current.specs.Reads.{FewToUndo}
 use Rattle.current.specs.declared.touched.Touched.{Touched}
 use Rattle.current.specs.Touched.{removed_of, added_of, removed_in, added_in}
 use Rattle.apply.specs.Executing.{IsTransacted, IsRefusedWhole}
 use Rattle.apply.proofs.Fine.{statement_fine}
 use Rattle.apply.proofs.Transacted.{checked, unchecked, whole_more, then_rest, stopped, undoable, undone, back_again, no_items}
+use Rattle.apply.specs.Reads.{FewReadsEach}
+use Rattle.apply.proofs.Reading.{removed_within, few_first, few_more, few_undone}
 use Rattle.apply.proofs.executing.+transact.Goals as goal
 use Rattle.apply.proofs.executing.+transact.Goals.{then-not-is_no_memory+in_ok-undo-in-Err, else-not-is_no_memory}
 
@@ -100,4 +105,117 @@ returns-after-not-is_no_memory-clause-back t c =
           rw w.current-is (back_again c.args.t (meaning (statement_of c.in-Some.statement.now)) (rows_of c.args.current.now) (rows_of c.run.new.self) (rows_of c.transact.new.current) (rows_of w.undo.new.self) (removed_in touched) (added_in touched) c.in-Err.refusal
           c.in_ok-touched.ensures.ok c.in-Err.ensures.back w.in_ok-undo-in-Err.ensures.ok)
       | else-not-is_no_memory w ↦ inl (c.is_no_memory.ensures.0 w.if-not-is_no_memory.false)
+    ]
+
+pub returns-in_err-check_touched-clause-few : goal.returns-in_err-check_touched-clause-few
+returns-in_err-check_touched-clause-few t c = λ columns narrow before state listed.
+    let e = no_items c.args.statements.now c.in_default.ensures.cases in
+    subst (λ ss. FewReadsEach (schema_in c.args.current.now) columns c.args.t (map statement_of ss) (removed_in c.args.before) (added_in c.args.before) state c.args.count.now c.check_touched.new.count) (sym e) (rows_of c.args.current.now, listed, c.check_touched.ensures.few)
+
+pub returns-in_default-clause-few : goal.returns-in_default-clause-few
+returns-in_default-clause-few t c = λ columns narrow before state listed.
+    let e = no_items c.args.statements.now c.in_default.ensures.cases in
+    subst (λ ss. FewReadsEach (schema_in c.args.current.now) columns c.args.t (map statement_of ss) (removed_in c.args.before) (added_in c.args.before) state c.args.count.now c.check_touched.new.count) (sym e) (rows_of c.args.current.now, listed, c.check_touched.ensures.few)
+
+pub returns-in_err-touched-clause-few : goal.returns-in_err-touched-clause-few
+returns-in_err-touched-clause-few t c = λ columns narrow before state listed.
+    let e : c.args.statements.now ≡ c.in-Some.statement.now ∷ c.in-Some.rest.now = c.in-Some.ensures.cases.0 in
+    subst (λ ss. FewReadsEach (schema_in c.args.current.now) columns c.args.t (map statement_of ss) (removed_in c.args.before) (added_in c.args.before) state c.args.count.now c.run.new.count) (sym e)
+    (few_first (schema_in c.args.current.now) columns c.args.t (statement_of c.in-Some.statement.now) (map statement_of c.in-Some.rest.now) (removed_in c.args.before) (added_in c.args.before) c.args.current.now before c.args.count.now c.run.new.count c.run.ensures.few state listed)
+
+pub returns-in_err-all-clause-few : goal.returns-in_err-all-clause-few
+returns-in_err-all-clause-few t c = λ columns narrow before state listed.
+    let e : c.args.statements.now ≡ c.in-Some.statement.now ∷ c.in-Some.rest.now = c.in-Some.ensures.cases.0 in
+    subst (λ ss. FewReadsEach (schema_in c.args.current.now) columns c.args.t (map statement_of ss) (removed_in c.args.before) (added_in c.args.before) state c.args.count.now c.run.new.count) (sym e)
+    (few_first (schema_in c.args.current.now) columns c.args.t (statement_of c.in-Some.statement.now) (map statement_of c.in-Some.rest.now) (removed_in c.args.before) (added_in c.args.before) c.args.current.now before c.args.count.now c.run.new.count c.run.ensures.few state listed)
+
+pub returns-in_err-then-in-Ok-clause-few : goal.returns-in_err-then-in-Ok-clause-few
+returns-in_err-then-in-Ok-clause-few t c = λ columns narrow before state listed.
+    let e : c.args.statements.now ≡ c.in-Some.statement.now ∷ c.in-Some.rest.now = c.in-Some.ensures.cases.0 in
+    let narrow' = subst (λ ss. AllByRecursion (IsNarrow columns) (map statement_of ss)) e narrow in
+    let rest = subst (λ x. (state : State) → AllListed (rows_of c.run.new.self) state → FewReadsEach x columns c.args.t (map statement_of c.in-Some.rest.now) (removed_in c.in_ok-all.all) (added_in c.in_ok-all.all) state c.run.new.count c.transact.new.count) c.run.ensures.schema
+    (c.transact.ensures.few columns narrow'.1 (c.run.ensures.columns columns before narrow'.0)) in
+    subst (λ ss. FewReadsEach (schema_in c.args.current.now) columns c.args.t (map statement_of ss) (removed_in c.args.before) (added_in c.args.before) state c.args.count.now c.transact.new.count) (sym e)
+    (few_more (schema_in c.args.current.now) columns c.args.t (statement_of c.in-Some.statement.now) (map statement_of c.in-Some.rest.now) (removed_in c.args.before) (added_in c.args.before) c.args.current.now before c.args.count.now c.run.new.count c.run.ensures.few
+    (rows_of c.run.new.self) (removed_in c.in_ok-touched.touched) (added_in c.in_ok-touched.touched) (removed_in c.in_ok-all.all) (added_in c.in_ok-all.all) c.transact.new.count c.in_ok-touched.ensures.ok c.in_ok-all.ensures.removed c.in_ok-all.ensures.added rest state listed)
+
+pub returns-in_ok-then-in-Ok-clause-few : goal.returns-in_ok-then-in-Ok-clause-few
+returns-in_ok-then-in-Ok-clause-few t c = λ columns narrow before state listed.
+    let e : c.args.statements.now ≡ c.in-Some.statement.now ∷ c.in-Some.rest.now = c.in-Some.ensures.cases.0 in
+    let narrow' = subst (λ ss. AllByRecursion (IsNarrow columns) (map statement_of ss)) e narrow in
+    let rest = subst (λ x. (state : State) → AllListed (rows_of c.run.new.self) state → FewReadsEach x columns c.args.t (map statement_of c.in-Some.rest.now) (removed_in c.in_ok-all.all) (added_in c.in_ok-all.all) state c.run.new.count c.transact.new.count) c.run.ensures.schema
+    (c.transact.ensures.few columns narrow'.1 (c.run.ensures.columns columns before narrow'.0)) in
+    subst (λ ss. FewReadsEach (schema_in c.args.current.now) columns c.args.t (map statement_of ss) (removed_in c.args.before) (added_in c.args.before) state c.args.count.now c.transact.new.count) (sym e)
+    (few_more (schema_in c.args.current.now) columns c.args.t (statement_of c.in-Some.statement.now) (map statement_of c.in-Some.rest.now) (removed_in c.args.before) (added_in c.args.before) c.args.current.now before c.args.count.now c.run.new.count c.run.ensures.few
+    (rows_of c.run.new.self) (removed_in c.in_ok-touched.touched) (added_in c.in_ok-touched.touched) (removed_in c.in_ok-all.all) (added_in c.in_ok-all.all) c.transact.new.count c.in_ok-touched.ensures.ok c.in_ok-all.ensures.removed c.in_ok-all.ensures.added rest state listed)
+
+pub returns-in_err-undo-in-Err-clause-few : goal.returns-in_err-undo-in-Err-clause-few
+returns-in_err-undo-in-Err-clause-few t c = λ columns narrow before state listed.
+    let e : c.args.statements.now ≡ c.in-Some.statement.now ∷ c.in-Some.rest.now = c.in-Some.ensures.cases.0 in
+    let narrow' = subst (λ ss. AllByRecursion (IsNarrow columns) (map statement_of ss)) e narrow in
+    let rest = subst (λ x. (state : State) → AllListed (rows_of c.run.new.self) state → FewReadsEach x columns c.args.t (map statement_of c.in-Some.rest.now) (removed_in c.in_ok-all.all) (added_in c.in_ok-all.all) state c.run.new.count c.transact.new.count) c.run.ensures.schema
+    (c.transact.ensures.few columns narrow'.1 (c.run.ensures.columns columns before narrow'.0)) in
+    let few = subst (λ x. FewToUndo (length x) (rows_of c.transact.new.current) (removed_in c.in_ok-touched.touched) (added_in c.in_ok-touched.touched) c.transact.new.count c.undo.new.count) (c.transact.ensures.schema ∙ c.run.ensures.schema) c.undo.ensures.few in
+    subst (λ ss. FewReadsEach (schema_in c.args.current.now) columns c.args.t (map statement_of ss) (removed_in c.args.before) (added_in c.args.before) state c.args.count.now c.undo.new.count) (sym e)
+    (few_undone (schema_in c.args.current.now) columns c.args.t (statement_of c.in-Some.statement.now) (map statement_of c.in-Some.rest.now) (removed_in c.args.before) (added_in c.args.before) c.args.current.now before c.args.count.now c.run.new.count c.run.ensures.few
+    (rows_of c.run.new.self) (removed_in c.in_ok-touched.touched) (added_in c.in_ok-touched.touched) (removed_in c.in_ok-all.all) (added_in c.in_ok-all.all) c.transact.new.count c.in_ok-touched.ensures.ok c.in_ok-all.ensures.removed c.in_ok-all.ensures.added rest
+    c.in-Err.refusal (rows_of c.transact.new.current) c.undo.new.count (λ h. both (c.is_no_memory.ensures.1 h) c.if-not-is_no_memory.true) c.in-Err.ensures.back few state listed)
+
+pub returns-after-not-is_no_memory-clause-few : goal.returns-after-not-is_no_memory-clause-few
+returns-after-not-is_no_memory-clause-few t c = λ columns narrow before state listed.
+    let e : c.args.statements.now ≡ c.in-Some.statement.now ∷ c.in-Some.rest.now = c.in-Some.ensures.cases.0 in
+    let narrow' = subst (λ ss. AllByRecursion (IsNarrow columns) (map statement_of ss)) e narrow in
+    let rest = subst (λ x. (state : State) → AllListed (rows_of c.run.new.self) state → FewReadsEach x columns c.args.t (map statement_of c.in-Some.rest.now) (removed_in c.in_ok-all.all) (added_in c.in_ok-all.all) state c.run.new.count c.transact.new.count) c.run.ensures.schema
+    (c.transact.ensures.few columns narrow'.1 (c.run.ensures.columns columns before narrow'.0)) in
+    subst (λ ss. FewReadsEach (schema_in c.args.current.now) columns c.args.t (map statement_of ss) (removed_in c.args.before) (added_in c.args.before) state c.args.count.now c.if-not-is_no_memory.count) (sym e)
+    (elim c.if-not-is_no_memory.branch [
+      | then-not-is_no_memory+in_ok-undo-in-Err w ↦
+          let few = subst (λ x. FewToUndo (length x) (rows_of c.transact.new.current) (removed_in c.in_ok-touched.touched) (added_in c.in_ok-touched.touched) c.transact.new.count w.undo.new.count) (c.transact.ensures.schema ∙ c.run.ensures.schema) w.undo.ensures.few in
+          rw w.count-is (few_undone (schema_in c.args.current.now) columns c.args.t (statement_of c.in-Some.statement.now) (map statement_of c.in-Some.rest.now) (removed_in c.args.before) (added_in c.args.before) c.args.current.now before c.args.count.now c.run.new.count c.run.ensures.few
+          (rows_of c.run.new.self) (removed_in c.in_ok-touched.touched) (added_in c.in_ok-touched.touched) (removed_in c.in_ok-all.all) (added_in c.in_ok-all.all) c.transact.new.count c.in_ok-touched.ensures.ok c.in_ok-all.ensures.removed c.in_ok-all.ensures.added rest
+          c.in-Err.refusal (rows_of c.transact.new.current) w.undo.new.count (λ h. both (c.is_no_memory.ensures.1 h) w.if-not-is_no_memory.true) c.in-Err.ensures.back few state listed)
+      | else-not-is_no_memory w ↦
+          rw w.count-is (few_more (schema_in c.args.current.now) columns c.args.t (statement_of c.in-Some.statement.now) (map statement_of c.in-Some.rest.now) (removed_in c.args.before) (added_in c.args.before) c.args.current.now before c.args.count.now c.run.new.count c.run.ensures.few
+          (rows_of c.run.new.self) (removed_in c.in_ok-touched.touched) (added_in c.in_ok-touched.touched) (removed_in c.in_ok-all.all) (added_in c.in_ok-all.all) c.transact.new.count c.in_ok-touched.ensures.ok c.in_ok-all.ensures.removed c.in_ok-all.ensures.added rest state listed)
+    ])
+
+pub returns-in_err-touched-clause-narrow : goal.returns-in_err-touched-clause-narrow
+returns-in_err-touched-clause-narrow t c = λ columns narrow before.
+    let e : c.args.statements.now ≡ c.in-Some.statement.now ∷ c.in-Some.rest.now = c.in-Some.ensures.cases.0 in
+    let narrow' = subst (λ ss. AllByRecursion (IsNarrow columns) (map statement_of ss)) e narrow in
+    c.run.ensures.columns columns before narrow'.0
+
+pub returns-in_err-all-clause-narrow : goal.returns-in_err-all-clause-narrow
+returns-in_err-all-clause-narrow t c = λ columns narrow before.
+    let e : c.args.statements.now ≡ c.in-Some.statement.now ∷ c.in-Some.rest.now = c.in-Some.ensures.cases.0 in
+    let narrow' = subst (λ ss. AllByRecursion (IsNarrow columns) (map statement_of ss)) e narrow in
+    c.run.ensures.columns columns before narrow'.0
+
+pub returns-in_err-then-in-Ok-clause-narrow : goal.returns-in_err-then-in-Ok-clause-narrow
+returns-in_err-then-in-Ok-clause-narrow t c = λ columns narrow before.
+    let e : c.args.statements.now ≡ c.in-Some.statement.now ∷ c.in-Some.rest.now = c.in-Some.ensures.cases.0 in
+    let narrow' = subst (λ ss. AllByRecursion (IsNarrow columns) (map statement_of ss)) e narrow in
+    c.transact.ensures.narrow columns narrow'.1 (c.run.ensures.columns columns before narrow'.0)
+
+pub returns-in_ok-then-in-Ok-clause-narrow : goal.returns-in_ok-then-in-Ok-clause-narrow
+returns-in_ok-then-in-Ok-clause-narrow t c = λ columns narrow before.
+    let e : c.args.statements.now ≡ c.in-Some.statement.now ∷ c.in-Some.rest.now = c.in-Some.ensures.cases.0 in
+    let narrow' = subst (λ ss. AllByRecursion (IsNarrow columns) (map statement_of ss)) e narrow in
+    c.transact.ensures.narrow columns narrow'.1 (c.run.ensures.columns columns before narrow'.0)
+
+pub returns-in_err-undo-in-Err-clause-narrow : goal.returns-in_err-undo-in-Err-clause-narrow
+returns-in_err-undo-in-Err-clause-narrow t c = λ columns narrow before.
+    let e : c.args.statements.now ≡ c.in-Some.statement.now ∷ c.in-Some.rest.now = c.in-Some.ensures.cases.0 in
+    let narrow' = subst (λ ss. AllByRecursion (IsNarrow columns) (map statement_of ss)) e narrow in
+    λ n. c.undo.ensures.columns n (columns n) (c.transact.ensures.narrow columns narrow'.1 (c.run.ensures.columns columns before narrow'.0) n)
+    (λ r has. let most = removed_within c.row_laws.ensures.listed c.row_laws.ensures.within c.row_laws.ensures.state c.args.t (statement_of c.in-Some.statement.now) c.args.current.now (rows_of c.run.new.self) (removed_in c.in_ok-touched.touched) (added_in c.in_ok-touched.touched) c.in_ok-touched.ensures.ok n r has in let b = before n in omega (arith, most, b))
+
+pub returns-after-not-is_no_memory-clause-narrow : goal.returns-after-not-is_no_memory-clause-narrow
+returns-after-not-is_no_memory-clause-narrow t c = λ columns narrow before.
+    let e : c.args.statements.now ≡ c.in-Some.statement.now ∷ c.in-Some.rest.now = c.in-Some.ensures.cases.0 in
+    let narrow' = subst (λ ss. AllByRecursion (IsNarrow columns) (map statement_of ss)) e narrow in
+    elim c.if-not-is_no_memory.branch [
+      | then-not-is_no_memory+in_ok-undo-in-Err w ↦ rw w.current-is (λ n. w.undo.ensures.columns n (columns n) (c.transact.ensures.narrow columns narrow'.1 (c.run.ensures.columns columns before narrow'.0) n)
+          (λ r has. let most = removed_within c.row_laws.ensures.listed c.row_laws.ensures.within c.row_laws.ensures.state c.args.t (statement_of c.in-Some.statement.now) c.args.current.now (rows_of c.run.new.self) (removed_in c.in_ok-touched.touched) (added_in c.in_ok-touched.touched) c.in_ok-touched.ensures.ok n r has in let b = before n in omega (arith, most, b)))
+      | else-not-is_no_memory w ↦ rw w.current-is (c.transact.ensures.narrow columns narrow'.1 (c.run.ensures.columns columns before narrow'.0))
     ]

@@ -11,5 +11,5 @@ returns-in-Some c =
     let place = c.args.place in
     let references = map (reference_of place table) table.references in
     let day = c.in-Some.day in
-    let misses = sym c.in_ok-day.ensures ∙ ap (option_map (λ d. d.number)) c.in-Some.is in
+    let misses = sym c.in_ok-day.ensures.day ∙ ap (option_map (λ d. d.number)) c.in-Some.is in
     sym (row_misses references (rows_at rows_of_table c.args.tables.now) place c.args.rows.now c.loop-row.row-index c.row-item.result day.number c.loop-row-test.true c.row-item.is misses) ∙ c.loop-row.invariant

@@ -8,7 +8,7 @@ use Rattle.current.specs.Table.{rows_of_table, IsInserted, IsInsertRefused}
 use Rattle.current.specs.Touched.{removed_of, added_of, removed_in, added_in}
 use Rattle.current.proofs.Lists.{pushed}
 use Rattle.current.proofs.Moves.{last_day}
-use Rattle.current.proofs.Reading.{find_at, columns_more, if_few}
+use Rattle.current.proofs.Reading.{insert_at, columns_within, if_few}
 use Rattle.current.proofs.Statements.{insert_run, insert_refused, same_after}
 use Rattle.current.proofs.current.Current.insert.Goals as goal
 
@@ -47,26 +47,26 @@ returns-in-Err-clause-unchanged c =
 pub returns-in-Ok-clause-few : goal.returns-in-Ok-clause-few
 returns-in-Ok-clause-few c =
     let key = ap (λ (r : Row). r.key) c.in_ok-row.ensures in
-    find_at c.args.self.now.tables.items c.args.insert.now.table (omega (arith, c.requires, c.args.self.now.counted)) c.index_mut.result.now c.index_mut.ensures.value c.in_ok-row.row.key c.args.insert.now.key.items c.args.count.now c.insert.new.count key c.insert.ensures.few
+    insert_at c.args.self.now.tables.items c.args.insert.now.table (omega (arith, c.requires, c.args.self.now.counted)) c.index_mut.result.now c.index_mut.ensures.value c.in_ok-row.row.key c.args.insert.now.key.items c.args.count.now c.insert.new.count key c.insert.ensures.few
 
 pub returns-in-Err-clause-few : goal.returns-in-Err-clause-few
 returns-in-Err-clause-few c =
     let key = ap (λ (r : Row). r.key) c.in_ok-row.ensures in
-    find_at c.args.self.now.tables.items c.args.insert.now.table (omega (arith, c.requires, c.args.self.now.counted)) c.index_mut.result.now c.index_mut.ensures.value c.in_ok-row.row.key c.args.insert.now.key.items c.args.count.now c.insert.new.count key c.insert.ensures.few
+    insert_at c.args.self.now.tables.items c.args.insert.now.table (omega (arith, c.requires, c.args.self.now.counted)) c.index_mut.result.now c.index_mut.ensures.value c.in_ok-row.row.key c.args.insert.now.key.items c.args.count.now c.insert.new.count key c.insert.ensures.few
 
 pub returns-in-Ok-clause-columns : goal.returns-in-Ok-clause-columns
-returns-in-Ok-clause-columns c =
+returns-in-Ok-clause-columns c = λ columns before enough.
     let key = ap (λ (r : Row). length r.key) c.in_ok-row.ensures in
     let insert = c.args.insert.now in
     let more = c.insert.ensures.columns in
-    columns_more c.args.self.now.tables.items insert.table c.index_mut.result.now c.insert.new.self (length insert.key.items) (omega (arith, c.requires, c.args.self.now.counted)) c.index_mut.ensures.value (omega (arith, more, key))
+    columns_within c.args.self.now.tables.items insert.table c.index_mut.result.now c.insert.new.self (length insert.key.items) columns (omega (arith, c.requires, c.args.self.now.counted)) c.index_mut.ensures.value (omega (arith, more, key)) before enough
 
 pub returns-in-Err-clause-columns : goal.returns-in-Err-clause-columns
-returns-in-Err-clause-columns c =
+returns-in-Err-clause-columns c = λ columns before enough.
     let key = ap (λ (r : Row). length r.key) c.in_ok-row.ensures in
     let insert = c.args.insert.now in
     let more = c.insert.ensures.columns in
-    columns_more c.args.self.now.tables.items insert.table c.index_mut.result.now c.insert.new.self (length insert.key.items) (omega (arith, c.requires, c.args.self.now.counted)) c.index_mut.ensures.value (omega (arith, more, key))
+    columns_within c.args.self.now.tables.items insert.table c.index_mut.result.now c.insert.new.self (length insert.key.items) columns (omega (arith, c.requires, c.args.self.now.counted)) c.index_mut.ensures.value (omega (arith, more, key)) before enough
 
 pub returns-in-Ok-clause-each : goal.returns-in-Ok-clause-each
 returns-in-Ok-clause-each c = λ m.

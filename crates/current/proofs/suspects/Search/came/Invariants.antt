@@ -1,10 +1,17 @@
-use Rattle.std.proofs.Common.{map, drop, option_map}
+use Rattle.std.proofs.Common.{ℕ, ◌+◌, ◌<◌, ◌≤◌, ◌^◌, List, length, map, drop, option_map}
+use Rattle.model.specs.Tables.{Row}
 use Rattle.rowlaws.specs.Rows.{Has}
 use Rattle.current.specs.Rows.{row_of}
 use Rattle.current.specs.Orphans.{place_of}
-use Rattle.current.specs.Suspects.{rows_by}
+use Rattle.current.specs.Reads.{total, judging}
+use Rattle.current.specs.Suspects.{rows_by, references_by}
 use Rattle.current.proofs.Looking.{LooksTo}
 use Rattle.current.proofs.suspects.Search.came.Given as goal
 
 abbrev pub invariant-loop-row : goal.invariant-loop-row
-invariant-loop-row l = LooksTo l.self (λ r. Has (map row_of l.added) r × Has (rows_by l.self l.self.place) r) (λ r. Has (map row_of (drop l.row-index l.added)) r) (option_map place_of l.fn.before) (option_map place_of l.found)
+invariant-loop-row l =
+    let cost = λ (digits : ℕ) (rows : List Row). total (λ r. digits + 1 + judging digits (rows_by l.self) (references_by l.self) r) rows in
+    record {
+      looks : LooksTo l.self (λ r. Has (map row_of l.added) r × Has (rows_by l.self l.self.place) r) (λ r. Has (map row_of (drop l.row-index l.added)) r) (option_map place_of l.fn.before) (option_map place_of l.found);
+      few : (digits : ℕ) → ((n : ℕ) → length (rows_by l.self n) < 2 ^ digits) → l.count + cost digits (map row_of (drop l.row-index l.added)) ≤ l.fn.count + cost digits (map row_of l.added);
+    }

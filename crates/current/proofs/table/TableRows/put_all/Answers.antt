@@ -7,13 +7,15 @@ use Rattle.current.specs.Rows.{row_of}
 use Rattle.current.specs.ByKey.{strands_of}
 use Rattle.current.specs.Table.{rows_of_table, CanPut, IsWith}
 use Rattle.current.proofs.Lists.{drop_here, drop_none}
-use Rattle.current.proofs.Reading.{has_at}
+use Rattle.current.specs.Reads.{is_of}
+use Rattle.current.proofs.Counting.{one_more, up_to}
+use Rattle.current.proofs.Reading.{has_at, no_more}
 use Rattle.current.proofs.Moves.{any_strand}
 use Rattle.current.proofs.Undoing.{put_clear, put_more, join_more}
 use Rattle.current.proofs.table.TableRows.put_all.Goals as goal
 
 pub loop-row-init : goal.loop-row-init
-loop-row-init c = record { columns = λ most old each. old; fits = c.requires; joined = λ r. ((λ h. h), (λ h. h)) }
+loop-row-init c = record { columns = λ most old each. old; longer = omega arith; few = λ digits short. omega arith; fits = c.requires; joined = λ r. ((λ h. h), (λ h. h)) }
 
 pub put-requires : goal.put-requires
 put-requires c =
@@ -43,7 +45,15 @@ loop-row-preserved c =
     let wide = c.put.ensures.columns in
     let key = ap (λ (r : Row). length r.key) c.in_ok-clone.ensures.cases in
     let among : Has (map row_of rows) (row_of row) = has_at row_of rows i row c.loop-row-test.true c.row-item.is in
-    record { columns = λ most before each. let was = c.loop-row.invariant.columns most before each in let mine = each (row_of row) among in omega (arith, wide, key, was, mine); fits = put_more (row_of row) rest now more fits put; joined = join_more (row_of row) rest now more old (map row_of rows) put joined }
+    let grows = c.put.ensures.longer in
+    let was_longer = c.loop-row.invariant.longer in
+    record {
+      columns = λ most before each. let was = c.loop-row.invariant.columns most before each in let mine = each (row_of row) among in omega (arith, wide, key, was, mine);
+      longer = omega (arith, grows, was_longer);
+      few = λ digits short. one_more i digits c.loop-row.count c.put.new.count c.args.count.now (c.put.ensures.few digits (let of_key = no_more (is_of c.in_ok-clone.field-0.key) now in omega (arith, of_key, was_longer, short, c.loop-row-test.true))) (c.loop-row.invariant.few digits short);
+      fits = put_more (row_of row) rest now more fits put;
+      joined = join_more (row_of row) rest now more old (map row_of rows) put joined;
+    }
 
 pub returns-clause-rows : goal.returns-clause-rows
 returns-clause-rows c = λ r.
@@ -59,3 +69,20 @@ returns-in_err-put-clause-columns c = λ most before each.
     let mine = each (row_of row) (has_at row_of c.args.rows.now c.loop-row.row-index row c.loop-row-test.true c.row-item.is) in
     let was = c.loop-row.invariant.columns most before each in
     omega (arith, wide, key, was, mine)
+
+pub returns-in_err-clone-clause-few : goal.returns-in_err-clone-clause-few
+returns-in_err-clone-clause-few c = λ digits short.
+    let before = c.loop-row-test.true in
+    up_to c.loop-row.row-index (length c.args.rows.now) digits c.loop-row.count c.args.count.now (omega (arith, before)) (c.loop-row.invariant.few digits short)
+
+pub returns-in_err-put-clause-few : goal.returns-in_err-put-clause-few
+returns-in_err-put-clause-few c = λ digits short.
+    let before = c.loop-row-test.true in
+    let was_longer = c.loop-row.invariant.longer in
+    let of_key = no_more (is_of c.in_ok-clone.field-0.key) (rows_of_table c.loop-row.self) in
+    let here = one_more c.loop-row.row-index digits c.loop-row.count c.put.new.count c.args.count.now (c.put.ensures.few digits (omega (arith, of_key, was_longer, short, before))) (c.loop-row.invariant.few digits short) in
+    up_to (c.loop-row.row-index + 1) (length c.args.rows.now) digits c.put.new.count c.args.count.now (omega (arith, before)) here
+
+pub returns-clause-few : goal.returns-clause-few
+returns-clause-few c = λ digits short.
+    up_to c.loop-row.row-index (length c.args.rows.now) digits c.loop-row.count c.args.count.now (omega arith) (c.loop-row.invariant.few digits short)

@@ -1,6 +1,7 @@
-use Rattle.std.proofs.Common.{map, arith}
+use Rattle.std.proofs.Common.{map, length, arith}
 use Rattle.current.specs.Rows.{row_of}
 use Rattle.current.specs.Table.{rows_of_table}
+use Rattle.current.proofs.Counting.{both_few}
 use Rattle.current.proofs.Changed.{on_ok}
 use Rattle.current.proofs.Undoing.{can_put, undone_rows}
 use Rattle.current.proofs.table.TableRows.undo.Goals as goal
@@ -16,3 +17,10 @@ returns-clause-rows c =
 
 pub returns-clause-columns : goal.returns-clause-columns
 returns-clause-columns c = λ most before each. let same = c.take_all.ensures.columns in c.put_all.ensures.columns most (omega (arith, same, before)) each
+
+pub returns-clause-few : goal.returns-clause-few
+returns-clause-few c = λ digits short.
+    let shorter = c.take_all.ensures.shorter in
+    let out = c.take_all.ensures.few digits (omega (arith, short)) in
+    let back = c.put_all.ensures.few digits (omega (arith, shorter, short)) in
+    both_few (length c.args.removed.now) (length c.args.added.now) digits c.args.count.now c.take_all.new.count c.put_all.new.count out back

@@ -5,6 +5,7 @@ use Rattle.sqlread.specs.Meaning.{language_of}
 use Rattle.model.specs.Members.{applied}
 use Rattle.apply.specs.View.{AreTables}
 use Rattle.raft.specs.View.{IsInStep, node_of}
+use Rattle.node.proofs.Fetching.{reached}
 use Rattle.node.proofs.Tests.{known}
 use Rattle.node.proofs.node.Node.entry.Goals as goal
 
@@ -30,3 +31,8 @@ invariant_of-self-in-Err-clause-serves g c =
     let node = c.args.self.now in
     let core = node.core in
     merely (c.entry.ensures.reader.serves core.members (language_of core.schema) (known (g.met.K.LogReader.served_once node.keeper core.members (language_of core.schema)) node.serves))
+
+pub returns-in-Ok-clause-ok : goal.returns-in-Ok-clause-ok
+returns-in-Ok-clause-ok g c = λ honest.
+    let node = c.args.self.now in
+    c.in-Ok.ensures.ok honest (reached node.core (g.K.LogReader.stored node.keeper) (node.synced c.if-not-self.false (c.entry.ensures.reader.honest honest)))

@@ -1,5 +1,6 @@
 use Rattle.std.proofs.Common.{◌≡◌, ◌∙◌, inr, subst, sym}
 use Rattle.std.proofs.lemmas.Grind.{merely}
+use Rattle.std.proofs.lemmas.Result.{err_from_is_err_and}
 use Rattle.keep.specs.Durable.{Durable}
 use Rattle.sqlread.specs.Meaning.{language_of}
 use Rattle.node.proofs.node.Node.start.Goals as goal
@@ -28,3 +29,9 @@ returns-in-Err-clause-kept g c = λ sound d held.
     let may = g.met.K.LogReader.holds_stored c.read_state.new.keeper late in
     let P : Durable → Type 0 = g.K.LogReader.may_hold c.read_state.new.keeper in
     c.close.ensures.kept d (subst P (c.read_state.ensures.same late ∙ sym is) may)
+
+pub returns-in_err-keeper-clause-back : goal.returns-in_err-keeper-clause-back
+returns-in_err-keeper-clause-back g c = let p = err_from_is_err_and c.from_residual.result c.from_residual.ensures.1 in rw (p.1, p.2) c.in_err-keeper.ensures.back
+
+pub returns-in_err-keeper-clause-kept : goal.returns-in_err-keeper-clause-kept
+returns-in_err-keeper-clause-kept g c = let p = err_from_is_err_and c.from_residual.result c.from_residual.ensures.1 in rw (p.1, p.2) c.in_err-keeper.ensures.kept

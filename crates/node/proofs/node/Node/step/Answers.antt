@@ -1,4 +1,4 @@
-use Rattle.std.proofs.Common.{◌≡◌, ◌∙◌, sym, ap, arith}
+use Rattle.std.proofs.Common.{rules, ◌≡◌, ◌∙◌, sym, ap, arith}
 use Rattle.model.specs.Members.{Node}
 use Rattle.sqlread.specs.Meaning.{language_of}
 use Rattle.node.proofs.Tests.{known}
@@ -23,3 +23,6 @@ returns-in-Ok-Ignored-clause-sealed g c = λ honest.
     let step = (rw c.in-Ok-Ignored.field-0-is at c.in-Ok-Ignored.ensures.step) honest in
     let same : c.take_step.new.core.sealed ≡ c.args.self.now.core.sealed = ap (λ (x : Node). x.sealed) step.1 in
     risen_same c.args.self.now.core.sealed ∙ ap (risen c.args.self.now.core.sealed) (sym same)
+
+pub invariant_of-self-clause-fresh : goal.invariant_of-self-clause-fresh
+invariant_of-self-clause-fresh g c = search rules
