@@ -6,6 +6,7 @@ use Rattle.std.proofs.lemmas.List.{length_push}
 use Rattle.std.proofs.lemmas.List.Elements.{All-append, All-push, All-nil, All-cons, All-head, All-tail, Contains-append_left, Contains-append_right}
 use Rattle.std.proofs.lemmas.Option.{IfSome_then, slice_get_past}
 use Rattle.fault.specs.declared.refusal.Refusal.{Refusal as Reason}
+use Rattle.flight.specs.declared.outcome.Outcome.{Outcome as Noted}
 use Rattle.model.specs.Lists.{nth, with_nth}
 use Rattle.model.specs.Members as model
 use Rattle.model.specs.declared.entry.Told.{Told}
@@ -27,11 +28,11 @@ use Rattle.store.specs.declared.outcome.Outcome.{Outcome}
 use Rattle.store.specs.declared.outcome.Outcome.TheVariants.{Accepted, Refused, Unanswered}
 use Rattle.journal.specs.declared.line.Taken.{Taken}
 use Rattle.journal.specs.declared.line.Line.{Line}
-use Rattle.journal.specs.declared.line.Line.TheVariants.{Ends, Life, Takes}
+use Rattle.journal.specs.declared.line.Line.TheVariants.{Ends, Life, Made, Takes}
 use Rattle.journal.specs.declared.stored.Summary.{Summary}
 use Rattle.store.specs.declared.scribe.Scribe.{Scribe}
 use Rattle.store.specs.Lines.{Lines, and_then, lines_in, no_lines, waiting}
-use Rattle.store.specs.Recording.{AreRecorded, IsQuiet, IsSilent, IsStartOrStop, IsTrue, Records, job_of, last_reading}
+use Rattle.store.specs.Recording.{AreRecorded, HasInShort, IsQuiet, IsSilent, IsStartOrStop, IsTrue, Records, job_of, last_reading}
 use Rattle.store.specs.Continuing.{IsContinued, IsKeptOn, reading_in}
 use Rattle.store.specs.Journals.{IsSpent}
 use Rattle.store.specs.Seats.{HasMember, IsClean}
@@ -39,6 +40,9 @@ use Rattle.node.specs.Work.{Work}
 use Rattle.store.proofs.Continuing.{continued_both, continued_reading, continued_same, continued_spent, kept_both, kept_is, kept_none, kept_same}
 use Rattle.store.proofs.Recording.{all_more, last_both, recorded_after, recorded_both, recorded_idle, recorded_late, recorded_silent, silent_quiet, silent_true}
 use Rattle.store.proofs.Lines.{lines_then}
+use Rattle.store.proofs.Storing.{idle_stores, short_same}
+use Rattle.store.specs.Lives.{HasStored}
+use Rattle.store.specs.Noting.{HasMade}
 use Rattle.store.specs.Going.{Anywhere, AreClean, AreFiled, AreToldIn, AreUnderWay, BeginsStep, Changes, ComesOf, GoesOn, GoesOnFrom, GoesOnSo, HasSent, Heard, Hears, IsAmong, IsBrought, IsIn, IsOutcome, Publishes, PublishesSo, StartsOne, Stops, WentOn, with_begun}
 
 -- ---- what is heard
@@ -71,7 +75,7 @@ hears_more few more less old None h = tt
 hears_more few more less None (Some w) h = h
 hears_more few more less (Some v) (Some w) h = (h.0, h.1, IfSome_then w.outcome {P = Heard few (Some v)} {Q = Heard more (Some v)} h.2 (λ o k. heard_more few more less (Some v) o k))
 
-some_at : {A : Type 0} (o : Option A) (P : A → Type 0) (x : A) → o ≡ Some x → IfSome o P → P x
+pub some_at : {A : Type 0} (o : Option A) (P : A → Type 0) (x : A) → o ≡ Some x → IfSome o P → P x
 some_at None P x e p = absurd (cc e)
 some_at (Some y) P x e p = let same : y ≡ x = cc e in subst P same p
 
@@ -458,6 +462,19 @@ module _ {K J I : Type 0} {an : _} {g : _} {s : _} {d : _} (contents : J → Opt
         hears = subst (λ (w : Option Watched). Hears (IsAmong told) w new.watched) (ap (λ t. t.watched) on ∙ ap (λ t. t.watched) is) p.hears;
       }
 
+  -- a line with outcomes came there first
+  pub made_first : (m : ℕ) (outcomes all : List Noted) (old first mid new : Store K J I an g s d) (messages : List Message) (told : List Told) → outcomes ≡ all → first ≡ record old { noted = first.noted } → IsContinued contents first.scribe mid.scribe (waiting (Made m outcomes ∷ [])) →
+      Publishes contents mid new messages told → HasMade contents old.scribe new.scribe m all
+  made_first m outcomes all old first mid new messages told same is came p =
+      let one = waiting (Made m outcomes ∷ []) in
+      let from : IsContinued contents old.scribe mid.scribe one = subst (λ (s : Option (Scribe J)). IsContinued contents s mid.scribe one) (ap (λ t. t.scribe) is) came in (
+        and_then one p.journal.0,
+        continued_both contents old.scribe mid.scribe new.scribe one p.journal.0 from p.journal.2,
+        lines_in p.journal.0,
+        lines_then one p.journal.0 ∙ ap (λ (xs : List Noted). Made m xs ∷ lines_in p.journal.0) same,
+        p.journal.1,
+      )
+
   -- nothing but who leads is another
   pub only_leader : (old new : Store K J I an g s d) → new ≡ record old { leader = new.leader } → On old new
   only_leader old new is = publishes_on old new (same_publishes old new (ap (λ t. t.schema) is) (ap (λ t. t.seats) is) (ap (λ t. t.queue) is) (ap (λ t. t.sent) is) (ap (λ t. t.watched) is) (kept_is contents old.scribe new.scribe (ap (λ t. t.scribe) is)) (λ k. subst IsSpent (sym (ap (λ t. t.scribe) is)) k))
@@ -540,12 +557,12 @@ module _ {K J I : Type 0} {an : _} {g : _} {s : _} {d : _} (contents : J → Opt
   -- ---- one event
 
   -- a line that waits records a start or a stop
-  one_idle : (old new : Store K J I an g s d) (line : Line) (event : Event) (w : World) → IsStartOrStop event → Records (reading_in old.scribe) line (event ∷ []) → AreFiled old new (waiting (line ∷ [])) w (event ∷ [])
+  one_idle : (old new : Store K J I an g s d) (line : Line) (event : Event) (w : World) → IsStartOrStop event → Records w (reading_in old.scribe) line (event ∷ []) → AreFiled old new (waiting (line ∷ [])) w (event ∷ [])
   one_idle old new line event w idle records = recorded_idle (language_of old.schema) (length old.seats.items) w (reading_in old.scribe) (waiting (line ∷ [])) (event ∷ []) (IsSpent new.scribe) (event ∷ [], [], records, refl, refl) (All-cons IsStartOrStop event [] idle (All-nil IsStartOrStop))
 
   -- an event happened, of a store in which nothing is heard
   pub by_one : (event : Event) (land : World → World) (old new : Store K J I an g s d) → new.schema ≡ old.schema → length new.seats.items ≡ length old.seats.items → new.watched ≡ old.watched → (AreClean honest holds new → AreClean honest holds old) →
-      (lines : Lines) → IsContinued contents old.scribe new.scribe lines → ((gave : List (List Output)) → AreToldIn gave (lines_in lines)) → ((w : World) → AreFiled old new lines w (event ∷ [])) →
+      (lines : Lines) → IsContinued contents old.scribe new.scribe lines → ((gave : List (List Output)) → AreToldIn gave (lines_in lines)) → (AreClean honest holds new → (w : World) → IsIn held holds old w → AreFiled old new lines w (event ∷ [])) →
       ((w : World) → By (language_of old.schema) (length old.seats.items) w (land w) event) → (AreClean honest holds new → (w : World) → IsIn held holds old w → IsIn held holds new (land w)) → On old new
   by_one event land old new schema count watched clean lines journal told filed by lands = record {
     schema = schema;
@@ -555,7 +572,7 @@ module _ {K J I : Type 0} {an : _} {g : _} {s : _} {d : _} (contents : J → Opt
     clean = clean;
     went = λ k w i.
         let b = by w in
-        record { world = land w; goes = b.goes; events_are = subst (AreFiled old new lines w) (sym b.events_are) (filed w); outcomes_are = told b.goes.gave; is_in = lands k w i; hears = hears_same (WasTold b.goes.gave) old.watched new.watched watched };
+        record { world = land w; goes = b.goes; events_are = subst (AreFiled old new lines w) (sym b.events_are) (filed k w i); outcomes_are = told b.goes.gave; is_in = lands k w i; hears = hears_same (WasTold b.goes.gave) old.watched new.watched watched };
   }
 
   -- only lines came to the journal of a store that is not spent
@@ -570,7 +587,7 @@ module _ {K J I : Type 0} {an : _} {g : _} {s : _} {d : _} (contents : J → Opt
       by_one (Stop m) (λ w. stops_of w m (nth w.nodes m)) old new as_old.schema as_old.count as_old.watched as_old.clean (waiting (Ends m ∷ []))
       (subst (λ (x : Option (Scribe J)). IsContinued contents old.scribe x (waiting (Ends m ∷ []))) (sym as_old.scribe) came)
       (λ gave. one_told gave (Ends m) tt)
-      (λ w. one_idle old new (Ends m) (Stop m) w (m, inr refl) refl)
+      (λ k w i. one_idle old new (Ends m) (Stop m) w (m, inr refl) refl)
       (λ w. stop_goes (language_of old.schema) (length old.seats.items) w m)
       (λ k w i. as_old.went k w (record { seated = i.seated; under_way = λ other. i.under_way live }))
 
@@ -582,7 +599,7 @@ module _ {K J I : Type 0} {an : _} {g : _} {s : _} {d : _} (contents : J → Opt
       (λ k. fell.clean (neat k)) (waiting (Ends m ∷ []))
       (subst (λ (x : Option (Scribe J)). IsContinued contents x new.scribe (waiting (Ends m ∷ []))) fell.scribe (subst (λ (x : Option (Scribe J)). IsContinued contents old.scribe x (waiting (Ends m ∷ []))) (sym stops.scribe) came))
       (λ gave. one_told gave (Ends m) tt)
-      (λ w. one_idle first new (Ends m) (Stop m) w (m, inr refl) refl)
+      (λ k w i. one_idle first new (Ends m) (Stop m) w (m, inr refl) refl)
       (λ w. stop_goes (language_of first.schema) (length first.seats.items) w m)
       (λ k w i.
       let down = stops_of w m (nth w.nodes m) in
@@ -596,7 +613,7 @@ module _ {K J I : Type 0} {an : _} {g : _} {s : _} {d : _} (contents : J → Opt
       (λ k. fell.clean (neat k)) no_lines
       (subst (λ (x : Option (Scribe J)). IsContinued contents x new.scribe no_lines) fell.scribe came)
       (λ gave. told_silent gave [] (All-nil IsSilent))
-      (λ w. recorded_late (language_of first.schema) (length first.seats.items) w (reading_in first.scribe) (Stop m) (IsSpent new.scribe) (m, inr refl) spent)
+      (λ k w i. recorded_late (language_of first.schema) (length first.seats.items) w (reading_in first.scribe) (Stop m) (IsSpent new.scribe) (m, inr refl) spent)
       (λ w. stop_goes (language_of first.schema) (length first.seats.items) w m)
       (λ k w i.
       let there = fell.went (neat k) w i in
@@ -604,14 +621,19 @@ module _ {K J I : Type 0} {an : _} {g : _} {s : _} {d : _} (contents : J → Opt
       (let in_old : IsIn held holds (record old { scribe = new.scribe }) (stops_of w m (nth w.nodes m)) = record { seated = there.seated; under_way = λ live. absurd (live spent) } in in_old))
 
   -- a member was started, and its life came to the journal
-  pub lives : (m : ℕ) (stored : Summary) (old mid new : Store K J I an g s d) → StartsOne honest held holds m old mid → new ≡ record mid { scribe = new.scribe } → (IsSpent mid.scribe → ⊥) → IsContinued contents mid.scribe new.scribe (waiting (Life m stored ∷ [])) → On old new
-  lives m stored old mid new starts is live came =
-      let first = reading_in old.scribe in
+  pub lives : (m : ℕ) (stored : Summary) (old mid new : Store K J I an g s d) → StartsOne honest held holds m old mid → HasStored honest held holds mid m stored → new ≡ record mid { scribe = new.scribe } → (IsSpent mid.scribe → ⊥) → IsContinued contents mid.scribe new.scribe (waiting (Life m stored ∷ [])) → On old new
+  lives m stored old mid new starts has is live came =
+      let language = language_of old.schema in
+      let n = length old.seats.items in
       by_one (Start m) (λ w. starts_of w m (nth w.nodes m)) old new (ap (λ t. t.schema) is ∙ starts.schema) (ap (λ t. length t.seats.items) is ∙ starts.count) (ap (λ t. t.watched) is ∙ starts.watched)
       (λ k. starts.clean (subst (λ (t : Store K J I an g s d). AreClean honest holds t) is k)) (waiting (Life m stored ∷ []))
       (subst (λ (x : Option (Scribe J)). IsContinued contents x new.scribe (waiting (Life m stored ∷ []))) starts.scribe came)
       (λ gave. one_told gave (Life m stored) tt)
-      (λ w. one_idle old new (Life m stored) (Start m) w (m, inl refl) refl)
+      (λ k w i.
+      let v = starts_of w m (nth w.nodes m) in
+      let neat = subst (λ (t : Store K J I an g s d). AreClean honest holds t) is k in
+      let short : HasInShort w m stored = short_same v w m stored (sym (idle_stores language n (Start m) (m, inl refl) w)) (has neat v (starts.went neat w i)) in
+      one_idle old new (Life m stored) (Start m) w (m, inl refl) (refl, short))
       (λ w. start_goes (language_of old.schema) (length old.seats.items) w m)
       (λ k w i. written_in mid new is live (starts_of w m (nth w.nodes m)) (starts.went (subst (λ (t : Store K J I an g s d). AreClean honest holds t) is k) w i))
 
@@ -623,7 +645,7 @@ module _ {K J I : Type 0} {an : _} {g : _} {s : _} {d : _} (contents : J → Opt
       (λ k. starts.clean (subst (λ (t : Store K J I an g s d). AreClean honest holds t) is k)) no_lines
       (subst (λ (x : Option (Scribe J)). IsContinued contents x new.scribe no_lines) starts.scribe came)
       (λ gave. told_silent gave [] (All-nil IsSilent))
-      (λ w. recorded_late (language_of old.schema) (length old.seats.items) w (reading_in old.scribe) (Start m) (IsSpent new.scribe) (m, inl refl) spent)
+      (λ k w i. recorded_late (language_of old.schema) (length old.seats.items) w (reading_in old.scribe) (Start m) (IsSpent new.scribe) (m, inl refl) spent)
       (λ w. start_goes (language_of old.schema) (length old.seats.items) w m)
       (λ k w i.
       let there = starts.went (subst (λ (t : Store K J I an g s d). AreClean honest holds t) is k) w i in

@@ -6,25 +6,30 @@ use Rattle.std.specs.Prelude.{ℤ, is_none}
 use Rattle.std.proofs.Math.Seq.{take-add}
 use Rattle.std.proofs.lemmas.Grind.{flat_map-append}
 use Rattle.std.proofs.lemmas.List.{length-append}
-use Rattle.std.proofs.lemmas.List.Elements.{All-append, All-cons, All-head, All-nil, All-tail}
+use Rattle.std.proofs.lemmas.List.Elements.{All-append, All-cons, All-head, All-nil, All-tail, All-weaker}
 use Rattle.std.proofs.lemmas.Option.{same_Some, slice_get_within}
 use Rattle.model.specs.Lists.{nth, with_nth}
 use Rattle.model.specs.Members as model
 use Rattle.model.specs.Transactions.{Language}
-use Rattle.model.specs.Worlds.{World, Event, Output, Start, started, starts}
+use Rattle.model.specs.Worlds.{World, Event, Output, Start, run, started, starts, with_node}
 use Rattle.model.specs.Worlds.Output.{Applied}
 use Rattle.model.specs.declared.message.Message.{Message}
 use Rattle.journal.specs.declared.line.Line.{Line}
 use Rattle.journal.specs.declared.line.Line.TheVariants.{Life, Rests}
 use Rattle.journal.specs.declared.stored.Summary.{Summary}
 use Rattle.keep.specs.Durable.{Durable}
-use Rattle.sessions.specs.Kills.{opened}
+use Rattle.journal.specs.Digests.{summary_of}
+use Rattle.node.specs.Member.{member_of}
+use Rattle.node.specs.View.{durable_of}
+use Rattle.safety.proofs.Lists.{get_with}
+use Rattle.safety.proofs.Runs.{run_append}
+use Rattle.sessions.specs.Kills.{durable, opened}
 use Rattle.sessions.proofs.Lists.{further, get_short, get_there}
 use Rattle.sqlchecks.specs.Columns.{Tables}
 use Rattle.sqlread.specs.Meaning.{language_of}
 use Rattle.runlaws.specs.Going.{AreSeated, Goes, HasGiven}
 use Rattle.runlaws.proofs.Going.{further_events, goes_both, goes_further, goes_named, goes_nowhere, goes_to, nowhere_events, start_goes, starts_at, to_events}
-use Rattle.runlaws.proofs.Seats.{nth_next, set_next}
+use Rattle.runlaws.proofs.Seats.{nth_next, seated, set_next}
 use Rattle.store.specs.declared.members.Members.{Members}
 use Rattle.store.specs.declared.scribe.Scribe.{Scribe}
 use Rattle.store.specs.declared.seat.Seat.{Seat}
@@ -37,14 +42,16 @@ use Rattle.node.specs.declared.node.Node.{Node}
 use Rattle.store.specs.Journals.{IsSpent}
 use Rattle.store.specs.Lines.{and_then, lines_in, waiting}
 use Rattle.store.specs.Nodes.{IsNodeOf, Rests as AreRests}
-use Rattle.store.specs.Recording.{AreRecorded, IsStartOrStop, IsTrue, NobodyTells, RecordAll, Records}
+use Rattle.store.specs.Recording.{AreRecorded, HasInShort, IsStartOrStop, IsTrue, NobodyTells, RecordAll, Records, last_reading}
 use Rattle.store.specs.Seats.{HasMember, IsClean}
-use Rattle.store.specs.Opening.{AreFound, AreLaid, AreMembers, AreOpened, Begins, Files, Starts, risen, starts_of}
+use Rattle.store.specs.Opening.{AreFound, AreLaid, AreMembers, AreOpened, Begins, Files, HasAsHere, Starts, risen, starts_of}
 use Rattle.store.specs.Tales.{Told, tale_of}
 use Rattle.store.proofs.Continuing.{continued_both, continued_reading}
 use Rattle.store.proofs.Lines.{lines_then}
-use Rattle.store.proofs.Recording.{all_more, nobody_less, record_both, recorded_both, recorded_idle, silent_records, silent_true}
+use Rattle.store.proofs.Recording.{all_left, all_more, all_right, nobody_less, record_both, recorded_both, recorded_idle, silent_records, silent_true}
 use Rattle.store.proofs.Going.{lines_after, told_both}
+use Rattle.store.proofs.Stepping.{at_some, member_up, up_there}
+use Rattle.store.proofs.Storing.{idle_run, short_same}
 
 -- what stands in a list with one more at its end
 pub pushed : {A : Type 0} (xs : List A) (y z : A) (i : ℕ) → slice_get (xs ++ y ∷ []) i ≡ Some z → (slice_get xs i ≡ Some z) ⊎ ((i ≡ length xs) × (z ≡ y))
@@ -73,28 +80,92 @@ all_of P [] i x e all = absurd (cc e)
 all_of P (y ∷ ys) zero x e all = subst P (same_Some y x e) (All-head P y ys all)
 all_of P (y ∷ ys) (suc i) x e all = all_of P ys i x e (All-tail P y ys all)
 
+-- what holds of each that stands there holds of all
+all_by : {A : Type 0} (P : A → Type 0) (xs : List A) → ((i : ℕ) (x : A) → slice_get xs i ≡ Some x → P x) → All P xs
+all_by P [] each = All-nil P
+all_by P (x ∷ xs) each = All-cons P x xs (each 0 x refl) (all_by P xs (λ i y there. each (suc i) y there))
+
 -- where one of a list became another one
 pub on_became : {A B E : Type 0} (r : Result B E) (turn : A → A → Type 0) (old : List A) (at : ℕ) (before after : A) → slice_get old at ≡ Some before → OnOk r (turn before after) → OnOk r (Became turn at old (slice_set old at after))
 on_became (Ok x) turn old at before after there turned = record { before = before; after = after; there = there; now = refl; turned = turned }
 on_became (Err e) turn old at before after there turned = tt
 
+-- ---- a member that was started is up
+
+-- if there is such a member, it is up
+abbrev IsUpAt : World → ℕ → Type 0
+IsUpAt w m = (x : model.Node) → nth w.nodes m ≡ Some x → x.up ≡ true
+
+start_keeps : (w : World) (k m : ℕ) → IsUpAt w m → IsUpAt (starts w k (nth w.nodes k)) m
+start_keeps w k m up = go (nth w.nodes k)
+  where
+    at : (z : model.Node) (b : Bool) → IsUpAt (if b then w else with_node w k (started z) []) m
+    at z true = up
+    at z false = λ x there. get_with (λ (j : ℕ) (y : model.Node). j ≡ m → y.up ≡ true) w.nodes k (started z) (λ e. refl) (λ j y apart p e. up y (ap (nth w.nodes) (sym e) ∙ p)) m x there refl
+
+    go : (o : Option model.Node) → IsUpAt (starts w k o) m
+    go None = up
+    go (Some z) = at z z.up
+
+start_makes : (w : World) (m : ℕ) → IsUpAt (starts w m (nth w.nodes m)) m
+start_makes w m = go (nth w.nodes m) refl
+  where
+    at : (z : model.Node) (b : Bool) → nth w.nodes m ≡ Some z → z.up ≡ b → IsUpAt (if b then w else with_node w m (started z) []) m
+    at z true there up = λ x p. let same : x ≡ z = cc (there, p) in ap (λ (y : model.Node). y.up) same ∙ up
+    at z false there up = λ x p. get_with (λ (j : ℕ) (y : model.Node). j ≡ m → y.up ≡ true) w.nodes m (started z) (λ e. refl) (λ j y apart q e. absurd (apart e)) m x p refl
+
+    go : (o : Option model.Node) → nth w.nodes m ≡ o → IsUpAt (starts w m o) m
+    go None none = λ x p. absurd (cc (none, p))
+    go (Some z) there = at z z.up there refl
+
 -- ---- lines that record events, one after another
 
-module _ {J : Type 0} (contents : J → Option (List ℕ)) where
-  pub files_silent : (s t : Option (Scribe J)) → IsKeptOn contents s t → Files contents s t []
-  files_silent s t (lines, silent, on) = (lines, on, silent_records (reading_in s) (lines_in lines) silent, silent_true NobodyTells (lines_in lines) silent)
+module _ {K J I : Type 0} {an : _} {g : _} {s : _} {d : _} where
+  -- the start of the member of this seat, if it is up
+  abbrev start_of : Seat K J I an g s d → List Event
+  start_of seat = if is_none seat.node then [] else (Start seat.member ∷ [])
 
-  pub files_both : (s t u : Option (Scribe J)) (a b : List Event) → Files contents s t a → Files contents t u b → Files contents s u (a ++ b)
-  files_both s t u a b (one, first, x, none) (two, second, y, neither) = (
+  -- starts start members
+  pub starts_idle : (seats : List (Seat K J I an g s d)) → All IsStartOrStop (starts_of seats)
+  starts_idle [] = All-nil IsStartOrStop
+  starts_idle (seat ∷ seats) = go (is_none seat.node) (starts_idle seats)
+    where
+      go : (none : Bool) → All IsStartOrStop (starts_of seats) → All IsStartOrStop ((if none then [] else (Start seat.member ∷ [])) ++ starts_of seats)
+      go true rest = rest
+      go false rest = All-cons IsStartOrStop (Start seat.member) (starts_of seats) (seat.member, inl refl) rest
+
+  -- a member that has in one world stored what it has stored here has it in each with the same stored
+  here_too : (honest : K → Type 0) (w v : World) → durable v ≡ durable w → (seat : Seat K J I an g s d) → HasAsHere honest w seat → HasAsHere honest v seat
+  here_too honest w v same seat has = λ node is. let h = has node is in (h.0, h.1, short_same w v seat.member (summary_of (durable_of (member_of node))) same h.2)
+
+module _ {K J I : Type 0} {an : _} {g : _} {s : _} {d : _} (contents : J → Option (List ℕ)) (honest : K → Type 0) where
+  pub files_silent : (t u : Option (Scribe J)) (seats : List (Seat K J I an g s d)) → seats ≡ [] → IsKeptOn contents t u → Files contents honest t u seats
+  files_silent t u seats nobody (lines, silent, on) = (
+    lines,
+    on,
+    λ language n w has. subst (λ (xs : List (Seat K J I an g s d)). RecordAll language n w (reading_in t) (lines_in lines) (starts_of xs)) (sym nobody) (silent_records language n w (reading_in t) (lines_in lines) silent),
+    silent_true NobodyTells (lines_in lines) silent,
+  )
+
+  pub files_both : (t u v : Option (Scribe J)) (a b : List (Seat K J I an g s d)) → Files contents honest t u a → Files contents honest u v b → Files contents honest t v (a ++ b)
+  files_both t u v a b (one, first, x, none) (two, second, y, neither) = (
     and_then one two,
-    continued_both contents s t u one two first second,
-    subst (λ (lines : List Line). RecordAll (reading_in s) lines (a ++ b)) (sym (lines_then one two))
-        (record_both (reading_in s) (lines_in one) (lines_in two) a b x (subst (λ (r : Option ℤ). RecordAll r (lines_in two) b) (continued_reading contents s t one first) y)),
+    continued_both contents t u v one two first second,
+    λ language n w has.
+        let before : All (HasAsHere honest w) a = all_left (HasAsHere honest w) a b has in
+        let later : World = run language n w (starts_of a) in
+        let behind : All (HasAsHere honest later) b = All-weaker (HasAsHere honest w) (HasAsHere honest later) (here_too honest w later (idle_run language n (starts_of a) (starts_idle a) w)) b (all_right (HasAsHere honest w) a b has) in
+        let then_those : RecordAll language n later (last_reading (reading_in t) (lines_in one)) (lines_in two) (starts_of b) =
+        subst (λ (r : Option ℤ). RecordAll language n later r (lines_in two) (starts_of b)) (continued_reading contents t u one first) (y language n later behind) in
+        let all : RecordAll language n w (reading_in t) (lines_in one ++ lines_in two) (starts_of a ++ starts_of b) =
+        record_both language n w (reading_in t) (lines_in one) (lines_in two) (starts_of a) (starts_of b) (x language n w before) then_those in
+        subst (λ (lines : List Line). RecordAll language n w (reading_in t) lines (starts_of (a ++ b))) (sym (lines_then one two))
+        (subst (RecordAll language n w (reading_in t) (lines_in one ++ lines_in two)) (sym (flat_map-append start_of a b)) all),
     subst (All (IsTrue NobodyTells)) (sym (lines_then one two)) (All-append (IsTrue NobodyTells) (lines_in one) (lines_in two) none neither),
   )
 
-  pub files_on : (s t u : Option (Scribe J)) (events : List Event) → Files contents s t events → IsKeptOn contents t u → Files contents s u events
-  files_on s t u events one on = subst (Files contents s u) (append-nil events) (files_both s t u events [] one (files_silent t u on))
+  pub files_on : (t u v : Option (Scribe J)) (seats : List (Seat K J I an g s d)) → Files contents honest t u seats → IsKeptOn contents u v → Files contents honest t v seats
+  files_on t u v seats one on = subst (Files contents honest t v) (append-nil seats) (files_both t u v seats [] one (files_silent u v [] refl on))
 
 -- ---- worlds where these messages were sent
 
@@ -148,10 +219,6 @@ module _ {K J I : Type 0} {an : _} {g : _} {s : _} {d : _} where
   }
 
   -- ---- members that are started one after the other
-
-  -- the start of the member of this seat, if it is up
-  abbrev start_of : Seat K J I an g s d → List Event
-  start_of seat = if is_none seat.node then [] else (Start seat.member ∷ [])
 
   -- what becomes of the members of these seats
   abbrev all_risen : List (Seat K J I an g s d) → List model.Node → List model.Node
@@ -214,13 +281,20 @@ module _ {K J I : Type 0} {an : _} {g : _} {s : _} {d : _} where
 
   -- ---- lines that a journal begins with
 
+  -- what a seat says of its member that is up
+  abbrev Tells : (honest : K → Type 0) → Seat K J I an g s d → Line → Type 0
+  Tells honest seat line = ForSome seat.node (λ node. node.is_up ≡ true → honest node.keeper → line ≡ Life seat.member (summary_of (durable_of (member_of node))))
+
   -- what a member begins it with records its start
-  head_records : (seat : Seat K J I an g s d) (line : Line) (reading : Option ℤ) → (seat.node ≡ None → line ≡ Rests seat.member seat.tale.stored) → ForSome seat.node (λ node. (stored : Summary) × (line ≡ Life seat.member stored)) → RecordAll reading (line ∷ []) (starts_of (seat ∷ []))
-  head_records seat line reading down life = (start_of seat, [], go seat.node refl, refl, refl)
+  head_records : (honest : K → Type 0) (language : Language) (n : ℕ) (w : World) (seat : Seat K J I an g s d) (line : Line) (reading : Option ℤ) → (seat.node ≡ None → line ≡ Rests seat.member seat.tale.stored) → Tells honest seat line → HasAsHere honest w seat →
+      RecordAll language n w reading (line ∷ []) (starts_of (seat ∷ []))
+  head_records honest language n w seat line reading down up has = (start_of seat, [], go seat.node refl, refl, refl)
     where
-      go : (o : Option (Node K I g s)) → seat.node ≡ o → Records reading line (start_of seat)
-      go None is = subst (λ (l : Line). Records reading l (start_of seat)) (sym (down is)) (ap (λ (o : Option (Node K I g s)). if is_none o then [] else (Start seat.member ∷ [])) is)
-      go (Some node) is = let l = life node is in subst (λ (l : Line). Records reading l (start_of seat)) (sym l.1) (ap (λ (o : Option (Node K I g s)). if is_none o then [] else (Start seat.member ∷ [])) is)
+      go : (o : Option (Node K I g s)) → seat.node ≡ o → Records w reading line (start_of seat)
+      go None is = subst (λ (l : Line). Records w reading l (start_of seat)) (sym (down is)) (ap (λ (o : Option (Node K I g s)). if is_none o then [] else (Start seat.member ∷ [])) is)
+      go (Some node) is =
+          let h = has node is in
+          subst (λ (l : Line). Records w reading l (start_of seat)) (sym (up node is h.0 h.1)) (ap (λ (o : Option (Node K I g s)). if is_none o then [] else (Start seat.member ∷ [])) is, h.2)
 
   -- and has no outcome
   head_true : (seat : Seat K J I an g s d) (line : Line) → (seat.node ≡ None → line ≡ Rests seat.member seat.tale.stored) → ForSome seat.node (λ node. (stored : Summary) × (line ≡ Life seat.member stored)) → IsTrue NobodyTells line
@@ -230,9 +304,9 @@ module _ {K J I : Type 0} {an : _} {g : _} {s : _} {d : _} where
       go None is = subst (IsTrue NobodyTells) (sym (down is)) tt
       go (Some node) is = let l = life node is in subst (IsTrue NobodyTells) (sym l.1) tt
 
-  -- the starts of the first of these seats, and of the next one
-  pub next_starts : (seats : List (Seat K J I an g s d)) (at : ℕ) → starts_of (take (at + 1) seats) ≡ starts_of (take at seats) ++ starts_of (take 1 (drop at seats))
-  next_starts seats at = ap starts_of (take-add at 1 seats) ∙ flat_map-append start_of (take at seats) (take 1 (drop at seats))
+  -- the first of these seats, and the next one
+  pub next_seats : (seats : List (Seat K J I an g s d)) (at : ℕ) → take (at + 1) seats ≡ take at seats ++ take 1 (drop at seats)
+  next_seats seats at = take-add at 1 seats
 
   -- the seat that stands there
   one_there : (seats : List (Seat K J I an g s d)) (at : ℕ) (seat : Seat K J I an g s d) → slice_get seats at ≡ Some seat → take 1 (drop at seats) ≡ seat ∷ []
@@ -247,19 +321,37 @@ module _ {K J I : Type 0} {an : _} {g : _} {s : _} {d : _} where
   none_there (first ∷ seats) zero past = absurd (omega (arith, past))
   none_there (first ∷ seats) (suc at) past = none_there seats at (omega (arith, past))
 
-  pub head_files : (contents : J → Option (List ℕ)) (seats : List (Seat K J I an g s d)) (at : ℕ) (seat : Seat K J I an g s d) (old new : Option (Scribe J)) (line : Line) → slice_get seats at ≡ Some seat → (seat.node ≡ None → line ≡ Rests seat.member seat.tale.stored) →
-      ForSome seat.node (λ node. (stored : Summary) × (line ≡ Life seat.member stored)) → IsContinued contents old new (waiting (line ∷ [])) → Files contents old new (starts_of (take 1 (drop at seats)))
-  head_files contents seats at seat old new line there down life on =
-      (waiting (line ∷ []), on, subst (λ (xs : List (Seat K J I an g s d)). RecordAll (reading_in old) (line ∷ []) (starts_of xs)) (sym (one_there seats at seat there)) (head_records seat line (reading_in old) down life), All-cons (IsTrue NobodyTells) line [] (head_true seat line down life) (All-nil (IsTrue NobodyTells)))
+  pub head_files : (contents : J → Option (List ℕ)) (honest : K → Type 0) (seats : List (Seat K J I an g s d)) (at : ℕ) (seat : Seat K J I an g s d) (old new : Option (Scribe J)) (line : Line) → slice_get seats at ≡ Some seat → (seat.node ≡ None → line ≡ Rests seat.member seat.tale.stored) →
+      ForSome seat.node (λ node. (stored : Summary) × (line ≡ Life seat.member stored)) → Tells honest seat line → IsContinued contents old new (waiting (line ∷ [])) → Files contents honest old new (take 1 (drop at seats))
+  head_files contents honest seats at seat old new line there down life up on = (
+    waiting (line ∷ []),
+    on,
+    λ language n w has.
+        let R : List (Seat K J I an g s d) → Type 0 = λ xs. All (HasAsHere honest w) xs → RecordAll language n w (reading_in old) (line ∷ []) (starts_of xs) in
+        subst R (sym (one_there seats at seat there)) (λ h. head_records honest language n w seat line (reading_in old) down up (All-head (HasAsHere honest w) seat [] h)) has,
+    All-cons (IsTrue NobodyTells) line [] (head_true seat line down life) (All-nil (IsTrue NobodyTells)),
+  )
 
-  -- starts start members
-  pub starts_idle : (seats : List (Seat K J I an g s d)) → All IsStartOrStop (starts_of seats)
-  starts_idle [] = All-nil IsStartOrStop
-  starts_idle (seat ∷ seats) = go (is_none seat.node) (starts_idle seats)
-    where
-      go : (none : Bool) → All IsStartOrStop (starts_of seats) → All IsStartOrStop ((if none then [] else (Start seat.member ∷ [])) ++ starts_of seats)
-      go true rest = rest
-      go false rest = All-cons IsStartOrStop (Start seat.member) (starts_of seats) (seat.member, inl refl) rest
+  -- ---- members that were started are up
+
+  module _ (language : Language) (n : ℕ) where
+    starts_keep : (seats : List (Seat K J I an g s d)) (w : World) (m : ℕ) → IsUpAt w m → IsUpAt (run language n w (starts_of seats)) m
+    starts_keep [] w m up = up
+    starts_keep (seat ∷ seats) w m up = go (is_none seat.node) (λ v there. starts_keep seats v m there)
+      where
+        go : (none : Bool) → ((v : World) → IsUpAt v m → IsUpAt (run language n v (starts_of seats)) m) → IsUpAt (run language n w ((if none then [] else (Start seat.member ∷ [])) ++ starts_of seats)) m
+        go true later = later w up
+        go false later = later (starts w seat.member (nth w.nodes seat.member)) (start_keeps w seat.member m up)
+
+    starts_make : (seats : List (Seat K J I an g s d)) (w : World) (i : ℕ) (seat : Seat K J I an g s d) (node : Node K I g s) → slice_get seats i ≡ Some seat → seat.node ≡ Some node → IsUpAt (run language n w (starts_of seats)) seat.member
+    starts_make [] w i seat node there is = absurd (cc there)
+    starts_make (first ∷ seats) w zero seat node there is =
+        let same : first ≡ seat = same_Some first seat there in
+        let start : start_of first ≡ Start seat.member ∷ [] = ap start_of same ∙ ap (λ (o : Option (Node K I g s)). if is_none o then [] else (Start seat.member ∷ [])) is in
+        subst (λ (es : List Event). IsUpAt (run language n w (es ++ starts_of seats)) seat.member) (sym start)
+        (starts_keep seats (starts w seat.member (nth w.nodes seat.member)) seat.member (start_makes w seat.member))
+    starts_make (first ∷ seats) w (suc i) seat node there is =
+        subst (λ (v : World). IsUpAt v seat.member) (sym (run_append language n (start_of first) (starts_of seats) w)) (starts_make seats (run language n w (start_of first)) i seat node there is)
 
   -- ---- a store of which only the journal and what is noted become others
 
@@ -373,9 +465,33 @@ module _ {K J I : Type 0} {an : _} {g : _} {s : _} {d : _} (honest : K → Type 
     under_way = λ live. (sent ∙ sym (ap length none), subst (All (λ (l : Letter). nth w.sent l.number ≡ Some l.message)) (sym queue) (All-nil (λ (l : Letter). nth w.sent l.number ≡ Some l.message)));
   }
 
+  -- what the members of these seats that are up have stored there, they had stored where their starts began
+  all_here : (tables : Tables) (n : ℕ) (seats : List (Seat K J I an g s d)) (u w : World) → w ≡ run (language_of tables) n u (starts_of seats) → All (IsClean honest holds) seats → AreMembers held holds tables n seats w → All (HasAsHere honest u) seats
+  all_here tables n seats u w leads clean A = all_by (HasAsHere honest u) seats each
+    where
+      language : Language
+      language = language_of tables
+
+      same : durable u ≡ durable w
+      same = sym (ap durable leads ∙ idle_run (language_of tables) n (starts_of seats) (starts_idle seats) u)
+
+      each : (i : ℕ) (seat : Seat K J I an g s d) → slice_get seats i ≡ Some seat → HasAsHere honest u seat
+      each i seat there = λ node is.
+          let Has : ℕ → Seat K J I an g s d → model.Node → Type 0 = λ m t x. HasMember held holds tables n m t x in
+          let sits = seated Has seats w.nodes A (suc i) seat there in
+          let x = sits.0 in
+          let me : seat.member ≡ suc i = sits.2.0 in
+          let at : nth w.nodes seat.member ≡ Some x = ap (nth w.nodes) me ∙ sits.1 in
+          let up : x.up ≡ true = starts_make (language_of tables) n seats u i seat node there is x (subst (λ (v : World). nth v.nodes seat.member ≡ Some x) leads at) in
+          let neat : honest node.keeper = at_some seat.node node _ (λ (z : Node K I g s). honest z.keeper) is (all_of (IsClean honest holds) seats i seat there clean) in
+          let its : IsNodeOf held tables n (suc i) node x = at_some seat.node node _ (λ (z : Node K I g s). IsNodeOf held tables n (suc i) z x) is sits.2.1 in
+          let running : node.is_up ≡ true = up_there (held node.keeper) node.is_up x (member_of node) its.is up in
+          let short : HasInShort w seat.member (summary_of (durable_of (member_of node))) = (x, at, ap (λ (z : model.Node). summary_of (durable_of z)) (sym (member_up held node x running its.is))) in
+          (running, neat, short_same w u seat.member (summary_of (durable_of (member_of node))) same short)
+
   -- its first lines were written, and then it went on
   pub begins : (contents : J → Option (List ℕ)) (members : Members K J I an g s d) (scribe : Scribe J) (head last : Store K J I an g s d) → head.schema ≡ members.schema → head.seats.items ≡ members.seats.items → head.queue.items ≡ [] → head.sent ≡ 0 →
-      Files contents (Some scribe) head.scribe (starts_of members.seats.items) → GoesOn contents honest held holds head last → Begins contents honest held holds members scribe last
+      Files contents honest (Some scribe) head.scribe members.seats.items → GoesOn contents honest held holds head last → Begins contents honest held holds members scribe last
   begins contents members scribe head last schema seats queue sent (lines, on, recorded, untold) later = record {
     schema = later.schema ∙ schema;
     count = later.count ∙ ap length seats;
@@ -387,8 +503,9 @@ module _ {K J I : Type 0} {an : _} {g : _} {s : _} {d : _} (honest : K → Type 
         let n = length members.seats.items in
         let went = later.went k w (begins_in members head schema seats queue sent w none has) in
         let named = goes_named language (language_of head.schema) n (length head.seats.items) w went.world (ap language_of schema) (ap length seats) went.goes in
+        let here = all_here members.schema n members.seats.items u w (starts.leads ∙ ap (run language n u) are) (subst (All (IsClean honest holds)) seats (later.clean k)) has in
         let first : AreRecorded language n u scribe.reading lines starts.events ⊥ =
-        recorded_idle language n u scribe.reading lines starts.events ⊥ (subst (RecordAll scribe.reading (lines_in lines)) (sym are) recorded) (subst (All IsStartOrStop) (sym are) (starts_idle members.seats.items)) in
+        recorded_idle language n u scribe.reading lines starts.events ⊥ (subst (RecordAll language n u scribe.reading (lines_in lines)) (sym are) (recorded language n u here)) (subst (All IsStartOrStop) (sym are) (starts_idle members.seats.items)) in
         let after : AreRecorded language n w (reading_in head.scribe) later.lines went.goes.events (IsSpent last.scribe) =
         subst (λ (k : ℕ). AreRecorded language k w (reading_in head.scribe) later.lines went.goes.events (IsSpent last.scribe)) (ap length seats)
         (subst (λ (t : Tables). AreRecorded (language_of t) (length head.seats.items) w (reading_in head.scribe) later.lines went.goes.events (IsSpent last.scribe)) schema went.events_are) in

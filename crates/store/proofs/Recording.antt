@@ -25,17 +25,31 @@ pub last_both : (reading : Option ℤ) (one two : List Line) → last_reading re
 last_both reading [] two = refl
 last_both reading (line ∷ one) two = last_both (reading_after reading line) one two
 
-pub record_both : (reading : Option ℤ) (one two : List Line) (x y : List Event) → RecordAll reading one x → RecordAll (last_reading reading one) two y → RecordAll reading (one ++ two) (x ++ y)
-record_both reading [] two x y a b = subst (λ (z : List Event). RecordAll reading two (z ++ y)) (sym a) b
-record_both reading (line ∷ one) two x y (first, rest, h, more, is) b =
-    (first, rest ++ y, h, record_both (reading_after reading line) one two rest y more b, ap (λ (z : List Event). z ++ y) is ∙ append_assoc first rest y)
+module _ (language : Language) (n : ℕ) where
+  -- lines from another world, which is the same
+  pub record_from : (w v : World) (reading : Option ℤ) (lines : List Line) (events : List Event) → v ≡ w → RecordAll language n w reading lines events → RecordAll language n v reading lines events
+  record_from w v reading lines events same r = subst (λ (u : World). RecordAll language n u reading lines events) (sym same) r
 
--- what the first of these lines record, and what those behind them do
-pub record_split : (reading : Option ℤ) (one two : List Line) (events : List Event) → RecordAll reading (one ++ two) events → (x y : List Event) × (events ≡ x ++ y) × RecordAll reading one x × RecordAll (last_reading reading one) two y
-record_split reading [] two events r = ([], events, refl, refl, r)
-record_split reading (line ∷ one) two events (first, rest, h, more, is) =
-    let split = record_split (reading_after reading line) one two rest more in
-    (first ++ split.0, split.1, is ∙ ap (λ (z : List Event). first ++ z) split.2 ∙ sym (append_assoc first split.0 split.1), (first, split.0, h, split.3, refl), split.4)
+  pub record_both : (w : World) (reading : Option ℤ) (one two : List Line) (x y : List Event) → RecordAll language n w reading one x → RecordAll language n (run language n w x) (last_reading reading one) two y → RecordAll language n w reading (one ++ two) (x ++ y)
+  record_both w reading [] two x y a b = subst (λ (z : List Event). RecordAll language n (run language n w z) reading two y → RecordAll language n w reading two (z ++ y)) (sym a) (λ r. r) b
+  record_both w reading (line ∷ one) two x y (first, rest, h, more, is) b =
+      let v = run language n w first in
+      let there = record_from (run language n w x) (run language n v rest) (last_reading reading (line ∷ one)) two y (sym (ap (run language n w) is ∙ run_append language n first rest w)) b in
+      (first, rest ++ y, h, record_both v (reading_after reading line) one two rest y more there, ap (λ (z : List Event). z ++ y) is ∙ append_assoc first rest y)
+
+  -- what the first of these lines record, and what those behind them do
+  pub record_split : (w : World) (reading : Option ℤ) (one two : List Line) (events : List Event) → RecordAll language n w reading (one ++ two) events →
+      (x y : List Event) × (events ≡ x ++ y) × RecordAll language n w reading one x × RecordAll language n (run language n w x) (last_reading reading one) two y
+  record_split w reading [] two events r = ([], events, refl, refl, r)
+  record_split w reading (line ∷ one) two events (first, rest, h, more, is) =
+      let v = run language n w first in
+      let split = record_split v (reading_after reading line) one two rest more in (
+        first ++ split.0,
+        split.1,
+        is ∙ ap (λ (z : List Event). first ++ z) split.2 ∙ sym (append_assoc first split.0 split.1),
+        (first, split.0, h, split.3, refl),
+        record_from (run language n v split.0) (run language n w (first ++ split.0)) (last_reading reading (line ∷ one)) two split.1 (run_append language n first split.0 w) split.4,
+      )
 
 -- ---- what lines tell of requests
 
@@ -112,35 +126,36 @@ silent_quiet tells lines s = All-weaker IsSilent (IsQuiet tells) (quiet_more Nob
 
 -- ---- lines that record nothing
 
-quiet_none : (tells : ℕ → Told → Type 0) (reading : Option ℤ) (line : Line) → IsQuiet tells line → Records reading line []
-quiet_none tells reading (Opens journal sum marks) q = refl
-quiet_none tells reading (Rests m stored) q = refl
-quiet_none tells reading (Life m stored) q = absurd q
-quiet_none tells reading (Clock now) q = refl
-quiet_none tells reading (Takes m taken) q = absurd q
-quiet_none tells reading (Saves m stored) q = refl
-quiet_none tells reading (Made m outcomes) q = refl
-quiet_none tells reading (Ends m) q = absurd q
-quiet_none tells reading (Answer m query answer) q = refl
-quiet_none tells reading (Printed client number words) q = refl
+quiet_none : (tells : ℕ → Told → Type 0) (w : World) (reading : Option ℤ) (line : Line) → IsQuiet tells line → Records w reading line []
+quiet_none tells w reading (Opens journal sum marks) q = refl
+quiet_none tells w reading (Rests m stored) q = refl
+quiet_none tells w reading (Life m stored) q = absurd q
+quiet_none tells w reading (Clock now) q = refl
+quiet_none tells w reading (Takes m taken) q = absurd q
+quiet_none tells w reading (Saves m stored) q = refl
+quiet_none tells w reading (Made m outcomes) q = refl
+quiet_none tells w reading (Ends m) q = absurd q
+quiet_none tells w reading (Answer m query answer) q = refl
+quiet_none tells w reading (Printed client number words) q = refl
 
-quiet_records : (tells : ℕ → Told → Type 0) (reading : Option ℤ) (lines : List Line) → All (IsQuiet tells) lines → RecordAll reading lines []
-quiet_records tells reading [] q = refl
-quiet_records tells reading (line ∷ lines) q = ([], [], quiet_none tells reading line (All-head (IsQuiet tells) line lines q), quiet_records tells (reading_after reading line) lines (All-tail (IsQuiet tells) line lines q), refl)
+module _ (language : Language) (n : ℕ) (w : World) where
+  quiet_records : (tells : ℕ → Told → Type 0) (reading : Option ℤ) (lines : List Line) → All (IsQuiet tells) lines → RecordAll language n w reading lines []
+  quiet_records tells reading [] q = refl
+  quiet_records tells reading (line ∷ lines) q = ([], [], quiet_none tells w reading line (All-head (IsQuiet tells) line lines q), quiet_records tells (reading_after reading line) lines (All-tail (IsQuiet tells) line lines q), refl)
 
-pub silent_records : (reading : Option ℤ) (lines : List Line) → All IsSilent lines → RecordAll reading lines []
-silent_records reading lines s = quiet_records NobodyTells reading lines s
+  pub silent_records : (reading : Option ℤ) (lines : List Line) → All IsSilent lines → RecordAll language n w reading lines []
+  silent_records reading lines s = quiet_records NobodyTells reading lines s
 
 pub silent_both : (one two : List Line) → All IsSilent one → All IsSilent two → All IsSilent (one ++ two)
 silent_both one two a b = All-append IsSilent one two a b
 
-quiet_left : (tells : ℕ → Told → Type 0) (one two : List Line) → All (IsQuiet tells) (one ++ two) → All (IsQuiet tells) one
-quiet_left tells [] two q = All-nil (IsQuiet tells)
-quiet_left tells (line ∷ one) two q = All-cons (IsQuiet tells) line one (All-head (IsQuiet tells) line (one ++ two) q) (quiet_left tells one two (All-tail (IsQuiet tells) line (one ++ two) q))
+pub all_left : {A : Type 0} (P : A → Type 0) (one two : List A) → All P (one ++ two) → All P one
+all_left P [] two q = All-nil P
+all_left P (x ∷ one) two q = All-cons P x one (All-head P x (one ++ two) q) (all_left P one two (All-tail P x (one ++ two) q))
 
-quiet_right : (tells : ℕ → Told → Type 0) (one two : List Line) → All (IsQuiet tells) (one ++ two) → All (IsQuiet tells) two
-quiet_right tells [] two q = q
-quiet_right tells (line ∷ one) two q = quiet_right tells one two (All-tail (IsQuiet tells) line (one ++ two) q)
+pub all_right : {A : Type 0} (P : A → Type 0) (one two : List A) → All P (one ++ two) → All P two
+all_right P [] two q = q
+all_right P (x ∷ one) two q = all_right P one two (All-tail P x (one ++ two) q)
 
 pub silent_one : (line : Line) → IsSilent line → All IsSilent (line ∷ [])
 silent_one line s = All-cons IsSilent line [] s (All-nil IsSilent)
@@ -168,9 +183,9 @@ lines_behind before line more rest = line_behind before line (more ++ rest) ∙ 
 
 module _ (language : Language) (n : ℕ) where
   -- starts and stops
-  pub recorded_idle : (w : World) (reading : Option ℤ) (lines : Lines) (events : List Event) (spent : Type 0) → RecordAll reading (lines_in lines) events → All IsStartOrStop events → AreRecorded language n w reading lines events spent
+  pub recorded_idle : (w : World) (reading : Option ℤ) (lines : Lines) (events : List Event) (spent : Type 0) → RecordAll language n w reading (lines_in lines) events → All IsStartOrStop events → AreRecorded language n w reading lines events spent
   recorded_idle w reading lines events spent r idle =
-      let split = record_split reading (filed_in lines) lines.rest events r in
+      let split = record_split language n w reading (filed_in lines) lines.rest events r in
       record {
         filed = split.0;
         waiting = split.1;
@@ -185,7 +200,7 @@ module _ (language : Language) (n : ℕ) where
 
   pub recorded_silent : (w : World) (reading : Option ℤ) (lines : Lines) (events : List Event) (spent : Type 0) → events ≡ [] → All IsSilent (lines_in lines) → AreRecorded language n w reading lines events spent
   recorded_silent w reading lines events spent none s =
-      subst (λ (es : List Event). AreRecorded language n w reading lines es spent) (sym none) (recorded_idle w reading lines [] spent (silent_records reading (lines_in lines) s) (All-nil IsStartOrStop))
+      subst (λ (es : List Event). AreRecorded language n w reading lines es spent) (sym none) (recorded_idle w reading lines [] spent (silent_records language n w reading (lines_in lines) s) (All-nil IsStartOrStop))
 
   -- a start or a stop that no line records
   pub recorded_late : (w : World) (reading : Option ℤ) (event : Event) (spent : Type 0) → IsStartOrStop event → spent → AreRecorded language n w reading no_lines (event ∷ []) spent
@@ -202,7 +217,7 @@ module _ (language : Language) (n : ℕ) where
   }
 
   -- a step that was begun, which stored nothing else unless a block was written
-  pub recorded_step : (tells : ℕ → Told → Type 0) (w : World) (reading : Option ℤ) (m : ℕ) (taken : Taken) (lines : Lines) (event : Event) (spent : Type 0) → Records reading (Takes m taken) (event ∷ []) → All (IsQuiet tells) (lines_in lines) → (lines.groups ≡ [] → durable (happens language n w event) ≡ durable w) →
+  pub recorded_step : (tells : ℕ → Told → Type 0) (w : World) (reading : Option ℤ) (m : ℕ) (taken : Taken) (lines : Lines) (event : Event) (spent : Type 0) → Records w reading (Takes m taken) (event ∷ []) → All (IsQuiet tells) (lines_in lines) → (lines.groups ≡ [] → durable (happens language n w event) ≡ durable w) →
       AreRecorded language n w reading (with_begun (Takes m taken ∷ []) lines) (event ∷ []) spent
   recorded_step tells w reading m taken lines event spent r silent same = go lines.groups lines.rest silent same
     where
@@ -214,7 +229,7 @@ module _ (language : Language) (n : ℕ) where
         lost = [];
         events_are = refl;
         on_device = refl;
-        in_buffer = (event ∷ [], [], r, quiet_records tells reading rest quiet, refl);
+        in_buffer = (event ∷ [], [], r, quiet_records language n (happens language n w event) tells reading rest quiet, refl);
         idle = All-nil IsStartOrStop;
         none = inl refl;
         stored = keeps refl;
@@ -226,8 +241,8 @@ module _ (language : Language) (n : ℕ) where
             waiting = [];
             lost = [];
             events_are = refl;
-            on_device = (event ∷ [], [], r, quiet_records tells reading more (quiet_left tells more rest quiet), refl);
-            in_buffer = quiet_records tells (last_reading reading (Takes m taken ∷ more)) rest (quiet_right tells more rest quiet);
+            on_device = (event ∷ [], [], r, quiet_records language n (happens language n w event) tells reading more (all_left (IsQuiet tells) more rest quiet), refl);
+            in_buffer = quiet_records language n (happens language n w event) tells (last_reading reading (Takes m taken ∷ more)) rest (all_right (IsQuiet tells) more rest quiet);
             idle = All-nil IsStartOrStop;
             none = inl refl;
             stored = refl;
@@ -238,8 +253,8 @@ module _ (language : Language) (n : ℕ) where
       AreRecorded language n w reading (and_then (waiting (before ++ line ∷ [])) lines) events spent
   recorded_after w reading before line lines events spent silent recorded = go lines.groups lines.rest recorded
     where
-      quiet : RecordAll reading before []
-      quiet = silent_records reading before silent
+      quiet : RecordAll language n w reading before []
+      quiet = silent_records language n w reading before silent
 
       go : (groups : List (List Line)) (rest : List Line) → AreRecorded language n w (last_reading reading before) (with_begun (line ∷ []) (record { groups = groups; rest = rest })) events spent →
           AreRecorded language n w reading (and_then (waiting (before ++ line ∷ [])) (record { groups = groups; rest = rest })) events spent
@@ -249,7 +264,9 @@ module _ (language : Language) (n : ℕ) where
         lost = r.lost;
         events_are = r.events_are;
         on_device = r.on_device;
-        in_buffer = subst (λ (x : List Line). RecordAll reading x r.waiting) (line_behind before line rest) (record_both reading before (line ∷ rest) [] r.waiting quiet r.in_buffer);
+        in_buffer =
+            let v = run language n w r.filed in
+            subst (λ (x : List Line). RecordAll language n v reading x r.waiting) (line_behind before line rest) (record_both language n v reading before (line ∷ rest) [] r.waiting (silent_records language n v reading before silent) r.in_buffer);
         idle = r.idle;
         none = r.none;
         stored = r.stored;
@@ -262,8 +279,8 @@ module _ (language : Language) (n : ℕ) where
             waiting = r.waiting;
             lost = r.lost;
             events_are = r.events_are;
-            on_device = subst (λ (x : List Line). RecordAll reading x r.filed) path (record_both reading before (line ∷ (group ++ more)) [] r.filed quiet r.on_device);
-            in_buffer = subst (λ (x : Option ℤ). RecordAll x rest r.waiting) (sym (last_both reading before (line ∷ (group ++ more))) ∙ ap (last_reading reading) path) r.in_buffer;
+            on_device = subst (λ (x : List Line). RecordAll language n w reading x r.filed) path (record_both language n w reading before (line ∷ (group ++ more)) [] r.filed quiet r.on_device);
+            in_buffer = subst (λ (x : Option ℤ). RecordAll language n (run language n w r.filed) x rest r.waiting) (sym (last_both reading before (line ∷ (group ++ more))) ∙ ap (last_reading reading) path) r.in_buffer;
             idle = r.idle;
             none = r.none;
             stored = r.stored;
@@ -288,7 +305,11 @@ module _ (language : Language) (n : ℕ) where
       live none [] rest c =
           let is : x ≡ a.filed ++ a.waiting = a.events_are ∙ ap (λ (z : List Event). a.filed ++ (a.waiting ++ z)) none ∙ ap (λ (z : List Event). a.filed ++ z) (append-nil a.waiting) in
           let same = append-nil one.groups in
-          let shown : RecordAll (last_reading (last_reading reading (filed_in one)) one.rest) rest c.waiting = subst (λ (r : Option ℤ). RecordAll r rest c.waiting) (last_both reading (filed_in one) one.rest) c.in_buffer in
+          let u = run language n w a.filed in
+          let there : run language n u a.waiting ≡ run language n (run language n w x) c.filed = sym (run_append language n a.filed a.waiting w) ∙ ap (run language n w) (sym is) ∙ ap (run language n (run language n w x)) (sym c.on_device) in
+          let shown : RecordAll language n (run language n u a.waiting) (last_reading (last_reading reading (filed_in one)) one.rest) rest c.waiting =
+          record_from language n (run language n (run language n w x) c.filed) (run language n u a.waiting) (last_reading (last_reading reading (filed_in one)) one.rest) rest c.waiting there
+          (subst (λ (r : Option ℤ). RecordAll language n (run language n (run language n w x) c.filed) r rest c.waiting) (last_both reading (filed_in one) one.rest) c.in_buffer) in
           let all : AreRecorded language n w reading (and_then one (record { groups = []; rest = rest })) (x ++ y) late = record {
             filed = a.filed;
             waiting = a.waiting ++ c.waiting;
@@ -298,9 +319,9 @@ module _ (language : Language) (n : ℕ) where
                 ∙ ap (λ (z : List Event). (a.filed ++ a.waiting) ++ z) (c.events_are ∙ ap (λ (z : List Event). z ++ (c.waiting ++ c.lost)) c.on_device)
                 ∙ append_assoc a.filed a.waiting (c.waiting ++ c.lost)
                 ∙ ap (λ (z : List Event). a.filed ++ z) (sym (append_assoc a.waiting c.waiting c.lost));
-            on_device = subst (λ (gs : List (List Line)). RecordAll reading (flat_map (λ (g : List Line). g) gs) a.filed) (sym same) a.on_device;
-            in_buffer = subst (λ (gs : List (List Line)). RecordAll (last_reading reading (flat_map (λ (g : List Line). g) gs)) (one.rest ++ rest) (a.waiting ++ c.waiting)) (sym same)
-                (record_both (last_reading reading (filed_in one)) one.rest rest a.waiting c.waiting a.in_buffer shown);
+            on_device = subst (λ (gs : List (List Line)). RecordAll language n w reading (flat_map (λ (g : List Line). g) gs) a.filed) (sym same) a.on_device;
+            in_buffer = subst (λ (gs : List (List Line)). RecordAll language n u (last_reading reading (flat_map (λ (g : List Line). g) gs)) (one.rest ++ rest) (a.waiting ++ c.waiting)) (sym same)
+                (record_both language n u (last_reading reading (filed_in one)) one.rest rest a.waiting c.waiting a.in_buffer shown);
             idle = c.idle;
             none = c.none;
             stored = long y ∙ c.stored ∙ ap (λ (z : List Event). durable (run language n (run language n w x) z)) c.on_device ∙ a.stored;
@@ -310,6 +331,11 @@ module _ (language : Language) (n : ℕ) where
           let is : x ≡ a.filed ++ a.waiting = a.events_are ∙ ap (λ (z : List Event). a.filed ++ (a.waiting ++ z)) none ∙ ap (λ (z : List Event). a.filed ++ z) (append-nil a.waiting) in
           let more = group ++ flat_map (λ (g : List Line). g) groups in
           let path = filed_lines one.groups one.rest group groups in
+          let first = a.filed ++ a.waiting in
+          let before : RecordAll language n w reading (lines_in one) first = record_both language n w reading (filed_in one) one.rest a.filed a.waiting a.on_device a.in_buffer in
+          let then_filed : RecordAll language n (run language n w first) (last_reading reading (lines_in one)) more c.filed =
+          record_from language n (run language n w x) (run language n w first) (last_reading reading (lines_in one)) more c.filed (ap (run language n w) (sym is)) c.on_device in
+          let there : run language n w (first ++ c.filed) ≡ run language n (run language n w x) c.filed = ap (λ (z : List Event). run language n w (z ++ c.filed)) (sym is) ∙ run_append language n x c.filed w in
           let all : AreRecorded language n w reading (and_then one (record { groups = group ∷ groups; rest = rest })) (x ++ y) late = record {
             filed = (a.filed ++ a.waiting) ++ c.filed;
             waiting = c.waiting;
@@ -318,9 +344,9 @@ module _ (language : Language) (n : ℕ) where
                 ap (λ (z : List Event). z ++ y) is
                 ∙ ap (λ (z : List Event). (a.filed ++ a.waiting) ++ z) c.events_are
                 ∙ sym (append_assoc (a.filed ++ a.waiting) c.filed (c.waiting ++ c.lost));
-            on_device = subst (λ (ls : List Line). RecordAll reading ls ((a.filed ++ a.waiting) ++ c.filed)) (sym path)
-                (record_both reading (lines_in one) more (a.filed ++ a.waiting) c.filed (record_both reading (filed_in one) one.rest a.filed a.waiting a.on_device a.in_buffer) c.on_device);
-            in_buffer = subst (λ (r : Option ℤ). RecordAll r rest c.waiting) (sym (last_both reading (lines_in one) more) ∙ ap (last_reading reading) (sym path)) c.in_buffer;
+            on_device = subst (λ (ls : List Line). RecordAll language n w reading ls (first ++ c.filed)) (sym path) (record_both language n w reading (lines_in one) more first c.filed before then_filed);
+            in_buffer = subst (λ (r : Option ℤ). RecordAll language n (run language n w (first ++ c.filed)) r rest c.waiting) (sym (last_both reading (lines_in one) more) ∙ ap (last_reading reading) (sym path))
+                (record_from language n (run language n (run language n w x) c.filed) (run language n w (first ++ c.filed)) (last_reading (last_reading reading (lines_in one)) more) rest c.waiting there c.in_buffer);
             idle = c.idle;
             none = c.none;
             stored = long y ∙ c.stored ∙ sym (long c.filed) ∙ ap (λ (z : List Event). durable (run language n w (z ++ c.filed))) is;

@@ -86,6 +86,11 @@ module _ {K I : Type 0} {g : _} {s : _} (held : K → Durable → Type 0) where
   pub member_up : (node : Node K I g s) (x : model.Node) → node.is_up ≡ true → IsMember held node x → x ≡ member_of node
   member_up node x u is = subst (λ (b : Bool). MatchBool b (x ≡ member_of node) (Rests (held node.keeper) x)) u is
 
+-- a node whose member is up is up
+pub up_there : (held : Durable → Type 0) (b : Bool) (x y : model.Node) → MatchBool b (x ≡ y) (Rests held x) → x.up ≡ true → b ≡ true
+up_there held true x y is up = refl
+up_there held false x y rests up = absurd (cc (rests.0, up))
+
 -- a node whose keeper gave something back: what it holds is no more
 pub given_back : {K I : Type 0} {g : _} {s : _} (held : K → Durable → Type 0) (node : Node K I g s) (holds : Durable → Type 0) (other y : model.Node) → other ≡ member_of node → ((d : Durable) → holds d → held node.keeper d) → IsMember held node y → MatchBool node.is_up (y ≡ other) (Rests holds y)
 given_back held node holds other y same less is = go node.is_up is

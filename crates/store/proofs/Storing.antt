@@ -1,5 +1,5 @@
 -- Events after which the members have stored what they had stored before.
-use Rattle.std.proofs.Common.{◌≡◌, ◌∙◌, ⊎_elim, ℕ, Bool, true, false, Option, Some, None, List, [], ◌∷◌, ◌++◌, refl, ap, if◌then◌else◌}
+use Rattle.std.proofs.Common.{◌≡◌, ◌∙◌, ⊎_elim, ℕ, zero, suc, Bool, true, false, Option, Some, None, List, [], ◌∷◌, ◌++◌, slice_get, refl, sym, ap, if◌then◌else◌}
 use Rattle.std.specs.Prelude.{All}
 use Rattle.std.specs.Option.{option_map_or}
 use Rattle.std.proofs.lemmas.List.Elements.{All-head, All-tail, All-nil, All-cons}
@@ -8,15 +8,25 @@ use Rattle.model.specs.Members.{Node}
 use Rattle.model.specs.Transactions.{Language}
 use Rattle.model.specs.declared.message.Message.{Message}
 use Rattle.model.specs.Worlds.{World, Event, Start, Stop, happens, run, started, stopped, with_node}
+use Rattle.journal.specs.Digests.{summary_of}
+use Rattle.journal.specs.declared.stored.Summary.{Summary}
 use Rattle.node.specs.View.{durable_of}
 use Rattle.sessions.specs.Kills.{durable}
-use Rattle.sessions.proofs.Lists.{with_as_good}
+use Rattle.sessions.proofs.Lists.{get_map, of_map, with_as_good}
 use Rattle.store.specs.Nodes.{rested}
-use Rattle.store.specs.Recording.{IsStartOrStop}
+use Rattle.store.specs.Recording.{HasInShort, IsStartOrStop}
 
 -- a member that becomes another one with the same stored
 pub same_stored : (w : World) (m : ℕ) (x y : Node) (sent : List Message) → nth w.nodes m ≡ Some x → durable_of y ≡ durable_of x → durable (with_node w m y sent) ≡ durable w
 same_stored w m x y sent at is = with_as_good stopped w.nodes m x y at (ap rested is)
+
+-- in worlds whose members have stored the same each has the same stored
+pub short_same : (w v : World) (m : ℕ) (stored : Summary) → durable v ≡ durable w → HasInShort w m stored → HasInShort v m stored
+short_same w v zero stored same (x, at, is) = absurd (cc at)
+short_same w v (suc i) stored same (x, at, is) =
+    let there : slice_get (durable v) i ≡ Some (stopped x) = ap (λ (xs : List Node). slice_get xs i) same ∙ get_map stopped w.nodes i x at in
+    let y = of_map stopped v.nodes i (stopped x) there in
+    (y.0, y.1, is ∙ ap (λ (z : Node). summary_of (durable_of z)) (sym y.2))
 
 pub idle_left : (one two : List Event) → All IsStartOrStop (one ++ two) → All IsStartOrStop one
 idle_left [] two all = All-nil IsStartOrStop

@@ -1,9 +1,14 @@
 -- What a store is opened from.
-use Rattle.std.specs.Prelude.{◌≡◌, ◌+◌, ◌<◌, ◌↔◌, ℕ, false, Option, Some, None, List, [], ◌∷◌, ◌++◌, is_some, is_none, if◌then◌else◌, flat_map, length, slice_get, MatchOption}
+use Rattle.std.specs.Prelude.{◌≡◌, ◌+◌, ◌<◌, ◌↔◌, ℕ, true, false, Option, Some, None, List, [], ◌∷◌, ◌++◌, is_some, is_none, if◌then◌else◌, flat_map, length, slice_get, MatchOption}
 use Rattle.std.specs.List.{All, count_by}
+use Rattle.std.specs.Option.{ForSome}
 use Rattle.model.specs.Members.{Node}
+use Rattle.model.specs.Transactions.{Language}
 use Rattle.model.specs.Worlds.{World, Event, Start, started}
 use Rattle.keep.specs.Durable.{Durable}
+use Rattle.journal.specs.Digests.{summary_of}
+use Rattle.node.specs.Member.{member_of}
+use Rattle.node.specs.View.{durable_of}
 use Rattle.sessions.specs.Kills.{opened}
 use Rattle.sqlchecks.specs.Columns.{Tables}
 use Rattle.sqlread.specs.Meaning.{language_of}
@@ -19,7 +24,7 @@ use Rattle.store.specs.Continuing.{IsContinued, reading_in}
 use Rattle.store.specs.Going.{AreClean, AreToldIn, IsIn, IsRunOf}
 use Rattle.store.specs.Journals.{IsSpent}
 use Rattle.store.specs.Lines.{Lines, lines_in}
-use Rattle.store.specs.Recording.{AreRecorded, IsTrue, NobodyTells, RecordAll}
+use Rattle.store.specs.Recording.{AreRecorded, HasInShort, IsTrue, NobodyTells, RecordAll}
 use Rattle.store.specs.Tales.{Told, tale_of}
 
 -- how many of these databases are there
@@ -30,10 +35,6 @@ there_in images = count_by is_some images
 abbrev pub AreMost : {I : Type 0} → List (Option I) → Type 0
 AreMost images = length images < there_in images + there_in images
 
--- lines came to the journal that record these events and have no outcome
-abbrev pub Files : {J : Type 0} → (contents : J → Option (List ℕ)) → Option (Scribe J) → Option (Scribe J) → List Event → Type 0
-Files contents old new events = (lines : Lines) × IsContinued contents old new lines × RecordAll (reading_in old) (lines_in lines) events × All (IsTrue NobodyTells) (lines_in lines)
-
 -- these members are down, and each has stored what its database holds, if it is there and holds anything
 abbrev pub AreFound : {I : Type 0} → (holds : I → Durable → Type 0) → List (Option I) → List Node → Type 0
 AreFound holds images found = AreSeated (λ m image x. MatchOption image (x.up ≡ false) (λ i. Rests (holds i) x)) images found
@@ -42,6 +43,16 @@ module _ {K J I : Type 0} {an : _} {g : _} {s : _} {d : _} where
   -- the start of each member of these seats that is up, in their order
   abbrev pub starts_of : List (Seat K J I an g s d) → List Event
   starts_of seats = flat_map (λ (seat : Seat K J I an g s d). if is_none seat.node then [] else (Start seat.member ∷ [])) seats
+
+  -- the member of a seat, if it has a node, is up, took nothing wrong as true, and has in this world stored what it has stored here
+  abbrev pub HasAsHere : (honest : K → Type 0) → World → Seat K J I an g s d → Type 0
+  HasAsHere honest w seat = ForSome seat.node (λ node. (node.is_up ≡ true) × honest node.keeper × HasInShort w seat.member (summary_of (durable_of (member_of node))))
+
+  -- lines came to the journal that have no outcome, and record the starts of these members from each world in which they have stored what they
+  -- have stored here
+  abbrev pub Files : (contents : J → Option (List ℕ)) → (honest : K → Type 0) → Option (Scribe J) → Option (Scribe J) → List (Seat K J I an g s d) → Type 0
+  Files contents honest old new seats = (lines : Lines) × IsContinued contents old new lines × ((language : Language) (n : ℕ) (w : World) → All (HasAsHere honest w) seats → RecordAll language n w (reading_in old) (lines_in lines) (starts_of seats)) ×
+      All (IsTrue NobodyTells) (lines_in lines)
 
   -- a seat for each database, whose member is not started yet, with what is told of it
   pub record AreLaid (told : Told) (images : List (Option I)) (seats : List (Seat K J I an g s d)) : Type 0 where

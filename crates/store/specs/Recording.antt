@@ -9,8 +9,13 @@ use Rattle.model.specs.declared.event.Job.TheVariants.{Local, Delivery}
 use Rattle.model.specs.declared.event.Left.{Left}
 use Rattle.model.specs.declared.message.Input.TheVariants.{Timeout as TheTimeout, Beat as TheBeat, Close as TheClose, Floor as TheFloor, Submit as TheSubmit}
 use Rattle.model.specs.Transactions.{Language}
+use Rattle.model.specs.Lists.{nth}
+use Rattle.model.specs.Members.{Node}
 use Rattle.model.specs.Worlds.{World, Event, Start, Stop, Torn, run}
+use Rattle.node.specs.View.{durable_of}
 use Rattle.sessions.specs.Kills.{durable, whole}
+use Rattle.journal.specs.Digests.{summary_of}
+use Rattle.journal.specs.declared.stored.Summary.{Summary}
 use Rattle.journal.specs.declared.line.Taken.{Taken}
 use Rattle.journal.specs.declared.line.Taken.TheVariants.{Timeout, Beat, Close, Floor, Submit, Message}
 use Rattle.journal.specs.declared.line.Line.{Line}
@@ -38,17 +43,21 @@ job_of now (Message number) = Delivery number now
 abbrev pub IsStep : ℕ → Job → Event → Type 0
 IsStep m job event = (event ≡ whole m job) ⊎ ((left : Left) × (event ≡ Torn m job left))
 
--- a line records these events: a start, a step, a stop, or none
-abbrev pub Records : Option ℤ → Line → List Event → Type 0
-Records reading (Life m stored) events = events ≡ Start m ∷ []
-Records reading (Takes m taken) events = (now : ℤ) × (reading ≡ Some now) × (event : Event) × IsStep m (job_of now taken) event × (events ≡ event ∷ [])
-Records reading (Ends m) events = events ≡ Stop m ∷ []
-Records reading line events = events ≡ []
+-- the member has this stored, in short
+abbrev pub HasInShort : World → ℕ → Summary → Type 0
+HasInShort w m stored = (x : Node) × (nth w.nodes m ≡ Some x) × (stored ≡ summary_of (durable_of x))
 
--- lines record these events, in order
-abbrev pub RecordAll : Option ℤ → List Line → List Event → Type 0
-RecordAll reading [] events = events ≡ []
-RecordAll reading (line ∷ lines) events = (first rest : List Event) × Records reading line first × RecordAll (reading_after reading line) lines rest × (events ≡ first ++ rest)
+-- from this world on a line records these events: a start of a member, which has this stored, a step, a stop, or none
+abbrev pub Records : World → Option ℤ → Line → List Event → Type 0
+Records w reading (Life m stored) events = (events ≡ Start m ∷ []) × HasInShort w m stored
+Records w reading (Takes m taken) events = (now : ℤ) × (reading ≡ Some now) × (event : Event) × IsStep m (job_of now taken) event × (events ≡ event ∷ [])
+Records w reading (Ends m) events = events ≡ Stop m ∷ []
+Records w reading line events = events ≡ []
+
+-- from this world on lines record these events, in order
+abbrev pub RecordAll : Language → ℕ → World → Option ℤ → List Line → List Event → Type 0
+RecordAll language n w reading [] events = events ≡ []
+RecordAll language n w reading (line ∷ lines) events = (first rest : List Event) × Records w reading line first × RecordAll language n (run language n w first) (reading_after reading line) lines rest × (events ≡ first ++ rest)
 
 -- ---- what lines tell of requests
 
@@ -91,8 +100,8 @@ pub record AreRecorded (language : Language) (n : ℕ) (w : World) (reading : Op
   pub waiting : List Event
   pub lost : List Event
   pub events_are : events ≡ filed ++ (waiting ++ lost)
-  pub on_device : RecordAll reading (filed_in lines) filed
-  pub in_buffer : RecordAll (last_reading reading (filed_in lines)) lines.rest waiting
+  pub on_device : RecordAll language n w reading (filed_in lines) filed
+  pub in_buffer : RecordAll language n (run language n w filed) (last_reading reading (filed_in lines)) lines.rest waiting
   pub idle : All IsStartOrStop lost
   pub none : (lost ≡ []) ⊎ spent
   pub stored : durable (run language n w events) ≡ durable (run language n w filed)

@@ -144,6 +144,7 @@ where
         known: &mut KnownLog,
     ) -> Result<(), StoreRefusal>
         ensures up { OnOk result (IsSome self.new.node) }
+        ensures runs { OnOk result (self.old.node ≡ None → ForSome self.new.node (λ n. n.is_up ≡ true)) }
         ensures err { OnErr result (self.new.node ≡ None) }
         ensures other { result ≢ Err StoreRefusal.TooFew }
         ensures still { IsSome self.old.node → self.new ≡ self.old }

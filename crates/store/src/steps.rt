@@ -8,7 +8,7 @@ ghost use Rattle.journal.specs.declared.line.Taken.{Taken as TheTaken};
 ghost use Rattle.store.specs.Continuing.{IsKeptOn, reading_in};
 ghost use Rattle.store.specs.Going.{Anywhere, BeginsStep, GoesOn, GoesOnFrom, GoesOnSo, HasSent, HasStepped, Hears, IsAmong, IsBrought, MayHaveStepped, Publishes, PublishesSo, SaysWhy, Stops};
 ghost use Rattle.flight.specs.Telling.{outcomes_of};
-ghost use Rattle.store.specs.Noting.{Rise, new_in};
+ghost use Rattle.store.specs.Noting.{HasMade, Rise, new_in};
 ghost use Rattle.store.specs.Recording.{AreOf, OneTells, job_of};
 ghost use Rattle.store.specs.Journals.{IsSpent, HasLast};
 ghost use Rattle.store.specs.Refusals.{IsOfJournal};
@@ -170,6 +170,7 @@ where
         ensures why { IfErr result IsOfJournal }
         ensures fails { OnErr result (IsSpent self.new.scribe) }
         ensures passes { PublishesSo K.Journal.contents (OneTells member out.told.items) self.old self.new out.messages.items out.told.items }
+        ensures made { OnOk result (Rise out.told.items → HasMade K.Journal.contents self.old.scribe self.new.scribe member (outcomes_of (new_in self.old.noted out.told.items))) }
     {
         let Out {
             messages,

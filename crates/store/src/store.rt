@@ -5,7 +5,7 @@ ghost use Rattle.store.specs.Continuing.{HasBegun, IsContinued, IsKeptOn};
 ghost use Rattle.store.specs.Lines.{no_lines, waiting};
 ghost use Rattle.store.specs.Recording.{IsSilent};
 ghost use Rattle.store.specs.Going.{GoesOn, Publishes};
-ghost use Rattle.store.specs.Opening.{Begins, Files, starts_of};
+ghost use Rattle.store.specs.Opening.{Begins, Files};
 ghost use Rattle.store.specs.Journals.{IsSpent, IsAdded, IsLonger, IsFlushed, IsOpened, IsAllOn, IsPartOn, device_in};
 ghost use Rattle.store.specs.Refusals.{IsOfJournal};
 
@@ -106,7 +106,7 @@ where
     // The first block of the journal.
     fn write_head(&mut self, journal: u64, marks: u64) -> Result<(), StoreRefusal>
         ensures opens { OnOk result (IsOpened K.Journal.contents self.old.scribe self.new.scribe journal marks) }
-        ensures heads { OnOk result (Files K.Journal.contents self.old.scribe self.new.scribe (starts_of self.old.seats.items)) }
+        ensures heads { OnOk result (Files K.Journal.contents K.is_honest self.old.scribe self.new.scribe self.old.seats.items) }
         ensures same { self.new ≡ record self.old { scribe = self.new.scribe; noted = self.new.noted } }
     {
         let sum = match &self.scribe {
@@ -127,7 +127,7 @@ where
     // What a member begins the journal with.
     fn write_seat(&mut self, at: usize) -> Result<(), StoreRefusal>
         ensures longer { OnOk result (IsLonger self.old.scribe self.new.scribe) }
-        ensures heads { OnOk result (Files K.Journal.contents self.old.scribe self.new.scribe (starts_of (take 1 (drop at self.old.seats.items)))) }
+        ensures heads { OnOk result (Files K.Journal.contents K.is_honest self.old.scribe self.new.scribe (take 1 (drop at self.old.seats.items))) }
         ensures same { self.new ≡ record self.old { scribe = self.new.scribe; noted = self.new.noted } }
     {
         let Some(seat) = self.seats.get(at) else {

@@ -294,7 +294,9 @@ module _ {K J I : Type 0} {an : _} {g : _} {s : _} {d : _} (held : K → Durable
             all = λ unspent nothing.
                 let up = live last last.failure is refl unspent in
                 let none : rest ≡ [] = no_text rest (sym left ∙ sym (c.live up).1 ∙ nothing) in
-                let quiet : r.waiting ≡ [] = subst (λ (lines : List Line). RecordAll (last_reading scribe.reading (filed_in filed.lines)) lines r.waiting) none r.in_buffer in
+                let language = language_of store.schema in
+                let n = length store.seats.items in
+                let quiet : r.waiting ≡ [] = subst (λ (lines : List Line). RecordAll language n (run language n (opened found) r.filed) (last_reading scribe.reading (filed_in filed.lines)) lines r.waiting) none r.in_buffer in
                 ap (λ (x : List Event). x ++ r.lost) quiet ∙ ⊎_elim (λ (e : r.lost ≡ []). e) (λ spent. absurd (unspent spent)) r.none;
           }
 

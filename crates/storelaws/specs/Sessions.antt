@@ -90,7 +90,7 @@ module _ {K J I : Type 0} {an : _} {g : _} {s : _} {d : _} where
     pub gave_is : came.goes.gave ≡ gave ++ gave_later
     pub gives : GivesAll (language_of store.schema) (length store.seats.items) (opened found) events gave
     pub stored : durable came.world ≡ durable (run (language_of store.schema) (length store.seats.items) (opened found) events)
-    pub recorded : RecordAll scribe.reading (flat_map (λ (group : List Line). group) groups) events
+    pub recorded : RecordAll (language_of store.schema) (length store.seats.items) (opened found) scribe.reading (flat_map (λ (group : List Line). group) groups) events
     pub all : (IsSpent store.scribe → ⊥) → string_bytes last.buffer ≡ [] → later ≡ []
 
   -- the session of which the file has this

@@ -54,7 +54,7 @@ where
 
 /// A session's journal. While nothing wrong was taken as true, the lines that came to it, from where its scribe stood as the store began,
 /// record the starts of its members and each event since, in order: a step whole or cut short, with what was taken and what clocks showed, a
-/// start, a stop, and no other. Only starts and stops may be missing at the end of a journal that can't be written any more; they store
+/// start, with what the member had stored, a stop, and no other. Only starts and stops may be missing at the end of a journal that can't be written any more; they store
 /// nothing. Each outcome in a `Made` line its member told in the session. With each call these go on, and what was on the device of them is
 /// there still.
 pub fn is_filed<K: Announces>(members: &Members<K>, old: &Store<K>, new: &Store<K>)

@@ -52,4 +52,4 @@ returns-clause-stored g c =
     let before = c.index_mut-seat.result.now in
     starts_stored g.K.Journal.Device.contents g.K.LogReader.is_honest g.K.LogReader.may_hold g.K.Keeper.holds old _ at before c.start.new.self
     (record { there = slice_get_read old.seats.items (length old.seats.items) at before refl c.in-Some.ensures.some.0 c.index_mut-seat.ensures.value; seats = refl; schema = refl; queue = refl; sent = refl; watched = refl; journal = kept_same g.K.Journal.Device.contents old.scribe; clean = c.start.ensures.clean })
-    c.args.member c.in-Some.ensures.some.1 c.stored.result c.stored.ensures
+    c.args.member c.in-Some.ensures.some.1 (c.in_ok-start.ensures.runs (search rules)) c.stored.result c.stored.ensures

@@ -1,19 +1,19 @@
-use Rattle.std.proofs.Common.{◌≡◌, ◌∙◌, [], ap, arith, drop, length, refl, rules, subst, sym, take}
+use Rattle.std.proofs.Common.{◌≡◌, ◌∙◌, ap, arith, drop, length, refl, rules, subst, sym, take}
 use Rattle.std.proofs.lemmas.List.{take_all}
 use Rattle.std.proofs.lemmas.List.Elements.{All-nil}
 use Rattle.journal.specs.declared.line.Line.TheVariants.{Opens}
-use Rattle.store.specs.Opening.{Files, starts_of}
+use Rattle.store.specs.Opening.{Files}
 use Rattle.store.specs.Lines.{no_lines}
 use Rattle.store.specs.Recording.{IsTrue, NobodyTells}
 use Rattle.store.proofs.Continuing.{continued_same, kept_by}
-use Rattle.store.proofs.Opening.{files_both, files_on, files_silent, next_starts, only_both, only_then}
+use Rattle.store.proofs.Opening.{files_both, files_on, files_silent, next_seats, only_both, only_then}
 use Rattle.store.proofs.Written.{longer_none, longer_more, on_opened, then_ok}
 use Rattle.store.proofs.store.Store.write_head.Goals as goal
 
 pub loop-at-init : goal.loop-at-init
 loop-at-init g c = record {
   longer = longer_none c.write.new.self.scribe;
-  heads = (no_lines, continued_same g.K.Journal.Device.contents c.write.new.self.scribe, refl, All-nil (IsTrue NobodyTells));
+  heads = (no_lines, continued_same g.K.Journal.Device.contents c.write.new.self.scribe, λ language n w has. refl, All-nil (IsTrue NobodyTells));
   same = refl;
 }
 
@@ -24,10 +24,11 @@ loop-at-preserved g c =
     let mid = c.loop-at.self in
     let new = c.write_seat.new.self in
     let seats = first.seats.items in
-    let one = subst (λ xs. Files contents mid.scribe new.scribe (starts_of (take 1 (drop c.loop-at.at xs)))) (ap (λ t. t.seats.items) c.loop-at.invariant.same) c.in_ok-write_seat.ensures.heads in
+    let honest = g.K.LogReader.is_honest in
+    let one = subst (λ xs. Files contents honest mid.scribe new.scribe (take 1 (drop c.loop-at.at xs))) (ap (λ t. t.seats.items) c.loop-at.invariant.same) c.in_ok-write_seat.ensures.heads in
     record {
       longer = longer_more first.scribe mid.scribe new.scribe c.loop-at.invariant.longer c.in_ok-write_seat.ensures.longer;
-      heads = subst (Files contents first.scribe new.scribe) (sym (next_starts seats c.loop-at.at)) (files_both contents first.scribe mid.scribe new.scribe (starts_of (take c.loop-at.at seats)) (starts_of (take 1 (drop c.loop-at.at seats))) c.loop-at.invariant.heads one);
+      heads = subst (Files contents honest first.scribe new.scribe) (sym (next_seats seats c.loop-at.at)) (files_both contents honest first.scribe mid.scribe new.scribe (take c.loop-at.at seats) (take 1 (drop c.loop-at.at seats)) c.loop-at.invariant.heads one);
       same = only_both first mid new c.loop-at.invariant.same c.write_seat.ensures.same;
     }
 
@@ -54,9 +55,10 @@ returns-clause-heads g c =
     let len : c.len-at-end.result ≡ length first.seats.items = search rules in
     let test = c.loop-at-test.false in
     let all : take at first.seats.items ≡ old.seats.items = take_all at first.seats.items (omega (arith, len, test)) ∙ seats in
-    let opens = files_silent contents old.scribe first.scribe (kept_by contents old.scribe first.scribe line tt c.in_ok-write.ensures.continues) in
-    let heads = subst (λ xs. Files contents first.scribe mid.scribe (starts_of xs)) all c.loop-at.invariant.heads in
-    then_ok c.flush.result (λ ok. files_on contents old.scribe mid.scribe new.scribe (starts_of old.seats.items) (files_both contents old.scribe first.scribe mid.scribe [] (starts_of old.seats.items) opens heads) c.flush.ensures.continues) c.flush.ensures.ok
+    let honest = g.K.LogReader.is_honest in
+    let opens = files_silent contents honest old.scribe first.scribe (take 0 old.seats.items) refl (kept_by contents old.scribe first.scribe line tt c.in_ok-write.ensures.continues) in
+    let heads = subst (λ xs. Files contents honest first.scribe mid.scribe xs) all c.loop-at.invariant.heads in
+    then_ok c.flush.result (λ ok. files_on contents honest old.scribe mid.scribe new.scribe old.seats.items (files_both contents honest old.scribe first.scribe mid.scribe (take 0 old.seats.items) old.seats.items opens heads) c.flush.ensures.continues) c.flush.ensures.ok
 
 pub returns-clause-same : goal.returns-clause-same
 returns-clause-same g c =

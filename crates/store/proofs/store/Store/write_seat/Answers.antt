@@ -19,7 +19,7 @@ pub returns-in_default-clause-heads : goal.returns-in_default-clause-heads
 returns-in_default-clause-heads g c =
     let old = c.args.self.now in
     let past = subst (λ xs. length xs ≤ c.args.at) c.deref.ensures.value c.in_default.ensures.lookup.3 in
-    (no_lines, continued_same g.K.Journal.Device.contents old.scribe, ap starts_of (none_there old.seats.items c.args.at past), All-nil (IsTrue NobodyTells))
+    (no_lines, continued_same g.K.Journal.Device.contents old.scribe, λ language n w has. ap starts_of (none_there old.seats.items c.args.at past), All-nil (IsTrue NobodyTells))
 
 pub returns-in-Some-announced-clause-longer : goal.returns-in-Some-announced-clause-longer
 returns-in-Some-announced-clause-longer g c =
@@ -42,8 +42,8 @@ returns-in-Some-announced-clause-heads g c =
     let found = c.deref.result.now in
     let there = subst (λ xs. slice_get xs c.args.at ≡ Some seat) c.deref.ensures.value (slice_get_read found (length found) c.args.at seat refl look.3.0 look.1) in
     let on = subst (λ s. IsContinued contents s c.write.new.self.scribe (waiting (c.head-head.result ∷ []))) (ap (λ t. t.scribe) same) c.in_ok-write.ensures.continues in
-    let head = head_files contents old.seats.items c.args.at seat old.scribe c.write.new.self.scribe c.head-head.result there c.head-head.ensures.down c.head-head.ensures.life on in
-    then_ok call.result (λ more. files_on contents old.scribe c.write.new.self.scribe call.new.self.scribe (starts_of (take 1 (drop c.args.at old.seats.items))) head (kept_by contents c.write.new.self.scribe call.new.self.scribe line tt more)) call.ensures.continues
+    let head = head_files contents g.K.LogReader.is_honest old.seats.items c.args.at seat old.scribe c.write.new.self.scribe c.head-head.result there c.head-head.ensures.down c.head-head.ensures.life c.head-head.ensures.up on in
+    then_ok call.result (λ more. files_on contents g.K.LogReader.is_honest old.scribe c.write.new.self.scribe call.new.self.scribe (take 1 (drop c.args.at old.seats.items)) head (kept_by contents c.write.new.self.scribe call.new.self.scribe line tt more)) call.ensures.continues
 
 pub returns-in-Some-announced-clause-same : goal.returns-in-Some-announced-clause-same
 returns-in-Some-announced-clause-same g c =
@@ -68,7 +68,7 @@ returns-clause-heads g c =
     let found = c.deref.result.now in
     let there = subst (λ xs. slice_get xs c.args.at ≡ Some seat) c.deref.ensures.value (slice_get_read found (length found) c.args.at seat refl look.3.0 look.1) in
     let on = subst (λ s. IsContinued contents s c.write.new.self.scribe (waiting (c.head-head.result ∷ []))) (ap (λ t. t.scribe) same) c.in_ok-write.ensures.continues in
-    head_files contents old.seats.items c.args.at seat old.scribe c.write.new.self.scribe c.head-head.result there c.head-head.ensures.down c.head-head.ensures.life on
+    head_files contents g.K.LogReader.is_honest old.seats.items c.args.at seat old.scribe c.write.new.self.scribe c.head-head.result there c.head-head.ensures.down c.head-head.ensures.life c.head-head.ensures.up on
 
 pub returns-clause-same : goal.returns-clause-same
 returns-clause-same g c =
