@@ -21,7 +21,7 @@ use shell::sim::run_sim;
 use shell::since_run::run_since;
 use shell::stop::Stop;
 use std::alloc::Global;
-use std::fs::File;
+use std::fs::{File, OpenOptions};
 use std::io::{BufWriter, IsTerminal, Read, Write};
 use std::process::ExitCode;
 use std::rt::{Env, Files};
@@ -35,7 +35,23 @@ const SIM: &str = "playing the script";
 // How many columns a terminal has.
 const TERMINAL: usize = 80;
 
+// The null device, if it can be opened.
+fn null_device(rt: &HostRuntime) -> Option<File> {
+    OpenOptions::new()
+        .read(true)
+        .write(true)
+        .open(rt, "/dev/null")
+        .ok()
+}
+
+// Opens the null device as often as there are standard streams. It takes the place of one that is closed, so that no other file does and is
+// written to as if it were that stream.
+fn hold_streams(rt: &HostRuntime) -> [Option<File>; 3] {
+    [null_device(rt), null_device(rt), null_device(rt)]
+}
+
 fn main(rt: HostRuntime) -> ExitCode {
+    let _streams = hold_streams(&rt);
     match words_given(&rt) {
         Ok(Some(words)) => do_asked(&rt, &rt, words.as_slice()),
         Ok(None) => end(&rt, refuse_words(&rt)),

@@ -23,10 +23,9 @@ told_of (Accepted stamp) = Some (Ok stamp)
 told_of (Refused refusal) = Some (Err refusal)
 told_of Unanswered = None
 
--- an outcome: at a terminal without its client and number, but as an object
+-- an outcome: at a terminal without its client and number, unless it is not known or shown as an object
 abbrev pub outcome_shown : Form → Bool → ℕ → ℕ → Outcome → List ℕ
 outcome_shown form false client number outcome = outcome_in (shape_of form) client number (told_of outcome)
-outcome_shown Table true client number outcome = words_of outcome ++ codes "\n"
-outcome_shown Lines true client number outcome = words_of outcome ++ codes "\n"
-outcome_shown Csv true client number outcome = words_of outcome ++ codes "\n"
 outcome_shown Json true client number outcome = outcome_in AsJson client number (told_of outcome)
+outcome_shown form true client number Unanswered = outcome_in (shape_of form) client number None
+outcome_shown form true client number outcome = words_of outcome ++ codes "\n"

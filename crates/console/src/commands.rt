@@ -1,6 +1,7 @@
 //! The commands.
 use crate::line_reader::LineReader;
 use crate::printing::{counted, name_of, print};
+use crate::restores::run_restore;
 use crate::session::{Place, Session};
 use crate::stop::{Fault, Stop};
 use crate::transfers::{carry_out, progress_on};
@@ -207,7 +208,7 @@ fn sit_at_input<'a>(
     open: OpenStore<'a>,
     clock: Option<i64>,
 ) -> Result<u8, Stop<'a>> {
-    let is_terminal = rt.stdin().is_terminal();
+    let is_terminal = rt.stdin().is_terminal() && rt.stdout().is_terminal();
     let place = Place {
         dir: open.dir,
         name: "-",
@@ -489,6 +490,10 @@ pub fn run<'a>(rt: &HostRuntime, command: Command<'a>) -> Result<u8, Stop<'a>> {
         Command::Audit(dir) => match run_audit(rt, alloc, dir) {
             Ok(status) => Ok(status),
             Err(fault) => Err(Stop::of(fault, Name::Given(dir), "judging the store")),
+        },
+        Command::Restore(dir) => match run_restore(rt, alloc, dir) {
+            Ok(status) => Ok(status),
+            Err(fault) => Err(Stop::of(fault, Name::Given(dir), "restoring databases")),
         },
         Command::Import(import) => run_import(rt, alloc, import),
         Command::Export(export) => run_export(rt, alloc, export),

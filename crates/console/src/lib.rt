@@ -1,4 +1,4 @@
-//! The commands over a store that is kept in a folder: making it, opening it, its log, its flights and its audit.
+//! The commands over a store that is kept in a folder: making it, opening it, its log, its flights, its audit, and databases that are made anew.
 #![tactic(auto)]
 
 mod commands;
@@ -9,6 +9,7 @@ mod members;
 mod outputs;
 mod printing;
 mod requests;
+mod restores;
 mod room;
 mod session;
 mod stop;

@@ -20,7 +20,7 @@ use world::output::Output;
 #[derive(Clone, Copy, PartialEq, Eq, Debug)]
 pub(crate) struct Manner {
     pub form: Form,
-    /// Whether somebody sits at a terminal, to whom outcomes are shown without client and number.
+    /// Whether somebody sits at a terminal, to whom outcomes that are known are shown without client and number.
     pub is_terminal: bool,
     /// How many columns a table may have; none for any number.
     pub width: Option<usize>,
@@ -74,7 +74,7 @@ fn told_of(outcome: Outcome) -> Option<Result<Stamp, Refusal>>
     }
 }
 
-/// An outcome in the form that is asked for: at a terminal without its client and number, but as an object.
+/// An outcome in the form that is asked for: at a terminal without its client and number, unless it is not known or shown as an object.
 pub(crate) fn shown_outcome(
     alloc: Global,
     manner: Manner,
@@ -84,7 +84,8 @@ pub(crate) fn shown_outcome(
 ) -> Result<Vec<u8>, AllocError>
     ensures { IfOk result (λ text. text.items ≡ outcome_shown manner.form manner.is_terminal client number outcome) }
 {
-    if manner.is_terminal && manner.form != Form::Json {
+    let is_known = !matches!(outcome, Outcome::Unanswered);
+    if manner.is_terminal && is_known && manner.form != Form::Json {
         let line = format!(in alloc; "{outcome}\n")?;
         return Ok(line.into_bytes());
     }

@@ -140,7 +140,7 @@ fn put_missing(missing: &[Member], text: &mut String) -> Result<(), AllocError> 
         let member = *member;
         write!(
             text,
-            "the database of node {member} is missing: the store goes on without it\n"
+            "the database of node {member} is missing: the store goes on without it; bitable restore makes it anew\n"
         )?;
     }
     Ok(())

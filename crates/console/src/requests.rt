@@ -74,7 +74,7 @@ where
         }
     }
 
-    // Shows what came of a request; at a terminal also where its text is refused.
+    // Shows what came of a request, and where its text is refused.
     fn show_outcome(
         &mut self,
         rt: &HostRuntime,
@@ -86,12 +86,35 @@ where
         if !matches!(outcome, Outcome::Accepted(_)) {
             self.is_refused = true;
         }
-        let points = self.points_at_faults() && is_of_outcome(&outcome);
+        let is_of_text = is_of_outcome(&outcome);
         let line = shown_outcome(self.alloc, self.manner, client, number, outcome)?;
         print_bytes(rt, line.as_slice())?;
-        if points {
+        if is_of_text {
             let fault = fault_in_request(self.alloc, self.store.schema(), text);
+            return self.show_place(rt, fault);
+        }
+        Ok(())
+    }
+
+    // Shows where a text is refused, if memory suffices for it: to somebody at a terminal below its refusal, but not among JSON objects; else
+    // on standard error, with the line at which it begins.
+    fn show_place(
+        &self,
+        rt: &HostRuntime,
+        fault: Result<Option<String>, AllocError>,
+    ) -> Result<(), Fault> {
+        if self.points_at_faults() {
             return show_fault(rt, fault);
+        }
+        let name = self.place.name;
+        let line = self.line;
+        match fault {
+            Ok(Some(lines)) if !self.place.is_terminal => {
+                let _ = eprint!(*rt;
+                    "{name}:{line}: the text that begins here is refused\n{lines}"
+                );
+            }
+            _ => {}
         }
         Ok(())
     }
@@ -101,7 +124,7 @@ where
         self.place.is_terminal && self.manner.form != Form::Json
     }
 
-    /// Shows the refusal of a question that a member was asked; at a terminal also where its text is refused.
+    /// Shows the refusal of a question that a member was asked, and where its text is refused.
     pub fn refuse_question(
         &mut self,
         rt: &HostRuntime,
@@ -110,12 +133,12 @@ where
         refusal: StoreRefusal,
     ) -> Result<(), Fault> {
         let alloc = self.alloc;
-        let points = self.points_at_faults() && is_of_text(&refusal);
+        let is_of_text = is_of_text(&refusal);
         let before = format!(in alloc; "node {member} ")?;
         self.refuse(rt, before.as_str(), refusal)?;
-        if points {
+        if is_of_text {
             let fault = fault_in_question(alloc, self.store.schema(), text);
-            return show_fault(rt, fault);
+            return self.show_place(rt, fault);
         }
         Ok(())
     }
@@ -142,6 +165,7 @@ where
 
     /// Takes a text that is whole, whose first line is this one.
     pub fn take_text(&mut self, rt: &HostRuntime, text: &str, line: usize) -> Result<(), Fault> {
+        self.line = line;
         match read_kind(text) {
             Some((Kind::Question(member), words)) => self.ask(rt, member, words),
             Some((Kind::Own, words)) => self.execute(rt, words),

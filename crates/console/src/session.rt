@@ -8,12 +8,33 @@ use crate::printing::{banner, name_of, print, refusal_lines, warnings};
 use crate::room::warn_of_room;
 use crate::stop::Fault;
 use fault::Refusal;
+use model::stamp::Stamp;
 use std::alloc::Global;
 use store::announcing::Announces;
 use store::room::NEARLY_FULL;
+use store::status::Status;
 use store::{Store, StoreRefusal};
 use storecommands::dot::Form;
 use storefolder::{Found, reading_of};
+
+// How far ahead of the clock, in microseconds, a store's time may be before it is told.
+const AHEAD_MOST: i64 = 60_000_000;
+
+// The latest time that a member has closed, where that is so far ahead of what the clock shows.
+fn time_ahead(members: &[Status], reading: i64) -> Option<Stamp> {
+    let most = u64::try_from(reading.saturating_add(AHEAD_MOST)).unwrap_or(0);
+    let mut latest = None;
+    let mut micros = most;
+    for status in members {
+        if let Some(closed) = status.closed {
+            if closed.micros() > micros {
+                micros = closed.micros();
+                latest = Some(closed);
+            }
+        }
+    }
+    latest
+}
 
 /// What is known of the place that lines come from and outcomes go to.
 #[derive(Clone, Copy, Debug)]
@@ -44,6 +65,8 @@ where
     /// What clocks show, if not the system's.
     pub clock: Option<i64>,
     pub manner: Manner,
+    /// The line, from 1, at which what is taken begins.
+    pub line: usize,
     /// Whether the last answer was shown as CSV.
     pub is_behind_csv: bool,
     /// Whether anything was refused.
@@ -74,6 +97,7 @@ where
                 is_terminal: place.is_terminal,
                 width: place.width,
             },
+            line: 0,
             is_behind_csv: false,
             is_refused: false,
             warns_from: NEARLY_FULL,
@@ -90,12 +114,25 @@ where
         (store, is_refused)
     }
 
-    /// Says what was cut and what is missing and, at a terminal, what is there.
+    // Says on standard error that the store's time is ahead of the clock, where it is by more than a minute.
+    fn warn_of_time(&self, rt: &HostRuntime) -> Result<(), Fault> {
+        let reading = self.reading(rt)?;
+        if let Some(latest) = time_ahead(&self.store.status()?, reading) {
+            let instant = latest.instant();
+            let _ = eprintln!(*rt;
+                "the store's time is {instant}, ahead of the clock: what is stored now is stamped behind that"
+            );
+        }
+        Ok(())
+    }
+
+    /// Says what was cut and what is missing, and where the store's time is ahead of the clock; and, at a terminal, what is there.
     pub fn greet(&self, rt: &HostRuntime) -> Result<(), Fault> {
         let warned = warnings(self.alloc, self.found)?;
         if !warned.is_empty() {
             let _ = eprint!(*rt; "{warned}");
         }
+        self.warn_of_time(rt)?;
         if self.place.is_terminal {
             let line = banner(self.alloc, self.place.dir, &self.store, self.place.width)?;
             print(rt, line.as_str())?;

@@ -91,7 +91,7 @@ fn found_by(refusal: &StoreRefusal) -> &'static str {
 
 fn found_otherwise(refusal: &Refusal) -> &'static str {
     match refusal {
-        Refusal::NoMemory => "memory was refused",
+        Refusal::NoMemory => "memory was refused, or room on its disk",
         Refusal::StoreFault => "a file of it can't be read or written",
         Refusal::BadScript(_) => "it can't be read, or is no text",
         other if other.number() < 20 => "it is refused",

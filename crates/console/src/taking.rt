@@ -3,6 +3,7 @@ ghost use Rattle.std.specs.Prelude.{◌≡◌, ◌++◌, ◌∷◌, IfOk, IfSome
 ghost use Rattle.console.specs.Lines.{IsWhole, is_ended as ends_so};
 
 use crate::line_reader::LineReader;
+use crate::printing::print;
 use crate::session::Session;
 use crate::stop::Fault;
 use fault::Refusal;
@@ -14,6 +15,11 @@ use storecommands::read_dot_command;
 // Whether a line is left out: one with blanks alone, or a comment.
 fn is_skipped(line: &str) -> bool {
     line.trim().is_empty() || line.starts_with('#')
+}
+
+// Whether a line is what other programs take as the wish to leave or for help.
+fn is_way_out(line: &str) -> bool {
+    matches!(line, "quit" | "exit" | "help" | "?" | "\\q" | "\\h")
 }
 
 // Whether a text ends with a semicolon, but for blanks behind it.
@@ -74,6 +80,7 @@ where
         } else {
             String::from_str(self.alloc, line)?
         };
+        self.line = at;
         match read_dot_command(text.as_str().trim_end()) {
             Some(command) => self.obey(rt, command),
             None => {
@@ -93,8 +100,13 @@ where
         if is_skipped(line) {
             return Ok(true);
         }
-        if line.starts_with('.') {
-            return self.take_dot(rt, input, line);
+        let dotted = line.trim_start();
+        if dotted.starts_with('.') {
+            return self.take_dot(rt, input, dotted);
+        }
+        if self.place.is_terminal && is_way_out(line.trim()) {
+            print(rt, "        .quit ends it, .help tells what can be typed\n")?;
+            return Ok(true);
         }
         let at = input.count();
         let text = self.whole_text(rt, input, line)?;

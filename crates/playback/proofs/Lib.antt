@@ -1,3 +1,4 @@
+pub mod Logs
 pub mod Members
 pub mod Sendings
 pub mod Tellings

@@ -1,7 +1,12 @@
 -- What happened on what journals are played on.
-use Rattle.std.specs.Prelude.{◌≡◌, ⊤, ℕ, Option, Some, None, Ok, List, [], ◌∷◌, ◌++◌}
+use Rattle.std.specs.Prelude.{◌≡◌, ⊤, ℕ, Option, Some, None, Ok, List, [], ◌∷◌, ◌++◌, true, take, length}
 use Rattle.fault.specs.Refusal.{shown}
+use Rattle.model.specs.Lists.{nth}
+use Rattle.model.specs.Members.{Node}
+use Rattle.model.specs.declared.entry.Entry.{Entry}
+use Rattle.model.specs.Worlds as model
 use Rattle.model.specs.Worlds.{Event, Output, new_world}
+use Rattle.keep.specs.Durable.{Durable}
 use Rattle.believed.specs.Worlds.{Gives, run}
 use Rattle.sqlchecks.specs.Columns.{Tables}
 use Rattle.sqlread.specs.Meaning.{language_of}
@@ -10,7 +15,7 @@ use Rattle.sqlread.specs.Texts.{query_in}
 use Rattle.sqlread.specs.declared.query.Query.{Query}
 use Rattle.answertext.specs.Answers.{answer_text}
 use Rattle.world.specs.Run.{tables_in, members_in, events_of}
-use Rattle.world.specs.View.{ShowsColumns}
+use Rattle.world.specs.View.{ShowsColumns, StoredState, durable_in, durable_of, entry_in}
 use Rattle.world.specs.declared.event.Event.{Event as Given}
 use Rattle.world.specs.declared.output.Output.{Output as Out}
 use Rattle.world.specs.declared.output.Output.TheVariants.{Answered, Refused}
@@ -58,3 +63,29 @@ IsPut outs text = ⊥
 abbrev pub HasTables : Option History → Tables → Type 0
 HasTables None tables = ⊤
 HasTables (Some h) tables = h.tables ≡ tables
+
+-- ---- what members have stored
+
+-- the member of this number then, if there is one
+abbrev pub member_in : History → ℕ → Option Node
+member_in h m = nth (model.run (language_of h.tables) h.members (new_world h.members) h.events).nodes m
+
+-- what is told of what a member has stored is what it has then, none of one that is down
+abbrev pub HasState : Option History → ℕ → Option StoredState → Type 0
+HasState None m found = ⊤
+HasState (Some h) m found = found ≡ durable_in (member_in h m)
+
+-- so is an entry of its log
+abbrev pub HasEntry : Option History → ℕ → ℕ → Option Entry → Type 0
+HasEntry None m index found = ⊤
+HasEntry (Some h) m index found = found ≡ entry_in index (member_in h m)
+
+-- these are the first entries of a member that is up then, in order
+abbrev pub BeginsLog : Option History → ℕ → List Entry → Type 0
+BeginsLog None m log = ⊤
+BeginsLog (Some h) m log = (x : Node) → member_in h m ≡ Some x → x.up ≡ true → log ≡ take (length log) x.log
+
+-- a member is up then, and has this stored
+abbrev pub HasStored : Option History → ℕ → Durable → Type 0
+HasStored None m stored = ⊤
+HasStored (Some h) m stored = (x : Node) × (member_in h m ≡ Some x) × (x.up ≡ true) × (durable_of x ≡ stored)

@@ -4,3 +4,4 @@ pub mod Posts
 pub mod Words
 pub mod Scenes
 pub mod Playing
+pub mod Making

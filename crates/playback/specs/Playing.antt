@@ -1,6 +1,7 @@
 -- What the lines of journals let happen, as they are played.
 use Rattle.std.specs.Prelude.{◌≡◌, ◌≢◌, ⊤, Bool, true, false, ℕ, Some, List, [], length}
 use Rattle.model.specs.Lists.{nth}
+use Rattle.keep.specs.Durable.{Durable}
 use Rattle.model.specs.declared.event.Job.{Job}
 use Rattle.model.specs.declared.event.Job.TheVariants.{Local, Delivery}
 use Rattle.model.specs.declared.event.Left.{Left}
@@ -17,7 +18,7 @@ use Rattle.sqlread.specs.declared.query.Query.{Query}
 use Rattle.world.specs.View.{event_of, outputs_of}
 use Rattle.world.specs.declared.event.Event.TheVariants.{Ask}
 use Rattle.world.specs.declared.output.Output.{Output as Out}
-use Rattle.playback.specs.Histories.{HasShown, IsAsked, IsGiven, IsPut}
+use Rattle.playback.specs.Histories.{HasShown, HasStored, IsAsked, IsGiven, IsPut}
 use Rattle.playback.specs.Scenes.{Scene, StandsAs, happened, met, noting, posted, with_member, wording}
 use Rattle.playback.specs.Words.{first_told, told_in, IsSaid}
 use Rattle.playback.specs.Standings.{Standing, Down, Up, Within}
@@ -69,3 +70,7 @@ Plays s (Printed client number words) t = IsSaid s.words client number words × 
 -- a database is compared: the member goes down as if it were started again, and is started and stopped
 abbrev pub IsCompared : Scene → ℕ → Scene → Type 0
 IsCompared s m t = (mid : Scene) × GoesDown s m mid × (t ≡ happened (happened mid (Start m)) (Stop m))
+
+-- at the end a member has this stored: it goes down as if it were started again, is started, has it, and is stopped
+abbrev pub IsLeft : Scene → ℕ → Durable → Scene → Type 0
+IsLeft s m stored t = (mid : Scene) × GoesDown s m mid × HasStored (happened mid (Start m)).history m stored × (t ≡ happened (happened mid (Start m)) (Stop m))

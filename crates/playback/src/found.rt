@@ -1,16 +1,26 @@
 //! What databases hold at the end.
-ghost use Rattle.std.specs.Prelude.{OnOk};
-ghost use Rattle.playback.specs.Playing.{IsCompared};
+ghost use Rattle.std.specs.Prelude.{◌≡◌, IfOk, OnOk, length};
+ghost use Rattle.playback.specs.Histories.{BeginsLog, HasStored};
+ghost use Rattle.playback.specs.Playing.{IsCompared, IsLeft};
 ghost use Rattle.playback.specs.Scenes.{scene_of};
 
 use crate::play::Play;
 use journal::Summary;
+use keep::HardState;
 use model::entry::Entry;
 use model::member::Member;
 use std::alloc::{AllocError, Global};
 use store::StoreRefusal;
 use store::chain::Chain;
 use world::event::Event;
+
+/// What a member has stored.
+#[derive(Drop)]
+pub struct Stored {
+    pub hard: HardState,
+    /// Its log.
+    pub entries: Vec<Entry>,
+}
 
 // The place of the first entry that differs, counted from 1; none where all are the same.
 fn first_difference(
@@ -56,5 +66,51 @@ impl Play {
         let own = self.actors[at].log.as_slice();
         let entry = first_difference(self.alloc, entries, own)?;
         Err(StoreRefusal::Altered { member, entry })
+    }
+
+    // The first so many entries of a member's log: 51 where it is down, or has fewer.
+    fn first_entries(&mut self, member: Member, count: usize) -> Result<Vec<Entry>, StoreRefusal>
+        ensures same { scene_of self.new ≡ scene_of self.old }
+        ensures count { IfOk result (λ entries. length entries.items ≡ count) }
+        ensures first { IfOk result (λ entries. BeginsLog (scene_of self.old).history member entries.items) }
+    {
+        let mut entries = Vec::new(self.alloc);
+        for before in 0..count {
+            let Some(entry) = self.stage.entry(member, before + 1)? else {
+                return Err(self.broken(member));
+            };
+            entries.push(entry)?;
+        }
+        Ok(entries)
+    }
+
+    // What a member that is up has stored: 51 of one that is down.
+    fn all_stored(&mut self, member: Member) -> Result<Stored, StoreRefusal>
+        ensures same { scene_of self.new ≡ scene_of self.old }
+        ensures has { IfOk result (λ stored. HasStored (scene_of self.old).history member (record { hard = stored.hard; log = stored.entries.items })) }
+    {
+        let Some(state) = self.stage.durable(member)? else {
+            return Err(self.broken(member));
+        };
+        Ok(Stored {
+            hard: state.hard,
+            entries: self.first_entries(member, state.length)?,
+        })
+    }
+
+    /// What a member has stored where all journals were played. A step that was cut short left what was stored before it. The member is
+    /// down then.
+    ///
+    /// 50 where there is no such member; 55 of the journal before the first one, where that is away and no log that is held begins as this
+    /// member's did.
+    pub fn left_by(&mut self, member: Member) -> Result<Stored, StoreRefusal>
+        ensures { IfOk result (λ stored. IsLeft (scene_of self.old) member (record { hard = stored.hard; log = stored.entries.items }) (scene_of self.new)) }
+    {
+        self.meet_told(member)?;
+        self.lay_down(member)?;
+        self.start(member)?;
+        let stored = self.all_stored(member)?;
+        let _ = self.happen(Event::Stop(member))?;
+        Ok(stored)
     }
 }

@@ -62,13 +62,33 @@ impl Play {
             return Err(self.broken(member));
         }
         let Some(entries) = beginning_of(self.held.as_slice(), at, found) else {
-            return Err(StoreRefusal::BadJournal {
-                journal: self.first.saturating_sub(1),
-                at: 0,
-            });
+            return Err(self.refusal_before());
         };
         self.stage.load(member, found.hard, entries)?;
         self.know(member)
+    }
+
+    /// A member that was not met goes on from what is told that it has stored. 55 of the journal before the first one where nothing is told,
+    /// or no log that is held begins so.
+    pub(crate) fn meet_told(&mut self, member: Member) -> Result<(), StoreRefusal>
+        ensures { scene_of self.new ≡ scene_of self.old }
+    {
+        let at = self.place(member)?;
+        if self.actors[at].is_known {
+            return Ok(());
+        }
+        match self.actors[at].tale {
+            Some(tale) => self.meet(member, &tale.stored),
+            None => Err(self.refusal_before()),
+        }
+    }
+
+    // 55 of the journal before the first one.
+    fn refusal_before(&self) -> StoreRefusal {
+        StoreRefusal::BadJournal {
+            journal: self.first.saturating_sub(1),
+            at: 0,
+        }
     }
 
     // It is known what a member goes on from.

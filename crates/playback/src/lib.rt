@@ -9,6 +9,7 @@ mod group;
 mod hearing;
 mod later;
 mod lives;
+mod making;
 mod play;
 mod post;
 mod printed;
@@ -20,4 +21,6 @@ mod texts;
 mod told;
 
 pub use decided::Decided;
+pub use found::Stored;
+pub use making::remake;
 pub use play::Play;

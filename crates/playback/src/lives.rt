@@ -77,6 +77,14 @@ impl Play {
         self.cease(member, doing, before == Some(*found))
     }
 
+    /// A member's life is over as the journals end, if it has one; a step that was cut short left what was stored before it.
+    pub(crate) fn lay_down(&mut self, member: Member) -> Result<(), StoreRefusal>
+        ensures { OnOk result (GoesDown (scene_of self.old) member (scene_of self.new)) }
+    {
+        let doing = self.lower(member)?;
+        self.cease(member, doing, true)
+    }
+
     /// A member comes up.
     pub(crate) fn start(&mut self, member: Member) -> Result<(), StoreRefusal>
         ensures { OnOk result (scene_of self.new ≡ happened (scene_of self.old) (Start member)) }

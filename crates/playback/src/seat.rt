@@ -1,23 +1,23 @@
 //! A member that goes on from what it had stored.
-ghost use Rattle.std.specs.Prelude.{◌≡◌, ◌≤◌, true};
+ghost use Rattle.std.specs.Prelude.{◌≡◌, ◌≤◌};
 ghost use Rattle.std.specs.Option.{ForSome};
 ghost use Rattle.keep.specs.Durable.{stored_in};
-ghost use Rattle.keep.specs.Log.{IsLog, is_vote, log_prop};
-ghost use Rattle.model.specs.Steps.{TERM_LAST};
+ghost use Rattle.keep.specs.Log.{IsLog, log_prop};
 ghost use Rattle.node.specs.Member.{me_of, members_of, tables_of};
 ghost use Rattle.sqlread.specs.Meaning.{language_of};
 
+use crate::making::remake;
 use answer::Answer;
 use fault::Refusal;
 use keep::{HardState, MemImage, MemKeeper};
-use model::entry::{Entries, Entry};
+use model::entry::Entry;
 use model::member::Member;
-use model::message::{Body, CARRIED_MOST, LAST_TERM, Message};
 use node::{Fault, Node, Out, Work};
 use schema::Schema;
 use sqlread::query::Query;
 use std::alloc::{AllocError, Global};
 use std::mem::replace;
+use store::StoreRefusal;
 use world::StoredState;
 use world::event::Left;
 
@@ -36,15 +36,9 @@ pub(crate) struct Seat {
     ghost forms: { IsLog members (language_of schema) (stored_in image) } by { log_prop _ _ _ },
 }
 
-// Whether a member of so many may have stored this.
-fn is_in_range(hard: &HardState, members: usize) -> bool
-    ensures { result ≡ true → (hard.now.term ≤ TERM_LAST) × (is_vote members hard.now.vote ≡ true) }
-{
-    let is_member = match hard.vote {
-        None => true,
-        Some(vote) => vote > 0 && vote <= members,
-    };
-    hard.term <= LAST_TERM && is_member
+// Whether it is want of memory that is refused.
+fn is_of_memory(refusal: &StoreRefusal) -> bool {
+    matches!(refusal, StoreRefusal::Refused(Refusal::NoMemory))
 }
 
 impl Seat {
@@ -63,51 +57,27 @@ impl Seat {
         })
     }
 
-    /// It is down, and has this stored, with a log of these entries; where a member can't have that, something else.
+    /// It is down, and has this stored, with a log of these entries; where a member can't have that, what it had.
     pub fn load(&mut self, hard: HardState, entries: &[Entry]) -> Result<(), AllocError> {
         self.stop();
-        if !is_in_range(&hard, self.members) {
-            return Ok(());
-        }
-        self.image = MemImage::with_hard_state(self.alloc, hard);
-        self.start()?;
-        let mut index = 0usize;
-        let mut term = 0;
-        for batch in entries.chunks(CARRIED_MOST) {
-            self.append(hard.term, index, term, batch)?;
-            index = index.saturating_add(batch.len());
-            if let Some(last) = batch.last() {
-                term = last.term;
+        let image = MemImage::new(self.alloc);
+        let made = remake::<MemKeeper>(
+            self.alloc,
+            image,
+            &self.schema,
+            self.members,
+            self.me,
+            hard,
+            entries,
+        );
+        match made {
+            Ok(image) => {
+                self.image = image;
+                Ok(())
             }
+            Err(refusal) if is_of_memory(&refusal) => Err(AllocError),
+            Err(_refusal) => Ok(()),
         }
-        self.stop();
-        Ok(())
-    }
-
-    // It is brought entries in this term, which come after an index that has an entry of another one.
-    fn append(
-        &mut self,
-        term: u64,
-        prev_index: usize,
-        prev_term: u64,
-        entries: &[Entry],
-    ) -> Result<(), AllocError> {
-        let message = Message {
-            sender: if self.me == 1 { 2 } else { 1 },
-            addressee: self.me,
-            term,
-            body: Body::Append {
-                prev_index,
-                prev_term,
-                entries: Entries::new(entries.to_vec(self.alloc)?),
-                commit: 0,
-            },
-        };
-        let _ = self.step(Work::Delivered {
-            reading: 0,
-            message,
-        })?;
-        Ok(())
     }
 
     /// A step: what it gives, or why it is refused. One that is down refuses all.

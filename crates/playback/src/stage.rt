@@ -1,7 +1,7 @@
 //! What journals are played on.
 ghost use Rattle.std.specs.Prelude.{◌≡◌, IfOk, OnErr, OnOk};
 ghost use Rattle.world.specs.View.{event_of, outputs_of};
-ghost use Rattle.playback.specs.Histories.{and_then, history_of, HasShown, HasTables, IsGiven};
+ghost use Rattle.playback.specs.Histories.{and_then, history_of, HasEntry, HasShown, HasState, HasTables, IsGiven};
 
 use crate::group::Group;
 use keep::HardState;
@@ -61,7 +61,8 @@ impl Stage {
 
     /// What a member has stored, none where it is down.
     pub fn durable(&mut self, member: Member) -> Result<Option<StoredState>, AllocError>
-        ensures { history_of self.new ≡ history_of self.old }
+        ensures same { history_of self.new ≡ history_of self.old }
+        ensures found { IfOk result (HasState (history_of self.old) member) }
     {
         match self {
             Stage::World(world) => world.durable(member),
@@ -71,7 +72,8 @@ impl Stage {
 
     /// The entry at an index of a member's log, none where it is down.
     pub fn entry(&mut self, member: Member, index: usize) -> Result<Option<Entry>, AllocError>
-        ensures { history_of self.new ≡ history_of self.old }
+        ensures same { history_of self.new ≡ history_of self.old }
+        ensures found { IfOk result (HasEntry (history_of self.old) member index) }
     {
         match self {
             Stage::World(world) => world.entry(member, index),

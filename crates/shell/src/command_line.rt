@@ -78,7 +78,7 @@ const BELIEFS_END: &str =
     "A level of the picture is what was believed at that time, of each day; a column is
 what was ever believed of a day, the newest on top.
 With --svg it goes into a file, as a page for a browser, and nothing is printed.
-With QUERY it is what the store in a folder answers: bitable beliefs pay 'SELECT * FROM Pay'
+With QUERY it is what the store in a folder answers: bitable beliefs pay 'SELECT * FROM Pay;'
 
 Example:
   bitable beliefs examples/payroll.script

@@ -51,10 +51,12 @@ impl StoreRefusal {
                 )
             }
             StoreRefusal::TooFew => Some(
-                "More than half of the members need their database. Bring the files back, as from a backup of the whole folder.",
+                "More than half of the members need their database: bitable restore DIR makes them anew, from the journals.",
             ),
             StoreRefusal::NoStore => {
-                Some("bitable new DIR --nodes 3 --schema FILE makes a store.")
+                Some(
+                    "Its form is missing or damaged, or it is another folder. bitable new DIR --nodes 3 --schema FILE makes a store.",
+                )
             }
             StoreRefusal::Version(_) => {
                 Some("The store was made by another version of bitable: open it with that one.")
@@ -63,10 +65,10 @@ impl StoreRefusal {
                 Some("Another process has it open: leave that one by .quit, or wait until it ends.")
             }
             StoreRefusal::Altered { .. } => Some(
-                "Bring the file back that was there when the store was last open, or take it away: the store opens with the others.",
+                "bitable restore DIR makes it anew. Where most databases differ it is the last journal that was changed or lost: bring that back.",
             ),
             StoreRefusal::BadJournal { .. } => Some(
-                "The file was changed or is missing: bring it back, as from a backup of the whole folder.",
+                "The file was changed or is missing, or the form was changed: bring it back, as from a backup of the whole folder.",
             ),
             StoreRefusal::NotEmpty => {
                 Some("Name a folder that is empty, or one that is not there yet.")

@@ -61,8 +61,8 @@ where
     Ok((log.summary(node.hard_state()), log))
 }
 
-// What a database holds: in short, and its log. 49 where it holds no state of a member.
-pub(crate) fn found_in<K: Judging>(
+/// What a member's database holds: in short, and its log. 49 where it holds no state of a member; 40 and 43 where it can't be read.
+pub fn found_in<K: Judging>(
     alloc: Global,
     database: K::Image,
     form: &Form,

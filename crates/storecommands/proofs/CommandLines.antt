@@ -14,7 +14,7 @@ use Rattle.clap.specs.declared.parser.matches.Found.{Found}
 use Rattle.storecommands.specs.CommandLine.{AsksExport, AsksFor, AsksImport, AsksNew, GivesClock}
 use Rattle.storecommands.specs.Given.{GivesLine, GivesNumber}
 use Rattle.storecommands.specs.declared.command.Command.{Command as Asked}
-use Rattle.storecommands.specs.declared.command.Command.TheVariants.{New, Open, Log, Flights, Audit, Import, Export}
+use Rattle.storecommands.specs.declared.command.Command.TheVariants.{New, Open, Log, Flights, Audit, Import, Export, Restore}
 use Rattle.storecommands.specs.declared.command.ExportRows.{ExportRows}
 use Rattle.storecommands.specs.declared.command.ImportRows.{ImportRows}
 use Rattle.storecommands.specs.declared.command.NewStore.{NewStore}
@@ -87,6 +87,7 @@ no_new rows none (Import import) h = let bad : 110 ≡ 105 = ap (λ t. get_or t 
 no_new rows none (Export export) h = let bad : 110 ≡ 101 = ap (λ t. get_or t 0 0) h.0 in absurd (omega (arith, bad))
 no_new rows none (Log dir) h = let bad : 110 ≡ 108 = ap (λ t. get_or t 0 0) h.0 in absurd (omega (arith, bad))
 no_new rows none (Flights dir out) h = let bad : 110 ≡ 102 = ap (λ t. get_or t 0 0) h.0 in absurd (omega (arith, bad))
+no_new rows none (Restore dir) h = let bad : 110 ≡ 114 = ap (λ t. get_or t 0 0) h.0 in absurd (omega (arith, bad))
 no_new rows none (Audit dir) h = h
 
 -- where `import` is asked for nothing, nothing is
@@ -97,6 +98,7 @@ no_import rows none (Import import) h = none import h.1
 no_import rows none (Export export) h = let bad : 105 ≡ 101 = ap (λ t. get_or t 0 0) h.0 in absurd (omega (arith, bad))
 no_import rows none (Log dir) h = let bad : 105 ≡ 108 = ap (λ t. get_or t 0 0) h.0 in absurd (omega (arith, bad))
 no_import rows none (Flights dir out) h = let bad : 105 ≡ 102 = ap (λ t. get_or t 0 0) h.0 in absurd (omega (arith, bad))
+no_import rows none (Restore dir) h = let bad : 105 ≡ 114 = ap (λ t. get_or t 0 0) h.0 in absurd (omega (arith, bad))
 no_import rows none (Audit dir) h = h
 
 -- where `export` is asked for nothing, nothing is
@@ -107,4 +109,5 @@ no_export rows none (Import import) h = let bad : 101 ≡ 105 = ap (λ t. get_or
 no_export rows none (Export export) h = none export h.1
 no_export rows none (Log dir) h = let bad : 101 ≡ 108 = ap (λ t. get_or t 0 0) h.0 in absurd (omega (arith, bad))
 no_export rows none (Flights dir out) h = let bad : 101 ≡ 102 = ap (λ t. get_or t 0 0) h.0 in absurd (omega (arith, bad))
+no_export rows none (Restore dir) h = let bad : 101 ≡ 114 = ap (λ t. get_or t 0 0) h.0 in absurd (omega (arith, bad))
 no_export rows none (Audit dir) h = h

@@ -8,7 +8,7 @@ use Rattle.storecommands.specs.Given.{GivesFlag, GivesLine, GivesNumber}
 use Rattle.storecommands.specs.declared.dot.Form.{Form}
 use Rattle.storecommands.specs.Dot.{form_text}
 use Rattle.storecommands.specs.declared.command.Command.{Command}
-use Rattle.storecommands.specs.declared.command.Command.TheVariants.{New, Open, Log, Flights, Audit, Import, Export}
+use Rattle.storecommands.specs.declared.command.Command.TheVariants.{New, Open, Log, Flights, Audit, Import, Export, Restore}
 use Rattle.storecommands.specs.declared.command.ExportRows.{ExportRows}
 use Rattle.storecommands.specs.declared.command.ImportRows.{ImportRows}
 use Rattle.storecommands.specs.declared.command.NewStore.{NewStore}
@@ -115,6 +115,10 @@ log_app = with_rule (new_app (codes "log")) dir_rule
 abbrev pub flights_app : App
 flights_app = with_rule (with_rule (new_app (codes "flights")) dir_rule) out_rule
 
+-- restore DIR
+abbrev pub restore_app : App
+restore_app = with_rule (new_app (codes "restore")) dir_rule
+
 -- import [--from-line N] DIR TABLE FILE
 abbrev pub import_app : App
 import_app = with_rule (with_rule (with_rule (with_rule (new_app (codes "import")) from_line_rule) dir_rule) table_rule) csv_rule
@@ -125,7 +129,7 @@ export_app = with_rule (with_rule (with_rule (with_rule (new_app (codes "export"
 
 -- a program with the commands over a store's folder, as its last
 abbrev pub with_store_commands : App → App
-with_store_commands app = with_subcommand (with_subcommand (with_subcommand (with_subcommand (with_subcommand (with_subcommand app new_app_words.top) open_app.top) import_app.top) export_app.top) log_app.top) flights_app.top
+with_store_commands app = with_subcommand (with_subcommand (with_subcommand (with_subcommand (with_subcommand (with_subcommand (with_subcommand app new_app_words.top) open_app.top) import_app.top) export_app.top) log_app.top) flights_app.top) restore_app.top
 
 -- the matches give `--clock` this value: none where it is not used, else the number that it was given
 pub record GivesClock (rows : List Row) (clock : Option ℕ) : Type 0 where
@@ -179,4 +183,5 @@ AsksFor name rows (Import import) = (name ≡ codes "import") × AsksImport rows
 AsksFor name rows (Export export) = (name ≡ codes "export") × AsksExport rows export
 AsksFor name rows (Log dir) = (name ≡ codes "log") × (Some dir.now ≡ first_of (codes "DIR") rows)
 AsksFor name rows (Flights dir out) = (name ≡ codes "flights") × (Some dir.now ≡ first_of (codes "DIR") rows) × (Some out.now ≡ first_of (codes "OUT") rows)
+AsksFor name rows (Restore dir) = (name ≡ codes "restore") × (Some dir.now ≡ first_of (codes "DIR") rows)
 AsksFor name rows (Audit dir) = ⊥

@@ -75,4 +75,6 @@ pub enum Command<'a> {
     Import(ImportRows<'a>),
     /// To write the rows of a table as CSV.
     Export(ExportRows<'a>),
+    /// To make missing or altered databases of the store in the folder of this name anew.
+    Restore(&'a str),
 }

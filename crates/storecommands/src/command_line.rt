@@ -7,7 +7,7 @@ ghost use Rattle.storecommands.specs.declared.command.NewStore.{NewStore as Made
 ghost use Rattle.storecommands.specs.declared.command.OpenStore.{OpenStore as Opened};
 ghost use Rattle.storecommands.specs.declared.command.ExportRows.{ExportRows as Exported};
 ghost use Rattle.storecommands.specs.declared.command.ImportRows.{ImportRows as Imported};
-ghost use Rattle.storecommands.specs.CommandLine.{AsksExport, AsksFor, AsksImport, AsksNew, AsksOpen, GivesClock, GivesForm, GivesSync, all_rule, as_of_rule, csv_rule, from_line_rule, table_rule, import_app, export_app, clock_rule, format_rule, dir_rule, file_rule, nodes_rule, out_rule, schema_rule, sync_rule, new_app_words, open_app, log_app, flights_app, with_store_commands};
+ghost use Rattle.storecommands.specs.CommandLine.{AsksExport, AsksFor, AsksImport, AsksNew, AsksOpen, GivesClock, GivesForm, GivesSync, all_rule, as_of_rule, csv_rule, from_line_rule, table_rule, import_app, export_app, clock_rule, format_rule, dir_rule, file_rule, nodes_rule, out_rule, schema_rule, sync_rule, new_app_words, open_app, log_app, flights_app, restore_app, with_store_commands};
 
 use crate::command::{Command, ExportRows, ImportRows, NewStore, OpenStore};
 use crate::dot::{Form, form_of};
@@ -57,6 +57,21 @@ const FLIGHTS_END: &str = "Example:
 Exit status:
   0  the flights are written
   1  the store is refused, or a flight can't be written, on standard error
+  2  the command line is not one of these";
+
+const RESTORE_END: &str =
+    "The databases of a store's members are what its journals give. One that is missing, or holds something
+else, is made anew from these; what was there is kept beside it. Nothing else is changed.
+
+Example:
+  bitable restore pay
+
+  node 2: its database is made anew, with 9 entries
+  restored 1 of 3 databases
+
+Exit status:
+  0  each database is what the journals give
+  1  the store is refused, on standard error
   2  the command line is not one of these";
 
 const IMPORT_END: &str =
@@ -258,6 +273,17 @@ fn flights_words<'a>(alloc: Global) -> Result<Parser<'a>, AllocError>
         .arg(out_word(alloc))
 }
 
+fn restore_words<'a>(alloc: Global) -> Result<Parser<'a>, AllocError>
+    ensures { IfOk result (λ c. (app_of c ≡ restore_app) × ((out-Command c).has_globals ≡ false)) }
+{
+    Parser::new(alloc, "restore")
+        .about(
+            "Makes missing or altered databases of the store in a folder anew, from its journals",
+        )
+        .after_help(RESTORE_END)
+        .arg(dir_word(alloc))
+}
+
 fn import_words<'a>(alloc: Global) -> Result<Parser<'a>, AllocError>
     ensures { IfOk result (λ c. (app_of c ≡ import_app) × ((out-Command c).has_globals ≡ false)) }
 {
@@ -294,7 +320,8 @@ pub fn with_commands<'a>(alloc: Global, program: Parser<'a>) -> Result<Parser<'a
         .subcommand(import_words(alloc)?)?
         .subcommand(export_words(alloc)?)?
         .subcommand(log_words(alloc)?)?
-        .subcommand(flights_words(alloc)?)
+        .subcommand(flights_words(alloc)?)?
+        .subcommand(restore_words(alloc)?)
 }
 
 fn new_of<'a>(matches: &ArgMatches<'a>) -> Option<NewStore<'a>>
@@ -465,6 +492,9 @@ pub fn command_of<'a>(name: &str, matches: &ArgMatches<'a>) -> Option<Command<'a
     }
     if name == "flights" {
         return flights_of(matches);
+    }
+    if name == "restore" {
+        return text_of(matches, "DIR").map(Command::Restore);
     }
     None
 }

@@ -1,11 +1,10 @@
 //! The databases of a store's members.
 use crate::faults::file_refusal;
-use crate::place::put_file;
+use crate::place::{exists, put_file};
 use fault::Refusal;
 use model::member::Member;
 use sqlite::{Connection, Error, ErrorCode, File as DatabaseFile, FileStore};
-use std::alloc::Global;
-use std::fs;
+use std::alloc::{AllocError, Global};
 use store::past::Tale;
 use store::{Past, StoreRefusal};
 use storetables::first_page::first_page;
@@ -22,8 +21,8 @@ fn refusal_of(error: &Error) -> StoreRefusal {
     }
 }
 
-// Makes the file of a database that holds nothing, in one step.
-fn make_database(
+/// Makes the file of a database that holds nothing, in one step.
+pub(crate) fn make_database(
     rt: &HostRuntime,
     alloc: Global,
     dir: &str,
@@ -34,6 +33,37 @@ fn make_database(
     put_file(rt, dir, new.as_str(), path, page.as_slice()).map_err(|error| file_refusal(&error))
 }
 
+/// Where a member's database is.
+pub(crate) fn database_path(
+    alloc: Global,
+    dir: &str,
+    member: Member,
+) -> Result<String, AllocError> {
+    format!(in alloc; "{dir}/node{member}.db")
+}
+
+/// Opens a database in a file that is there.
+pub(crate) fn open_file(rt: &HostRuntime, path: &str) -> Result<Database, StoreRefusal> {
+    match Connection::open(rt, path) {
+        Ok(database) => Ok(database),
+        Err(error) => Err(refusal_of(&error)),
+    }
+}
+
+/// A member's database; none where its file is not there. 40 and 43 where it can't be opened, 48 where another process has it.
+pub fn find_database(
+    rt: &HostRuntime,
+    alloc: Global,
+    dir: &str,
+    member: Member,
+) -> Result<Option<Database>, StoreRefusal> {
+    let path = database_path(alloc, dir, member)?;
+    if !exists(rt, path.as_str())? {
+        return Ok(None);
+    }
+    Ok(Some(open_file(rt, path.as_str())?))
+}
+
 // A member's database. One that is not there is made where nothing was ever stored in it; else it is missing.
 fn open_database(
     rt: &HostRuntime,
@@ -42,21 +72,14 @@ fn open_database(
     member: Member,
     tale: &Tale,
 ) -> Result<Option<Database>, StoreRefusal> {
-    let path = format!(in alloc; "{dir}/node{member}.db")?;
-    let is_there = match fs::exists(rt, path.as_str()) {
-        Ok(is_there) => is_there,
-        Err(_) => return Err(StoreRefusal::Refused(Refusal::StoreFault)),
-    };
-    if !is_there {
+    let path = database_path(alloc, dir, member)?;
+    if !exists(rt, path.as_str())? {
         if !tale.is_blank() {
             return Ok(None);
         }
         make_database(rt, alloc, dir, path.as_str())?;
     }
-    match Connection::open(rt, path.as_str()) {
-        Ok(database) => Ok(Some(database)),
-        Err(error) => Err(refusal_of(&error)),
-    }
+    Ok(Some(open_file(rt, path.as_str())?))
 }
 
 /// The members' databases, in their order; none for one that is missing. 40 and 43 where one can't be opened, 48 where another process

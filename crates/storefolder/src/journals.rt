@@ -2,30 +2,33 @@
 use crate::form::Form;
 use crate::numbers::Journals;
 use crate::place::read_journal;
+use crate::torn::is_torn;
 use journal::blocks::{first_block, text_in};
 use progressline::Progress;
 use std::alloc::{AllocError, Global};
 use store::StoreRefusal;
 use store::past::{End, Hears, tell_journal};
 
-// The sum that the next journal goes on from: 55 where one that is not the last has no block, or more bytes behind its last one; none
-// where the last one has no block.
+// The sum that the next journal goes on from; none where the last one has no block. 55 where one that is not the last has no block, or more
+// bytes behind its last one, and where the last one has others there than a write leaves that was cut short.
 fn sum_at_end(
     journal: u64,
     last: u64,
-    length: usize,
+    bytes: &[u8],
     end: Option<End>,
 ) -> Result<Option<u64>, StoreRefusal> {
-    let is_last = journal == last;
-    match end {
-        Some(end) if is_last || end.at == length => Ok(Some(end.sum)),
-        Some(end) => Err(StoreRefusal::BadJournal {
-            journal,
-            at: end.at,
-        }),
-        None if is_last => Ok(None),
-        None => Err(StoreRefusal::BadJournal { journal, at: 0 }),
+    let at = match end {
+        Some(end) => end.at,
+        None => 0,
+    };
+    let is_whole = match end {
+        Some(end) => end.at == bytes.len(),
+        None => false,
+    };
+    if is_whole || (journal == last && is_torn(bytes, at)) {
+        return Ok(end.map(|end| end.sum));
     }
+    Err(StoreRefusal::BadJournal { journal, at })
 }
 
 // Whether the first line of a journal names this number; so does one without a whole block.
@@ -90,7 +93,7 @@ fn tell_each<H: Hears, Q: Progress>(
         let journal = journals.first.saturating_add(before);
         let bytes = read_journal(rt, alloc, dir, journal)?;
         let end = tell_one(alloc, journal, text_in(&bytes), sum, hearer)?;
-        if let Some(next) = sum_at_end(journal, journals.last, bytes.len(), end)? {
+        if let Some(next) = sum_at_end(journal, journals.last, &bytes, end)? {
             sum = Some(next);
         }
         progress.tell(usize::try_from(before.saturating_add(1)).unwrap_or(usize::MAX));

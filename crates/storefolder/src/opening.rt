@@ -8,7 +8,8 @@ use crate::form::Form;
 use crate::journal_file::JournalFile;
 use crate::journals::tell_one;
 use crate::numbers::find_journals;
-use crate::place::{Folder, cut_journal, enter, new_journal, read_journal};
+use crate::place::{Folder, check_form, cut_journal, enter, new_journal, read_journal};
+use crate::torn::is_torn;
 use durable::SqlKeeper;
 use journal::blocks::text_in;
 use model::member::Member;
@@ -97,7 +98,7 @@ fn cut_of(journal: u64, bytes: &[u8], end: End) -> Option<Cut> {
     })
 }
 
-// Reads one journal by itself; none where it has no whole block.
+// Reads one journal by itself; none where it has no whole block. 55 where bytes follow its last one that no write left that was cut short.
 fn read_alone(
     rt: &HostRuntime,
     alloc: Global,
@@ -108,15 +109,20 @@ fn read_alone(
     let bytes = read_journal(rt, alloc, dir, journal)?;
     let mut past = Past::new(alloc, form.members)?;
     let before = if journal == 1 { Some(form.sum()) } else { None };
-    match tell_one(alloc, journal, text_in(&bytes), before, &mut past)? {
-        Some(end) => Ok(Some(Before {
-            past,
-            next: journal.saturating_add(1),
-            sum: end.sum,
-            cut: cut_of(journal, &bytes, end),
-        })),
-        None => Ok(None),
+    let end = tell_one(alloc, journal, text_in(&bytes), before, &mut past)?;
+    let at = match end {
+        Some(end) => end.at,
+        None => 0,
+    };
+    if !is_torn(&bytes, at) {
+        return Err(StoreRefusal::BadJournal { journal, at });
     }
+    Ok(end.map(|end| Before {
+        past,
+        next: journal.saturating_add(1),
+        sum: end.sum,
+        cut: cut_of(journal, &bytes, end),
+    }))
 }
 
 // Reads the last journal. One without a whole block was begun by an opening that was cut short, and counts as not there.
@@ -127,6 +133,9 @@ fn read_before(
     form: &Form,
 ) -> Result<Before, StoreRefusal> {
     let journals = find_journals(rt, alloc, dir)?;
+    if journals.has(1) && journals.last > 1 {
+        check_form(rt, alloc, dir, form)?;
+    }
     for back in 0..2u64 {
         let journal = journals.last.saturating_sub(back);
         if journals.has(journal) {

@@ -5,9 +5,12 @@ use model::member::Member;
 use schemaread::schemas::read_schema;
 use std::alloc::{AllocError, Global};
 use std::fs::{File, OpenOptions, TryLockError};
-use std::io::Write;
+use std::io::{Read, Write};
 use std::{fs, io};
 use store::StoreRefusal;
+
+// How many bytes of a journal its first line may take.
+const BEGINNING: usize = 256;
 
 /// A folder whose store is this process's own: its form's lock is held.
 #[derive(Drop)]
@@ -150,6 +153,39 @@ pub fn enter(rt: &HostRuntime, alloc: Global, dir: &str) -> Result<Folder, Store
     };
     let form = read_form(alloc, text)?;
     Ok(Folder { form, _lock: lock })
+}
+
+// Whether a journal that begins with these bytes goes on from this sum, as its first line says.
+fn names_sum(alloc: Global, bytes: &[u8], sum: u64) -> Result<bool, AllocError> {
+    let line = format!(in alloc; "opens 1 {sum} ")?;
+    Ok(match bytes.iter().position(|byte| *byte == b'\n') {
+        Some(at) => bytes
+            .split_at_checked(at.saturating_add(1))
+            .is_some_and(|(_, body)| body.starts_with(line.as_bytes())),
+        None => false,
+    })
+}
+
+/// Looks whether the first journal goes on from the form: 55 of that journal where it names another sum. Its first bytes alone are read.
+pub(crate) fn check_form(
+    rt: &HostRuntime,
+    alloc: Global,
+    dir: &str,
+    form: &Form,
+) -> Result<(), StoreRefusal> {
+    let path = journal_path(alloc, dir, 1)?;
+    let mut bytes = Vec::from_elem(alloc, 0u8, BEGINNING)?;
+    let read = match File::open(rt, path.as_str()) {
+        Ok(mut file) => file.read(&mut bytes),
+        Err(error) => Err(error),
+    };
+    if let Err(error) = read {
+        return Err(file_refusal(&error));
+    }
+    if names_sum(alloc, &bytes, form.sum())? {
+        return Ok(());
+    }
+    Err(StoreRefusal::BadJournal { journal: 1, at: 0 })
 }
 
 /// The bytes of a journal.

@@ -1,5 +1,6 @@
 -- What an import tells.
 use Rattle.std.specs.Prelude.{ℕ, [], ◌==◌, if◌then◌else◌, List, ◌++◌, codes, decimal}
+use Rattle.fault.specs.declared.refusal.Refusal.TheVariants.{KeyOverlap}
 use Rattle.store.specs.declared.outcome.Outcome.{Outcome}
 use Rattle.store.specs.declared.outcome.Outcome.TheVariants.{Accepted, Refused, Unanswered}
 use Rattle.store.specs.Words.{words_of}
@@ -15,6 +16,7 @@ command_text dir table file line = codes "bitable import " ++ (dir ++ (codes " "
 -- what stands below a request that was not accepted
 abbrev pub advice_text : Outcome → List ℕ → List ℕ
 advice_text (Accepted stamp) command = []
+advice_text (Refused KeyOverlap) command = codes "        This request stored nothing. Go on behind what an earlier import stored, or mend it: " ++ command
 advice_text (Refused refusal) command = codes "        Nothing of these lines is stored. When it is mended: " ++ command
 advice_text Unanswered command = codes "        It is not known whether these lines are stored; where they are, they are refused 20: " ++ command
 

@@ -4,6 +4,7 @@ ghost use Rattle.transfer.specs.Told.{advice_text, command_text, count_text, lin
 
 use crate::asked::Import;
 use csvrows::{Fault, Request};
+use fault::Refusal;
 use std::alloc::{AllocError, Global};
 use store::Outcome;
 
@@ -37,6 +38,9 @@ fn advice_text(alloc: Global, outcome: &Outcome, command: &str) -> Result<String
 {
     match outcome {
         Outcome::Accepted(_) => Ok(String::new(alloc)),
+        Outcome::Refused(Refusal::KeyOverlap) => format!(in alloc;
+            "        This request stored nothing. Go on behind what an earlier import stored, or mend it: {command}"
+        ),
         Outcome::Refused(_) => format!(in alloc;
             "        Nothing of these lines is stored. When it is mended: {command}"
         ),

@@ -10,4 +10,5 @@ returns c =
     let import = with_sub _ _ _ _ _ c.in_ok-subcommand-3.ensures opened c.in_ok-import_words.ensures in
     let export = with_sub _ _ _ _ _ c.in_ok-subcommand-4.ensures import c.in_ok-export_words.ensures in
     let log = with_sub _ _ _ _ _ c.in_ok-subcommand-5.ensures export c.in_ok-log_words.ensures in
-    IfOk-weaker c.subcommand-6.result _ _ (λ r added. with_sub _ _ _ _ _ added log c.in_ok-flights_words.ensures) c.subcommand-6.ensures
+    let flights = with_sub _ _ _ _ _ c.in_ok-subcommand-6.ensures log c.in_ok-flights_words.ensures in
+    IfOk-weaker c.subcommand-7.result _ _ (λ r added. with_sub _ _ _ _ _ added flights c.in_ok-restore_words.ensures) c.subcommand-7.ensures
