@@ -253,9 +253,16 @@ fn run_open<'a>(rt: &HostRuntime, alloc: Global, open: OpenStore<'a>) -> Result<
 // What is said of a store of which an audit says yes.
 fn yes_lines(alloc: Global, audited: &Audited) -> Result<String, AllocError> {
     let mut text = String::new(alloc);
-    put_missing(audited.missing.as_slice(), &mut text)?;
-    let members = audited.records.lives.len();
-    put_counts(audited.sessions, audited.requests, members, &mut text)?;
+    let missing = audited.missing.as_slice();
+    put_missing(missing, &mut text)?;
+    let members = audited.members;
+    put_counts(
+        audited.sessions,
+        audited.requests,
+        members,
+        missing,
+        &mut text,
+    )?;
     text.push_str("audit: yes\n")?;
     Ok(text)
 }
@@ -263,8 +270,10 @@ fn yes_lines(alloc: Global, audited: &Audited) -> Result<String, AllocError> {
 // The same where the first journals are away.
 fn later_lines(alloc: Global, later: &Later) -> Result<String, AllocError> {
     let mut text = String::new(alloc);
-    put_missing(later.missing.as_slice(), &mut text)?;
-    put_counts(later.sessions, later.requests, later.members, &mut text)?;
+    let missing = later.missing.as_slice();
+    put_missing(missing, &mut text)?;
+    let members = later.members;
+    put_counts(later.sessions, later.requests, members, missing, &mut text)?;
     let journal = later.journal;
     let before = journal.saturating_sub(1);
     write!(
@@ -279,11 +288,17 @@ fn put_counts(
     sessions: u64,
     requests: u64,
     members: usize,
+    missing: &[Member],
     text: &mut String,
 ) -> Result<(), AllocError> {
+    let which = if missing.is_empty() {
+        ""
+    } else {
+        " that is there"
+    };
     write!(
         text,
-        "sessions {sessions}, requests {requests}, members {members}: each database is what the journals give\n"
+        "sessions {sessions}, requests {requests}, members {members}: each database{which} is what the journals give\n"
     )
 }
 

@@ -6,17 +6,13 @@ use std::alloc::{AllocError, Global};
 use storerestore::Restored;
 
 // The line of a database that was made anew.
-fn put_restored(alloc: Global, restored: &Restored, text: &mut String) -> Result<(), AllocError> {
+fn put_restored(restored: &Restored, text: &mut String) -> Result<(), AllocError> {
     let member = restored.member;
     let entries = restored.entries;
-    let entries = if entries == 1 {
-        format!(in alloc; "1 entry")?
-    } else {
-        format!(in alloc; "{entries} entries")?
-    };
+    let word = if entries == 1 { "entry" } else { "entries" };
     write!(
         text,
-        "node {member}: its database is made anew, with {entries}"
+        "node {member}: its database is made anew, with {entries} {word}"
     )?;
     if let Some(kept) = &restored.kept {
         write!(text, "; what was there is kept as {kept}")?;
@@ -29,7 +25,7 @@ fn put_restored(alloc: Global, restored: &Restored, text: &mut String) -> Result
 fn restored_lines(alloc: Global, all: &[Restored]) -> Result<String, AllocError> {
     let mut text = String::new(alloc);
     for restored in all {
-        put_restored(alloc, restored, &mut text)?;
+        put_restored(restored, &mut text)?;
     }
     if all.is_empty() {
         text.push_str("nothing to restore: each database is what the journals tell\n")?;

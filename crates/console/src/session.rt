@@ -23,17 +23,10 @@ const AHEAD_MOST: i64 = 60_000_000;
 // The latest time that a member has closed, where that is so far ahead of what the clock shows.
 fn time_ahead(members: &[Status], reading: i64) -> Option<Stamp> {
     let most = u64::try_from(reading.saturating_add(AHEAD_MOST)).unwrap_or(0);
-    let mut latest = None;
-    let mut micros = most;
-    for status in members {
-        if let Some(closed) = status.closed {
-            if closed.micros() > micros {
-                micros = closed.micros();
-                latest = Some(closed);
-            }
-        }
-    }
-    latest
+    let closed = members.iter().filter_map(|status| status.closed);
+    closed
+        .max_by_key(|closed| closed.micros())
+        .filter(|latest| latest.micros() > most)
 }
 
 /// What is known of the place that lines come from and outcomes go to.

@@ -1,7 +1,7 @@
 -- How members go down and come up, step by step.
 use Rattle.std.proofs.Common.{◌≡◌, ◌∙◌, ℕ, Result, Ok, Err, OnOk, ap}
-use Rattle.model.specs.Worlds.{Start, Stop}
-use Rattle.playback.specs.Playing.{GoesDown, IsCompared}
+use Rattle.model.specs.Worlds.{Start}
+use Rattle.playback.specs.Playing.{GoesDown}
 use Rattle.playback.specs.Scenes.{Scene, happened, met, with_member}
 use Rattle.playback.specs.Standings.{Up}
 
@@ -22,7 +22,3 @@ comes_up s mid a b c t m length down same starts meets up = (
   down,
   up ∙ ap (λ (z : Scene). with_member z m Up) (meets ∙ ap (λ (z : Scene). met z length) (starts ∙ ap (λ (z : Scene). happened z (Start m)) same)),
 )
-
--- a database is compared
-pub compares : (s mid a b t : Scene) (m : ℕ) → GoesDown s m mid → a ≡ happened mid (Start m) → b ≡ a → t ≡ happened b (Stop m) → IsCompared s m t
-compares s mid a b t m down starts same stops = (mid, down, stops ∙ ap (λ (z : Scene). happened z (Stop m)) (same ∙ starts))

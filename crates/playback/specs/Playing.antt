@@ -67,10 +67,6 @@ Plays s (Answer m text answer) t =
     × (t ≡ happened s (event_of (Ask m query)))
 Plays s (Printed client number words) t = IsSaid s.words client number words × (t ≡ record s { words = [] })
 
--- a database is compared: the member goes down as if it were started again, and is started and stopped
-abbrev pub IsCompared : Scene → ℕ → Scene → Type 0
-IsCompared s m t = (mid : Scene) × GoesDown s m mid × (t ≡ happened (happened mid (Start m)) (Stop m))
-
 -- at the end a member has this stored: it goes down as if it were started again, is started, has it, and is stopped
 abbrev pub IsLeft : Scene → ℕ → Durable → Scene → Type 0
 IsLeft s m stored t = (mid : Scene) × GoesDown s m mid × HasStored (happened mid (Start m)).history m stored × (t ≡ happened (happened mid (Start m)) (Stop m))

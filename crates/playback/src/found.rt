@@ -1,9 +1,10 @@
 //! What databases hold at the end.
-ghost use Rattle.std.specs.Prelude.{◌≡◌, IfOk, OnOk, length};
+ghost use Rattle.std.specs.Prelude.{◌≡◌, true, IfOk, OnOk, length};
 ghost use Rattle.playback.specs.Histories.{BeginsLog, HasStored};
-ghost use Rattle.playback.specs.Playing.{IsCompared, IsLeft};
+ghost use Rattle.playback.specs.Playing.{IsLeft};
 ghost use Rattle.playback.specs.Scenes.{scene_of};
 
+use crate::making::are_same_entries;
 use crate::play::Play;
 use journal::Summary;
 use keep::HardState;
@@ -44,27 +45,32 @@ fn first_difference(
     }
 }
 
+// Whether a member has this stored, and nothing else.
+fn is_just(stored: &Stored, hard: HardState, entries: &[Entry]) -> bool
+    ensures { result ≡ true → (stored.now.hard ≡ hard) × (stored.now.entries.items ≡ entries.now) }
+{
+    stored.hard == hard && are_same_entries(stored.entries.as_slice(), entries)
+}
+
 impl Play {
-    /// Whether a member's database, which holds this, is what the journals give: 49 where it isn't, with the first entry that
-    /// differs.
+    /// Whether a member's database, which holds this in short, with a log of these entries, is what the journals give: 49 where it isn't,
+    /// with the first entry that differs. The member is down then.
     pub fn check_found(
         &mut self,
         member: Member,
         found: &Summary,
         entries: &[Entry],
     ) -> Result<(), StoreRefusal>
-        ensures { OnOk result (IsCompared (scene_of self.old) member (scene_of self.new)) }
+        ensures { OnOk result (IsLeft (scene_of self.old) member (record { hard = found.now.hard; log = entries.now }) (scene_of self.new)) }
     {
         self.close(member, found)?;
         self.start(member)?;
-        let is_same = self.stored(member)? == Some(*found);
+        let stored = self.all_stored(member)?;
         let _ = self.happen(Event::Stop(member))?;
-        if is_same {
+        if is_just(&stored, found.hard, entries) {
             return Ok(());
         }
-        let at = self.place(member)?;
-        let own = self.actors[at].log.as_slice();
-        let entry = first_difference(self.alloc, entries, own)?;
+        let entry = first_difference(self.alloc, entries, stored.entries.as_slice())?;
         Err(StoreRefusal::Altered { member, entry })
     }
 

@@ -11,6 +11,7 @@ use node::{Out, Work};
 use schema::Schema;
 use sqlread::query::Query;
 use std::alloc::{AllocError, Global};
+use store::StoreRefusal;
 use world::StoredState;
 use world::event::{Event, Job, Left};
 use world::output::Output;
@@ -80,13 +81,14 @@ impl Group {
         }
     }
 
-    /// A member has this stored, with a log of these entries. It is down.
+    /// A member has this stored, with a log of these entries. It is down. 44 of what a member can't have; after that and 43 it has what
+    /// it had.
     pub fn load(
         &mut self,
         member: Member,
         hard: HardState,
         entries: &[Entry],
-    ) -> Result<(), AllocError> {
+    ) -> Result<(), StoreRefusal> {
         match self.place(member) {
             Some(at) => self.seats[at].load(hard, entries),
             None => Ok(()),

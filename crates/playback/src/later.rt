@@ -1,6 +1,7 @@
 //! Journals that go on from others, which are away.
 ghost use Rattle.std.specs.Prelude.{◌≡◌, ◌⊎◌, None, IfOk, OnOk};
-ghost use Rattle.playback.specs.Playing.{IsCompared};
+ghost use Rattle.keep.specs.Durable.{Durable};
+ghost use Rattle.playback.specs.Playing.{IsLeft};
 ghost use Rattle.playback.specs.Scenes.{outset, scene_of, standings};
 
 use crate::actor::Actor;
@@ -49,8 +50,8 @@ impl Play {
         Ok(play)
     }
 
-    /// A member is met for the first time, with this stored: it goes on from there. 51 where it was told to have something else; 55 of the
-    /// journal before the first one, where no log that is held begins so.
+    /// A member is met for the first time, with this stored: it goes on from there. 51 where it was told to have something else, or no
+    /// member can have it; 55 of the journal before the first one, where no log that is held begins so.
     pub(crate) fn meet(&mut self, member: Member, found: &Summary) -> Result<(), StoreRefusal>
         ensures { scene_of self.new ≡ scene_of self.old }
     {
@@ -64,8 +65,11 @@ impl Play {
         let Some(entries) = beginning_of(self.held.as_slice(), at, found) else {
             return Err(self.refusal_before());
         };
-        self.stage.load(member, found.hard, entries)?;
-        self.know(member)
+        match self.stage.load(member, found.hard, entries) {
+            Ok(()) => self.know(member),
+            Err(StoreRefusal::Refused(Refusal::BadStore)) => Err(self.broken(member)),
+            Err(refusal) => Err(refusal),
+        }
     }
 
     /// A member that was not met goes on from what is told that it has stored. 55 of the journal before the first one where nothing is told,
@@ -103,7 +107,7 @@ impl Play {
     /// Whether a member's database, whose log is held and which holds this, is what the journals give: 49 where it isn't, with the first
     /// entry that differs, where it is known.
     pub fn check_held(&mut self, member: Member, found: &Summary) -> Result<(), StoreRefusal>
-        ensures { OnOk result (IsCompared (scene_of self.old) member (scene_of self.new) ⊎ (scene_of self.new ≡ scene_of self.old)) }
+        ensures { OnOk result (((stored : Durable) × IsLeft (scene_of self.old) member stored (scene_of self.new)) ⊎ (scene_of self.new ≡ scene_of self.old)) }
     {
         match self.meet(member, found) {
             Err(StoreRefusal::Refused(Refusal::BrokenLife { .. })) => {

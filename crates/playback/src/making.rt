@@ -136,8 +136,8 @@ fn append_all<K: Keeper>(
     Ok(())
 }
 
-// Whether these entries are those.
-fn are_same_entries(some: &[Entry], others: &[Entry]) -> bool
+/// Whether these entries are those.
+pub(crate) fn are_same_entries(some: &[Entry], others: &[Entry]) -> bool
     ensures { result ≡ true → some.now ≡ others.now }
 {
     if some.len() != others.len() {

@@ -1,5 +1,5 @@
 //! A member that goes on from what it had stored.
-ghost use Rattle.std.specs.Prelude.{◌≡◌, ◌≤◌};
+ghost use Rattle.std.specs.Prelude.{◌≡◌, ◌≤◌, None, OnOk};
 ghost use Rattle.std.specs.Option.{ForSome};
 ghost use Rattle.keep.specs.Durable.{stored_in};
 ghost use Rattle.keep.specs.Log.{IsLog, log_prop};
@@ -36,11 +36,6 @@ pub(crate) struct Seat {
     ghost forms: { IsLog members (language_of schema) (stored_in image) } by { log_prop _ _ _ },
 }
 
-// Whether it is want of memory that is refused.
-fn is_of_memory(refusal: &StoreRefusal) -> bool {
-    matches!(refusal, StoreRefusal::Refused(Refusal::NoMemory))
-}
-
 impl Seat {
     /// A member of so many, at most 7, that is down and has stored nothing; none where there is no such member.
     pub fn new(alloc: Global, schema: Schema, members: usize, me: Member) -> Option<Seat> {
@@ -57,27 +52,21 @@ impl Seat {
         })
     }
 
-    /// It is down, and has this stored, with a log of these entries; where a member can't have that, what it had.
-    pub fn load(&mut self, hard: HardState, entries: &[Entry]) -> Result<(), AllocError> {
+    /// It is down, and has this stored, with a log of these entries. 44 of what a member can't have; after that and 43 it has what it had.
+    pub fn load(&mut self, hard: HardState, entries: &[Entry]) -> Result<(), StoreRefusal>
+        ensures { OnOk result ((self.new.node ≡ None) × (stored_in self.new.image ≡ record { hard = hard; log = entries.now })) }
+    {
         self.stop();
-        let image = MemImage::new(self.alloc);
-        let made = remake::<MemKeeper>(
+        self.image = remake::<MemKeeper>(
             self.alloc,
-            image,
+            MemImage::new(self.alloc),
             &self.schema,
             self.members,
             self.me,
             hard,
             entries,
-        );
-        match made {
-            Ok(image) => {
-                self.image = image;
-                Ok(())
-            }
-            Err(refusal) if is_of_memory(&refusal) => Err(AllocError),
-            Err(_refusal) => Ok(()),
-        }
+        )?;
+        Ok(())
     }
 
     /// A step: what it gives, or why it is refused. One that is down refuses all.
@@ -93,7 +82,9 @@ impl Seat {
     }
 
     /// Stops it; one that is down stays so.
-    pub fn stop(&mut self) {
+    pub fn stop(&mut self)
+        ensures { self.new.node ≡ None }
+    {
         if let Some(node) = self.node.take() {
             self.image = node.stop();
         }

@@ -9,6 +9,7 @@ use model::entry::Entry;
 use model::member::Member;
 use schema::Schema;
 use std::alloc::AllocError;
+use store::StoreRefusal;
 use world::StoredState;
 use world::event::Event;
 use world::history::World;
@@ -44,13 +45,13 @@ impl Stage {
         }
     }
 
-    /// A member goes on from this, with a log of these entries. On a world each has its own beginning.
+    /// A member goes on from this, with a log of these entries; 44 of what a member can't have. On a world each has its own beginning.
     pub fn load(
         &mut self,
         member: Member,
         hard: HardState,
         entries: &[Entry],
-    ) -> Result<(), AllocError>
+    ) -> Result<(), StoreRefusal>
         ensures { history_of self.new ≡ history_of self.old }
     {
         match self {

@@ -1,14 +1,16 @@
 //! The audit of a folder: its journals are played again, each database has to be what they give, and what they spell has to be one run.
-ghost use Rattle.std.specs.Prelude.{IfOk};
-ghost use Rattle.storeaudit.specs.Audit.{IsUpheld};
+ghost use Rattle.std.specs.Prelude.{◌≡◌, IfOk, OnOk};
+ghost use Rattle.journal.specs.Digests.{summary_of};
+ghost use Rattle.node.specs.Member.{member_of};
+ghost use Rattle.node.specs.View.{durable_of};
+ghost use Rattle.playback.specs.Scenes.{scene_of};
+ghost use Rattle.store.specs.HeldAt.{entries_in};
+ghost use Rattle.storeaudit.specs.Audit.{AreLeft, IsUpheld, WasPlayed};
+ghost use Rattle.storeaudit.specs.Found.{AreAlike, IsAlike, IsFound};
 
 use crate::later::{Later, audit_later};
-use auditor::{AuditFault, judge};
 use durable::SqlKeeper;
 use fault::Refusal;
-use flight::flight::Version;
-use flight::life::Life;
-use flight::records::Records;
 use journal::Summary;
 use model::member::Member;
 use node::Node;
@@ -28,13 +30,13 @@ use storefolder::{Form, Journals, enter, find_journals, open_databases, tell_all
 pub struct Audited {
     /// The tables.
     pub schema: Schema,
-    /// What the journals spell, node by node.
-    pub records: Records,
+    /// How many members there are.
+    pub members: Member,
     /// How many journals there are.
     pub sessions: u64,
     /// How many outcomes of requests were given out.
     pub requests: u64,
-    /// The members whose database is missing.
+    /// The members whose database is missing, in their order.
     pub missing: Vec<Member>,
 }
 
@@ -48,6 +50,16 @@ pub enum Verdict {
     No(StoreRefusal),
 }
 
+/// What a member's database holds.
+#[derive(Drop)]
+pub struct Found<I: Drop> {
+    /// In short.
+    pub summary: Summary,
+    pub log: HeldLog,
+    /// The database, with what it holds.
+    pub image: I,
+}
+
 // What a node has stored: in short, and its log.
 fn held_by<K: Judging>(
     alloc: Global,
@@ -56,21 +68,24 @@ fn held_by<K: Judging>(
 ) -> Result<(Summary, HeldLog), StoreRefusal>
 where
     K::Image: Drop,
+    ensures is { IfOk result (λ held. K.is_honest node.new.keeper → (held.0 ≡ summary_of (durable_of (member_of node.old))) × (entries_in held.1 ≡ (durable_of (member_of node.old)).log)) }
+    ensures honest { K.is_honest node.new.keeper → K.is_honest node.old.keeper }
 {
     let log = HeldLog::new(alloc, node.entries()?, known)?;
     Ok((log.summary(node.hard_state()), log))
 }
 
-/// What a member's database holds: in short, and its log. 49 where it holds no state of a member; 40 and 43 where it can't be read.
+/// What a member's database holds. 49 where it holds no state of a member; 40 and 43 where it can't be read.
 pub fn found_in<K: Judging>(
     alloc: Global,
     database: K::Image,
     form: &Form,
     member: Member,
     known: &mut KnownLog,
-) -> Result<(Summary, HeldLog), StoreRefusal>
+) -> Result<Found<K::Image>, StoreRefusal>
 where
     K::Image: Drop,
+    ensures { IfOk result (λ found. IsFound K.holds K.is_sound database found.image found.summary (entries_in found.log)) }
 {
     if form.members > 7 || member < 1 || member > form.members {
         return Err(StoreRefusal::Refused(Refusal::NodeDown));
@@ -81,8 +96,13 @@ where
         Err((error, _)) => return Err(refusal_of(Refusal::from(error), member)),
     };
     let held = held_by(alloc, &mut node, known);
-    let _ = node.stop();
-    held
+    let image = node.stop();
+    let (summary, log) = held?;
+    Ok(Found {
+        summary,
+        log,
+        image,
+    })
 }
 
 // A database that holds no state of a member is one that was altered.
@@ -96,27 +116,24 @@ fn refusal_of(refusal: Refusal, member: Member) -> StoreRefusal {
     }
 }
 
-// Compares a member's database with what the journals give. False where it is missing.
-fn is_compared<K: Judging>(
+// Compares a member's database, which is not missing, with what the journals give.
+fn compare<K: Judging>(
     alloc: Global,
-    database: Option<K::Image>,
+    database: K::Image,
     form: &Form,
     member: Member,
     known: &mut KnownLog,
     play: &mut Play,
-) -> Result<bool, StoreRefusal>
+) -> Result<(), StoreRefusal>
 where
     K::Image: Drop,
+    ensures { OnOk result (IsAlike K.holds K.is_sound database (scene_of play.old) member (scene_of play.new)) }
 {
-    let Some(database) = database else {
-        return Ok(false);
-    };
-    let (found, log) = found_in::<K>(alloc, database, form, member, known)?;
-    play.check_found(member, &found, log.entries())?;
-    Ok(true)
+    let found = found_in::<K>(alloc, database, form, member, known)?;
+    play.check_found(member, &found.summary, found.log.entries())
 }
 
-// Compares each database that is there, and names those that are missing.
+// Compares each database that is there, and names those that are missing. 50 of another number of them than members.
 fn compare_databases<K: Judging>(
     alloc: Global,
     databases: Vec<Option<K::Image>>,
@@ -125,15 +142,23 @@ fn compare_databases<K: Judging>(
 ) -> Result<Vec<Member>, StoreRefusal>
 where
     K::Image: Drop,
+    ensures { IfOk result (λ missing. AreAlike K.holds K.is_sound databases.items (scene_of play.old) form.now.members missing.items (scene_of play.new)) }
 {
+    if databases.len() != form.members {
+        return Err(StoreRefusal::Refused(Refusal::BadFlight));
+    }
     let mut missing = Vec::new(alloc);
     let mut known = KnownLog::new(alloc);
-    let mut member: Member = 0;
+    let mut before: Member = 0;
     for database in databases {
-        member = member.saturating_add(1);
-        if !is_compared::<K>(alloc, database, form, member, &mut known, play)? {
-            missing.push(member)?;
+        let Some(member) = before.checked_add(1) else {
+            return Err(StoreRefusal::Refused(Refusal::BadFlight));
+        };
+        match database {
+            Some(database) => compare::<K>(alloc, database, form, member, &mut known, play)?,
+            None => missing.push(member)?,
         }
+        before = member;
     }
     Ok(missing)
 }
@@ -144,7 +169,9 @@ fn compare_stored<S: Alter + Drop>(
     databases: Vec<Option<Connection<S>>>,
     form: &Form,
     play: &mut Play,
-) -> Result<Vec<Member>, StoreRefusal> {
+) -> Result<Vec<Member>, StoreRefusal>
+    ensures { IfOk result (λ missing. AreLeft (scene_of play.old) form.now.members missing.items (scene_of play.new)) }
+{
     compare_databases::<SqlKeeper<S>>(alloc, databases, form, play)
 }
 
@@ -157,14 +184,16 @@ fn check_databases<Q: Progress>(
     journals: Journals,
     play: &mut Play,
     progress: &Q,
-) -> Result<Vec<Member>, StoreRefusal> {
+) -> Result<Vec<Member>, StoreRefusal>
+    ensures { IfOk result (λ missing. AreLeft (scene_of play.old) form.now.members missing.items (scene_of play.new)) }
+{
     let mut past = Past::new(alloc, form.members)?;
     tell_all(rt, alloc, dir, form, journals, &mut past, progress)?;
     let databases = open_databases(rt, alloc, dir, &past)?;
     compare_stored(alloc, databases, form, play)
 }
 
-// Plays all journals, compares the databases, and names those that are missing.
+// Plays all journals, compares the databases, and gives how many journals there are, and whose databases are missing.
 fn check_all<Q: Progress>(
     rt: &HostRuntime,
     alloc: Global,
@@ -173,9 +202,12 @@ fn check_all<Q: Progress>(
     journals: Journals,
     play: &mut Play,
     progress: &Q,
-) -> Result<Vec<Member>, StoreRefusal> {
-    tell_all(rt, alloc, dir, form, journals, play, progress)?;
-    check_databases(rt, alloc, dir, form, journals, play, progress)
+) -> Result<(u64, Vec<Member>), StoreRefusal>
+    ensures { IfOk result (λ found. WasPlayed (scene_of play.old) found.0 form.now.members found.1.items (scene_of play.new)) }
+{
+    let count = tell_all(rt, alloc, dir, form, journals, play, progress)?;
+    let missing = check_databases(rt, alloc, dir, form, journals, play, progress)?;
+    Ok((count, missing))
 }
 
 // Whether a refusal is what an audit says no by.
@@ -201,52 +233,42 @@ fn verdict_of(refusal: StoreRefusal) -> Result<Verdict, StoreRefusal>
     }
 }
 
-// What an audit says of what journals spell whose databases are what they give. 43 for want of memory; 50 of another number of members
-// than 3 to 7.
-fn judge_records(
+// What an audit says where all journals are there: what they spell is played on one world, from its first event on.
+fn audit_whole<Q: Progress>(
+    rt: &HostRuntime,
     alloc: Global,
-    schema: Schema,
-    records: Records,
-    counts: (u64, u64),
-    missing: Vec<Member>,
+    dir: &str,
+    form: &Form,
+    journals: Journals,
+    progress: &Q,
 ) -> Result<Verdict, StoreRefusal>
     ensures { IfOk result IsUpheld }
 {
-    if records.lives.len() < 3 || records.lives.len() > 7 {
-        return Err(StoreRefusal::Refused(Refusal::BadFlight));
-    }
-    let (sessions, requests) = counts;
-    match judge(alloc, Version::Three, &schema, &records) {
-        Ok(()) => Ok(Verdict::Yes(Audited {
-            schema,
-            records,
-            sessions,
-            requests,
-            missing,
-        })),
-        Err(AuditFault::NoMemory) => Err(StoreRefusal::Refused(Refusal::NoMemory)),
-        Err(fault) => Ok(Verdict::No(StoreRefusal::Refused(Refusal::from(fault)))),
-    }
+    // Its contract says what holds of the events of each run.
+    believed::promises();
+    let schema = form.schema.clone()?;
+    let mut play = Play::new(alloc, form.members, form.schema.clone()?, false)?;
+    let (sessions, missing) = match check_all(rt, alloc, dir, form, journals, &mut play, progress) {
+        Ok(found) => found,
+        Err(refusal) => return verdict_of(refusal),
+    };
+    let (_, requests) = play.counts();
+    Ok(Verdict::Yes(Audited {
+        schema,
+        members: form.members,
+        sessions,
+        requests,
+        missing,
+    }))
 }
 
-// How many steps lives have.
-fn steps_in(lives: &[Vec<Life>]) -> usize {
-    let mut steps: usize = 0;
-    for own in lives {
-        for life in own {
-            steps = steps.saturating_add(life.steps.len());
-        }
-    }
-    steps
-}
-
-/// Audits the store in a folder: whether the events that its journals spell give each outcome and each answer that these tell of, each
-/// database holds what they come to, and an audit of the lives and answers that they spell says yes. A yes comes with these. Where the first
-/// journals are away, the others are judged in the same way but for that audit, from what the databases say that was stored before.
+/// Audits the store in a folder: whether the events that its journals spell, one run of its members from the first one on, give each outcome
+/// and each answer that the journals tell of, and each database that is there holds what its member has stored in that run. Where the first
+/// journals are away, the others are judged in the same way, from what the databases say that was stored before.
 ///
 /// A fault is 49 of a database that holds something else, 55 of a journal that spells nothing or is missing, 51 of a member that began with
-/// what it did not have, 52 of a message that was not sent, 53 of marks that do not rise, 54 of an outcome or an answer that the events don't
-/// give. Refused is 46 to 48, and 40 and 43. How many journals are read and how many steps are judged is told to who asks for it.
+/// what it did not have, 52 of a message that was not sent, 54 of an outcome or an answer that the events don't give. Refused is 46 to 48,
+/// and 40 and 43. How many journals are read is told to who asks for it.
 pub fn audit<Q: Progress>(
     rt: &HostRuntime,
     alloc: Global,
@@ -261,22 +283,11 @@ pub fn audit<Q: Progress>(
         Ok(journals) => journals,
         Err(refusal) => return verdict_of(refusal),
     };
-    if journals.is_later() {
-        return match audit_later(rt, alloc, dir, form, journals, progress) {
-            Ok(later) => Ok(Verdict::Later(later)),
-            Err(refusal) => verdict_of(refusal),
-        };
+    if !journals.is_later() {
+        return audit_whole(rt, alloc, dir, form, journals, progress);
     }
-    let mut play = Play::new(alloc, form.members, form.schema.clone()?, true)?;
-    let missing = match check_all(rt, alloc, dir, form, journals, &mut play, progress) {
-        Ok(missing) => missing,
-        Err(refusal) => return verdict_of(refusal),
-    };
-    let counts = play.counts();
-    let records = play.into_records()?;
-    let schema = form.schema.clone()?;
-    progress.judge(steps_in(records.lives.as_slice()));
-    let verdict = judge_records(alloc, schema, records, counts, missing);
-    progress.hide();
-    verdict
+    match audit_later(rt, alloc, dir, form, journals, progress) {
+        Ok(later) => Ok(Verdict::Later(later)),
+        Err(refusal) => verdict_of(refusal),
+    }
 }

@@ -52,9 +52,9 @@ where
         member = member.saturating_add(1);
         match database {
             Some(database) => {
-                let (found, log) = found_in::<K>(alloc, database, form, member, &mut known)?;
-                held.found.push(Some(found))?;
-                held.logs.push(Some(log))?;
+                let found = found_in::<K>(alloc, database, form, member, &mut known)?;
+                held.found.push(Some(found.summary))?;
+                held.logs.push(Some(found.log))?;
             }
             None => {
                 held.found.push(None)?;

@@ -67,7 +67,7 @@ Example:
   bitable restore pay
 
   node 2: its database is made anew, with 9 entries
-  restored 1 of 3 databases
+  restored 1 database
 
 Exit status:
   0  each database is what the journals give

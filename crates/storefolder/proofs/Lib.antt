@@ -1,2 +1,5 @@
+mod CutShort
 pub mod Follows
 mod Forms
+mod Hearing
+mod Leavings

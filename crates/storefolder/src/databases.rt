@@ -72,13 +72,12 @@ fn open_database(
     member: Member,
     tale: &Tale,
 ) -> Result<Option<Database>, StoreRefusal> {
-    let path = database_path(alloc, dir, member)?;
-    if !exists(rt, path.as_str())? {
-        if !tale.is_blank() {
-            return Ok(None);
-        }
-        make_database(rt, alloc, dir, path.as_str())?;
+    let found = find_database(rt, alloc, dir, member)?;
+    if found.is_some() || !tale.is_blank() {
+        return Ok(found);
     }
+    let path = database_path(alloc, dir, member)?;
+    make_database(rt, alloc, dir, path.as_str())?;
     Ok(Some(open_file(rt, path.as_str())?))
 }
 

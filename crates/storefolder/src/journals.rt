@@ -1,4 +1,9 @@
 //! All journals of a store, one after the other.
+ghost use Rattle.std.specs.Prelude.{◌≡◌, option_map, IfOk};
+ghost use Rattle.store.specs.Telling.{IsTold};
+ghost use Rattle.store.specs.declared.telling.End.{End as TheEnd};
+ghost use Rattle.storefolder.specs.Hearing.{HasHeard};
+
 use crate::form::Form;
 use crate::numbers::Journals;
 use crate::place::read_journal;
@@ -16,7 +21,9 @@ fn sum_at_end(
     last: u64,
     bytes: &[u8],
     end: Option<End>,
-) -> Result<Option<u64>, StoreRefusal> {
+) -> Result<Option<u64>, StoreRefusal>
+    ensures { IfOk result (λ sum. sum ≡ option_map (λ (e : TheEnd). e.sum) end) }
+{
     let at = match end {
         Some(end) => end.at,
         None => 0,
@@ -48,14 +55,16 @@ pub(crate) fn tell_one<H: Hears>(
     text: &str,
     before: Option<u64>,
     hearer: &mut H,
-) -> Result<Option<End>, StoreRefusal> {
+) -> Result<Option<End>, StoreRefusal>
+    ensures { IfOk result (IsTold H.hears before text.now hearer.old hearer.new) }
+{
     if before.is_none() && !is_numbered(alloc, journal, text)? {
         return Err(StoreRefusal::BadJournal { journal, at: 0 });
     }
     tell_journal(alloc, journal, text, before, hearer)
 }
 
-/// Tells each line of the journals of the store in a folder. 55 of a journal that spells nothing somewhere, or lines that may not stand
+/// Tells each line of the journals of the store in a folder, and gives how many of these there are. 55 of a journal that spells nothing somewhere, or lines that may not stand
 /// there, and of the one before the first where the last one that is there can't be read without it; what the hearer refuses otherwise; 40
 /// and 43 where one can't be read. How many journals were told is told to who asks for it, and is taken away at the end.
 pub fn tell_all<H: Hears, Q: Progress>(
@@ -66,7 +75,9 @@ pub fn tell_all<H: Hears, Q: Progress>(
     journals: Journals,
     hearer: &mut H,
     progress: &Q,
-) -> Result<(), StoreRefusal> {
+) -> Result<u64, StoreRefusal>
+    ensures { IfOk result (λ count. HasHeard H.hears count hearer.old hearer.new) }
+{
     let count = usize::try_from(journals.count()).unwrap_or(usize::MAX);
     progress.begin("journals", count);
     let told = tell_each(rt, alloc, dir, form, journals, hearer, progress);
@@ -83,23 +94,24 @@ fn tell_each<H: Hears, Q: Progress>(
     journals: Journals,
     hearer: &mut H,
     progress: &Q,
-) -> Result<(), StoreRefusal> {
+) -> Result<u64, StoreRefusal>
+    ensures { IfOk result (λ count. HasHeard H.hears count hearer.old hearer.new) }
+{
+    let count = journals.count();
     let mut sum = if journals.is_later() {
         None
     } else {
         Some(form.sum())
     };
-    for before in 0..journals.count() {
+    for before in 0..count {
         let journal = journals.first.saturating_add(before);
         let bytes = read_journal(rt, alloc, dir, journal)?;
         let end = tell_one(alloc, journal, text_in(&bytes), sum, hearer)?;
-        if let Some(next) = sum_at_end(journal, journals.last, &bytes, end)? {
-            sum = Some(next);
-        }
+        sum = sum_at_end(journal, journals.last, &bytes, end)?.or(sum);
         progress.tell(usize::try_from(before.saturating_add(1)).unwrap_or(usize::MAX));
     }
     match sum {
-        Some(_) => Ok(()),
+        Some(_) => Ok(count),
         None => Err(journals.refusal_before()),
     }
 }

@@ -1,13 +1,17 @@
 //! Which databases of a store hold what its journals tell.
+ghost use Rattle.std.specs.Prelude.{◌≡◌, IfOk};
+ghost use Rattle.storerestore.specs.Looking.{unreadable, IsJudged, IsLookedAt};
+
 use durable::SqlKeeper;
 use fault::Refusal;
 use model::member::Member;
 use sqlite::{Alter, Connection};
 use std::alloc::Global;
+use store::StoreRefusal;
 use store::announcing::Judging;
 use store::held::HeldLog;
 use store::known::KnownLog;
-use store::{Past, StoreRefusal};
+use store::past::Tale;
 use storeaudit::found_in;
 use storefolder::Form;
 
@@ -18,6 +22,18 @@ pub(crate) struct Looked {
     pub fits: bool,
     /// The log that it holds; none where it is missing, or can't be read.
     pub log: Option<HeldLog>,
+}
+
+impl Looked {
+    // Of a database that can't be read.
+    fn unreadable() -> Looked
+        ensures { result ≡ unreadable }
+    {
+        Looked {
+            fits: false,
+            log: None,
+        }
+    }
 }
 
 // Whether it is the database that is refused, and not a want of memory, of room or of the lock.
@@ -33,48 +49,57 @@ fn look_into<K: Judging>(
     alloc: Global,
     database: K::Image,
     form: &Form,
-    past: &Past,
+    tale: &Tale,
     member: Member,
     known: &mut KnownLog,
 ) -> Result<Looked, StoreRefusal>
 where
     K::Image: Drop,
+    ensures { IfOk result (λ looked. IsJudged K.holds K.is_sound database tale.now looked) }
 {
     match found_in::<K>(alloc, database, form, member, known) {
-        Ok((found, log)) => Ok(Looked {
-            fits: past.tale(member).fits(&found),
-            log: Some(log),
+        Ok(found) => Ok(Looked {
+            fits: tale.fits(&found.summary),
+            log: Some(found.log),
         }),
-        Err(refusal) if is_of_database(&refusal) => Ok(Looked {
-            fits: false,
-            log: None,
-        }),
+        Err(refusal) if is_of_database(&refusal) => Ok(Looked::unreadable()),
         Err(refusal) => Err(refusal),
     }
 }
 
 /// Looks at a member's database, if it could be opened. One that is missing is what the journals tell where these tell that nothing was
 /// ever stored in it.
-pub(crate) fn look_at<S: Alter + Drop>(
+pub(crate) fn look_at<K: Judging>(
+    alloc: Global,
+    database: Result<Option<K::Image>, StoreRefusal>,
+    form: &Form,
+    tale: &Tale,
+    member: Member,
+    known: &mut KnownLog,
+) -> Result<Looked, StoreRefusal>
+where
+    K::Image: Drop,
+    ensures { IfOk result (λ looked. IsLookedAt K.holds K.is_sound database tale.now looked) }
+{
+    match database {
+        Ok(Some(database)) => look_into::<K>(alloc, database, form, tale, member, known),
+        Ok(None) => Ok(Looked {
+            fits: tale.is_blank(),
+            log: None,
+        }),
+        Err(refusal) if is_of_database(&refusal) => Ok(Looked::unreadable()),
+        Err(refusal) => Err(refusal),
+    }
+}
+
+/// Looks at a database in a file.
+pub(crate) fn look_at_file<S: Alter + Drop>(
     alloc: Global,
     database: Result<Option<Connection<S>>, StoreRefusal>,
     form: &Form,
-    past: &Past,
+    tale: &Tale,
     member: Member,
     known: &mut KnownLog,
 ) -> Result<Looked, StoreRefusal> {
-    match database {
-        Ok(Some(database)) => {
-            look_into::<SqlKeeper<S>>(alloc, database, form, past, member, known)
-        }
-        Ok(None) => Ok(Looked {
-            fits: past.tale(member).is_blank(),
-            log: None,
-        }),
-        Err(refusal) if is_of_database(&refusal) => Ok(Looked {
-            fits: false,
-            log: None,
-        }),
-        Err(refusal) => Err(refusal),
-    }
+    look_at::<SqlKeeper<S>>(alloc, database, form, tale, member, known)
 }

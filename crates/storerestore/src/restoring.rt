@@ -1,8 +1,9 @@
 //! The restoring of a store's folder.
-ghost use Rattle.std.specs.Prelude.{◌≡◌, ◌↔◌, ℕ, None, IfErr, IsTrue, OnErr, OnOk};
-ghost use Rattle.storerestore.specs.Looking.{AreMost, MayBeMade};
+ghost use Rattle.std.specs.Prelude.{◌≡◌, ◌↔◌, ℕ, None, map, IfErr, IfOk, IsTrue, OnErr, OnOk};
+ghost use Rattle.storerestore.specs.Looking.{MayBeMade, MostFit};
+ghost use Rattle.storerestore.specs.declared.looking.Looked.{Looked as TheLooked};
 
-use crate::looking::{Looked, look_at};
+use crate::looking::{Looked, look_at_file};
 use crate::making::fill_database;
 use fault::Refusal;
 use model::member::Member;
@@ -39,14 +40,15 @@ fn look_at_all(
     for before in 0..form.members {
         let member = before.saturating_add(1);
         let database = find_database(rt, alloc, dir, member);
-        all.push(look_at(alloc, database, form, past, member, &mut known)?)?;
+        let tale = past.tale(member);
+        all.push(look_at_file(alloc, database, form, &tale, member, &mut known)?)?;
     }
     Ok(all)
 }
 
 // Whether more than half of the databases are what the journals tell.
-fn are_most(all: &[Looked]) -> bool
-    ensures { IsTrue result ↔ AreMost all.now }
+fn most_fit(all: &[Looked]) -> bool
+    ensures { IsTrue result ↔ MostFit all.now }
 {
     let fitting = all.iter().filter(|looked| looked.fits).count();
     fitting > all.len() / 2
@@ -59,7 +61,7 @@ fn check_most(all: &[Looked]) -> Result<(), StoreRefusal>
     ensures err { OnErr result (¬ MayBeMade all.now) }
     ensures why { IfErr result (λ refusal. (member : ℕ) × (refusal ≡ StoreRefusal.Altered member None)) }
 {
-    if are_most(all) {
+    if most_fit(all) {
         return Ok(());
     }
     let mut member: Member = 0;
@@ -75,22 +77,28 @@ fn check_most(all: &[Looked]) -> Result<(), StoreRefusal>
     Ok(())
 }
 
-// The members whose databases are not what the journals tell, and the logs that all hold.
-fn sorted(
-    alloc: Global,
-    all: Vec<Looked>,
-) -> Result<(Vec<Member>, Vec<Option<HeldLog>>), StoreRefusal> {
+// The members whose databases are not what the journals tell.
+fn unfit_in(alloc: Global, all: &[Looked]) -> Result<Vec<Member>, StoreRefusal> {
     let mut members = Vec::new(alloc);
-    let mut logs = Vec::new(alloc);
     let mut member: Member = 0;
-    for Looked { fits, log } in all {
+    for looked in all {
         member = member.saturating_add(1);
-        if !fits {
+        if !looked.fits {
             members.push(member)?;
         }
-        logs.push(log)?;
     }
-    Ok((members, logs))
+    Ok(members)
+}
+
+// The logs that the databases hold, in their order.
+fn logs_in(alloc: Global, all: Vec<Looked>) -> Result<Vec<Option<HeldLog>>, StoreRefusal>
+    ensures { IfOk result (λ logs. logs.items ≡ map (λ (looked : TheLooked). looked.log) all.items) }
+{
+    let mut logs = Vec::new(alloc);
+    for looked in all {
+        logs.push(looked.log)?;
+    }
+    Ok(logs)
 }
 
 // Before the first journal that is there: nothing happened, or where others are away members go on with the beginnings of these logs.
@@ -151,8 +159,9 @@ fn replace_all(
 /// Where the first journals are away, the log of another member has to begin as the journals tell.
 ///
 /// 46 to 48 as `enter` refuses them; 49 of a database that can be read, where not more than half of all are what the journals tell, with
-/// nothing changed: it may be a journal that was changed; 50 to 52, 54 and 55 of journals that are not what their events give; 38, 40 and 43 where files can't
-/// be read or written, after which it can be done again. How many journals were read and played is told to who asks for it.
+/// nothing changed: it may be a journal that was changed; 50 to 52, 54 and 55 of journals that are not what their events give; 44 where
+/// these come to what no member can have stored; 38, 40 and 43 where files can't be read or written, and 56 where a thousand databases of
+/// a member are kept, after which it can be done again. How many journals were read and played is told to who asks for it.
 pub fn restore<Q: Progress>(
     rt: &HostRuntime,
     alloc: Global,
@@ -166,11 +175,11 @@ pub fn restore<Q: Progress>(
     tell_all(rt, alloc, dir, form, journals, &mut past, progress)?;
     let all = look_at_all(rt, alloc, dir, form, &past)?;
     check_most(all.as_slice())?;
-    let (members, logs) = sorted(alloc, all)?;
+    let members = unfit_in(alloc, all.as_slice())?;
     if members.is_empty() {
         return Ok(Vec::new(alloc));
     }
-    let mut play = new_play(alloc, form, journals, logs)?;
+    let mut play = new_play(alloc, form, journals, logs_in(alloc, all)?)?;
     tell_all(rt, alloc, dir, form, journals, &mut play, progress)?;
     replace_all(rt, alloc, dir, form, members.as_slice(), &mut play)
 }
