@@ -16,8 +16,11 @@ use sqlite_std_file::OpenError;
 use std::hash::{BuildHasher, RandomState};
 use std::io;
 
+/// What a database in files that sync, or do not, lies in.
+pub type Stored = FileStore<Unsynced<File>>;
+
 /// A database in files that sync, or do not.
-pub type Database = Connection<FileStore<Unsynced<File>>>;
+pub type Database = Connection<Stored>;
 
 fn failure(code: ErrorCode) -> Error
     ensures { result ≡ Error.SqliteFailure code }
