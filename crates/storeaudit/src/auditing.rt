@@ -55,6 +55,7 @@ pub enum Verdict {
 pub struct Found<I: Drop> {
     /// In short.
     pub summary: Summary,
+    /// Its log.
     pub log: HeldLog,
     /// The database, with what it holds.
     pub image: I,

@@ -64,9 +64,10 @@ pub(crate) fn tell_one<H: Hears>(
     tell_journal(alloc, journal, text, before, hearer)
 }
 
-/// Tells each line of the journals of the store in a folder, and gives how many of these there are. 55 of a journal that spells nothing somewhere, or lines that may not stand
-/// there, and of the one before the first where the last one that is there can't be read without it; what the hearer refuses otherwise; 40
-/// and 43 where one can't be read. How many journals were told is told to who asks for it, and is taken away at the end.
+/// Tells each line of the journals of the store in a folder, and gives how many of these there are. 55 of a journal that spells nothing
+/// somewhere, or lines that may not stand there, and of the one before the first where the last one that is there can't be read without it;
+/// what the hearer refuses otherwise; 40 and 43 where one can't be read. How many journals were told is told to who asks for it, and is
+/// taken away at the end.
 pub fn tell_all<H: Hears, Q: Progress>(
     rt: &HostRuntime,
     alloc: Global,
