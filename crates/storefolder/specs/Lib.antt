@@ -1,3 +1,4 @@
+pub mod Ending
 pub mod Forms
 pub mod Hearing
 pub mod Torn

@@ -1,7 +1,8 @@
 //! All journals of a store, one after the other.
-ghost use Rattle.std.specs.Prelude.{◌≡◌, option_map, IfOk};
+ghost use Rattle.std.specs.Prelude.{◌≡◌, ◌⊎◌, ◌↔◌, option_map, IfOk, IsTrue, OnErr, OnOk};
 ghost use Rattle.store.specs.Telling.{IsTold};
 ghost use Rattle.store.specs.declared.telling.End.{End as TheEnd};
+ghost use Rattle.storefolder.specs.Ending.{IsTornAt, IsWholeAt};
 ghost use Rattle.storefolder.specs.Hearing.{HasHeard};
 
 use crate::form::Form;
@@ -14,6 +15,26 @@ use std::alloc::{AllocError, Global};
 use store::StoreRefusal;
 use store::past::{End, Hears, tell_journal};
 
+// Whether a journal ends where its whole blocks do, of which it has one.
+fn is_whole_at(bytes: &[u8], end: Option<End>) -> bool
+    ensures { IsTrue result ↔ IsWholeAt bytes.now end }
+{
+    match end {
+        Some(end) => end.at == bytes.len(),
+        None => false,
+    }
+}
+
+// Whether what stands behind its whole blocks may be left of a write that was cut short.
+fn is_torn_at(bytes: &[u8], end: Option<End>) -> bool
+    ensures { IsTrue result ↔ IsTornAt bytes.now end }
+{
+    match end {
+        Some(end) => is_torn(bytes, end.at),
+        None => is_torn(bytes, 0),
+    }
+}
+
 // The sum that the next journal goes on from; none where the last one has no block. 55 where one that is not the last has no block, or more
 // bytes behind its last one, and where the last one has others there than a write leaves that was cut short.
 fn sum_at_end(
@@ -22,19 +43,20 @@ fn sum_at_end(
     bytes: &[u8],
     end: Option<End>,
 ) -> Result<Option<u64>, StoreRefusal>
-    ensures { IfOk result (λ sum. sum ≡ option_map (λ (e : TheEnd). e.sum) end) }
+    ensures sum { IfOk result (λ sum. sum ≡ option_map (λ (e : TheEnd). e.sum) end) }
+    ensures ends { OnOk result (IsWholeAt bytes.now end ⊎ ((journal ≡ last) × IsTornAt bytes.now end)) }
+    ensures refused { OnErr result ((IsWholeAt bytes.now end → ⊥) × ((journal ≡ last) → IsTornAt bytes.now end → ⊥)) }
 {
+    if is_whole_at(bytes, end) {
+        return Ok(end.map(|end| end.sum));
+    }
+    if journal == last && is_torn_at(bytes, end) {
+        return Ok(end.map(|end| end.sum));
+    }
     let at = match end {
         Some(end) => end.at,
         None => 0,
     };
-    let is_whole = match end {
-        Some(end) => end.at == bytes.len(),
-        None => false,
-    };
-    if is_whole || (journal == last && is_torn(bytes, at)) {
-        return Ok(end.map(|end| end.sum));
-    }
     Err(StoreRefusal::BadJournal { journal, at })
 }
 

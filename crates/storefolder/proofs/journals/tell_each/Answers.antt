@@ -14,7 +14,7 @@ loop-before-preserved g c =
     let texts : List (List ℕ) = so_far.1 ++ text ∷ [] in
     let end = c.in_ok-end.end in
     let more = told_more hears so_far.0 so_far.1 c.args.hearer.now c.loop-before.hearer c.tell_one.new.hearer c.loop-before.sum text end so_far.2 c.in_ok-end.ensures in
-    let last = c.or-sum.ensures ∙ summed end c.loop-before.sum c.in_ok-sum_at_end.field-0 c.in_ok-sum_at_end.ensures in (
+    let last = c.or-sum.ensures ∙ summed end c.loop-before.sum c.in_ok-sum_at_end.field-0 c.in_ok-sum_at_end.ensures.sum in (
       so_far.0,
       texts,
       subst (λ (sum : Option ℕ). AreTold hears so_far.0 texts c.args.hearer.now c.tell_one.new.hearer sum) (sym last) more,
