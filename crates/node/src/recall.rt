@@ -83,6 +83,8 @@ pub(crate) struct Begun {
     pub count: usize,
     pub told: Vec<Told>,
     pub noted: Option<Applied>,
+    /// These first entries, as they are recalled.
+    pub first: Vec<Entry>,
 }
 
 fn is_same_request(one: &Request, other: &Request) -> bool
@@ -172,13 +174,22 @@ impl Applied {
         Ok(())
     }
 
-    /// This, and copies of these entries and of what is told of them.
-    fn with(self, entries: &[Entry], told: &[Told]) -> Result<Applied, AllocError>
-        ensures entries { IfOk result (λ all. all.entries.items ≡ self.entries.items ++ entries.now) }
+    /// This, and these entries, copied but for the first ones, which are given, with copies of what is told of them.
+    fn with(
+        self,
+        first: Vec<Entry>,
+        entries: &[Entry],
+        told: &[Told],
+    ) -> Result<Applied, AllocError>
+        requires within { length first.items ≤ length entries.now }
+        ensures entries { IfOk result (λ all. first.items ≡ take (length first.items) entries.now → all.entries.items ≡ self.entries.items ++ entries.now) }
         ensures told { IfOk result (λ all. all.told.items ≡ self.told.items ++ told.now) }
     {
         let mut all = self;
-        all.add_entries(entries)?;
+        let mut first = first;
+        let (_, others) = entries.split_at(first.len());
+        all.entries.append(&mut first)?;
+        all.add_entries(others)?;
         all.add_told(told)?;
         Ok(all)
     }
@@ -194,6 +205,7 @@ pub(crate) fn begin(
     before: usize,
 ) -> Begun
     ensures within { result.count ≤ length entries.now }
+    ensures first { (length result.first.items ≡ result.count) × (result.first.items ≡ take result.count entries.now) }
     ensures applied { (schema : columns.Tables) (log : List entry_of.Entry) → AreNoted schema tables.old notes → entries.now ≡ slice_range log before (before + length entries.now)
         → AreTables schema (take before log) tables.old → AreApplied schema log before (before + result.count) (take result.count entries.now) result.told.items tables.new }
     ensures noted { (schema : columns.Tables) → AreNoted schema tables.old notes → IsNoted schema result.noted tables.old }
@@ -204,11 +216,13 @@ pub(crate) fn begin(
             count: 0,
             told: Vec::new(alloc),
             noted: None,
+            first: Vec::new(alloc),
         },
         Notes::All(applied) => Begun {
             count: 0,
             told: Vec::new(alloc),
             noted: Some(Box::into_inner(applied)),
+            first: Vec::new(alloc),
         },
         Notes::Before(recall) => {
             let Recall {
@@ -224,6 +238,7 @@ pub(crate) fn begin(
                     count: 0,
                     told: Vec::new(alloc),
                     noted: Some(Applied::new(alloc)),
+                    first: Vec::new(alloc),
                 };
             }
             *tables = recalled;
@@ -231,21 +246,24 @@ pub(crate) fn begin(
                 count,
                 told,
                 noted: Some(Applied::new(alloc)),
+                first,
             }
         }
     }
 }
 
-/// Notes these entries, which have so many others before them, and what is told of them; nothing where there is no memory
-/// for it.
+/// Notes these entries, of which the first ones are given, and which have so many others before them, and what is told of them; nothing
+/// where there is no memory for it.
 pub(crate) fn note(
     alloc: Global,
     noted: Option<Applied>,
+    first: Vec<Entry>,
     entries: &[Entry],
     told: &[Told],
     before: usize,
 ) -> Notes
-    ensures { (schema : columns.Tables) (old new : tables_of.Tables) → IsNoted schema noted old
+    requires within { length first.items ≤ length entries.now }
+    ensures { (schema : columns.Tables) (old new : tables_of.Tables) → IsNoted schema noted old → first.items ≡ take (length first.items) entries.now
         → ((log : List entry_of.Entry) → entries.now ≡ slice_range log before (before + length entries.now) → AreTables schema (take before log) old → AreApplied schema log before (before + length entries.now) entries.now told.now new)
         → AreNoted schema new result }
 {
@@ -255,7 +273,7 @@ pub(crate) fn note(
     if before != applied.entries.len() {
         return Notes::Off;
     }
-    match applied.with(entries, told) {
+    match applied.with(first, entries, told) {
         Ok(all) => Notes::all(alloc, all),
         Err(_) => Notes::Off,
     }

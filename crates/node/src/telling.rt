@@ -96,9 +96,10 @@ fn apply_all(
         count,
         mut told,
         noted,
+        first,
     } = begun;
     execute(tables, entries, count, before, &mut told)?;
-    *notes = note(alloc, noted, entries, told.as_slice(), before);
+    *notes = note(alloc, noted, first, entries, told.as_slice(), before);
     Ok(told)
 }
 
