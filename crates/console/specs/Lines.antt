@@ -22,16 +22,21 @@ abbrev pub with_lines : List ℕ → ℕ → List ℕ → List ℕ
 with_lines first zero xs = first
 with_lines first (suc n) xs = with_lines first n xs ++ 10 ∷ first_line (behind_lines n xs)
 
--- a text ends with a semicolon, but for blanks behind it
-abbrev pub is_ended : List ℕ → Bool
-is_ended text = ends_with_byte 59 (trim_end text)
+-- the last of these lines
+abbrev pub last_line : List ℕ → ℕ → List ℕ → List ℕ
+last_line first zero xs = first
+last_line first (suc n) xs = first_line (behind_lines n xs)
 
--- a text has a first line and so many lines of an input behind it, and before none of these it had ended
+-- a line ends with a semicolon, but for blanks behind it
+abbrev pub is_ended : List ℕ → Bool
+is_ended line = ends_with_byte 59 (trim_end line)
+
+-- a text has a first line and so many lines of an input behind it, and no line before the last one ends so
 pub record IsBegun (first xs : List ℕ) (more : ℕ) (text : List ℕ) (behind : Option (List ℕ)) : Type 0 where
   pub spelled : text ≡ with_lines first more xs
   pub left : behind ≡ Some (behind_lines more xs)
-  pub each : (n : ℕ) → n < more → (is_ended (with_lines first n xs) ≡ false) × (behind_lines n xs ≢ [])
+  pub each : (n : ℕ) → n < more → (is_ended (last_line first n xs) ≡ false) × (behind_lines n xs ≢ [])
 
--- and it has ended, or the input has
+-- and the last one does, or the input is at its end
 abbrev pub IsWhole : List ℕ → List ℕ → List ℕ → Option (List ℕ) → Type 0
-IsWhole first xs text behind = (more : ℕ) × IsBegun first xs more text behind × ((is_ended text ≡ true) ⊎ (behind ≡ Some []))
+IsWhole first xs text behind = (more : ℕ) × IsBegun first xs more text behind × ((is_ended (last_line first more xs) ≡ true) ⊎ (behind ≡ Some []))

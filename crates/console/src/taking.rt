@@ -22,13 +22,13 @@ fn is_way_out(line: &str) -> bool {
     matches!(line, "quit" | "exit" | "help" | "?" | "\\q" | "\\h")
 }
 
-// Whether a text ends with a semicolon, but for blanks behind it.
-fn is_ended(text: &str) -> bool
-    ensures { result ≡ ends_so text.now }
+// Whether a line ends with a semicolon, but for blanks behind it.
+fn is_ended(line: &str) -> bool
+    ensures { result ≡ ends_so line.now }
 {
-    let text = text.trim_end().as_bytes();
-    let length = text.len();
-    length > 0 && text[length - 1] == b';'
+    let line = line.trim_end().as_bytes();
+    let length = line.len();
+    length > 0 && line[length - 1] == b';'
 }
 
 // Adds a line to a text, with LF before it.
@@ -54,8 +54,9 @@ where
         ensures { IfOk result (λ text. IfSome (R.remaining input.old.reader) (λ xs. IsWhole first.now xs (string_bytes text) (R.remaining input.new.reader))) }
     {
         let mut text = String::from_str(self.alloc, first)?;
+        let mut is_whole = is_ended(first);
         for _more in 0..u64::MAX {
-            if is_ended(text.as_str()) {
+            if is_whole {
                 return Ok(text);
             }
             self.prompt(rt, false)?;
@@ -63,6 +64,7 @@ where
                 return Ok(text);
             };
             push_line(&mut text, line.as_str())?;
+            is_whole = is_ended(line.as_str());
         }
         Err(Fault::from(Refusal::NoMemory))
     }

@@ -1,17 +1,39 @@
-use Rattle.std.proofs.Common.{◌≡◌, ◌++◌, ◌∷◌, true, false, string_bytes, rules}
-use Rattle.console.specs.Lines.{is_ended}
-use Rattle.console.proofs.Lines.{if_known, begun_on, whole_ended, whole_over}
+use Rattle.std.proofs.Common.{◌≡◌, ◌+◌, ◌++◌, ◌∷◌, true, false, string_bytes, rules}
+use Rattle.console.specs.Lines.{IsNextLine, IsNoLine, IsWhole, is_ended}
+use Rattle.console.proofs.Lines.{Gathers, if_known, gathers_on, gathers_over, gathers_whole}
 use Rattle.console.proofs.session.Session.whole_text.Goals as goal
 
-pub returns-then-is_ended : goal.returns-then-is_ended
-returns-then-is_ended g c =
-    let ended : is_ended (string_bytes c.loop-more.text) ≡ true = search rules in
-    if_known _ _ _ (λ xs begun. whole_ended _ xs _ _ _ begun ended) c.loop-more.invariant
+pub returns-then-is_whole : goal.returns-then-is_whole
+returns-then-is_whole g c =
+    let first = c.args.first.now in
+    let more = c.loop-more._more in
+    let text = string_bytes c.loop-more.text in
+    let behind = g.R.Read.remaining c.loop-more.input.reader in
+    let whole : c.loop-more.is_whole ≡ true = search rules in
+    if_known (g.R.Read.remaining c.args.input.now.reader) (Gathers first more text behind c.loop-more.is_whole) (λ xs. IsWhole first xs text behind) (λ xs held. gathers_whole first more text behind c.loop-more.is_whole xs whole held) c.loop-more.invariant
 
 pub returns-in_default : goal.returns-in_default
-returns-in_default g c = if_known _ _ _ (λ xs begun. whole_over _ xs _ _ _ begun _ (search rules)) c.loop-more.invariant
+returns-in_default g c =
+    let first = c.args.first.now in
+    let more = c.loop-more._more in
+    let text = string_bytes c.loop-more.text in
+    let behind = g.R.Read.remaining c.loop-more.input.reader in
+    let left = g.R.Read.remaining c.next.new.self.reader in
+    let none : IsNoLine behind left = search rules in
+    if_known (g.R.Read.remaining c.args.input.now.reader) (Gathers first more text behind c.loop-more.is_whole) (λ xs. IsWhole first xs text left) (λ xs held. gathers_over first more text behind left c.loop-more.is_whole xs none held) c.loop-more.invariant
 
 pub loop-more-preserved : goal.loop-more-preserved
 loop-more-preserved g c =
-    let goes : is_ended (string_bytes c.loop-more.text) ≡ false = search rules in
-    if_known _ _ _ (λ xs begun. begun_on _ xs _ _ _ begun (string_bytes c.in-Some.line) _ _ goes (search rules) (search rules)) c.loop-more.invariant
+    let first = c.args.first.now in
+    let more = c.loop-more._more in
+    let text = string_bytes c.loop-more.text in
+    let line = string_bytes c.in-Some.line in
+    let longer = string_bytes c.push_line.new.text in
+    let behind = g.R.Read.remaining c.loop-more.input.reader in
+    let left = g.R.Read.remaining c.next.new.self.reader in
+    let goes : c.loop-more.is_whole ≡ false = search rules in
+    let next : IsNextLine behind line left = search rules in
+    let is : longer ≡ text ++ 10 ∷ line = search rules in
+    let ended : c.is_ended-is_whole-in-loop-more.result ≡ is_ended line = search rules in
+    if_known (g.R.Read.remaining c.args.input.now.reader) (Gathers first more text behind c.loop-more.is_whole) (Gathers first (more + 1) longer left c.is_ended-is_whole-in-loop-more.result)
+    (λ xs held. gathers_on first more text line longer behind left c.loop-more.is_whole c.is_ended-is_whole-in-loop-more.result xs goes next is ended held) c.loop-more.invariant
