@@ -1,6 +1,5 @@
 -- What outputs tell, one by one.
 use Rattle.std.proofs.Common.{◌≡◌, ◌∙◌, ℕ, ◌+◌, ◌<◌, List, [], ◌∷◌, ◌++◌, length, get_or, take, refl, sym, ap, append_assoc, append-nil}
-use Rattle.std.specs.Prelude.{max, nat_lt, if◌then◌else◌}
 use Rattle.std.proofs.lemmas.List.{take_more, map-append}
 use Rattle.flight.specs.declared.outcome.Outcome.{Outcome}
 use Rattle.flight.specs.Telling.{outcome_of, outcomes_of}
@@ -9,16 +8,10 @@ use Rattle.model.specs.declared.event.Job.{Job}
 use Rattle.model.specs.Worlds.{Output, Sent, Applied, Refused, Answered}
 use Rattle.world.specs.declared.output.Output.{Output as Out}
 use Rattle.world.specs.View.{output_of, outputs_of}
+use Rattle.store.proofs.Noting.{first_told-append, noted_after-append, told_in-append}
 use Rattle.playback.specs.declared.told.Word.{Word}
 use Rattle.playback.specs.Scenes.{Scene, wording}
 use Rattle.playback.specs.Words.{first_told, noted_after, refused_word, told_in, word_of, words_in}
-
-pub told_in-append : (xs ys : List Output) → told_in (xs ++ ys) ≡ told_in xs ++ told_in ys
-told_in-append [] ys = refl
-told_in-append (Sent number message ∷ xs) ys = told_in-append xs ys
-told_in-append (Applied m told ∷ xs) ys = ap (λ (l : List Told). told ∷ l) (told_in-append xs ys)
-told_in-append (Refused m refusal ∷ xs) ys = told_in-append xs ys
-told_in-append (Answered m answer ∷ xs) ys = told_in-append xs ys
 
 pub words_in-append : (job : Job) (xs ys : List Output) → words_in job (xs ++ ys) ≡ words_in job xs ++ words_in job ys
 words_in-append job [] ys = refl
@@ -37,18 +30,6 @@ told_more xs i x within = ap told_in (outputs_more xs i x within) ∙ told_in-ap
 
 pub words_more : (job : Job) (xs : List Out) (i : ℕ) (x : Out) → i < length xs → words_in job (outputs_of (take (i + 1) xs)) ≡ words_in job (outputs_of (take i xs)) ++ words_in job (output_of (get_or xs i x) ∷ [])
 words_more job xs i x within = ap (words_in job) (outputs_more xs i x within) ∙ words_in-append job (outputs_of (take i xs)) (output_of (get_or xs i x) ∷ [])
-
--- what is told first by some, and then by more
-pub noted_after-append : (noted : ℕ) (xs ys : List Told) → noted_after noted (xs ++ ys) ≡ noted_after (noted_after noted xs) ys
-noted_after-append noted [] ys = refl
-noted_after-append noted (x ∷ xs) ys = noted_after-append (max noted x.index) xs ys
-
-pub first_told-append : (noted : ℕ) (xs ys : List Told) → first_told noted (xs ++ ys) ≡ first_told noted xs ++ first_told (noted_after noted xs) ys
-first_told-append noted [] ys = refl
-first_told-append noted (x ∷ xs) ys =
-    let front : List Told = if nat_lt noted x.index then x ∷ [] else [] in
-    ap (λ (l : List Told). front ++ l) (first_told-append (max noted x.index) xs ys)
-    ∙ sym (append_assoc front (first_told (max noted x.index) xs) (first_told (noted_after (max noted x.index) xs) ys))
 
 -- the outcomes of what is told first by some outputs, and then by the next one
 pub firsts_more : (noted : ℕ) (xs : List Out) (i : ℕ) (x : Out) → i < length xs

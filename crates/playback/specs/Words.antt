@@ -1,5 +1,5 @@
 -- What was told of requests, and the words that it is given out with.
-use Rattle.std.specs.Prelude.{◌≡◌, ◌⊎◌, ℕ, Any, codes, Err, List, [], ◌∷◌, ◌++◌, fold, max, nat_lt, if◌then◌else◌}
+use Rattle.std.specs.Prelude.{◌≡◌, ◌⊎◌, ℕ, Any, codes, Err, List, [], ◌∷◌, ◌++◌}
 use Rattle.fault.specs.declared.refusal.Refusal.{Refusal}
 use Rattle.flight.specs.Telling.{told_text}
 use Rattle.model.specs.declared.entry.Told.{Told}
@@ -8,21 +8,8 @@ use Rattle.model.specs.declared.event.Job.{Job}
 use Rattle.model.specs.declared.event.Job.TheVariants.{Local}
 use Rattle.model.specs.declared.message.Input.TheVariants.{Submit}
 use Rattle.playback.specs.declared.told.Word.{Word}
-
--- all that outputs tell
-abbrev pub told_in : List Output → List Told
-told_in [] = []
-told_in (Applied m told ∷ outs) = told ∷ told_in outs
-told_in (out ∷ outs) = told_in outs
-
--- what is told of entries past an index, each past those before it: what is told for the first time
-abbrev pub first_told : ℕ → List Told → List Told
-first_told noted [] = []
-first_told noted (told ∷ more) = (if nat_lt noted told.index then told ∷ [] else []) ++ first_told (max noted told.index) more
-
--- the last entry of which is told then
-abbrev pub noted_after : ℕ → List Told → ℕ
-noted_after noted told = fold (λ (last : ℕ) (one : Told). max last one.index) noted told
+-- all that is told, and what of it for the first time
+pub use Rattle.store.specs.Noting.{told_in, first_told, noted_after}
 
 -- what may be given out of it
 abbrev pub word_of : Told → Word

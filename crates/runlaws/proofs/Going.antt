@@ -1,6 +1,6 @@
 -- A step, a stop and a start of one member, as events of a run.
 use Rattle.std.proofs.Common.{◌≡◌, ◌∙◌, ℕ, zero, suc, ◌+◌, ◌-◌, ◌&&◌, ◌⊎◌, ⊎_elim, Bool, true, false, Option, Some, None, Result, List, [], ◌∷◌, ◌++◌, length, refl, sym, ap, subst, append-nil, eqb-true, cond, arith}
-use Rattle.std.specs.Prelude.{◌==◌}
+use Rattle.std.specs.Prelude.{◌==◌, map}
 use Rattle.std.specs.List.{filter_map, range_with_len, Contains}
 use Rattle.std.specs.Option.{option_map_or}
 use Rattle.std.proofs.lemmas.List.Elements.{Contains-append_right}
@@ -36,6 +36,10 @@ module _ (language : Language) (n : ℕ) where
   unfolding goes_nowhere
   nowhere_events w = refl
 
+  pub nowhere_gave : (w : World) → (goes_nowhere w).gave ≡ []
+  unfolding goes_nowhere
+  nowhere_gave w = refl
+
   pub goes_further : (w v u : World) → Goes language n w v → Goes language n v u → Goes language n w u
   goes_further w v u a b = record {
     events = a.events ++ b.events;
@@ -59,10 +63,11 @@ module _ (language : Language) (n : ℕ) where
   unfolding goes_to
   to_events w v u is g = refl
 
--- one event leads there
+-- one event leads there, which gives nothing
 pub record By (language : Language) (n : ℕ) (w v : World) (event : Event) : Type 0 where
   pub goes : Goes language n w v
   pub events_are : goes.events ≡ event ∷ []
+  pub gave_is : goes.gave ≡ [] ∷ []
 
 -- what was given before, and what was given then
 pub given_before : (gave more : List (List Output)) (output : Output) → HasGiven gave output → HasGiven (gave ++ more) output
@@ -137,6 +142,7 @@ module _ (language : Language) (n : ℕ) (w : World) (m : ℕ) (job : Job) (S : 
   pub record Made (y : Node) (sent : List Message) (told : List Told) : Type 0 where
     pub goes : Goes language n w (with_node w m y sent)
     pub events_are : goes.events ≡ whole m job ∷ []
+    pub gave_is : goes.gave ≡ (numbered (length w.sent) sent ++ map (Applied m) told) ∷ []
     pub tells : (one : Told) → Contains told one → HasGiven goes.gave (Applied m one)
 
   -- it moved
@@ -145,6 +151,7 @@ module _ (language : Language) (n : ℕ) (w : World) (m : ℕ) (job : Job) (S : 
   moved y sent told is all = record {
     goes = by_effect (Moves (record { node = y; sent = sent })) is;
     events_are = refl;
+    gave_is = ap (λ (t : List Told). (numbered (length w.sent) sent ++ map (Applied m) t) ∷ []) (sym all);
     tells = λ one has. given_now (numbered (length w.sent) sent ++ tells language m S.node y) (Applied m one)
         (Contains-append_right (numbered (length w.sent) sent) (tells language m S.node y) (Applied m one) (contains_map (Applied m) (told_of language S.node y) one (subst (λ t. Contains t one) all has)));
   }
@@ -155,6 +162,7 @@ module _ (language : Language) (n : ℕ) (w : World) (m : ℕ) (job : Job) (S : 
   none_made y sent told is same none nobody_told = record {
     goes = goes_to language n w w (with_node w m y sent) (sym (ap (with_node w m y) none ∙ same_world w m S.node y S.at same)) (by_effect Nothing is);
     events_are = refl;
+    gave_is = sym (ap (λ (s : List Message). (numbered (length w.sent) s ++ map (Applied m) told) ∷ []) none ∙ ap (λ (t : List Told). map (Applied m) t ∷ []) nobody_told);
     tells = λ one has. absurd (nobody one (subst (λ t. Contains t one) nobody_told has));
   }
     where
@@ -169,6 +177,7 @@ module _ (language : Language) (n : ℕ) (w : World) (m : ℕ) (job : Job) (S : 
   pub record Denied (y : Node) (refusal : Refusal) : Type 0 where
     pub goes : Goes language n w (with_node w m y [])
     pub events_are : goes.events ≡ whole m job ∷ []
+    pub gave_is : goes.gave ≡ (Refused m refusal ∷ []) ∷ []
     pub says : HasGiven goes.gave (Refused m refusal)
 
   pub refused : (y : Node) (refusal : Refusal) → Refuses refusal ≡ effect language n w m job S.node → y ≡ S.node → Denied y refusal
@@ -176,6 +185,7 @@ module _ (language : Language) (n : ℕ) (w : World) (m : ℕ) (job : Job) (S : 
   refused y refusal is same = record {
     goes = goes_to language n w w (with_node w m y []) (sym (same_world w m S.node y S.at same)) (by_effect (Refuses refusal) is);
     events_are = refl;
+    gave_is = refl;
     says = given_now (Refused m refusal ∷ []) (Refused m refusal) (0, omega arith, refl);
   }
 
@@ -187,12 +197,17 @@ module _ (language : Language) (n : ℕ) (w : World) (m : ℕ) (job : Job) (S : 
   unfolding torn goes_by
   torn_events y left is = refl
 
+  pub torn_gave : (y : Node) (left : Left) (is : y ≡ stopped (node_left left S.node (effect language n w m job S.node))) → (torn y left is).gave ≡ [] ∷ []
+  unfolding torn goes_by
+  torn_gave y left is = refl
+
 -- ---- a stop, a start, and a member that is down
 
 -- a member that is down refuses what it is handed, and stays as it is
 pub record Turned (language : Language) (n : ℕ) (w : World) (m : ℕ) (job : Job) (y : Node) : Type 0 where
   pub goes : Goes language n w (with_node w m y [])
   pub events_are : goes.events ≡ whole m job ∷ []
+  pub gave_is : goes.gave ≡ (Refused m NodeDown ∷ []) ∷ []
   pub says : HasGiven goes.gave (Refused m NodeDown)
 
 module _ (language : Language) (n : ℕ) (w : World) (m : ℕ) (job : Job) (x : Node) (at : nth w.nodes m ≡ Some x) (down : x.up ≡ false) (for : is_for w m job ≡ true) where
@@ -208,6 +223,7 @@ module _ (language : Language) (n : ℕ) (w : World) (m : ℕ) (job : Job) (x : 
     goes = goes_to language n w w (with_node w m y []) (sym (same_world w m x y at same))
         (goes_by language n w w (whole m job) (Refused m NodeDown ∷ []) (sym turned_so ∙ sym (brings language n w m job for)) (brought language n w m job (Refused m NodeDown ∷ []) for (sym turned_gives)));
     events_are = refl;
+    gave_is = refl;
     says = given_now (Refused m NodeDown ∷ []) (Refused m NodeDown) (0, omega arith, refl);
   }
 
@@ -215,11 +231,11 @@ module _ (language : Language) (n : ℕ) (w : World) (m : ℕ) (job : Job) (x : 
 module _ (language : Language) (n : ℕ) (w : World) (m : ℕ) where
   pub stop_goes : By language n w (stops w m (nth w.nodes m)) (Stop m)
   unfolding goes_by
-  stop_goes = record { goes = goes_by language n w (stops w m (nth w.nodes m)) (Stop m) [] refl refl; events_are = refl }
+  stop_goes = record { goes = goes_by language n w (stops w m (nth w.nodes m)) (Stop m) [] refl refl; events_are = refl; gave_is = refl }
 
   pub start_goes : By language n w (starts w m (nth w.nodes m)) (Start m)
   unfolding goes_by
-  start_goes = record { goes = goes_by language n w (starts w m (nth w.nodes m)) (Start m) [] refl refl; events_are = refl }
+  start_goes = record { goes = goes_by language n w (starts w m (nth w.nodes m)) (Start m) [] refl refl; events_are = refl; gave_is = refl }
 
 -- what they do to a member
 module _ (w : World) (m : ℕ) (x : Node) (at : nth w.nodes m ≡ Some x) where

@@ -18,7 +18,7 @@ use Rattle.sessions.proofs.Lists.{with_length}
 use Rattle.sqlchecks.specs.Columns.{Tables}
 use Rattle.sqlread.specs.Meaning.{language_of}
 use Rattle.runlaws.specs.Going.{AreSeated, HasGiven, WasTold, after_stop}
-use Rattle.runlaws.proofs.Going.{goes_nowhere, goes_both, given_before, given_then, told_before, told_then, nowhere_events, same_world, start_goes, starts_at, stop_goes, stops_at, stops_twice, By}
+use Rattle.runlaws.proofs.Going.{goes_nowhere, goes_both, given_before, given_then, told_before, told_then, nowhere_events, nowhere_gave, same_world, start_goes, starts_at, stop_goes, stops_at, stops_twice, By}
 use Rattle.runlaws.proofs.Seats.{nth_next, set_next, seated, seated_anew, sent_before, sent_next}
 use Rattle.store.specs.declared.store.Store.{Store}
 use Rattle.store.specs.declared.seat.Seat.{Seat}
@@ -32,7 +32,7 @@ use Rattle.journal.specs.declared.line.Line.TheVariants.{Ends, Life, Made, Takes
 use Rattle.journal.specs.declared.stored.Summary.{Summary}
 use Rattle.store.specs.declared.scribe.Scribe.{Scribe}
 use Rattle.store.specs.Lines.{Lines, and_then, lines_in, no_lines, waiting}
-use Rattle.store.specs.Recording.{AreRecorded, HasInShort, IsQuiet, IsSilent, IsStartOrStop, IsTrue, Records, job_of, last_reading}
+use Rattle.store.specs.Recording.{AreRecorded, HasInShort, IsQuiet, IsSilent, IsStartOrStop, IsTrue, OneTells, Records, job_of, last_reading}
 use Rattle.store.specs.Continuing.{IsContinued, IsKeptOn, reading_in}
 use Rattle.store.specs.Journals.{IsSpent}
 use Rattle.store.specs.Seats.{HasMember, IsClean}
@@ -42,8 +42,10 @@ use Rattle.store.proofs.Recording.{all_more, last_both, recorded_after, recorded
 use Rattle.store.proofs.Lines.{lines_then}
 use Rattle.store.proofs.Storing.{idle_stores, short_same}
 use Rattle.store.specs.Lives.{HasStored}
-use Rattle.store.specs.Noting.{HasMade}
-use Rattle.store.specs.Going.{Anywhere, AreClean, AreFiled, AreToldIn, AreUnderWay, BeginsStep, Changes, ComesOf, GoesOn, GoesOnFrom, GoesOnSo, HasSent, Heard, Hears, IsAmong, IsBrought, IsIn, IsOutcome, Publishes, PublishesSo, StartsOne, Stops, WentOn, with_begun}
+use Rattle.flight.specs.Telling.{outcomes_of}
+use Rattle.store.specs.Noting.{AreWritten, all_told, first_told, noted_after, outcomes_in}
+use Rattle.store.proofs.Noting.{none_told, outcomes_in-append, silent_none, written_amid, written_both, written_none, written_silent}
+use Rattle.store.specs.Going.{Anywhere, AreClean, AreFiled, AreToldIn, AreUnderWay, BeginsStep, Changes, ComesOf, EndsStep, GoesOn, GoesOnFrom, GoesOnSo, HasSent, Heard, Hears, IsAmong, IsBrought, IsIn, IsOutcome, Publishes, PublishesSo, StartsOne, Stops, WentOn, with_begun}
 
 -- ---- what is heard
 
@@ -217,6 +219,13 @@ module _ {K J I : Type 0} {an : _} {g : _} {s : _} {d : _} (contents : J → Opt
     pub went : WentOn held holds (and_then one two) a c w
     pub gave : went.goes.gave ≡ x.goes.gave ++ y.goes.gave
 
+  -- what was written, and then more
+  written_then : (a b c : Store K J I an g s d) (one two : Lines) → IsContinued contents b.scribe c.scribe two → (early late : List (List Output)) → ((IsSpent b.scribe → ⊥) → AreWritten a.noted (all_told early) (lines_in one) b.noted) → ((IsSpent c.scribe → ⊥) → AreWritten b.noted (all_told late) (lines_in two) c.noted) →
+      (IsSpent c.scribe → ⊥) → AreWritten a.noted (all_told (early ++ late)) (lines_in (and_then one two)) c.noted
+  written_then a b c one two came early late x y live =
+      let up : IsSpent b.scribe → ⊥ = λ spent. let stays = continued_spent contents b.scribe c.scribe two came spent in live (subst IsSpent (sym stays.0) spent) in
+      subst (λ (lines : List Line). AreWritten a.noted (all_told (early ++ late)) lines c.noted) (sym (lines_then one two)) (written_both a.noted b.noted c.noted early late (lines_in one) (lines_in two) (x up) (y live))
+
   pub went_both : (a b c : Store K J I an g s d) → b.schema ≡ a.schema → length b.seats.items ≡ length a.seats.items → (one two : Lines) → IsContinued contents a.scribe b.scribe one → IsContinued contents b.scribe c.scribe two →
       (w : World) (x : WentOn held holds one a b w) (y : WentOn held holds two b c x.world) → WentBoth a b c w one two x y
   went_both a b c schema count one two early late w x y =
@@ -231,7 +240,7 @@ module _ {K J I : Type 0} {an : _} {g : _} {s : _} {d : _} (contents : J → Opt
       let filed = recorded_both language n w x.world (reading_in a.scribe) (reading_in b.scribe) one two x.goes.events y.goes.events (IsSpent b.scribe) (IsSpent c.scribe) x.goes.leads (continued_reading contents a.scribe b.scribe one early)
       (λ spent. let stays = continued_spent contents b.scribe c.scribe two late spent in stays.1) (λ spent. let stays = continued_spent contents b.scribe c.scribe two late spent in subst IsSpent (sym stays.0) spent) x.events_are then_filed in
       record {
-        went = record { world = y.world; goes = both.goes; events_are = subst (AreFiled a c (and_then one two) w) (sym both.events_are) filed.0; outcomes_are = subst (λ (outs : List (List Output)). AreToldIn outs (lines_in (and_then one two))) (sym both.gave_is) (told_both x.goes.gave y.goes.gave one two x.outcomes_are y.outcomes_are); is_in = y.is_in; hears = subst (λ (outs : List (List Output)). Hears (WasTold outs) a.watched c.watched) (sym both.gave_is) hears };
+        went = record { world = y.world; goes = both.goes; events_are = subst (AreFiled a c (and_then one two) w) (sym both.events_are) filed.0; outcomes_are = subst (λ (outs : List (List Output)). AreToldIn outs (lines_in (and_then one two))) (sym both.gave_is) (told_both x.goes.gave y.goes.gave one two x.outcomes_are y.outcomes_are); written = λ live. subst (λ (outs : List (List Output)). AreWritten a.noted (all_told outs) (lines_in (and_then one two)) c.noted) (sym both.gave_is) (written_then a b c one two late x.goes.gave y.goes.gave x.written y.written live); is_in = y.is_in; hears = subst (λ (outs : List (List Output)). Hears (WasTold outs) a.watched c.watched) (sym both.gave_is) hears };
         gave = both.gave_is;
       }
 
@@ -249,6 +258,7 @@ module _ {K J I : Type 0} {an : _} {g : _} {s : _} {d : _} (contents : J → Opt
           goes = goes;
           events_are = recorded_silent (language_of t.schema) (length t.seats.items) w (reading_in t.scribe) no_lines goes.events (IsSpent t.scribe) (nowhere_events (language_of t.schema) (length t.seats.items) w) (All-nil IsSilent);
           outcomes_are = told_silent goes.gave [] (All-nil IsSilent);
+          written = λ live. written_silent t.noted t.noted goes.gave [] (nowhere_gave (language_of t.schema) (length t.seats.items) w) (All-nil IsSilent) refl;
           is_in = i;
           hears = hears_same (WasTold goes.gave) t.watched t.watched refl;
         };
@@ -322,6 +332,7 @@ module _ {K J I : Type 0} {an : _} {g : _} {s : _} {d : _} (contents : J → Opt
     spent = λ k. y.spent (x.spent k);
     letters = λ live sent u. subst (AreUnderWay c.queue.items c.sent) (append_assoc sent one two) (y.letters live (sent ++ one) (x.letters (λ k. live (y.spent k)) sent u));
     hears = hears_both (IsAmong early) (IsAmong late) (IsAmong (early ++ late)) (among_left early late) (among_right early late) a.watched b.watched c.watched x.hears y.hears;
+    noted = λ live none. y.noted live none ∙ x.noted (λ k. live (y.spent k)) none;
   }
 
   -- first nothing, then these
@@ -341,6 +352,7 @@ module _ {K J I : Type 0} {an : _} {g : _} {s : _} {d : _} (contents : J → Opt
     spent = λ k. spent;
     letters = λ live sent u. absurd (live spent);
     hears = hears_same (IsAmong told) a.watched b.watched watched;
+    noted = λ live none. absurd (live spent);
   }
 
   -- the same where some were to come under way before
@@ -352,6 +364,7 @@ module _ {K J I : Type 0} {an : _} {g : _} {s : _} {d : _} (contents : J → Opt
     spent = λ k. spent;
     letters = λ live sent u. absurd (live spent);
     hears = hears_more (IsAmong []) (IsAmong told) (nobody (IsAmong told)) a.watched b.watched p.hears;
+    noted = λ live none. absurd (live spent);
   }
 
   -- it was spent in the midst of it
@@ -361,14 +374,15 @@ module _ {K J I : Type 0} {an : _} {g : _} {s : _} {d : _} (contents : J → Opt
 
   -- a letter came under way
   pub posted : (a b : Store K J I an g s d) (number : ℕ) (message : Message) → number ≡ a.sent + 1 → b.queue.items ≡ a.queue.items ++ record { number = number; message = message } ∷ [] → b.sent ≡ number →
-      b.schema ≡ a.schema → b.seats ≡ a.seats → b.scribe ≡ a.scribe → b.watched ≡ a.watched → Publishes contents a b (message ∷ []) []
-  posted a b number message next queue sent schema seats scribe watched = record {
+      b.schema ≡ a.schema → b.seats ≡ a.seats → b.scribe ≡ a.scribe → b.watched ≡ a.watched → b.noted ≡ a.noted → Publishes contents a b (message ∷ []) []
+  posted a b number message next queue sent schema seats scribe watched noted = record {
     schema = schema;
     seats = ap (λ v. v.items) seats;
     journal = kept_is contents a.scribe b.scribe scribe;
     spent = λ k. subst IsSpent (sym scribe) k;
     letters = λ live before u. under_same (a.queue.items ++ record { number = number; message = message } ∷ []) b.queue.items number b.sent (before ++ message ∷ []) queue sent (sent_one a.queue.items a.sent number message before next u);
     hears = hears_same (IsAmong []) a.watched b.watched watched;
+    noted = λ live none. noted;
   }
 
   -- a store by another name
@@ -376,19 +390,20 @@ module _ {K J I : Type 0} {an : _} {g : _} {s : _} {d : _} (contents : J → Opt
   publishes_at a b t messages told is p = subst (λ (x : Store K J I an g s d). Publishes contents a x messages told) (sym is) p
 
   -- nothing that is looked at here is another
-  pub same_publishes : (a b : Store K J I an g s d) → b.schema ≡ a.schema → b.seats ≡ a.seats → b.queue ≡ a.queue → b.sent ≡ a.sent → b.watched ≡ a.watched → IsKeptOn contents a.scribe b.scribe → (IsSpent a.scribe → IsSpent b.scribe) → Publishes contents a b [] []
-  same_publishes a b schema seats queue sent watched journal spent = record {
+  pub same_publishes : (a b : Store K J I an g s d) → b.schema ≡ a.schema → b.seats ≡ a.seats → b.queue ≡ a.queue → b.sent ≡ a.sent → b.watched ≡ a.watched → b.noted ≡ a.noted → IsKeptOn contents a.scribe b.scribe → (IsSpent a.scribe → IsSpent b.scribe) → Publishes contents a b [] []
+  same_publishes a b schema seats queue sent watched noted journal spent = record {
     schema = schema;
     seats = ap (λ v. v.items) seats;
     journal = journal;
     spent = spent;
     letters = λ live sent_before u. subst (AreUnderWay b.queue.items b.sent) (sym (append-nil sent_before)) (under_same a.queue.items b.queue.items a.sent b.sent sent_before (ap (λ q. q.items) queue) sent u);
     hears = hears_same (IsAmong []) a.watched b.watched watched;
+    noted = λ live none. noted;
   }
 
   -- nothing but the journal is another
   pub only_scribe : (old new : Store K J I an g s d) → new ≡ record old { scribe = new.scribe } → IsKeptOn contents old.scribe new.scribe → (IsSpent old.scribe → IsSpent new.scribe) → Publishes contents old new [] []
-  only_scribe old new is journal spent = same_publishes old new (ap (λ t. t.schema) is) (ap (λ t. t.seats) is) (ap (λ t. t.queue) is) (ap (λ t. t.sent) is) (ap (λ t. t.watched) is) journal spent
+  only_scribe old new is journal spent = same_publishes old new (ap (λ t. t.schema) is) (ap (λ t. t.seats) is) (ap (λ t. t.queue) is) (ap (λ t. t.sent) is) (ap (λ t. t.watched) is) (ap (λ t. t.noted) is) journal spent
 
   -- the same seats
   pub seats_as : (a b : Store K J I an g s d) → b.schema ≡ a.schema → b.seats.items ≡ a.seats.items → (w : World) → IsIn held holds a w → AreSeated (λ m seat x. HasMember held holds b.schema (length b.seats.items) m seat x) b.seats.items w.nodes
@@ -403,9 +418,19 @@ module _ {K J I : Type 0} {an : _} {g : _} {s : _} {d : _} (contents : J → Opt
     under_way = λ live. subst (AreUnderWay b.queue.items b.sent) (append-nil w.sent) (p.letters live w.sent (i.under_way (λ k. live (p.spent k))));
   }
 
-  -- nothing but up to where outcomes are written is another
-  pub only_noted : (old new : Store K J I an g s d) → new ≡ record old { noted = new.noted } → Publishes contents old new [] []
-  only_noted old new is = same_publishes old new (ap (λ t. t.schema) is) (ap (λ t. t.seats) is) (ap (λ t. t.queue) is) (ap (λ t. t.sent) is) (ap (λ t. t.watched) is) (kept_is contents old.scribe new.scribe (ap (λ t. t.scribe) is)) (λ k. subst IsSpent (sym (ap (λ t. t.scribe) is)) k)
+  -- up to where outcomes are written is another, and then the store was spent
+  pub noted_spent : (old mid new : Store K J I an g s d) (messages : List Message) (told : List Told) → mid ≡ record old { noted = mid.noted } → Publishes contents mid new [] [] → IsSpent new.scribe → Publishes contents old new messages told
+  noted_spent old mid new messages told is p spent =
+      let q = subst (λ (t : Store K J I an g s d). Publishes contents t new [] []) is p in
+      record {
+        schema = q.schema;
+        seats = q.seats;
+        journal = q.journal;
+        spent = λ k. spent;
+        letters = λ live sent u. absurd (live spent);
+        hears = hears_more (IsAmong []) (IsAmong told) (nobody (IsAmong told)) old.watched new.watched q.hears;
+        noted = λ live none. absurd (live spent);
+      }
 
   -- nothing but what the queue is made of is another
   pub only_queue : (old new : Store K J I an g s d) → new ≡ record old { queue = new.queue } → new.queue.items ≡ old.queue.items → Publishes contents old new [] []
@@ -416,11 +441,12 @@ module _ {K J I : Type 0} {an : _} {g : _} {s : _} {d : _} (contents : J → Opt
     spent = λ k. subst IsSpent (sym (ap (λ t. t.scribe) is)) k;
     letters = λ live before u. subst (AreUnderWay new.queue.items new.sent) (sym (append-nil before)) (under_same old.queue.items new.queue.items old.sent new.sent before queue (ap (λ t. t.sent) is) u);
     hears = hears_same (IsAmong []) old.watched new.watched (ap (λ t. t.watched) is);
+    noted = λ live none. ap (λ t. t.noted) is;
   }
 
   -- nothing comes of nothing
   pub publishes_none : (t : Store K J I an g s d) → Publishes contents t t [] []
-  publishes_none t = same_publishes t t refl refl refl refl refl (kept_same contents t.scribe) (λ k. k)
+  publishes_none t = same_publishes t t refl refl refl refl refl refl (kept_same contents t.scribe) (λ k. k)
 
   pub publishes_on : (a b : Store K J I an g s d) → Publishes contents a b [] [] → On a b
   publishes_on a b p = record {
@@ -431,7 +457,7 @@ module _ {K J I : Type 0} {an : _} {g : _} {s : _} {d : _} (contents : J → Opt
     clean = λ k. subst (All (IsClean honest holds)) p.seats k;
     went = λ k w i.
         let goes = goes_nowhere (language_of a.schema) (length a.seats.items) w in
-        record { world = w; goes = goes; events_are = recorded_silent (language_of a.schema) (length a.seats.items) w (reading_in a.scribe) p.journal.0 goes.events (IsSpent b.scribe) (nowhere_events (language_of a.schema) (length a.seats.items) w) p.journal.1; outcomes_are = told_silent goes.gave (lines_in p.journal.0) p.journal.1; is_in = same_in a b [] p w i; hears = passes a b [] [] p (WasTold goes.gave) (nobody (WasTold goes.gave)) };
+        record { world = w; goes = goes; events_are = recorded_silent (language_of a.schema) (length a.seats.items) w (reading_in a.scribe) p.journal.0 goes.events (IsSpent b.scribe) (nowhere_events (language_of a.schema) (length a.seats.items) w) p.journal.1; outcomes_are = told_silent goes.gave (lines_in p.journal.0) p.journal.1; written = λ live. written_silent a.noted b.noted goes.gave (lines_in p.journal.0) (nowhere_gave (language_of a.schema) (length a.seats.items) w) p.journal.1 (p.noted live (λ m one none. none)); is_in = same_in a b [] p w i; hears = passes a b [] [] p (WasTold goes.gave) (nobody (WasTold goes.gave)) };
   }
 
   -- ---- a step is over
@@ -445,39 +471,51 @@ module _ {K J I : Type 0} {an : _} {g : _} {s : _} {d : _} (contents : J → Opt
     spent = p.spent;
     letters = p.letters;
     hears = p.hears;
+    noted = λ live none. p.noted live (λ m one none. none);
   }
 
-  -- a line came there first, and up to where outcomes are written is another
-  pub made_then : (tells : ℕ → Told → Type 0) (line : Line) (old first mid new : Store K J I an g s d) (messages : List Message) (told : List Told) → IsQuiet tells line → first ≡ record old { noted = first.noted } → mid ≡ record first { scribe = mid.scribe } → (IsSpent first.scribe → ⊥) →
-      IsContinued contents first.scribe mid.scribe (waiting (line ∷ [])) → Publishes contents mid new messages told → PublishesSo contents tells old new messages told
-  made_then tells line old first mid new messages told quiet is on live came p =
-      let one : IsContinued contents old.scribe mid.scribe (waiting (line ∷ [])) = subst (λ (s : Option (Scribe J)). IsContinued contents s mid.scribe (waiting (line ∷ []))) (ap (λ t. t.scribe) is) came in
-      let all = All-cons (IsQuiet tells) line (lines_in p.journal.0) quiet (silent_quiet tells (lines_in p.journal.0) p.journal.1) in
-      record {
-        schema = p.schema ∙ ap (λ t. t.schema) on ∙ ap (λ t. t.schema) is;
-        seats = p.seats ∙ ap (λ t. t.seats.items) on ∙ ap (λ t. t.seats.items) is;
-        journal = (and_then (waiting (line ∷ [])) p.journal.0, subst (All (IsQuiet tells)) (sym (lines_then (waiting (line ∷ [])) p.journal.0)) all, continued_both contents old.scribe mid.scribe new.scribe (waiting (line ∷ [])) p.journal.0 one p.journal.2);
-        spent = λ k. absurd (live (subst IsSpent (sym (ap (λ t. t.scribe) is)) k));
-        letters = λ up before u. p.letters up before (under_same old.queue.items mid.queue.items old.sent mid.sent before (ap (λ t. t.queue.items) on ∙ ap (λ t. t.queue.items) is) (ap (λ t. t.sent) on ∙ ap (λ t. t.sent) is) u);
-        hears = subst (λ (w : Option Watched). Hears (IsAmong told) w new.watched) (ap (λ t. t.watched) on ∙ ap (λ t. t.watched) is) p.hears;
-      }
+  -- nothing is told in a step, and none is written
+  pub ends_silent : (m : ℕ) (a b : Store K J I an g s d) (messages : List Message) → Publishes contents a b messages [] → EndsStep contents m a b messages []
+  unfolding publishes_so
+  ends_silent m a b messages p = record {
+    publishes = publishes_so (OneTells m []) a b messages [] p;
+    written = λ live. written_none a.noted b.noted [] (lines_in p.journal.0) (silent_none (lines_in p.journal.0) p.journal.1) refl (p.noted live (λ m one none. none));
+  }
 
-  -- a line with outcomes came there first
-  pub made_first : (m : ℕ) (outcomes all : List Noted) (old first mid new : Store K J I an g s d) (messages : List Message) (told : List Told) → outcomes ≡ all → first ≡ record old { noted = first.noted } → IsContinued contents first.scribe mid.scribe (waiting (Made m outcomes ∷ [])) →
-      Publishes contents mid new messages told → HasMade contents old.scribe new.scribe m all
-  made_first m outcomes all old first mid new messages told same is came p =
-      let one = waiting (Made m outcomes ∷ []) in
-      let from : IsContinued contents old.scribe mid.scribe one = subst (λ (s : Option (Scribe J)). IsContinued contents s mid.scribe one) (ap (λ t. t.scribe) is) came in (
-        and_then one p.journal.0,
-        continued_both contents old.scribe mid.scribe new.scribe one p.journal.0 from p.journal.2,
-        lines_in p.journal.0,
-        lines_then one p.journal.0 ∙ ap (λ (xs : List Noted). Made m xs ∷ lines_in p.journal.0) same,
-        p.journal.1,
-      )
+  -- the store was spent in it
+  pub ends_spent : (m : ℕ) (a b : Store K J I an g s d) (messages : List Message) (told : List Told) → Publishes contents a b messages told → IsSpent b.scribe → EndsStep contents m a b messages told
+  ends_spent m a b messages told p spent = record {
+    publishes = publishes_so (OneTells m told) a b messages told p;
+    written = λ live. absurd (live spent);
+  }
+
+  -- what is told for the first time was written first, and up to where outcomes are written is another
+  pub made_then : (m : ℕ) (outcomes : List Noted) (old first mid new : Store K J I an g s d) (messages : List Message) (told : List Told) → IsQuiet (OneTells m told) (Made m outcomes) → (outcomes ≡ outcomes_of (first_told old.noted told)) × (first.noted ≡ noted_after old.noted told) →
+      first ≡ record old { noted = first.noted } → mid ≡ record first { scribe = mid.scribe } → (IsSpent first.scribe → ⊥) →
+      IsContinued contents first.scribe mid.scribe (waiting (Made m outcomes ∷ [])) → Publishes contents mid new messages told → EndsStep contents m old new messages told
+  made_then m outcomes old first mid new messages told quiet all is on live came p =
+      let line = Made m outcomes in
+      let tells = OneTells m told in
+      let one : IsContinued contents old.scribe mid.scribe (waiting (line ∷ [])) = subst (λ (s : Option (Scribe J)). IsContinued contents s mid.scribe (waiting (line ∷ []))) (ap (λ t. t.scribe) is) came in
+      let quiets = All-cons (IsQuiet tells) line (lines_in p.journal.0) quiet (silent_quiet tells (lines_in p.journal.0) p.journal.1) in
+      let joined = lines_then (waiting (line ∷ [])) p.journal.0 in
+      let last : (IsSpent new.scribe → ⊥) → new.noted ≡ noted_after old.noted told = λ up. p.noted up (λ k one none. none) ∙ ap (λ t. t.noted) on ∙ all.1 in
+      record {
+        publishes = record {
+          schema = p.schema ∙ ap (λ t. t.schema) on ∙ ap (λ t. t.schema) is;
+          seats = p.seats ∙ ap (λ t. t.seats.items) on ∙ ap (λ t. t.seats.items) is;
+          journal = (and_then (waiting (line ∷ [])) p.journal.0, subst (All (IsQuiet tells)) (sym joined) quiets, continued_both contents old.scribe mid.scribe new.scribe (waiting (line ∷ [])) p.journal.0 one p.journal.2);
+          spent = λ k. absurd (live (subst IsSpent (sym (ap (λ t. t.scribe) is)) k));
+          letters = λ up before u. p.letters up before (under_same old.queue.items mid.queue.items old.sent mid.sent before (ap (λ t. t.queue.items) on ∙ ap (λ t. t.queue.items) is) (ap (λ t. t.sent) on ∙ ap (λ t. t.sent) is) u);
+          hears = subst (λ (w : Option Watched). Hears (IsAmong told) w new.watched) (ap (λ t. t.watched) on ∙ ap (λ t. t.watched) is) p.hears;
+          noted = λ up none. last up ∙ ap (noted_after old.noted) (none_told m told none);
+        };
+        written = λ up. written_amid old.noted new.noted told [] (line ∷ []) (lines_in p.journal.0) (lines_in (and_then (waiting (line ∷ [])) p.journal.0)) refl (silent_none (lines_in p.journal.0) p.journal.1) joined (append-nil outcomes ∙ all.0, last up);
+      }
 
   -- nothing but who leads is another
   pub only_leader : (old new : Store K J I an g s d) → new ≡ record old { leader = new.leader } → On old new
-  only_leader old new is = publishes_on old new (same_publishes old new (ap (λ t. t.schema) is) (ap (λ t. t.seats) is) (ap (λ t. t.queue) is) (ap (λ t. t.sent) is) (ap (λ t. t.watched) is) (kept_is contents old.scribe new.scribe (ap (λ t. t.scribe) is)) (λ k. subst IsSpent (sym (ap (λ t. t.scribe) is)) k))
+  only_leader old new is = publishes_on old new (same_publishes old new (ap (λ t. t.schema) is) (ap (λ t. t.seats) is) (ap (λ t. t.queue) is) (ap (λ t. t.sent) is) (ap (λ t. t.watched) is) (ap (λ t. t.noted) is) (kept_is contents old.scribe new.scribe (ap (λ t. t.scribe) is)) (λ k. subst IsSpent (sym (ap (λ t. t.scribe) is)) k))
 
   -- the outcome of what is waited for was taken out
   pub outcome_taken : (old new : Store K J I an g s d) (v u : Watched) → old.watched ≡ Some v → new ≡ record old { watched = Some u } → u.client ≡ v.client → u.number ≡ v.number → u.outcome ≡ None → On old new
@@ -488,6 +526,7 @@ module _ {K J I : Type 0} {an : _} {g : _} {s : _} {d : _} (contents : J → Opt
     spent = λ k. subst IsSpent (sym (ap (λ t. t.scribe) is)) k;
     letters = λ live before under. subst (AreUnderWay new.queue.items new.sent) (sym (append-nil before)) (under_same old.queue.items new.queue.items old.sent new.sent before (ap (λ t. t.queue.items) is) (ap (λ t. t.sent) is) under);
     hears = subst (λ (o : Option Watched). Hears (IsAmong []) o new.watched) (sym was) (subst (λ (o : Option Watched). Hears (IsAmong []) (Some v) o) (sym (ap (λ t. t.watched) is)) (client, number, unheard u.outcome none));
+    noted = λ live none_told. ap (λ t. t.noted) is;
   })
     where
       unheard : (o : Option (Result ℕ Reason)) → o ≡ None → IfSome o (Heard (IsAmong []) (Some v))
@@ -504,7 +543,7 @@ module _ {K J I : Type 0} {an : _} {g : _} {s : _} {d : _} (contents : J → Opt
     clean = x.clean;
     went = λ k w i p.
         let on = x.went k w (record { seated = i.seated; under_way = i.under_way }) tt in
-        (record { world = on.0.world; goes = on.0.goes; events_are = on.0.events_are; outcomes_are = on.0.outcomes_are; is_in = record { seated = on.0.is_in.seated; under_way = on.0.is_in.under_way }; hears = tt }, on.1);
+        (record { world = on.0.world; goes = on.0.goes; events_are = on.0.events_are; outcomes_are = on.0.outcomes_are; written = on.0.written; is_in = record { seated = on.0.is_in.seated; under_way = on.0.is_in.under_way }; hears = tt }, on.1);
   }
 
   -- ---- a letter that is taken out
@@ -523,7 +562,7 @@ module _ {K J I : Type 0} {an : _} {g : _} {s : _} {d : _} (contents : J → Opt
             let on = y.went k w
             (record { seated = i.seated; under_way = λ live. let u = rest live in (u.0, All-tail (λ (l : Letter). nth w.sent l.number ≡ Some l.message) letter mid.queue.items u.1) })
             (λ live. let u = rest live in All-head (λ (l : Letter). nth w.sent l.number ≡ Some l.message) letter mid.queue.items u.1) in
-            record { world = on.0.world; goes = on.0.goes; events_are = on.0.events_are; outcomes_are = on.0.outcomes_are; is_in = on.0.is_in; hears = on.0.hears };
+            record { world = on.0.world; goes = on.0.goes; events_are = on.0.events_are; outcomes_are = on.0.outcomes_are; written = on.0.written; is_in = on.0.is_in; hears = on.0.hears };
       }
 
   -- ---- a step that is begun
@@ -551,7 +590,10 @@ module _ {K J I : Type 0} {an : _} {g : _} {s : _} {d : _} (contents : J → Opt
             let rest = All-tail P (Takes m taken) (lines_in y.lines) (told_rest gave (Takes m taken) y.lines on.0.outcomes_are) in
             let told : AreToldIn gave (lines_in (and_then (waiting front) y.lines)) =
             subst (AreToldIn gave) (sym (lines_then (waiting front) y.lines)) (All-append P front (lines_in y.lines) (All-push P before (Takes m taken) (told_silent gave before silent) tt) rest) in
-            (record { world = on.0.world; goes = on.0.goes; events_are = filed; outcomes_are = told; is_in = on.0.is_in; hears = on.0.hears }, on.1);
+            let bare : (IsSpent new.scribe → ⊥) → AreWritten old.noted (all_told gave) (lines_in y.lines) new.noted = λ up. (ap outcomes_in (sym (lines_then (waiting (Takes m taken ∷ [])) y.lines)) ∙ (on.0.written up).0, (on.0.written up).1) in
+            let none : outcomes_in front ≡ [] = outcomes_in-append before (Takes m taken ∷ []) ∙ append-nil (outcomes_in before) ∙ silent_none before silent in
+            let joined : lines_in (and_then (waiting front) y.lines) ≡ front ++ (lines_in y.lines ++ []) = lines_then (waiting front) y.lines ∙ ap (λ (l : List Line). front ++ l) (sym (append-nil (lines_in y.lines))) in
+            (record { world = on.0.world; goes = on.0.goes; events_are = filed; outcomes_are = told; written = λ up. written_amid old.noted new.noted (all_told gave) front (lines_in y.lines) [] (lines_in (and_then (waiting front) y.lines)) none refl joined (bare up); is_in = on.0.is_in; hears = on.0.hears }, on.1);
       }
 
   -- ---- one event
@@ -561,10 +603,10 @@ module _ {K J I : Type 0} {an : _} {g : _} {s : _} {d : _} (contents : J → Opt
   one_idle old new line event w idle records = recorded_idle (language_of old.schema) (length old.seats.items) w (reading_in old.scribe) (waiting (line ∷ [])) (event ∷ []) (IsSpent new.scribe) (event ∷ [], [], records, refl, refl) (All-cons IsStartOrStop event [] idle (All-nil IsStartOrStop))
 
   -- an event happened, of a store in which nothing is heard
-  pub by_one : (event : Event) (land : World → World) (old new : Store K J I an g s d) → new.schema ≡ old.schema → length new.seats.items ≡ length old.seats.items → new.watched ≡ old.watched → (AreClean honest holds new → AreClean honest holds old) →
-      (lines : Lines) → IsContinued contents old.scribe new.scribe lines → ((gave : List (List Output)) → AreToldIn gave (lines_in lines)) → (AreClean honest holds new → (w : World) → IsIn held holds old w → AreFiled old new lines w (event ∷ [])) →
+  pub by_one : (event : Event) (land : World → World) (old new : Store K J I an g s d) → new.schema ≡ old.schema → length new.seats.items ≡ length old.seats.items → new.watched ≡ old.watched → new.noted ≡ old.noted → (AreClean honest holds new → AreClean honest holds old) →
+      (lines : Lines) → outcomes_in (lines_in lines) ≡ [] → IsContinued contents old.scribe new.scribe lines → ((gave : List (List Output)) → AreToldIn gave (lines_in lines)) → (AreClean honest holds new → (w : World) → IsIn held holds old w → AreFiled old new lines w (event ∷ [])) →
       ((w : World) → By (language_of old.schema) (length old.seats.items) w (land w) event) → (AreClean honest holds new → (w : World) → IsIn held holds old w → IsIn held holds new (land w)) → On old new
-  by_one event land old new schema count watched clean lines journal told filed by lands = record {
+  by_one event land old new schema count watched noted clean lines none journal told filed by lands = record {
     schema = schema;
     count = count;
     lines = lines;
@@ -572,7 +614,7 @@ module _ {K J I : Type 0} {an : _} {g : _} {s : _} {d : _} (contents : J → Opt
     clean = clean;
     went = λ k w i.
         let b = by w in
-        record { world = land w; goes = b.goes; events_are = subst (AreFiled old new lines w) (sym b.events_are) (filed k w i); outcomes_are = told b.goes.gave; is_in = lands k w i; hears = hears_same (WasTold b.goes.gave) old.watched new.watched watched };
+        record { world = land w; goes = b.goes; events_are = subst (AreFiled old new lines w) (sym b.events_are) (filed k w i); outcomes_are = told b.goes.gave; written = λ live. written_none old.noted new.noted (all_told b.goes.gave) (lines_in lines) none (ap all_told b.gave_is) noted; is_in = lands k w i; hears = hears_same (WasTold b.goes.gave) old.watched new.watched watched };
   }
 
   -- only lines came to the journal of a store that is not spent
@@ -584,7 +626,7 @@ module _ {K J I : Type 0} {an : _} {g : _} {s : _} {d : _} (contents : J → Opt
   ended m old mid new is live came stops =
       let as_old : Stops honest held holds m (record old { scribe = mid.scribe }) new = subst (λ (t : Store K J I an g s d). Stops honest held holds m t new) is stops in
       let first = reading_in old.scribe in
-      by_one (Stop m) (λ w. stops_of w m (nth w.nodes m)) old new as_old.schema as_old.count as_old.watched as_old.clean (waiting (Ends m ∷ []))
+      by_one (Stop m) (λ w. stops_of w m (nth w.nodes m)) old new as_old.schema as_old.count as_old.watched as_old.noted as_old.clean (waiting (Ends m ∷ [])) refl
       (subst (λ (x : Option (Scribe J)). IsContinued contents old.scribe x (waiting (Ends m ∷ []))) (sym as_old.scribe) came)
       (λ gave. one_told gave (Ends m) tt)
       (λ k w i. one_idle old new (Ends m) (Stop m) w (m, inr refl) refl)
@@ -595,8 +637,8 @@ module _ {K J I : Type 0} {an : _} {g : _} {s : _} {d : _} (contents : J → Opt
   pub ended_late : (m : ℕ) (first old mid new : Store K J I an g s d) → Stops honest held holds m first old → mid ≡ record old { scribe = mid.scribe } → (IsSpent old.scribe → ⊥) → IsContinued contents old.scribe mid.scribe (waiting (Ends m ∷ [])) → Stops honest held holds m mid new → On first new
   ended_late m first old mid new fell is live came stops =
       let neat : AreClean honest holds new → AreClean honest holds old = λ k. subst (λ (t : Store K J I an g s d). AreClean honest holds t) is (stops.clean k) in
-      by_one (Stop m) (λ w. stops_of w m (nth w.nodes m)) first new (stops.schema ∙ ap (λ t. t.schema) is ∙ fell.schema) (stops.count ∙ ap (λ t. length t.seats.items) is ∙ fell.count) (stops.watched ∙ ap (λ t. t.watched) is ∙ fell.watched)
-      (λ k. fell.clean (neat k)) (waiting (Ends m ∷ []))
+      by_one (Stop m) (λ w. stops_of w m (nth w.nodes m)) first new (stops.schema ∙ ap (λ t. t.schema) is ∙ fell.schema) (stops.count ∙ ap (λ t. length t.seats.items) is ∙ fell.count) (stops.watched ∙ ap (λ t. t.watched) is ∙ fell.watched) (stops.noted ∙ ap (λ t. t.noted) is ∙ fell.noted)
+      (λ k. fell.clean (neat k)) (waiting (Ends m ∷ [])) refl
       (subst (λ (x : Option (Scribe J)). IsContinued contents x new.scribe (waiting (Ends m ∷ []))) fell.scribe (subst (λ (x : Option (Scribe J)). IsContinued contents old.scribe x (waiting (Ends m ∷ []))) (sym stops.scribe) came))
       (λ gave. one_told gave (Ends m) tt)
       (λ k w i. one_idle first new (Ends m) (Stop m) w (m, inr refl) refl)
@@ -609,8 +651,8 @@ module _ {K J I : Type 0} {an : _} {g : _} {s : _} {d : _} (contents : J → Opt
   pub ended_unsaid : (m : ℕ) (first old new : Store K J I an g s d) → Stops honest held holds m first old → new ≡ record old { scribe = new.scribe } → IsContinued contents old.scribe new.scribe no_lines → IsSpent new.scribe → On first new
   ended_unsaid m first old new fell is came spent =
       let neat : AreClean honest holds new → AreClean honest holds old = λ k. subst (λ (t : Store K J I an g s d). AreClean honest holds t) is k in
-      by_one (Stop m) (λ w. stops_of w m (nth w.nodes m)) first new (ap (λ t. t.schema) is ∙ fell.schema) (ap (λ t. length t.seats.items) is ∙ fell.count) (ap (λ t. t.watched) is ∙ fell.watched)
-      (λ k. fell.clean (neat k)) no_lines
+      by_one (Stop m) (λ w. stops_of w m (nth w.nodes m)) first new (ap (λ t. t.schema) is ∙ fell.schema) (ap (λ t. length t.seats.items) is ∙ fell.count) (ap (λ t. t.watched) is ∙ fell.watched) (ap (λ t. t.noted) is ∙ fell.noted)
+      (λ k. fell.clean (neat k)) no_lines refl
       (subst (λ (x : Option (Scribe J)). IsContinued contents x new.scribe no_lines) fell.scribe came)
       (λ gave. told_silent gave [] (All-nil IsSilent))
       (λ k w i. recorded_late (language_of first.schema) (length first.seats.items) w (reading_in first.scribe) (Stop m) (IsSpent new.scribe) (m, inr refl) spent)
@@ -625,8 +667,8 @@ module _ {K J I : Type 0} {an : _} {g : _} {s : _} {d : _} (contents : J → Opt
   lives m stored old mid new starts has is live came =
       let language = language_of old.schema in
       let n = length old.seats.items in
-      by_one (Start m) (λ w. starts_of w m (nth w.nodes m)) old new (ap (λ t. t.schema) is ∙ starts.schema) (ap (λ t. length t.seats.items) is ∙ starts.count) (ap (λ t. t.watched) is ∙ starts.watched)
-      (λ k. starts.clean (subst (λ (t : Store K J I an g s d). AreClean honest holds t) is k)) (waiting (Life m stored ∷ []))
+      by_one (Start m) (λ w. starts_of w m (nth w.nodes m)) old new (ap (λ t. t.schema) is ∙ starts.schema) (ap (λ t. length t.seats.items) is ∙ starts.count) (ap (λ t. t.watched) is ∙ starts.watched) (ap (λ t. t.noted) is ∙ starts.noted)
+      (λ k. starts.clean (subst (λ (t : Store K J I an g s d). AreClean honest holds t) is k)) (waiting (Life m stored ∷ [])) refl
       (subst (λ (x : Option (Scribe J)). IsContinued contents x new.scribe (waiting (Life m stored ∷ []))) starts.scribe came)
       (λ gave. one_told gave (Life m stored) tt)
       (λ k w i.
@@ -641,8 +683,8 @@ module _ {K J I : Type 0} {an : _} {g : _} {s : _} {d : _} (contents : J → Opt
   pub lives_unsaid : (m : ℕ) (old mid new : Store K J I an g s d) → StartsOne honest held holds m old mid → new ≡ record mid { scribe = new.scribe } → IsContinued contents mid.scribe new.scribe no_lines → IsSpent new.scribe → On old new
   lives_unsaid m old mid new starts is came spent =
       let first = reading_in old.scribe in
-      by_one (Start m) (λ w. starts_of w m (nth w.nodes m)) old new (ap (λ t. t.schema) is ∙ starts.schema) (ap (λ t. length t.seats.items) is ∙ starts.count) (ap (λ t. t.watched) is ∙ starts.watched)
-      (λ k. starts.clean (subst (λ (t : Store K J I an g s d). AreClean honest holds t) is k)) no_lines
+      by_one (Start m) (λ w. starts_of w m (nth w.nodes m)) old new (ap (λ t. t.schema) is ∙ starts.schema) (ap (λ t. length t.seats.items) is ∙ starts.count) (ap (λ t. t.watched) is ∙ starts.watched) (ap (λ t. t.noted) is ∙ starts.noted)
+      (λ k. starts.clean (subst (λ (t : Store K J I an g s d). AreClean honest holds t) is k)) no_lines refl
       (subst (λ (x : Option (Scribe J)). IsContinued contents x new.scribe no_lines) starts.scribe came)
       (λ gave. told_silent gave [] (All-nil IsSilent))
       (λ k w i. recorded_late (language_of old.schema) (length old.seats.items) w (reading_in old.scribe) (Start m) (IsSpent new.scribe) (m, inl refl) spent)
@@ -662,6 +704,7 @@ module _ {K J I : Type 0} {an : _} {g : _} {s : _} {d : _} (contents : J → Opt
     schema = refl;
     count = refl;
     scribe = refl;
+    noted = refl;
     watched = refl;
     clean = λ k. k;
     went = λ k w i. subst (IsIn held holds t) (sym (ap (stops_of w m) (nowhere w.nodes (i.seated.all) m away))) i;
@@ -677,6 +720,7 @@ module _ {K J I : Type 0} {an : _} {g : _} {s : _} {d : _} (contents : J → Opt
     schema = S.schema;
     count = S.count;
     scribe = S.scribe;
+    noted = S.noted;
     watched = S.watched;
     clean = S.clean;
     went = λ k w i. let there = S.went k w i in record { seated = there.seated; under_way = there.under_way };
@@ -726,6 +770,7 @@ module _ {K J I : Type 0} {an : _} {g : _} {s : _} {d : _} (contents : J → Opt
       schema = C.schema;
       count = same_count;
       scribe = scribe;
+      noted = C.noted;
       watched = C.watched;
       clean = was_tidy;
       went = λ k w i.
@@ -739,6 +784,7 @@ module _ {K J I : Type 0} {an : _} {g : _} {s : _} {d : _} (contents : J → Opt
       schema = C.schema;
       count = same_count;
       scribe = scribe;
+      noted = C.noted;
       watched = C.watched;
       clean = was_tidy;
       went = λ k w i.
@@ -763,6 +809,7 @@ module _ {K J I : Type 0} {an : _} {g : _} {s : _} {d : _} (contents : J → Opt
             goes = goes;
             events_are = recorded_silent (language_of old.schema) (length old.seats.items) w (reading_in old.scribe) no_lines goes.events (IsSpent new.scribe) (nowhere_events (language_of old.schema) (length old.seats.items) w) (All-nil IsSilent);
             outcomes_are = told_silent goes.gave [] (All-nil IsSilent);
+            written = λ live. written_silent old.noted new.noted goes.gave [] (nowhere_gave (language_of old.schema) (length old.seats.items) w) (All-nil IsSilent) C.noted;
             is_in = stays_in scribe w w x.0 x.0 i (turn (tidy k) x.0 x.2) (sym (same_world w (at + 1) x.0 x.0 x.1 refl));
             hears = hears_same (WasTold goes.gave) old.watched new.watched C.watched;
           };

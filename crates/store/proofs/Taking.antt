@@ -1,5 +1,5 @@
 -- A step of a member of a store, as events of a run.
-use Rattle.std.proofs.Common.{◌≡◌, ◌∙◌, ℕ, ◌+◌, ◌⊎◌, ⊎_elim, inl, inr, Bool, true, false, Option, Some, Result, Ok, Err, IsErr, MatchBool, List, [], ◌∷◌, length, refl, sym, ap, subst, append-nil, arith}
+use Rattle.std.proofs.Common.{◌≡◌, ◌∙◌, ℕ, ◌+◌, ◌⊎◌, ⊎_elim, inl, inr, Bool, true, false, Option, Some, Result, Ok, Err, IsErr, MatchBool, List, [], ◌∷◌, ◌++◌, length, refl, sym, ap, subst, append-nil, arith}
 use Rattle.std.specs.List.{All, Contains}
 use Rattle.std.proofs.lemmas.List.Elements.{All-append}
 use Rattle.std.specs.Option.{option_map_or}
@@ -28,7 +28,7 @@ use Rattle.node.specs.declared.node.Fault.TheVariants.{Kept, Down}
 use Rattle.node.specs.View.{told_between, works, IsEmpty, IsGiven}
 use Rattle.node.specs.Work.{Work, Local, Delivered}
 use Rattle.runlaws.specs.Going.{Goes, HasGiven, WasTold}
-use Rattle.runlaws.proofs.Going.{made, refused, stop_after, torn, torn_events, turned}
+use Rattle.runlaws.proofs.Going.{made, refused, stop_after, torn, torn_events, torn_gave, turned}
 use Rattle.store.specs.declared.store.Store.{Store}
 use Rattle.store.specs.declared.steps.Letter.{Letter}
 use Rattle.store.specs.declared.steps.Stepped.{Stepped}
@@ -37,17 +37,20 @@ use Rattle.store.specs.Journals.{IsSpent}
 use Rattle.store.specs.Nodes.{StepsTo}
 use Rattle.store.specs.Seats.{IsClean}
 use Rattle.journal.specs.declared.line.Taken.{Taken}
+use Rattle.journal.specs.declared.line.Line.{Line}
 use Rattle.journal.specs.declared.line.Line.TheVariants.{Takes}
-use Rattle.store.specs.Lines.{Lines, and_then, behind, lines_in}
+use Rattle.store.specs.Lines.{Lines, and_then, behind, lines_in, waiting}
+use Rattle.store.specs.Noting.{AreWritten, all_told, outcomes_in}
 use Rattle.store.specs.Recording.{IsQuiet, IsStep, NobodyTells, OneTells, job_of}
 use Rattle.store.specs.declared.scribe.Scribe.{Scribe}
 use Rattle.store.specs.Continuing.{IsContinued, reading_in}
-use Rattle.store.specs.Going.{AreFiled, Changes, GoesOnFrom, HasSent, HasStepped, Hears, IsAmong, IsBrought, IsIn, PublishesSo, SaysWhy, Stops, with_begun}
+use Rattle.store.specs.Going.{AreFiled, Changes, EndsStep, GoesOnFrom, HasSent, HasStepped, Hears, IsAmong, IsBrought, IsIn, SaysWhy, Stops, with_begun}
 use Rattle.store.proofs.Continuing.{continued_both, kept_same}
 use Rattle.store.proofs.Lines.{lines_then, none_first}
+use Rattle.store.proofs.Noting.{silent_none, step_told, written_amid, written_none}
 use Rattle.store.proofs.Recording.{SaysLess, all_true, recorded_step, silent_quiet}
 use Rattle.store.proofs.Storing.{same_stored}
-use Rattle.store.proofs.Going.{TellsLess, from_weaker, hears_more, hears_same, publishes_so, same_count, seat_in, seats_as, sits, spent_publishes, tidy, told_behind, told_silent, was_tidy, world_with}
+use Rattle.store.proofs.Going.{TellsLess, ends_spent, from_weaker, hears_more, hears_same, same_count, seat_in, seats_as, sits, spent_publishes, tidy, told_behind, told_silent, was_tidy, world_with}
 
 -- what a step sends, and what it tells
 abbrev pub messages_of : Result Out Fault → List Message
@@ -81,6 +84,7 @@ module _ (tables : Tables) (n m : ℕ) (work : Work) (w : World) (x : model.Node
     pub goes : Goes (language_of tables) n w (with_node w m y (messages_of result))
     pub events_are : (event : Event) × IsStep m job event × (goes.events ≡ event ∷ [])
     pub tells : (one : Told) → Contains (told_of result) one → HasGiven goes.gave (Applied m one)
+    pub told_are : all_told goes.gave ≡ told_of result
     pub says : Says m result goes.gave
 
   steps : x.up ≡ true → Steps w m job
@@ -96,22 +100,23 @@ module _ (tables : Tables) (n m : ℕ) (work : Work) (w : World) (x : model.Node
   unfolding told_between steps
   turn y (Ok out) s =
       let d = made (language_of tables) n w m job (steps s.0) y out.messages.items out.told.items (given y out s.1) s.2 in
-      record { goes = d.goes; events_are = (whole m job, inl refl, d.events_are); tells = d.tells; says = tt }
+      record { goes = d.goes; events_are = (whole m job, inl refl, d.events_are); tells = d.tells; told_are = ap all_told d.gave_is ∙ step_told (length w.sent) m out.messages.items out.told.items; says = tt }
   turn y (Err (Kept reason)) s = go x.up refl s.1
     where
       go : (b : Bool) → x.up ≡ b → MatchBool b (Denies reason ≡ works tables n m work x) (reason ≡ NodeDown) → Turn y (Err (Kept reason))
       go true up is =
           let d = refused (language_of tables) n w m job (steps up) y reason (is ∙ sym (same x)) s.0 in
-          record { goes = d.goes; events_are = (whole m job, inl refl, d.events_are); tells = λ one has. absurd (nobody one has); says = d.says }
+          record { goes = d.goes; events_are = (whole m job, inl refl, d.events_are); tells = λ one has. absurd (nobody one has); told_are = ap all_told d.gave_is; says = d.says }
       go false down is =
           let d = turned (language_of tables) n w m job x at down for y s.0 in
-          record { goes = d.goes; events_are = (whole m job, inl refl, d.events_are); tells = λ one has. absurd (nobody one has); says = subst (λ (r : Reason). HasGiven d.goes.gave (Refuses m r)) (sym is) d.says }
+          record { goes = d.goes; events_are = (whole m job, inl refl, d.events_are); tells = λ one has. absurd (nobody one has); told_are = ap all_told d.gave_is; says = subst (λ (r : Reason). HasGiven d.goes.gave (Refuses m r)) (sym is) d.says }
   turn y (Err (Down error)) s =
       let left = s.1.1 ∙ ap (λ (o : Effect). stopped (node_left s.1.0 x o)) (sym (same x)) in
       record {
         goes = torn (language_of tables) n w m job (steps s.0) y s.1.0 left;
         events_are = (Torn m job s.1.0, inr (s.1.0, refl), torn_events (language_of tables) n w m job (steps s.0) y s.1.0 left);
         tells = λ one has. absurd (nobody one has);
+        told_are = ap all_told (torn_gave (language_of tables) n w m job (steps s.0) y s.1.0 left);
         says = tt;
       }
 
@@ -133,9 +138,10 @@ module _ {K J I : Type 0} {an : _} {g : _} {s : _} {d : _} (contents : J → Opt
       (λ none. ap durable (sym (goes.leads ∙ ap (run language n w) are)) ∙ same none))
 
   -- a member took a step, what it sent came under way, and what it told was heard
-  pub step_on : (old mid new : Store K J I an g s d) (at : ℕ) (taken : Taken) (now : ℤ) (work : Work) (result : Result Out Fault) → reading_in old.scribe ≡ Some now → HasStepped contents honest held holds old mid at work result → (IsSpent old.scribe → ⊥) → PublishesSo contents (OneTells (at + 1) (told_of result)) mid new (messages_of result) (told_of result) →
+  pub step_on : (old mid new : Store K J I an g s d) (at : ℕ) (taken : Taken) (now : ℤ) (work : Work) (result : Result Out Fault) → reading_in old.scribe ≡ Some now → HasStepped contents honest held holds old mid at work result → (IsSpent old.scribe → ⊥) → EndsStep contents (at + 1) mid new (messages_of result) (told_of result) →
       So (at + 1) taken now work (Says (at + 1) result) old new
-  step_on old mid new at taken now work result shown h live p =
+  step_on old mid new at taken now work result shown h live e =
+      let p = e.publishes in
       let C = h.changes in
       let m = at + 1 in
       let lines = and_then C.journal.0 p.journal.0 in
@@ -164,6 +170,9 @@ module _ {K J I : Type 0} {an : _} {g : _} {s : _} {d : _} (contents : J → Opt
                 goes = turned.goes;
                 events_are = filed tells old new m taken now lines w v turned.goes shown quiet turned.events_are (λ none. same_stored w m sat.0 t.0 (messages_of result) sat.1 (h.stored (none_first C.journal.0.groups (behind C.journal.0.rest p.journal.0.groups) none) seat_clean old.schema (length old.seats.items) m sat.0 t.0 sat.2 t.1.0 t.1.1));
                 outcomes_are = told_behind turned.goes.gave (Takes m taken) lines tt (all_true tells (λ k told. HasGiven turned.goes.gave (Applied k told)) given (lines_in lines) quiet);
+                written = λ up. written_amid old.noted new.noted (all_told turned.goes.gave) (Takes m taken ∷ lines_in C.journal.0) (lines_in p.journal.0) [] (lines_in (with_begun (Takes m taken ∷ []) lines)) (silent_none (lines_in C.journal.0) C.journal.1) refl
+                    (lines_then (waiting (Takes m taken ∷ [])) lines ∙ ap (λ (l : List Line). Takes m taken ∷ l) (lines_then C.journal.0 p.journal.0 ∙ ap (λ (l : List Line). lines_in C.journal.0 ++ l) (sym (append-nil (lines_in p.journal.0)))))
+                    (subst (λ (t : List Told). AreWritten old.noted t (lines_in p.journal.0) new.noted) (sym turned.told_are) (subst (λ (n : ℕ). AreWritten n (told_of result) (lines_in p.journal.0) new.noted) C.noted (e.written up)));
                 is_in = record {
                   seated = seats_as contents honest held holds mid new p.schema p.seats (world_with (with_nth w.nodes m t.0) w.sent) there;
                   under_way = λ up. p.letters up w.sent (there.under_way (λ was. up (p.spent was)));
@@ -175,18 +184,18 @@ module _ {K J I : Type 0} {an : _} {g : _} {s : _} {d : _} (contents : J → Opt
       }
 
   -- the same of a member by its number
-  pub stepped : (old mid new : Store K J I an g s d) (at m : ℕ) (taken : Taken) (now : ℤ) (work : Work) (result : Result Out Fault) → m ≡ at + 1 → reading_in old.scribe ≡ Some now → HasStepped contents honest held holds old mid at work result → (IsSpent old.scribe → ⊥) → PublishesSo contents (OneTells m (told_of result)) mid new (messages_of result) (told_of result) →
+  pub stepped : (old mid new : Store K J I an g s d) (at m : ℕ) (taken : Taken) (now : ℤ) (work : Work) (result : Result Out Fault) → m ≡ at + 1 → reading_in old.scribe ≡ Some now → HasStepped contents honest held holds old mid at work result → (IsSpent old.scribe → ⊥) → EndsStep contents m mid new (messages_of result) (told_of result) →
       So m taken now work (Says m result) old new
   stepped old mid new at m taken now work result is shown h live p =
       subst (λ (k : ℕ). So k taken now work (Says k result) old new) (sym is)
-      (step_on old mid new at taken now work result shown h live (subst (λ (k : ℕ). PublishesSo contents (OneTells k (told_of result)) mid new (messages_of result) (told_of result)) is p))
+      (step_on old mid new at taken now work result shown h live (subst (λ (k : ℕ). EndsStep contents k mid new (messages_of result) (told_of result)) is p))
 
   -- the store was spent in the midst of it
   pub stepped_last : (old mid : Store K J I an g s d) (at m : ℕ) (taken : Taken) (now : ℤ) (work : Work) → m ≡ at + 1 → reading_in old.scribe ≡ Some now → ((result : Result Out Fault) × HasStepped contents honest held holds old mid at work result) → (IsSpent old.scribe → ⊥) → IsSpent mid.scribe →
       So m taken now work (λ gave. Unit {0}) old mid
   stepped_last old mid at m taken now work is shown h live spent =
       from_weaker contents honest held holds (Takes m taken ∷ []) (IsBrought old m (job_of now taken) work) (IsBrought old m (job_of now taken) work) (Says m h.0) (λ gave. Unit {0}) old mid (λ w b. b) (λ gave says. tt)
-      (stepped old mid mid at m taken now work h.0 is shown h.1 live (publishes_so contents honest held holds (OneTells m (told_of h.0)) mid mid (messages_of h.0) (told_of h.0) (spent_publishes contents honest held holds mid mid (messages_of h.0) (told_of h.0) refl refl refl (kept_same contents mid.scribe) spent)))
+      (stepped old mid mid at m taken now work h.0 is shown h.1 live (ends_spent contents honest held holds m mid mid (messages_of h.0) (told_of h.0) (spent_publishes contents honest held holds mid mid (messages_of h.0) (told_of h.0) refl refl refl (kept_same contents mid.scribe) spent) spent))
 
   -- the member went down, and its node was stopped, which is no event
   pub stepped_down : (old mid new : Store K J I an g s d) (at m : ℕ) (taken : Taken) (now : ℤ) (work : Work) (error : StoreError) → m ≡ at + 1 → reading_in old.scribe ≡ Some now → HasStepped contents honest held holds old mid at work (Err (Down error)) → (IsSpent old.scribe → ⊥) →
@@ -220,6 +229,8 @@ module _ {K J I : Type 0} {an : _} {g : _} {s : _} {d : _} (contents : J → Opt
                     goes = turned.goes;
                     events_are = filed NobodyTells old new (at + 1) taken now C.journal.0 w v turned.goes shown C.journal.1 turned.events_are (λ none. same_stored w (at + 1) sat.0 t.0 [] sat.1 (h.stored none seat_clean old.schema (length old.seats.items) (at + 1) sat.0 t.0 sat.2 t.1.0 t.1.1));
                     outcomes_are = told_behind turned.goes.gave (Takes (at + 1) taken) C.journal.0 tt (told_silent turned.goes.gave (lines_in C.journal.0) C.journal.1);
+                    written = λ up. written_none old.noted new.noted (all_told turned.goes.gave) (lines_in (with_begun (Takes (at + 1) taken ∷ []) C.journal.0))
+                        (ap outcomes_in (lines_then (waiting (Takes (at + 1) taken ∷ [])) C.journal.0) ∙ silent_none (lines_in C.journal.0) C.journal.1) turned.told_are (S.noted ∙ C.noted);
                     is_in = subst (IsIn held holds new) still (S.went k v in_mid);
                     hears = hears_same (WasTold turned.goes.gave) old.watched new.watched (S.watched ∙ C.watched);
                   },

@@ -28,7 +28,8 @@ use Rattle.store.specs.declared.outcome.Outcome.TheVariants.{Accepted, Refused, 
 use Rattle.store.specs.declared.refusal.StoreRefusal.{StoreRefusal}
 use Rattle.store.specs.Continuing.{IsContinued, IsKeptOn, IsKeptSo, reading_in}
 use Rattle.store.specs.Lines.{Lines, behind, lines_in, rest_behind, waiting}
-use Rattle.store.specs.Recording.{AreRecorded, IsSilent, IsTrue, NobodyTells}
+use Rattle.store.specs.Noting.{AreWritten, all_told}
+use Rattle.store.specs.Recording.{AreRecorded, IsSilent, IsTrue, NobodyTells, OneTells}
 use Rattle.journal.specs.declared.line.Taken.{Taken}
 use Rattle.journal.specs.declared.line.Line.{Line}
 use Rattle.journal.specs.declared.line.Line.TheVariants.{Takes}
@@ -113,12 +114,13 @@ module _ {K J I : Type 0} {an : _} {g : _} {s : _} {d : _} where
   AreFiled old new lines w events = AreRecorded (language_of old.schema) (length old.seats.items) w (reading_in old.scribe) lines events (IsSpent new.scribe)
 
   -- A store was in this world, and is where events lead from there that these lines record. Each outcome in the lines its member told in these
-  -- events.
+  -- events; unless the store is spent they are all that is told there for the first time, in order.
   pub record WentOn (held : K → Durable → Type 0) (holds : I → Durable → Type 0) (lines : Lines) (old new : Store K J I an g s d) (w : World) : Type 0 where
     pub world : World
     pub goes : Goes (language_of old.schema) (length old.seats.items) w world
     pub events_are : AreFiled old new lines w goes.events
     pub outcomes_are : AreToldIn goes.gave (lines_in lines)
+    pub written : (IsSpent new.scribe → ⊥) → AreWritten old.noted (all_told goes.gave) (lines_in lines) new.noted
     pub is_in : IsIn held holds new world
     pub hears : Hears (WasTold goes.gave) old.watched new.watched
 
@@ -150,6 +152,7 @@ module _ {K J I : Type 0} {an : _} {g : _} {s : _} {d : _} where
     pub schema : new.schema ≡ old.schema
     pub count : length new.seats.items ≡ length old.seats.items
     pub scribe : new.scribe ≡ old.scribe
+    pub noted : new.noted ≡ old.noted
     pub watched : new.watched ≡ old.watched
     pub clean : AreClean honest holds new → AreClean honest holds old
     pub went : AreClean honest holds new → (w : World) → IsIn held holds old w → IsIn held holds new (stops w m (nth w.nodes m))
@@ -159,6 +162,7 @@ module _ {K J I : Type 0} {an : _} {g : _} {s : _} {d : _} where
     pub schema : new.schema ≡ old.schema
     pub count : length new.seats.items ≡ length old.seats.items
     pub scribe : new.scribe ≡ old.scribe
+    pub noted : new.noted ≡ old.noted
     pub watched : new.watched ≡ old.watched
     pub clean : AreClean honest holds new → AreClean honest holds old
     pub went : AreClean honest holds new → (w : World) → IsIn held holds old w → IsIn held holds new (starts w m (nth w.nodes m))
@@ -166,7 +170,7 @@ module _ {K J I : Type 0} {an : _} {g : _} {s : _} {d : _} where
   -- ---- the parts of a step
 
   -- The members stay. These messages come under way, but in a spent store, and this is heard. What came to the journal records no event, and
-  -- its outcomes are true.
+  -- its outcomes are true. Where nobody tells any, up to where outcomes are written stays.
   pub record PublishesSo (contents : J → Option (List ℕ)) (tells : ℕ → Told → Type 0) (old new : Store K J I an g s d) (messages : List Message) (told : List Told) : Type 0 where
     pub schema : new.schema ≡ old.schema
     pub seats : new.seats.items ≡ old.seats.items
@@ -174,10 +178,16 @@ module _ {K J I : Type 0} {an : _} {g : _} {s : _} {d : _} where
     pub spent : IsSpent old.scribe → IsSpent new.scribe
     pub letters : (IsSpent new.scribe → ⊥) → (sent : List Message) → AreUnderWay old.queue.items old.sent sent → AreUnderWay new.queue.items new.sent (sent ++ messages)
     pub hears : Hears (IsAmong told) old.watched new.watched
+    pub noted : (IsSpent new.scribe → ⊥) → ((m : ℕ) (one : Told) → tells m one → ⊥) → new.noted ≡ old.noted
 
   -- the same where no outcome came to the journal
   abbrev pub Publishes : (contents : J → Option (List ℕ)) (old new : Store K J I an g s d) (messages : List Message) (told : List Told) → Type 0
   Publishes contents old new messages told = PublishesSo contents NobodyTells old new messages told
+
+  -- the same where a member ended a step: what it told for the first time is written, unless the store is spent
+  pub record EndsStep (contents : J → Option (List ℕ)) (m : ℕ) (old new : Store K J I an g s d) (messages : List Message) (told : List Told) : Type 0 where
+    pub publishes : PublishesSo contents (OneTells m told) old new messages told
+    pub written : (IsSpent new.scribe → ⊥) → AreWritten old.noted told (lines_in publishes.journal.0) new.noted
 
   -- the seat of one member is another; nothing else is, but for the journal, to which lines came that record no event and have no outcome
   pub record Changes (contents : J → Option (List ℕ)) (honest : K → Type 0) (holds : I → Durable → Type 0) (old new : Store K J I an g s d) (at : ℕ) (before after : Seat K J I an g s d) : Type 0 where
@@ -187,6 +197,7 @@ module _ {K J I : Type 0} {an : _} {g : _} {s : _} {d : _} where
     pub journal : IsKeptOn contents old.scribe new.scribe
     pub queue : new.queue ≡ old.queue
     pub sent : new.sent ≡ old.sent
+    pub noted : new.noted ≡ old.noted
     pub watched : new.watched ≡ old.watched
     pub clean : IsClean honest holds after → IsClean honest holds before
 

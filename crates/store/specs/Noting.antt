@@ -1,23 +1,38 @@
--- What is written of what a step told.
-use Rattle.std.specs.Prelude.{◌≡◌, ◌<◌, ℕ, Option, List, ◌∷◌, nat_lt}
-use Rattle.std.specs.List.{All, AllPairs, filter}
+-- What is told, and what is written of it.
+use Rattle.std.specs.Prelude.{◌≡◌, ℕ, List, [], ◌∷◌, ◌++◌, fold, max, nat_lt, if◌then◌else◌}
 use Rattle.flight.specs.declared.outcome.Outcome.{Outcome}
+use Rattle.flight.specs.Telling.{outcomes_of}
 use Rattle.model.specs.declared.entry.Told.{Told}
+use Rattle.model.specs.Worlds.{Output, Applied}
 use Rattle.journal.specs.declared.line.Line.{Line}
 use Rattle.journal.specs.declared.line.Line.TheVariants.{Made}
-use Rattle.store.specs.declared.scribe.Scribe.{Scribe}
-use Rattle.store.specs.Continuing.{IsContinued}
-use Rattle.store.specs.Lines.{Lines, lines_in}
-use Rattle.store.specs.Recording.{IsSilent}
 
--- the entries that these are of rise
-abbrev pub Rise : List Told → Type 0
-Rise told = AllPairs (λ (a b : Told). a.index < b.index) told
+-- all that outputs tell
+abbrev pub told_in : List Output → List Told
+told_in [] = []
+told_in (Applied m told ∷ outs) = told ∷ told_in outs
+told_in (out ∷ outs) = told_in outs
 
--- those of entries past this one
-abbrev pub new_in : ℕ → List Told → List Told
-new_in noted told = filter (λ (one : Told). nat_lt noted one.index) told
+-- all that is told in events that gave this
+abbrev pub all_told : List (List Output) → List Told
+all_told [] = []
+all_told (outs ∷ gave) = told_in outs ++ all_told gave
 
--- that a member made a step came to a journal, with these outcomes, and then lines that record no event and have no outcome
-abbrev pub HasMade : {J : Type 0} → (contents : J → Option (List ℕ)) → Option (Scribe J) → Option (Scribe J) → (m : ℕ) → List Outcome → Type 0
-HasMade contents old new m outcomes = (lines : Lines) × IsContinued contents old new lines × (rest : List Line) × (lines_in lines ≡ Made m outcomes ∷ rest) × All IsSilent rest
+-- what is told of entries past an index, each past those before it: what is told for the first time
+abbrev pub first_told : ℕ → List Told → List Told
+first_told noted [] = []
+first_told noted (told ∷ more) = (if nat_lt noted told.index then told ∷ [] else []) ++ first_told (max noted told.index) more
+
+-- the last entry of which is told then
+abbrev pub noted_after : ℕ → List Told → ℕ
+noted_after noted told = fold (λ (last : ℕ) (one : Told). max last one.index) noted told
+
+-- the outcomes that lines have
+abbrev pub outcomes_in : List Line → List Outcome
+outcomes_in [] = []
+outcomes_in (Made m outcomes ∷ lines) = outcomes ++ outcomes_in lines
+outcomes_in (line ∷ lines) = outcomes_in lines
+
+-- past this entry lines have the outcomes of all that is told for the first time, in order, and this is the last entry of which is told then
+abbrev pub AreWritten : (noted : ℕ) → List Told → List Line → (last : ℕ) → Type 0
+AreWritten noted told lines last = (outcomes_in lines ≡ outcomes_of (first_told noted told)) × (last ≡ noted_after noted told)

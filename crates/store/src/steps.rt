@@ -6,10 +6,10 @@ ghost use Rattle.store.specs.Closing.{IsDownIn, MayRest};
 ghost use Rattle.model.specs.declared.event.Job.TheVariants.{Local as TheLocal};
 ghost use Rattle.journal.specs.declared.line.Taken.{Taken as TheTaken};
 ghost use Rattle.store.specs.Continuing.{IsKeptOn, reading_in};
-ghost use Rattle.store.specs.Going.{Anywhere, BeginsStep, GoesOn, GoesOnFrom, GoesOnSo, HasSent, HasStepped, Hears, IsAmong, IsBrought, MayHaveStepped, Publishes, PublishesSo, SaysWhy, Stops};
+ghost use Rattle.store.specs.Going.{Anywhere, BeginsStep, EndsStep, GoesOn, GoesOnFrom, GoesOnSo, HasSent, HasStepped, Hears, IsAmong, IsBrought, MayHaveStepped, Publishes, SaysWhy, Stops};
 ghost use Rattle.flight.specs.Telling.{outcomes_of};
-ghost use Rattle.store.specs.Noting.{HasMade, Rise, new_in};
-ghost use Rattle.store.specs.Recording.{AreOf, OneTells, job_of};
+ghost use Rattle.store.specs.Noting.{first_told, noted_after};
+ghost use Rattle.store.specs.Recording.{AreOf, job_of};
 ghost use Rattle.store.specs.Journals.{IsSpent, HasLast};
 ghost use Rattle.store.specs.Refusals.{IsOfJournal};
 
@@ -169,8 +169,7 @@ where
     fn end_step(&mut self, member: Member, out: Out) -> Result<(), StoreRefusal>
         ensures why { IfErr result IsOfJournal }
         ensures fails { OnErr result (IsSpent self.new.scribe) }
-        ensures passes { PublishesSo K.Journal.contents (OneTells member out.told.items) self.old self.new out.messages.items out.told.items }
-        ensures made { OnOk result (Rise out.told.items → HasMade K.Journal.contents self.old.scribe self.new.scribe member (outcomes_of (new_in self.old.noted out.told.items))) }
+        ensures passes { EndsStep K.Journal.contents member self.old self.new out.messages.items out.told.items }
     {
         let Out {
             messages,
@@ -190,7 +189,7 @@ where
     // What is written of what a step told: each outcome at the first member that tells it.
     fn note(&mut self, told: &[Told]) -> Result<Outcomes, AllocError>
         ensures tells { IfOk result (AreOf (Contains told.now)) }
-        ensures all { IfOk result (λ outcomes. Rise told.now → outcomes ≡ outcomes_of (new_in self.old.noted told.now)) }
+        ensures all { IfOk result (λ outcomes. (outcomes ≡ outcomes_of (first_told self.old.noted told.now)) × (self.new.noted ≡ noted_after self.old.noted told.now)) }
         ensures same { self.new ≡ record self.old { noted = self.new.noted } }
     {
         let mut outcomes = Vec::new(self.alloc);

@@ -10,6 +10,7 @@ returns-in-Some g c = record {
   spent = λ k. k;
   letters = search rules;
   hears = search rules;
+  noted = λ live none. refl;
 }
 
 pub returns-in_default : goal.returns-in_default
@@ -20,4 +21,5 @@ returns-in_default g c = record {
   spent = λ k. k;
   letters = search rules;
   hears = search rules;
+  noted = λ live none. refl;
 }

@@ -16,7 +16,7 @@ returns-in_err-check-clause-lost g c =
       record {
         before = before;
         after = c.step-scribe.new.self;
-        changes = record { there = slice_get_read old.seats.items (length old.seats.items) c.args.at before refl c.requires.there c.index_mut-seat.ensures.value; seats = refl; schema = refl; queue = refl; sent = refl; watched = refl; journal = went.0; clean = c.step-scribe.ensures.clean };
+        changes = record { there = slice_get_read old.seats.items (length old.seats.items) c.args.at before refl c.requires.there c.index_mut-seat.ensures.value; seats = refl; schema = refl; queue = refl; sent = refl; noted = refl; watched = refl; journal = went.0; clean = c.step-scribe.ensures.clean };
         steps = λ neat x has. c.step-scribe.ensures.steps neat old.schema (length old.seats.items) (c.args.at + 1) x has;
         stored = went.1;
       },
@@ -31,7 +31,7 @@ returns-clause-stepped g c =
     record {
       before = before;
       after = c.step-scribe.new.self;
-      changes = record { there = slice_get_read old.seats.items (length old.seats.items) c.args.at before refl c.requires.there c.index_mut-seat.ensures.value; seats = refl; schema = refl; queue = refl; sent = refl; watched = refl; journal = went.0; clean = c.step-scribe.ensures.clean };
+      changes = record { there = slice_get_read old.seats.items (length old.seats.items) c.args.at before refl c.requires.there c.index_mut-seat.ensures.value; seats = refl; schema = refl; queue = refl; sent = refl; noted = refl; watched = refl; journal = went.0; clean = c.step-scribe.ensures.clean };
       steps = λ neat x has. c.step-scribe.ensures.steps neat old.schema (length old.seats.items) (c.args.at + 1) x has;
       stored = went.1;
     }

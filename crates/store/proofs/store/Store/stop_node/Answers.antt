@@ -14,7 +14,7 @@ returns-clause-stops g c =
     let at = c.in-Some.at in
     let before = c.index_mut-seat.result.now in
     stops_one g.K.Journal.Device.contents g.K.LogReader.is_honest g.K.LogReader.may_hold g.K.Keeper.holds old _ at before c.stop.new.self
-    (record { there = slice_get_read old.seats.items (length old.seats.items) at before refl c.in-Some.ensures.some.0 c.index_mut-seat.ensures.value; seats = refl; schema = refl; queue = refl; sent = refl; watched = refl; journal = kept_same g.K.Journal.Device.contents old.scribe; clean = c.stop.ensures.clean })
+    (record { there = slice_get_read old.seats.items (length old.seats.items) at before refl c.in-Some.ensures.some.0 c.index_mut-seat.ensures.value; seats = refl; schema = refl; queue = refl; sent = refl; noted = refl; watched = refl; journal = kept_same g.K.Journal.Device.contents old.scribe; clean = c.stop.ensures.clean })
     c.args.member c.in-Some.ensures.some.1 refl
     (λ neat x has. c.stop.ensures.stops old.schema (length old.seats.items) (at + 1) x has)
 
