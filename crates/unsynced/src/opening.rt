@@ -16,8 +16,11 @@ use sqlite_std_file::OpenError;
 use std::hash::{BuildHasher, RandomState};
 use std::io;
 
+/// What a database in files that sync, or do not, lies in.
+pub type Stored = FileStore<Unsynced<File>>;
+
 /// A database in files that sync, or do not.
-pub type Database = Connection<FileStore<Unsynced<File>>>;
+pub type Database = Connection<Stored>;
 
 fn failure(code: ErrorCode) -> Error
     ensures { result ≡ Error.SqliteFailure code }
@@ -116,7 +119,8 @@ fn settle<D: Disk + Drop>(file: Unsynced<D>) -> io::Result<()>
     inner.sync()
 }
 
-/// Closes a database, and brings its files to the disk, whether it syncs or not. The error of what could not be written or brought there: then it may be only in part.
+/// Closes a database, and brings its files to the disk, whether it syncs or not. The error of what could not be written or brought there:
+/// then it may be only in part.
 pub fn close(database: Database) -> Result<(), Error> {
     match database.close_files() {
         Ok(Files { log, db }) => {
