@@ -270,6 +270,16 @@ fn is_before_saves(refusal: &StoreRefusal) -> bool {
     )
 }
 
+// What was opened, unless what was to be noted of it was refused.
+fn unless_refused<T: Drop>(
+    opened: Result<T, StoreRefusal>,
+    noted: Result<(), StoreRefusal>,
+) -> Result<T, StoreRefusal> {
+    let opened = opened?;
+    noted?;
+    Ok(opened)
+}
+
 // Goes on, and takes the note away where databases sync, which were brought to the disk as they were opened; so too one that is new, where
 // this is refused before anything was stored.
 fn go_on_noted(
@@ -282,20 +292,16 @@ fn go_on_noted(
     is_new: bool,
     reading: i64,
 ) -> Result<(Store<Kept<Stored, JournalFile>>, Vec<Member>), StoreRefusal> {
-    match go_on_in(rt, alloc, dir, form, before, ways, reading) {
-        Ok(opened) => {
-            if ways.databases_sync {
-                forget_boot(rt, alloc, dir)?;
-            }
-            Ok(opened)
+    let opened = go_on_in(rt, alloc, dir, form, before, ways, reading);
+    let noted = match &opened {
+        Ok(_) if ways.databases_sync => forget_boot(rt, alloc, dir),
+        Err(refusal) if is_new && is_before_saves(refusal) => {
+            let _ = forget_boot(rt, alloc, dir);
+            Ok(())
         }
-        Err(refusal) => {
-            if is_new && is_before_saves(&refusal) {
-                let _ = forget_boot(rt, alloc, dir);
-            }
-            Err(refusal)
-        }
-    }
+        _ => Ok(()),
+    };
+    unless_refused(opened, noted)
 }
 
 /// Opens the store in a folder: reads what its last journal tells, which may be the only one that is there, looks whether each member's
