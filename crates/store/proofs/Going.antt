@@ -208,6 +208,14 @@ sent_one letters count number message sent is u =
     long : (xs : List Message) → length (xs ++ message ∷ []) ≡ length xs + 1
     long xs = length_push xs message
 
+module _ {K J I : Type 0} {an : _} {g : _} {s : _} {d : _} (contents : J → Option (List ℕ)) where
+  -- what was written, and then more
+  pub written_then : (from : ℕ) (b c : Store K J I an g s d) (one two : Lines) → IsContinued contents b.scribe c.scribe two → (early late : List (List Output)) → ((IsSpent b.scribe → ⊥) → AreWritten from (all_told early) (lines_in one) b.noted) → ((IsSpent c.scribe → ⊥) → AreWritten b.noted (all_told late) (lines_in two) c.noted) →
+      (IsSpent c.scribe → ⊥) → AreWritten from (all_told (early ++ late)) (lines_in (and_then one two)) c.noted
+  written_then from b c one two came early late x y live =
+      let up : IsSpent b.scribe → ⊥ = λ spent. let stays = continued_spent contents b.scribe c.scribe two came spent in live (subst IsSpent (sym stays.0) spent) in
+      subst (λ (lines : List Line). AreWritten from (all_told (early ++ late)) lines c.noted) (sym (lines_then one two)) (written_both from b.noted c.noted early late (lines_in one) (lines_in two) (x up) (y live))
+
 module _ {K J I : Type 0} {an : _} {g : _} {s : _} {d : _} (contents : J → Option (List ℕ)) (honest : K → Type 0) (held : K → Durable → Type 0) (holds : I → Durable → Type 0) where
   abbrev On : Store K J I an g s d → Store K J I an g s d → Type 0
   On = GoesOn contents honest held holds
@@ -218,13 +226,6 @@ module _ {K J I : Type 0} {an : _} {g : _} {s : _} {d : _} (contents : J → Opt
   pub record WentBoth (a b c : Store K J I an g s d) (w : World) (one two : Lines) (x : WentOn held holds one a b w) (y : WentOn held holds two b c x.world) : Type 0 where
     pub went : WentOn held holds (and_then one two) a c w
     pub gave : went.goes.gave ≡ x.goes.gave ++ y.goes.gave
-
-  -- what was written, and then more
-  written_then : (a b c : Store K J I an g s d) (one two : Lines) → IsContinued contents b.scribe c.scribe two → (early late : List (List Output)) → ((IsSpent b.scribe → ⊥) → AreWritten a.noted (all_told early) (lines_in one) b.noted) → ((IsSpent c.scribe → ⊥) → AreWritten b.noted (all_told late) (lines_in two) c.noted) →
-      (IsSpent c.scribe → ⊥) → AreWritten a.noted (all_told (early ++ late)) (lines_in (and_then one two)) c.noted
-  written_then a b c one two came early late x y live =
-      let up : IsSpent b.scribe → ⊥ = λ spent. let stays = continued_spent contents b.scribe c.scribe two came spent in live (subst IsSpent (sym stays.0) spent) in
-      subst (λ (lines : List Line). AreWritten a.noted (all_told (early ++ late)) lines c.noted) (sym (lines_then one two)) (written_both a.noted b.noted c.noted early late (lines_in one) (lines_in two) (x up) (y live))
 
   pub went_both : (a b c : Store K J I an g s d) → b.schema ≡ a.schema → length b.seats.items ≡ length a.seats.items → (one two : Lines) → IsContinued contents a.scribe b.scribe one → IsContinued contents b.scribe c.scribe two →
       (w : World) (x : WentOn held holds one a b w) (y : WentOn held holds two b c x.world) → WentBoth a b c w one two x y
@@ -240,7 +241,7 @@ module _ {K J I : Type 0} {an : _} {g : _} {s : _} {d : _} (contents : J → Opt
       let filed = recorded_both language n w x.world (reading_in a.scribe) (reading_in b.scribe) one two x.goes.events y.goes.events (IsSpent b.scribe) (IsSpent c.scribe) x.goes.leads (continued_reading contents a.scribe b.scribe one early)
       (λ spent. let stays = continued_spent contents b.scribe c.scribe two late spent in stays.1) (λ spent. let stays = continued_spent contents b.scribe c.scribe two late spent in subst IsSpent (sym stays.0) spent) x.events_are then_filed in
       record {
-        went = record { world = y.world; goes = both.goes; events_are = subst (AreFiled a c (and_then one two) w) (sym both.events_are) filed.0; outcomes_are = subst (λ (outs : List (List Output)). AreToldIn outs (lines_in (and_then one two))) (sym both.gave_is) (told_both x.goes.gave y.goes.gave one two x.outcomes_are y.outcomes_are); written = λ live. subst (λ (outs : List (List Output)). AreWritten a.noted (all_told outs) (lines_in (and_then one two)) c.noted) (sym both.gave_is) (written_then a b c one two late x.goes.gave y.goes.gave x.written y.written live); is_in = y.is_in; hears = subst (λ (outs : List (List Output)). Hears (WasTold outs) a.watched c.watched) (sym both.gave_is) hears };
+        went = record { world = y.world; goes = both.goes; events_are = subst (AreFiled a c (and_then one two) w) (sym both.events_are) filed.0; outcomes_are = subst (λ (outs : List (List Output)). AreToldIn outs (lines_in (and_then one two))) (sym both.gave_is) (told_both x.goes.gave y.goes.gave one two x.outcomes_are y.outcomes_are); written = λ live. subst (λ (outs : List (List Output)). AreWritten a.noted (all_told outs) (lines_in (and_then one two)) c.noted) (sym both.gave_is) (written_then contents a.noted b c one two late x.goes.gave y.goes.gave x.written y.written live); is_in = y.is_in; hears = subst (λ (outs : List (List Output)). Hears (WasTold outs) a.watched c.watched) (sym both.gave_is) hears };
         gave = both.gave_is;
       }
 

@@ -1,5 +1,5 @@
 -- What is told, and what is written of it, one after another.
-use Rattle.std.proofs.Common.{◌≡◌, ◌∙◌, ℕ, ◌+◌, ◌<◌, ◌≤◌, List, [], ◌∷◌, ◌++◌, get_or, length, map, take, cond, nat_lt, refl, sym, ap, append_assoc, append-nil, arith}
+use Rattle.std.proofs.Common.{◌≡◌, ◌∙◌, ℕ, ◌+◌, ◌<◌, ◌≤◌, inl, inr, List, [], ◌∷◌, ◌++◌, get_or, length, map, take, cond, nat_lt, refl, sym, ap, subst, append_assoc, append-nil, arith}
 use Rattle.std.specs.Prelude.{All, max}
 use Rattle.std.proofs.lemmas.Bool.{lt-ltb, le-ltb}
 use Rattle.std.proofs.lemmas.List.{map-append, take_more}
@@ -8,12 +8,14 @@ use Rattle.flight.specs.declared.outcome.Outcome.{Outcome}
 use Rattle.flight.specs.Telling.{outcome_of, outcomes_of}
 use Rattle.model.specs.declared.entry.Told.{Told}
 use Rattle.model.specs.declared.message.Message.{Message}
-use Rattle.model.specs.Worlds.{Output, numbered}
+use Rattle.model.specs.Transactions.{Language}
+use Rattle.model.specs.Worlds.{Event, GivesAll, Gives, Output, World, happens, numbered}
 use Rattle.model.specs.Worlds.Output.{Sent, Applied, Refused, Answered}
 use Rattle.journal.specs.declared.line.Line.{Line}
 use Rattle.journal.specs.declared.line.Line.TheVariants.{Opens, Rests, Life, Clock, Takes, Saves, Made, Ends, Answer, Printed}
 use Rattle.store.specs.Noting.{AreWritten, all_told, first_told, noted_after, outcomes_in, told_in}
-use Rattle.store.specs.Recording.{AreOf, IsSilent, NobodyTells, OneTells}
+use Rattle.store.specs.Recording.{AreOf, IsSilent, IsStartOrStop, IsTrue, NobodyTells, OneTells}
+use Rattle.store.proofs.Recording.{silent_true}
 
 -- ---- what is told
 
@@ -24,7 +26,7 @@ told_in-append (Applied m told ∷ xs) ys = ap (λ (l : List Told). told ∷ l) 
 told_in-append (Refused m refusal ∷ xs) ys = told_in-append xs ys
 told_in-append (Answered m answer ∷ xs) ys = told_in-append xs ys
 
-all_told-append : (one two : List (List Output)) → all_told (one ++ two) ≡ all_told one ++ all_told two
+pub all_told-append : (one two : List (List Output)) → all_told (one ++ two) ≡ all_told one ++ all_told two
 all_told-append [] two = refl
 all_told-append (outs ∷ one) two = ap (λ (l : List Told). told_in outs ++ l) (all_told-append one two) ∙ sym (append_assoc (told_in outs) (all_told one) (all_told two))
 
@@ -78,11 +80,11 @@ nobodys_none m [] none = refl
 nobodys_none m (outcome ∷ more) none = let one = All-head (λ (o : Outcome). (told : Told) × NobodyTells m told × (o ≡ outcome_of told)) outcome more none in absurd one.1
 
 -- lines that have none
-pub silent_none : (lines : List Line) → All IsSilent lines → outcomes_in lines ≡ []
-silent_none [] silent = refl
-silent_none (line ∷ lines) silent = go line (All-head IsSilent line lines silent) ∙ silent_none lines (All-tail IsSilent line lines silent)
+pub untold_none : (lines : List Line) → All (IsTrue NobodyTells) lines → outcomes_in lines ≡ []
+untold_none [] untold = refl
+untold_none (line ∷ lines) untold = go line (All-head (IsTrue NobodyTells) line lines untold) ∙ untold_none lines (All-tail (IsTrue NobodyTells) line lines untold)
   where
-    go : (line : Line) → IsSilent line → outcomes_in (line ∷ lines) ≡ outcomes_in lines
+    go : (line : Line) → IsTrue NobodyTells line → outcomes_in (line ∷ lines) ≡ outcomes_in lines
     go (Opens journal sum marks) s = refl
     go (Rests m stored) s = refl
     go (Life m stored) s = refl
@@ -93,6 +95,21 @@ silent_none (line ∷ lines) silent = go line (All-head IsSilent line lines sile
     go (Ends m) s = refl
     go (Answer m query answer) s = refl
     go (Printed client number words) s = refl
+
+pub silent_none : (lines : List Line) → All IsSilent lines → outcomes_in lines ≡ []
+silent_none lines silent = untold_none lines (silent_true NobodyTells lines silent)
+
+-- starts and stops tell nothing
+pub idle_none : (language : Language) (n : ℕ) (events : List Event) (w : World) (gave : List (List Output)) → All IsStartOrStop events → GivesAll language n w events gave → all_told gave ≡ []
+idle_none language n [] w gave idle none = ap all_told none
+idle_none language n (event ∷ events) w gave idle (out, rest, is, first, more) =
+    ap all_told is
+    ∙ ap (λ (t : List Told). t ++ all_told rest) (ap told_in (nothing event (All-head IsStartOrStop event events idle) first))
+    ∙ idle_none language n events (happens language n w event) rest (All-tail IsStartOrStop event events idle) more
+  where
+    nothing : (e : Event) → IsStartOrStop e → Gives language n w e out → out ≡ []
+    nothing e (m, inl start) gives = subst (λ (x : Event). Gives language n w x out) start gives
+    nothing e (m, inr stop) gives = subst (λ (x : Event). Gives language n w x out) stop gives
 
 -- ---- outcomes that are written
 

@@ -2,7 +2,7 @@
 use Rattle.std.proofs.Common.{◌≡◌, ◌∙◌, ℕ, zero, suc, ◌+◌, ◌≤◌, ◌⊎◌, inl, inr, Option, Some, None, Result, Ok, Err, OnOk, List, [], ◌∷◌, ◌++◌, MatchOption, drop, length, slice_get, slice_set, take, refl, sym, ap, subst, append-nil, append_assoc, add-one, arith, Bool, true, false, if◌then◌else◌}
 use Rattle.std.specs.List.{All}
 use Rattle.std.specs.Option.{ForSome}
-use Rattle.std.specs.Prelude.{ℤ, is_none}
+use Rattle.std.specs.Prelude.{ℤ, is_none, max}
 use Rattle.std.proofs.Math.Seq.{take-add}
 use Rattle.std.proofs.lemmas.Grind.{flat_map-append}
 use Rattle.std.proofs.lemmas.List.{length-append}
@@ -13,6 +13,7 @@ use Rattle.model.specs.Members as model
 use Rattle.model.specs.Transactions.{Language}
 use Rattle.model.specs.Worlds.{World, Event, Output, Start, run, started, starts, with_node}
 use Rattle.model.specs.Worlds.Output.{Applied}
+use Rattle.model.specs.declared.entry.Told.{Told as Outcome}
 use Rattle.model.specs.declared.message.Message.{Message}
 use Rattle.journal.specs.declared.line.Line.{Line}
 use Rattle.journal.specs.declared.line.Line.TheVariants.{Life, Rests}
@@ -44,10 +45,12 @@ use Rattle.store.specs.Lines.{and_then, lines_in, waiting}
 use Rattle.store.specs.Nodes.{IsNodeOf, Rests as AreRests}
 use Rattle.store.specs.Recording.{AreRecorded, HasInShort, IsStartOrStop, IsTrue, NobodyTells, RecordAll, Records, last_reading}
 use Rattle.store.specs.Seats.{HasMember, IsClean}
-use Rattle.store.specs.Opening.{AreFound, AreLaid, AreMembers, AreOpened, Begins, Files, HasAsHere, Starts, risen, starts_of}
+use Rattle.store.specs.Noting.{AreWritten, all_told}
+use Rattle.store.specs.Opening.{AreFound, AreLaid, AreMembers, AreOpened, Begins, Files, HasAsHere, Starts, longest_of, risen, starts_of}
 use Rattle.store.specs.Tales.{Told, tale_of}
 use Rattle.store.proofs.Continuing.{continued_both, continued_reading}
 use Rattle.store.proofs.Lines.{lines_then}
+use Rattle.store.proofs.Noting.{all_told-append, idle_none, untold_none, written_amid}
 use Rattle.store.proofs.Recording.{all_left, all_more, all_right, nobody_less, record_both, recorded_both, recorded_idle, silent_records, silent_true}
 use Rattle.store.proofs.Going.{lines_after, told_both}
 use Rattle.store.proofs.Stepping.{at_some, member_up, up_there}
@@ -308,8 +311,13 @@ module _ {K J I : Type 0} {an : _} {g : _} {s : _} {d : _} where
   pub next_seats : (seats : List (Seat K J I an g s d)) (at : ℕ) → take (at + 1) seats ≡ take at seats ++ take 1 (drop at seats)
   next_seats seats at = take-add at 1 seats
 
+  -- the longest log of some members, and then of more
+  pub longest_both : (entries : ℕ) (a b : List (Seat K J I an g s d)) → longest_of entries (a ++ b) ≡ longest_of (longest_of entries a) b
+  longest_both entries [] b = refl
+  longest_both entries (seat ∷ a) b = longest_both (max entries (length seat.chain.links.items)) a b
+
   -- the seat that stands there
-  one_there : (seats : List (Seat K J I an g s d)) (at : ℕ) (seat : Seat K J I an g s d) → slice_get seats at ≡ Some seat → take 1 (drop at seats) ≡ seat ∷ []
+  pub one_there : (seats : List (Seat K J I an g s d)) (at : ℕ) (seat : Seat K J I an g s d) → slice_get seats at ≡ Some seat → take 1 (drop at seats) ≡ seat ∷ []
   one_there [] at seat p = absurd (cc p)
   one_there (first ∷ seats) zero seat p = ap (λ (t : Seat K J I an g s d). t ∷ []) (same_Some first seat p)
   one_there (first ∷ seats) (suc at) seat p = one_there seats at seat p
@@ -363,6 +371,10 @@ module _ {K J I : Type 0} {an : _} {g : _} {s : _} {d : _} where
       two
       ∙ ap (λ (x : Store K J I an g s d). record x { scribe = new.scribe }) one
       ∙ ap (λ (n : ℕ). record old { scribe = new.scribe; noted = n }) (sym (ap (λ (x : Store K J I an g s d). x.noted) two))
+
+  -- nothing more is noted where the journal alone becomes another
+  pub noted_by : (old new : Store K J I an g s d) → new ≡ record old { scribe = new.scribe } → new.noted ≡ old.noted
+  noted_by old new same = ap (λ (t : Store K J I an g s d). t.noted) same
 
   pub noted_again : (old mid new : Store K J I an g s d) (noted : ℕ) → mid ≡ record old { noted = mid.noted } → new ≡ record mid { noted = noted } → new ≡ record old { noted = new.noted }
   noted_again old mid new noted one two =
@@ -490,9 +502,9 @@ module _ {K J I : Type 0} {an : _} {g : _} {s : _} {d : _} (honest : K → Type 
           (running, neat, short_same w u seat.member (summary_of (durable_of (member_of node))) same short)
 
   -- its first lines were written, and then it went on
-  pub begins : (contents : J → Option (List ℕ)) (members : Members K J I an g s d) (scribe : Scribe J) (head last : Store K J I an g s d) → head.schema ≡ members.schema → head.seats.items ≡ members.seats.items → head.queue.items ≡ [] → head.sent ≡ 0 →
+  pub begins : (contents : J → Option (List ℕ)) (members : Members K J I an g s d) (scribe : Scribe J) (head last : Store K J I an g s d) → head.schema ≡ members.schema → head.seats.items ≡ members.seats.items → head.queue.items ≡ [] → head.sent ≡ 0 → head.noted ≡ longest_of 0 members.seats.items →
       Files contents honest (Some scribe) head.scribe members.seats.items → GoesOn contents honest held holds head last → Begins contents honest held holds members scribe last
-  begins contents members scribe head last schema seats queue sent (lines, on, recorded, untold) later = record {
+  begins contents members scribe head last schema seats queue sent noted (lines, on, recorded, untold) later = record {
     schema = later.schema ∙ schema;
     count = later.count ∙ ap length seats;
     lines = and_then lines later.lines;
@@ -510,19 +522,24 @@ module _ {K J I : Type 0} {an : _} {g : _} {s : _} {d : _} (honest : K → Type 
         subst (λ (k : ℕ). AreRecorded language k w (reading_in head.scribe) later.lines went.goes.events (IsSpent last.scribe)) (ap length seats)
         (subst (λ (t : Tables). AreRecorded (language_of t) (length head.seats.items) w (reading_in head.scribe) later.lines went.goes.events (IsSpent last.scribe)) schema went.events_are) in
         let all = recorded_both language n u w scribe.reading (reading_in head.scribe) lines later.lines starts.events went.goes.events ⊥ (IsSpent last.scribe) starts.leads (continued_reading contents (Some scribe) head.scribe lines on) (λ never. absurd never) (λ never. absurd never) first after in
-        let told : AreToldIn went.goes.gave (lines_in (and_then lines later.lines)) = told_both [] went.goes.gave lines later.lines (all_more NobodyTells (λ m one. HasGiven [] (Applied m one)) (nobody_less (λ m one. HasGiven [] (Applied m one))) (lines_in lines) untold) went.outcomes_are in (
+        let told : AreToldIn went.goes.gave (lines_in (and_then lines later.lines)) = told_both [] went.goes.gave lines later.lines (all_more NobodyTells (λ m one. HasGiven [] (Applied m one)) (nobody_less (λ m one. HasGiven [] (Applied m one))) (lines_in lines) untold) went.outcomes_are in
+        let written : (IsSpent last.scribe → ⊥) → AreWritten (longest_of 0 members.seats.items) (all_told went.goes.gave) (lines_in (and_then lines later.lines)) last.noted =
+        λ live. written_amid (longest_of 0 members.seats.items) last.noted (all_told went.goes.gave) (lines_in lines) (lines_in later.lines) [] (lines_in (and_then lines later.lines)) (untold_none (lines_in lines) untold) refl (lines_then lines later.lines ∙ ap (λ (l : List Line). lines_in lines ++ l) (sym (append-nil (lines_in later.lines))))
+        (subst (λ (n : ℕ). AreWritten n (all_told went.goes.gave) (lines_in later.lines) last.noted) noted (went.written live)) in (
           went.world,
           named.goes,
           went.is_in,
           subst (λ (es : List Event). AreRecorded language n u scribe.reading (and_then lines later.lines) (starts.events ++ es) (IsSpent last.scribe)) (sym named.events_are) all.0,
           subst (λ (outs : List (List Output)). AreToldIn outs (lines_in (and_then lines later.lines))) (sym named.gave_is) told,
+          λ live. subst (λ (outs : List (List Output)). AreWritten (longest_of 0 members.seats.items) (all_told outs) (lines_in (and_then lines later.lines)) last.noted) (sym named.gave_is) (written live),
         );
   }
 
   -- A store that was begun with members that were opened is a run from what the databases held, and the lines that came to its journal
   -- record that run.
   pub runs_recorded : (contents : J → Option (List ℕ)) (told : Told) (images : List (Option I)) (members : Members K J I an g s d) (scribe : Scribe J) (store : Store K J I an g s d) → AreOpened honest held holds told images members → (B : Begins contents honest held holds members scribe store) → AreClean honest holds store →
-      (found : List model.Node) → AreFound holds images found → (w : World) × (goes : Goes (language_of store.schema) (length store.seats.items) (opened found) w) × IsIn held holds store w × AreRecorded (language_of store.schema) (length store.seats.items) (opened found) scribe.reading B.lines goes.events (IsSpent store.scribe) × AreToldIn goes.gave (lines_in B.lines)
+      (found : List model.Node) → AreFound holds images found → (w : World) × (goes : Goes (language_of store.schema) (length store.seats.items) (opened found) w) × IsIn held holds store w × AreRecorded (language_of store.schema) (length store.seats.items) (opened found) scribe.reading B.lines goes.events (IsSpent store.scribe) × AreToldIn goes.gave (lines_in B.lines) ×
+      ((IsSpent store.scribe → ⊥) → AreWritten (longest_of 0 members.seats.items) (all_told goes.gave) (lines_in B.lines) store.noted)
   runs_recorded contents told images members scribe store O B k found F =
       let o : HasStarted members.schema (length members.seats.items) found members.seats.items = subst (λ (n : ℕ). HasStarted members.schema n found members.seats.items) (sym O.count) (O.went (B.clean k) found F) in
       let b = B.went k (opened found) o.0 o.1 o.2 o.3 o.4 in
@@ -532,6 +549,10 @@ module _ {K J I : Type 0} {an : _} {g : _} {s : _} {d : _} (honest : K → Type 
       let named = goes_named (language_of store.schema) language (length store.seats.items) n (opened found) b.0 (ap language_of (sym B.schema)) (sym B.count) all.goes in
       let events : named.goes.events ≡ o.1.events ++ b.1.events = named.events_are ∙ all.events_are in
       let gave : named.goes.gave ≡ o.1.gave ++ b.1.gave = named.gave_is ∙ all.gave_is in
+      let said : all_told named.goes.gave ≡ all_told b.1.gave =
+      ap all_told gave
+      ∙ all_told-append o.1.gave b.1.gave
+      ∙ ap (λ (t : List Outcome). t ++ all_told b.1.gave) (idle_none language n o.1.events (opened found) o.1.gave (subst (All IsStartOrStop) (sym o.2) (starts_idle members.seats.items)) o.1.gives) in
       let filed : AreRecorded (language_of store.schema) (length store.seats.items) (opened found) scribe.reading B.lines (o.1.events ++ b.1.events) (IsSpent store.scribe) =
       subst (λ (k : ℕ). AreRecorded (language_of store.schema) k (opened found) scribe.reading B.lines (o.1.events ++ b.1.events) (IsSpent store.scribe)) (sym B.count)
       (subst (λ (t : Tables). AreRecorded (language_of t) n (opened found) scribe.reading B.lines (o.1.events ++ b.1.events) (IsSpent store.scribe)) (sym B.schema) b.3) in (
@@ -540,6 +561,7 @@ module _ {K J I : Type 0} {an : _} {g : _} {s : _} {d : _} (honest : K → Type 
         b.2,
         subst (λ (es : List Event). AreRecorded (language_of store.schema) (length store.seats.items) (opened found) scribe.reading B.lines es (IsSpent store.scribe)) (sym events) filed,
         subst (λ (outs : List (List Output)). AreToldIn outs (lines_in B.lines)) (sym gave) (lines_after o.1.gave b.1.gave (lines_in B.lines) b.4),
+        λ live. subst (λ (t : List Outcome). AreWritten (longest_of 0 members.seats.items) t (lines_in B.lines) store.noted) (sym said) (b.5 live),
       )
 
   pub runs : (contents : J → Option (List ℕ)) (told : Told) (images : List (Option I)) (members : Members K J I an g s d) (scribe : Scribe J) (store : Store K J I an g s d) → AreOpened honest held holds told images members → Begins contents honest held holds members scribe store → AreClean honest holds store →

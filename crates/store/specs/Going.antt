@@ -170,7 +170,7 @@ module _ {K J I : Type 0} {an : _} {g : _} {s : _} {d : _} where
   -- ---- the parts of a step
 
   -- The members stay. These messages come under way, but in a spent store, and this is heard. What came to the journal records no event, and
-  -- its outcomes are true. Where nobody tells any, up to where outcomes are written stays.
+  -- its outcomes are true. Where nobody tells any, the entry up to which outcomes are written stays.
   pub record PublishesSo (contents : J → Option (List ℕ)) (tells : ℕ → Told → Type 0) (old new : Store K J I an g s d) (messages : List Message) (told : List Told) : Type 0 where
     pub schema : new.schema ≡ old.schema
     pub seats : new.seats.items ≡ old.seats.items

@@ -1,5 +1,5 @@
 -- What a store is opened from.
-use Rattle.std.specs.Prelude.{◌≡◌, ◌+◌, ◌<◌, ◌↔◌, ℕ, true, false, Option, Some, None, List, [], ◌∷◌, ◌++◌, is_some, is_none, if◌then◌else◌, flat_map, length, slice_get, MatchOption}
+use Rattle.std.specs.Prelude.{◌≡◌, ◌+◌, ◌<◌, ◌↔◌, ℕ, true, false, Option, Some, None, List, [], ◌∷◌, ◌++◌, is_some, is_none, if◌then◌else◌, flat_map, fold, length, max, slice_get, MatchOption}
 use Rattle.std.specs.List.{All, count_by}
 use Rattle.std.specs.Option.{ForSome}
 use Rattle.model.specs.Members.{Node}
@@ -24,6 +24,7 @@ use Rattle.store.specs.Continuing.{IsContinued, reading_in}
 use Rattle.store.specs.Going.{AreClean, AreToldIn, IsIn, IsRunOf}
 use Rattle.store.specs.Journals.{IsSpent}
 use Rattle.store.specs.Lines.{Lines, lines_in}
+use Rattle.store.specs.Noting.{AreWritten, all_told}
 use Rattle.store.specs.Recording.{AreRecorded, HasInShort, IsTrue, NobodyTells, RecordAll}
 use Rattle.store.specs.Tales.{Told, tale_of}
 
@@ -43,6 +44,10 @@ module _ {K J I : Type 0} {an : _} {g : _} {s : _} {d : _} where
   -- the start of each member of these seats that is up, in their order
   abbrev pub starts_of : List (Seat K J I an g s d) → List Event
   starts_of seats = flat_map (λ (seat : Seat K J I an g s d). if is_none seat.node then [] else (Start seat.member ∷ [])) seats
+
+  -- how many entries the longest log of these members has, or so many
+  abbrev pub longest_of : ℕ → List (Seat K J I an g s d) → ℕ
+  longest_of entries seats = fold (λ (most : ℕ) (seat : Seat K J I an g s d). max most (length seat.chain.links.items)) entries seats
 
   -- the member of a seat, if it has a node, is up, took nothing wrong as true, and has in this world stored what it has stored here
   abbrev pub HasAsHere : (honest : K → Type 0) → World → Seat K J I an g s d → Type 0
@@ -80,7 +85,8 @@ module _ {K J I : Type 0} {an : _} {g : _} {s : _} {d : _} where
         (v : World) × (goes : Goes (language_of members.schema) (length images) (opened found) v) × (goes.events ≡ starts_of members.seats.items) × (v.sent ≡ []) × AreMembers held holds members.schema (length images) members.seats.items v
 
   -- From a world to which the starts of these members led, and in which no message is under way, events lead to one that the store is in. The
-  -- lines that came to the journal record the starts and these events, and each outcome in them its member told in these.
+  -- lines that came to the journal record the starts and these events. Each outcome in them its member told in these; unless the store is spent
+  -- they are all that is told there for the first time, past the longest log of these members.
   pub record Begins (contents : J → Option (List ℕ)) (honest : K → Type 0) (held : K → Durable → Type 0) (holds : I → Durable → Type 0) (members : Members K J I an g s d) (scribe : Scribe J) (store : Store K J I an g s d) : Type 0 where
     pub schema : store.schema ≡ members.schema
     pub count : length store.seats.items ≡ length members.seats.items
@@ -88,7 +94,8 @@ module _ {K J I : Type 0} {an : _} {g : _} {s : _} {d : _} where
     pub journal : IsContinued contents (Some scribe) store.scribe lines
     pub clean : AreClean honest holds store → All (IsClean honest holds) members.seats.items
     pub went : AreClean honest holds store → (u w : World) (starts : Goes (language_of members.schema) (length members.seats.items) u w) → starts.events ≡ starts_of members.seats.items → w.sent ≡ [] → AreMembers held holds members.schema (length members.seats.items) members.seats.items w →
-        (v : World) × (goes : Goes (language_of members.schema) (length members.seats.items) w v) × IsIn held holds store v × AreRecorded (language_of members.schema) (length members.seats.items) u scribe.reading lines (starts.events ++ goes.events) (IsSpent store.scribe) × AreToldIn goes.gave (lines_in lines)
+        (v : World) × (goes : Goes (language_of members.schema) (length members.seats.items) w v) × IsIn held holds store v × AreRecorded (language_of members.schema) (length members.seats.items) u scribe.reading lines (starts.events ++ goes.events) (IsSpent store.scribe) × AreToldIn goes.gave (lines_in lines) ×
+        ((IsSpent store.scribe → ⊥) → AreWritten (longest_of 0 members.seats.items) (all_told goes.gave) (lines_in lines) store.noted)
 
   -- while nothing wrong was taken as true, a store is the run of some events from what these databases held
   abbrev pub IsRunFrom : (honest : K → Type 0) (held : K → Durable → Type 0) (holds : I → Durable → Type 0) (images : List (Option I)) → Store K J I an g s d → Type 0

@@ -5,7 +5,7 @@ ghost use Rattle.store.specs.Continuing.{HasBegun, IsContinued, IsKeptOn};
 ghost use Rattle.store.specs.Lines.{no_lines, waiting};
 ghost use Rattle.store.specs.Recording.{IsSilent};
 ghost use Rattle.store.specs.Going.{GoesOn, Publishes};
-ghost use Rattle.store.specs.Opening.{Begins, Files};
+ghost use Rattle.store.specs.Opening.{Begins, Files, longest_of};
 ghost use Rattle.store.specs.Journals.{IsSpent, IsAdded, IsLonger, IsFlushed, IsOpened, IsAllOn, IsPartOn, device_in};
 ghost use Rattle.store.specs.Refusals.{IsOfJournal};
 
@@ -107,6 +107,7 @@ where
     fn write_head(&mut self, journal: u64, marks: u64) -> Result<(), StoreRefusal>
         ensures opens { OnOk result (IsOpened K.Journal.contents self.old.scribe self.new.scribe journal marks) }
         ensures heads { OnOk result (Files K.Journal.contents K.is_honest self.old.scribe self.new.scribe self.old.seats.items) }
+        ensures noted { OnOk result (self.new.noted ≡ longest_of self.old.noted self.old.seats.items) }
         ensures same { self.new ≡ record self.old { scribe = self.new.scribe; noted = self.new.noted } }
     {
         let sum = match &self.scribe {
@@ -128,6 +129,7 @@ where
     fn write_seat(&mut self, at: usize) -> Result<(), StoreRefusal>
         ensures longer { OnOk result (IsLonger self.old.scribe self.new.scribe) }
         ensures heads { OnOk result (Files K.Journal.contents K.is_honest self.old.scribe self.new.scribe (take 1 (drop at self.old.seats.items))) }
+        ensures noted { OnOk result (self.new.noted ≡ longest_of self.old.noted (take 1 (drop at self.old.seats.items))) }
         ensures same { self.new ≡ record self.old { scribe = self.new.scribe; noted = self.new.noted } }
     {
         let Some(seat) = self.seats.get(at) else {

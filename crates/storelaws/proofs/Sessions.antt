@@ -47,13 +47,14 @@ use Rattle.store.specs.declared.members.Members.{Members}
 use Rattle.store.specs.declared.scribe.Scribe.{Scribe}
 use Rattle.store.specs.Continuing.{IsContinued, bodies_of, left_of, reading_in}
 use Rattle.store.specs.Journals.{IsSpent}
-use Rattle.store.specs.Opening.{AreFound, AreOpened, Begins}
+use Rattle.store.specs.Noting.{AreWritten, all_told}
+use Rattle.store.specs.Opening.{AreFound, AreOpened, Begins, longest_of}
 use Rattle.store.specs.Lines.{and_then, filed_in, lines_in}
 use Rattle.store.specs.Recording.{AreRecorded, RecordAll, last_reading}
 use Rattle.store.specs.Tales.{Told}
 use Rattle.store.specs.Writing.{lines_text}
 use Rattle.store.proofs.Continuing.{bodies_alone, continued_both, continued_reading, continued_spent, left_alone}
-use Rattle.store.proofs.Going.{told_both}
+use Rattle.store.proofs.Going.{told_both, written_then}
 use Rattle.store.proofs.Opening.{runs_recorded}
 use Rattle.store.proofs.Recording.{recorded_both}
 use Rattle.store.proofs.Texts.{no_text}
@@ -211,10 +212,10 @@ module _ {K J I : Type 0} {an : _} {g : _} {s : _} {d : _} (held : K → Durable
   -- ---- what its journal says
 
   -- the lines of a store that goes on record its session further on
-  pub files : (contents : J → Option (List ℕ)) (honest : K → Type 0) (found : List model.Node) (scribe : Scribe J) (old new : Store K J I an g s d) (before : IsFiled contents held holds found scribe old) → GoesOn contents honest held holds old new → AreClean honest holds new →
-      (after : IsFiled contents held holds found scribe new) × IsBeginning before.recorded.filed after.recorded.filed
+  pub files : (contents : J → Option (List ℕ)) (honest : K → Type 0) (found : List model.Node) (scribe : Scribe J) (noted : ℕ) (old new : Store K J I an g s d) (before : IsFiled contents held holds found scribe noted old) → GoesOn contents honest held holds old new → AreClean honest holds new →
+      (after : IsFiled contents held holds found scribe noted new) × IsBeginning before.recorded.filed after.recorded.filed
   unfolding goes_on joined so
-  files contents honest found scribe old new before x k =
+  files contents honest found scribe noted old new before x k =
       let language = language_of old.schema in
       let n = length old.seats.items in
       let lines = and_then before.lines x.lines in
@@ -230,25 +231,28 @@ module _ {K J I : Type 0} {an : _} {g : _} {s : _} {d : _} (held : K → Durable
       let named : T (language_of new.schema) (length new.seats.items) after.0.goes.events = subst (λ (t : Tables). T (language_of t) (length new.seats.items) after.0.goes.events) (sym x.schema) counted in
       let told : AreToldIn after.0.goes.gave (lines_in lines) =
       subst (λ (outs : List (List Output)). AreToldIn outs (lines_in lines)) (sym after.1.gave_is) (told_both before.came.goes.gave on.goes.gave before.lines x.lines before.outcomes_are on.outcomes_are) in
-      let all : IsFiled contents held holds found scribe new = record {
+      let written : (IsSpent new.scribe → ⊥) → AreWritten noted (all_told after.0.goes.gave) (lines_in lines) new.noted =
+      λ live. subst (λ (outs : List (List Output)). AreWritten noted (all_told outs) (lines_in lines) new.noted) (sym after.1.gave_is) (written_then contents noted old new before.lines x.lines x.journal before.came.goes.gave on.goes.gave before.written on.written live) in
+      let all : IsFiled contents held holds found scribe noted new = record {
         lines = lines;
         journal = continued_both contents (Some scribe) old.scribe new.scribe before.lines x.lines before.journal x.journal;
         came = after.0;
         recorded = named.0;
         outcomes_are = told;
+        written = written;
       } in
       (all, named.1)
 
   -- as a store begins
   pub files_first : (contents : J → Option (List ℕ)) (honest : K → Type 0) (told : Told) (images : List (Option I)) (found : List model.Node) (scribe : Scribe J) (members : Members K J I an g s d) (store : Store K J I an g s d) → AreFound holds images found → AreOpened honest held holds told images members →
-      Begins contents honest held holds members scribe store → AreClean honest holds store → IsFiled contents held holds found scribe store
+      Begins contents honest held holds members scribe store → AreClean honest holds store → IsFiled contents held holds found scribe (longest_of 0 members.seats.items) store
   files_first contents honest told images found scribe members store are O B k =
       let ran = runs_recorded honest held holds contents told images members scribe store O B k found are in
-      record { lines = B.lines; journal = B.journal; came = record { world = ran.0; goes = ran.1; is_in = ran.2 }; recorded = ran.3; outcomes_are = ran.4 }
+      record { lines = B.lines; journal = B.journal; came = record { world = ran.0; goes = ran.1; is_in = ran.2 }; recorded = ran.3; outcomes_are = ran.4; written = ran.5 }
 
   -- what its file has
-  pub on_file : (contents : J → Option (List ℕ)) (found : List model.Node) (scribe : Scribe J) (store : Store K J I an g s d) → string_bytes scribe.buffer ≡ [] → (filed : IsFiled contents held holds found scribe store) → IsOnFile contents scribe filed.came
-  on_file contents found scribe store empty filed = go store.scribe refl filed.journal
+  pub on_file : (contents : J → Option (List ℕ)) (found : List model.Node) (scribe : Scribe J) (noted : ℕ) (store : Store K J I an g s d) → string_bytes scribe.buffer ≡ [] → (filed : IsFiled contents held holds found scribe noted store) → IsOnFile contents scribe filed.came
+  on_file contents found scribe noted store empty filed = go store.scribe refl filed.journal
     where
       spent : (last : Scribe J) (o : Option DeviceError) → store.scribe ≡ Some last → last.failure ≡ o → (front : List ℕ) → (last.failure ≡ None → front ≡ []) → (front ≡ []) ⊎ IsSpent store.scribe
       spent last None is up front none = inl (none up)

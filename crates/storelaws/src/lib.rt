@@ -19,7 +19,7 @@ ghost use Rattle.store.specs.Closing.{AreLeft, IsClosed, images_in};
 ghost use Rattle.store.specs.Going.{Anywhere, AreClean, ComesOf, GoesOn, GoesOnSo, IsIn};
 ghost use Rattle.store.specs.declared.outcome.Outcome.{Outcome};
 ghost use Rattle.store.specs.declared.scribe.Scribe.{Scribe};
-ghost use Rattle.store.specs.Opening.{AreFound, AreOpened, Begins, IsRunFrom};
+ghost use Rattle.store.specs.Opening.{AreFound, AreOpened, Begins, IsRunFrom, longest_of};
 ghost use Rattle.store.specs.Tales.{Told};
 ghost use Rattle.storelaws.specs.Sessions.{Answers, AreAfter, Came, Further, HasAnswered, IsFiled, IsListed, IsOnFile, session_of, session_on};
 
@@ -54,16 +54,17 @@ where
 
 /// A session's journal. While nothing wrong was taken as true, the lines that came to it, from where its scribe stood as the store began,
 /// record the starts of its members and each event since, in order: a step whole or cut short, with what was taken and what clocks showed, a
-/// start, with what the member had stored, a stop, and no other. Only starts and stops may be missing at the end of a journal that can't be written any more; they store
-/// nothing. Each outcome in a `Made` line its member told in the session. With each call these go on, and what was on the device of them is
-/// there still.
+/// start, with what the member had stored, a stop, and no other. Only starts and stops may be missing at the end of a journal that can't be
+/// written any more; they store nothing. Each outcome in a `Made` line its member told in the session, and until then these are all that was
+/// told there of entries past the longest log as it began, each once, in order. With each call these go on, and what was on the device of
+/// them is there still.
 pub fn is_filed<K: Announces>(members: &Members<K>, old: &Store<K>, new: &Store<K>)
 where
     K::Image: Drop,
     ensures begins { (told : Told) (images : List (Option K.Image)) (found : List Node) (scribe : Scribe K.Journal) → AreFound K.holds images found → AreOpened K.is_honest K.may_hold K.holds told images members.now →
-        Begins K.Journal.contents K.is_honest K.may_hold K.holds members.now scribe new.now → AreClean K.is_honest K.holds new.now → IsFiled K.Journal.contents K.may_hold K.holds found scribe new.now }
-    ensures goes { (found : List Node) (scribe : Scribe K.Journal) (before : IsFiled K.Journal.contents K.may_hold K.holds found scribe old.now) → GoesOn K.Journal.contents K.is_honest K.may_hold K.holds old.now new.now → AreClean K.is_honest K.holds new.now →
-        (after : IsFiled K.Journal.contents K.may_hold K.holds found scribe new.now) × IsBeginning before.recorded.filed after.recorded.filed }
+        Begins K.Journal.contents K.is_honest K.may_hold K.holds members.now scribe new.now → AreClean K.is_honest K.holds new.now → IsFiled K.Journal.contents K.may_hold K.holds found scribe (longest_of 0 members.now.seats.items) new.now }
+    ensures goes { (found : List Node) (scribe : Scribe K.Journal) (noted : ℕ) (before : IsFiled K.Journal.contents K.may_hold K.holds found scribe noted old.now) → GoesOn K.Journal.contents K.is_honest K.may_hold K.holds old.now new.now → AreClean K.is_honest K.holds new.now →
+        (after : IsFiled K.Journal.contents K.may_hold K.holds found scribe noted new.now) × IsBeginning before.recorded.filed after.recorded.filed }
 {}
 
 /// What the file has of a session is a beginning of its events, and what the databases hold is what these left. A journal that had nothing in
@@ -73,7 +74,7 @@ where
 pub fn is_on_file<K: Announces>(store: &Store<K>)
 where
     K::Image: Drop,
-    ensures { (found : List Node) (scribe : Scribe K.Journal) → string_bytes scribe.buffer ≡ [] → (filed : IsFiled K.Journal.contents K.may_hold K.holds found scribe store.now) → IsOnFile K.Journal.contents scribe filed.came }
+    ensures { (found : List Node) (scribe : Scribe K.Journal) (noted : ℕ) → string_bytes scribe.buffer ≡ [] → (filed : IsFiled K.Journal.contents K.may_hold K.holds found scribe noted store.now) → IsOnFile K.Journal.contents scribe filed.came }
 {}
 
 /// What a store gives back when it is closed is what is left of it where its process is killed instead: so `leaves` and `next_session` say

@@ -9,7 +9,7 @@ pub returns-clause-begins : goal.returns-clause-begins
 returns-clause-begins g c =
     let on = goes_on g.K.Journal.Device.contents g.K.LogReader.is_honest g.K.LogReader.may_hold g.K.Keeper.holds c.write_head.new.self c.lead.new.self c.flush.new.self c.lead.ensures.goes c.flush.ensures.goes in
     let same = c.write_head.ensures.same in
-    begins g.K.LogReader.is_honest g.K.LogReader.may_hold g.K.Keeper.holds g.K.Journal.Device.contents c.args.members c.args.scribe c.write_head.new.self c.flush.new.self (ap (λ t. t.schema) same) (ap (λ t. t.seats.items) same) (ap (λ t. t.queue.items) same ∙ c.new.ensures.items) (ap (λ t. t.sent) same) c.in_ok-write_head.ensures.heads on
+    begins g.K.LogReader.is_honest g.K.LogReader.may_hold g.K.Keeper.holds g.K.Journal.Device.contents c.args.members c.args.scribe c.write_head.new.self c.flush.new.self (ap (λ t. t.schema) same) (ap (λ t. t.seats.items) same) (ap (λ t. t.queue.items) same ∙ c.new.ensures.items) (ap (λ t. t.sent) same) c.in_ok-write_head.ensures.noted c.in_ok-write_head.ensures.heads on
 
 pub returns-clause-journal : goal.returns-clause-journal
 returns-clause-journal g c =
