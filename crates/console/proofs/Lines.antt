@@ -10,7 +10,7 @@ if_known (Some xs) P Q f h = f xs h
 
 module _ (first xs : List ℕ) (more : ℕ) (text : List ℕ) (behind : Option (List ℕ)) (begun : IsBegun first xs more text behind) where
   -- a line more
-  begun_on : (line longer : List ℕ) (left : Option (List ℕ)) → is_ended (last_line first more xs) ≡ false → IsNextLine behind line left → longer ≡ text ++ 10 ∷ line → IsBegun first xs (more + 1) longer left
+  pub begun_on : (line longer : List ℕ) (left : Option (List ℕ)) → is_ended (last_line first more xs) ≡ false → IsNextLine behind line left → longer ≡ text ++ 10 ∷ line → IsBegun first xs (more + 1) longer left
   begun_on line longer left goes next is =
       let known = subst (λ (b : Option (List ℕ)). IsNextLine b line left) begun.left next in
       let one : suc more ≡ more + 1 = sym (add-one more) in
@@ -23,18 +23,18 @@ module _ (first xs : List ℕ) (more : ℕ) (text : List ℕ) (behind : Option (
       }
 
   -- which is its last one then
-  last_on : (line : List ℕ) (left : Option (List ℕ)) → IsNextLine behind line left → line ≡ last_line first (more + 1) xs
+  pub last_on : (line : List ℕ) (left : Option (List ℕ)) → IsNextLine behind line left → line ≡ last_line first (more + 1) xs
   last_on line left next =
       let known = subst (λ (b : Option (List ℕ)). IsNextLine b line left) begun.left next in
       let one : suc more ≡ more + 1 = sym (add-one more) in
       known.0.1 ∙ ap (λ (n : ℕ). last_line first n xs) one
 
   -- it has ended
-  whole_ended : is_ended (last_line first more xs) ≡ true → IsWhole first xs text behind
+  pub whole_ended : is_ended (last_line first more xs) ≡ true → IsWhole first xs text behind
   whole_ended ended = (more, begun, inl ended)
 
   -- the input has
-  whole_over : (left : Option (List ℕ)) → IsNoLine behind left → IsWhole first xs text left
+  pub whole_over : (left : Option (List ℕ)) → IsNoLine behind left → IsWhole first xs text left
   whole_over left none =
       let known = subst (λ (b : Option (List ℕ)). IsNoLine b left) begun.left none in
       let empty : left ≡ Some [] = known.1 ∙ ap (λ (ys : List ℕ). Some (drop_through 10 ys)) known.0 in
@@ -43,14 +43,3 @@ module _ (first xs : List ℕ) (more : ℕ) (text : List ℕ) (behind : Option (
 -- a text that has begun, and whether its last line ends so
 abbrev pub Gathers : (first : List ℕ) (more : ℕ) (text : List ℕ) (behind : Option (List ℕ)) (is_whole : Bool) → List ℕ → Type 0
 Gathers first more text behind is_whole xs = IsBegun first xs more text behind × (is_whole ≡ is_ended (last_line first more xs))
-
-pub gathers_whole : (first : List ℕ) (more : ℕ) (text : List ℕ) (behind : Option (List ℕ)) (is_whole : Bool) (xs : List ℕ) → is_whole ≡ true → Gathers first more text behind is_whole xs → IsWhole first xs text behind
-gathers_whole first more text behind is_whole xs whole g = whole_ended first xs more text behind g.0 (sym g.1 ∙ whole)
-
-pub gathers_over : (first : List ℕ) (more : ℕ) (text : List ℕ) (behind left : Option (List ℕ)) (is_whole : Bool) (xs : List ℕ) → IsNoLine behind left → Gathers first more text behind is_whole xs → IsWhole first xs text left
-gathers_over first more text behind left is_whole xs none g = whole_over first xs more text behind g.0 left none
-
-pub gathers_on : (first : List ℕ) (more : ℕ) (text line longer : List ℕ) (behind left : Option (List ℕ)) (is_whole is_next : Bool) (xs : List ℕ) → is_whole ≡ false → IsNextLine behind line left → longer ≡ text ++ 10 ∷ line → is_next ≡ is_ended line
-    → Gathers first more text behind is_whole xs → Gathers first (more + 1) longer left is_next xs
-gathers_on first more text line longer behind left is_whole is_next xs goes next is ended g =
-    (begun_on first xs more text behind g.0 line longer left (sym g.1 ∙ goes) next is, ended ∙ ap is_ended (last_on first xs more text behind g.0 line left next))

@@ -4,9 +4,11 @@ ghost use Rattle.journal.specs.Digests.{summary_of};
 ghost use Rattle.node.specs.Member.{member_of};
 ghost use Rattle.node.specs.View.{durable_of};
 ghost use Rattle.playback.specs.Scenes.{scene_of};
+ghost use Rattle.sqlite.specs.Held.{state};
 ghost use Rattle.store.specs.HeldAt.{entries_in};
 ghost use Rattle.storeaudit.specs.Audit.{AreLeft, IsUpheld, WasPlayed};
 ghost use Rattle.storeaudit.specs.Found.{AreAlike, IsAlike, IsFound};
+ghost use Rattle.storetables.specs.Stored.{IsSound, Offers};
 
 use crate::later::{Later, audit_later};
 use durable::SqlKeeper;
@@ -164,14 +166,15 @@ where
     Ok(missing)
 }
 
-// Compares databases of any kind.
+// Compares databases of any kind: each that is there held just what its member has stored, as `compare_databases` says it.
 fn compare_stored<S: Alter + Drop>(
     alloc: Global,
     databases: Vec<Option<Connection<S>>>,
     form: &Form,
     play: &mut Play,
 ) -> Result<Vec<Member>, StoreRefusal>
-    ensures { IfOk result (λ missing. AreLeft (scene_of play.old) form.now.members missing.items (scene_of play.new)) }
+    ensures alike { IfOk result (λ missing. AreAlike (λ c d. Offers (state S.Store c) d) (λ c. IsSound (state S.Store c)) databases.items (scene_of play.old) form.now.members missing.items (scene_of play.new)) }
+    ensures left { IfOk result (λ missing. AreLeft (scene_of play.old) form.now.members missing.items (scene_of play.new)) }
 {
     compare_databases::<SqlKeeper<S>>(alloc, databases, form, play)
 }
