@@ -1,7 +1,7 @@
 //! The commands.
 use crate::line_reader::LineReader;
 use crate::printing::{counted, name_of, print};
-use crate::restores::run_restore;
+use crate::restores::{restore_unsynced, run_restore};
 use crate::session::{Place, Session};
 use crate::stop::{Fault, Stop};
 use crate::transfers::{carry_out, progress_on};
@@ -151,9 +151,10 @@ fn sit<R: Read + Drop>(
     };
     let mut input = LineReader::new(alloc, reader);
     adopt(rt, alloc, place.dir)?;
+    restore_unsynced(rt, alloc, place.dir)?;
     let opened = storefolder::open(rt, alloc, place.dir, syncs, reading)?;
     let (played, opened, is_refused) = sit_over(rt, alloc, place, &mut input, opened, clock);
-    let closed = storefolder::close(opened);
+    let closed = storefolder::close(rt, opened);
     played?;
     closed?;
     Ok(if is_refused && !place.is_terminal {
@@ -490,7 +491,7 @@ fn run_export<'a>(rt: &HostRuntime, alloc: Global, export: ExportRows<'a>) -> Re
 /// Does what a command line asks for, on the standard streams. It gives the exit status: 0; 1 where an audit says no, or something
 /// was refused in a sitting and nobody sits at a terminal.
 ///
-/// It ends before its end where standard output fails, or as the store is refused: 38 to 40, 43, 46 to 49, 55 and 56; 10 to 18 of the
+/// It ends before its end where standard output fails, or as the store is refused: 38 to 40, 43, 46 to 49 and 55 to 57; 10 to 18 of the
 /// tables of a new store; 60 of an input that can't be read.
 pub fn run<'a>(rt: &HostRuntime, command: Command<'a>) -> Result<u8, Stop<'a>> {
     let alloc: Global = rt.alloc();

@@ -3,6 +3,7 @@ ghost use Rattle.std.specs.Prelude.{◌≡◌, ◌++◌, ◌∷◌, MatchOption,
 
 use crate::printing::{print, print_bytes};
 use crate::requests::is_of_text;
+use crate::restores::restore_unsynced;
 use crate::session::Session;
 use crate::stop::{Fault, Stop};
 use causes::Name;
@@ -243,6 +244,7 @@ fn draw_in(
     canvas: Canvas,
     question: &str,
 ) -> Result<Result<Drawing, StoreRefusal>, StoreRefusal> {
+    restore_unsynced(rt, alloc, dir)?;
     let reading = reading_of(rt, None)?;
     let task = Draw {
         alloc,

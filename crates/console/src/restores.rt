@@ -3,6 +3,7 @@ use crate::printing::{counted, print};
 use crate::stop::Fault;
 use crate::transfers::progress_on;
 use std::alloc::{AllocError, Global};
+use store::StoreRefusal;
 use storerestore::Restored;
 
 // The line of a database that was made anew.
@@ -43,4 +44,22 @@ pub(crate) fn run_restore(rt: &HostRuntime, alloc: Global, dir: &str) -> Result<
     let lines = restored_lines(alloc, all.as_slice())?;
     print(rt, lines.as_str())?;
     Ok(0)
+}
+
+/// Where the machine stopped while the store in a folder was open, makes its databases anew, and says so on standard error in a line. What
+/// `restore` and `is_unsynced` refuse.
+pub(crate) fn restore_unsynced(
+    rt: &HostRuntime,
+    alloc: Global,
+    dir: &str,
+) -> Result<(), StoreRefusal> {
+    if !storefolder::is_unsynced(rt, alloc, dir)? {
+        return Ok(());
+    }
+    let all = storerestore::restore(rt, alloc, dir, &progress_on(rt))?;
+    let count = counted(alloc, all.len(), "database")?;
+    let _ = eprintln!(*rt;
+        "the machine stopped while the store in {dir} was open: {count} made anew from its journals; the old ones are kept beside them"
+    );
+    Ok(())
 }

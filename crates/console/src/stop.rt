@@ -84,6 +84,7 @@ fn found_by(refusal: &StoreRefusal) -> &'static str {
         StoreRefusal::Altered { .. } => "a database was changed, or is an older one",
         StoreRefusal::BadJournal { .. } => "a journal was changed, or is missing",
         StoreRefusal::NotEmpty => "a store, a run or a flight is there already",
+        StoreRefusal::Unsynced => "the machine stopped while it was open",
         StoreRefusal::OtherScript => "it is of another store",
         StoreRefusal::Refused(refusal) => found_otherwise(refusal),
     }

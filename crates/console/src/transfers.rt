@@ -1,4 +1,5 @@
 //! Imports and exports over a store's folder.
+use crate::restores::restore_unsynced;
 use crate::room::warn_of_room;
 use fault::Refusal;
 use progressline::{Progress, ProgressLine};
@@ -53,11 +54,12 @@ pub(crate) fn carry_out(rt: &HostRuntime, alloc: Global, order: Order<'_>) -> Re
     let Some(work) = work_of(rt, alloc, order)? else {
         return Ok(1);
     };
+    restore_unsynced(rt, alloc, order.dir())?;
     let reading = reading_of(rt, None)?;
     let opened = storefolder::open(rt, alloc, order.dir(), true, reading)?;
     let progress = progress_on(rt);
     let (done, opened) = work_at(rt, alloc, &work, reading, opened, &progress);
-    let closed = storefolder::close(opened);
+    let closed = storefolder::close(rt, opened);
     let status = done?;
     closed?;
     Ok(status)

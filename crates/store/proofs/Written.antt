@@ -162,6 +162,11 @@ pub append_nothing : (held : Option (List ℕ)) → append_known held [] ≡ hel
 append_nothing None = refl
 append_nothing (Some xs) = ap Some (append-nil xs)
 
+-- what was written is part of a block
+pub part_written : (old mid new : Option (List ℕ)) (sum : ℕ) (buffer : List ℕ) → new ≡ mid → IsWritten old mid sum buffer → AppendsPart old new (block_text sum buffer [])
+part_written old mid new sum [] same written = ([], block_text sum [] [], refl, same ∙ written.0 refl ∙ sym (append_nothing old))
+part_written old mid new sum (x ∷ xs) same written = (block_text sum (x ∷ xs) [], [], sym (append-nil (block_text sum (x ∷ xs) [])), same ∙ written.1 (λ e. absurd (cc e)))
+
 -- nothing went to the device
 pub same_on : {J : Type 0} (contents : J → Option (List ℕ)) (s : Option (Scribe J)) (device : Option J) → device ≡ device_in s → IsPartOn contents s device
 same_on contents None device is = is

@@ -69,6 +69,11 @@ module _ {J : Type 0} where
   EndsWith contents None line = ⊥
   EndsWith contents (Some s) line = IsLastWritten (contents s.device) line × (string_bytes s.buffer ≡ [])
 
+  -- what its device holds outlasts a power cut
+  abbrev pub IsSettled : (J → Type 0) → Option (Scribe J) → Type 0
+  IsSettled settled None = ⊥
+  IsSettled settled (Some s) = settled s.device
+
   -- where a question is refused 33, that is the last line on the device
   abbrev pub IsUnclosed : (J → Option (List ℕ)) → Option (Scribe J) → (member : ℕ) (question : List ℕ) → StoreRefusal → Type 0
   IsUnclosed contents s member question r = (closed : Option (List ℕ)) → r ≡ Refused (NotClosed closed) → EndsWith contents s (Answer member question (shown (NotClosed closed)))

@@ -9,7 +9,7 @@ use Rattle.store.specs.declared.device.DeviceError.{DeviceError}
 use Rattle.store.specs.declared.device.DeviceError.TheVariants.{Full, Failed}
 use Rattle.store.specs.declared.device.DeviceError.TheVariants as devices
 use Rattle.store.specs.declared.refusal.StoreRefusal.{StoreRefusal}
-use Rattle.store.specs.declared.refusal.StoreRefusal.TheVariants.{DiskFull, TooFew, NoStore, Version, InUse, Altered, BadJournal, NotEmpty, OtherScript, Refused}
+use Rattle.store.specs.declared.refusal.StoreRefusal.TheVariants.{DiskFull, TooFew, NoStore, Version, InUse, Altered, BadJournal, NotEmpty, Unsynced, OtherScript, Refused}
 
 -- the number, a space and the text
 abbrev pub refusal_text : StoreRefusal → List ℕ
@@ -22,6 +22,7 @@ refusal_text (Altered member None) = codes "49 altered database of node " ++ dec
 refusal_text (Altered member (Some entry)) = codes "49 altered database of node " ++ decimal member ++ codes " at entry " ++ decimal entry
 refusal_text (BadJournal journal at) = codes "55 bad journal " ++ decimal journal ++ codes " at byte " ++ decimal at
 refusal_text NotEmpty = codes "56 folder in use"
+refusal_text Unsynced = codes "57 unsynced databases"
 refusal_text OtherScript = codes "61 script of another store"
 refusal_text (Refused refusal) = shown refusal
 

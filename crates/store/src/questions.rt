@@ -3,7 +3,7 @@ ghost use Rattle.std.specs.Prelude.{◌≡◌, ◌-◌, IsErr, IfOk, IfErr, OnOk
 ghost use Rattle.store.specs.Asking.{IsAnswerOf};
 ghost use Rattle.answertext.specs.Answers.{answer_text};
 ghost use Rattle.store.specs.Going.{GoesOn};
-ghost use Rattle.store.specs.Journals.{IsSpent, EndsWith, IsUnclosed};
+ghost use Rattle.store.specs.Journals.{IsSpent, EndsWith, IsSettled, IsUnclosed};
 ghost use Rattle.store.specs.Refusals.{IsOfJournal};
 
 use crate::announcing::Announces;
@@ -106,10 +106,11 @@ where
         }
     }
 
-    // Writes what was answered to the journal, so that it may be given out.
+    // Writes what was answered to the journal, and has it outlast a power cut, so that it may be given out.
     #[tactic(auto, using(crate::proofs::Written::on_told))]
     fn tell(&mut self, member: Member, query: &str, words: String) -> Result<(), StoreRefusal>
         ensures told { OnOk result (EndsWith K.Journal.contents self.new.scribe (Line.Answer member query.now (string_bytes words))) }
+        ensures settled { OnOk result (IsSettled K.Journal.is_settled self.new.scribe) }
         ensures why { IfErr result IsOfJournal }
         ensures fails { OnErr result (IsSpent self.new.scribe) }
         ensures goes { GoesOn K.Journal.contents K.is_honest K.may_hold K.holds self.old self.new }
@@ -119,7 +120,7 @@ where
             return Err(self.spend());
         };
         self.write(&line)?;
-        self.flush()
+        self.settle()
     }
 
     /// Asks a member: the answer from what it has applied. A question whose last instant is not closed there is asked again once
@@ -130,6 +131,7 @@ where
     #[tactic(auto, using(crate::proofs::Going::stays))]
     pub fn ask(&mut self, reading: i64, member: Member, text: &str) -> Result<Answer, StoreRefusal>
         ensures told { IfOk result (λ a. EndsWith K.Journal.contents self.new.scribe (Line.Answer member text.now (answer_text a))) }
+        ensures settled { OnOk result (IsSettled K.Journal.is_settled self.new.scribe) }
         ensures asked { IfOk result (λ a. MatchOption (slice_get self.new.seats.items (member - 1)) ⊥ (λ seat. MatchOption seat.node ⊥ (λ n. IsAnswerOf K.is_honest n self.new.schema text.now a))) }
         ensures unclosed { IfErr result (IsUnclosed K.Journal.contents self.new.scribe member text.now) }
         ensures goes { GoesOn K.Journal.contents K.is_honest K.may_hold K.holds self.old self.new }
@@ -156,6 +158,7 @@ where
     /// Asks the leader, or where none is known the first member that is up: who was asked, and what `ask` gives.
     pub fn ask_any(&mut self, reading: i64, text: &str) -> Result<(Member, Answer), StoreRefusal>
         ensures told { IfOk result (λ p. EndsWith K.Journal.contents self.new.scribe (Line.Answer p.0 text.now (answer_text p.1))) }
+        ensures settled { OnOk result (IsSettled K.Journal.is_settled self.new.scribe) }
         ensures goes { GoesOn K.Journal.contents K.is_honest K.may_hold K.holds self.old self.new }
         ensures spent { IsSpent self.old.scribe → IsErr result × (self.new ≡ self.old) }
     {

@@ -35,6 +35,8 @@ pub enum StoreRefusal {
     },
     /// 56: the folder has something of a store or of a run in it.
     NotEmpty,
+    /// 57: the machine stopped since databases were written, and not brought to the disk.
+    Unsynced,
     /// 61: the script is of other members or other tables.
     OtherScript,
     /// Any other one.
@@ -73,6 +75,9 @@ impl StoreRefusal {
             StoreRefusal::NotEmpty => {
                 Some("Name a folder that is empty, or one that is not there yet.")
             }
+            StoreRefusal::Unsynced => Some(
+                "The machine stopped while the store was open: bitable restore DIR makes them anew, from the journals. bitable open does so by itself.",
+            ),
             StoreRefusal::OtherScript => {
                 Some(
                     "The script's members and schema have to be those that the store was made with.",
@@ -106,6 +111,7 @@ impl fmt::Display for StoreRefusal {
                 write!(f, "55 bad journal {journal} at byte {at}")
             }
             StoreRefusal::NotEmpty => f.write_str("56 folder in use"),
+            StoreRefusal::Unsynced => f.write_str("57 unsynced databases"),
             StoreRefusal::OtherScript => f.write_str("61 script of another store"),
             StoreRefusal::Refused(refusal) => refusal.fmt(f),
         }

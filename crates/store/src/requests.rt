@@ -1,7 +1,7 @@
 //! Requests of clients.
 ghost use Rattle.std.specs.Prelude.{◌≡◌, ◌≤◌, ◌⊎◌, Some, None, Err, IsErr, IfOk, IfErr, IfSome, OnOk, OnErr, MatchOption};
 ghost use Rattle.store.specs.Going.{Anywhere, ComesOf, GoesOn, GoesOnSo, IsOutcome};
-ghost use Rattle.store.specs.Journals.{IsSpent, EndsWith};
+ghost use Rattle.store.specs.Journals.{IsSpent, EndsWith, IsSettled};
 ghost use Rattle.store.specs.Refusals.{IsOfJournal, log_full};
 ghost use Rattle.store.specs.Fullness.{entries_of, longest};
 ghost use Rattle.store.specs.Words.{words_of};
@@ -118,7 +118,7 @@ where
         Ok(Outcome::Unanswered)
     }
 
-    // Writes the words of an outcome to the journal, so that they may be given out.
+    // Writes the words of an outcome to the journal, and has it outlast a power cut, so that they may be given out.
     #[tactic(auto, using(crate::proofs::Written::on_told))]
     fn print(
         &mut self,
@@ -127,6 +127,7 @@ where
         outcome: &Outcome,
     ) -> Result<(), StoreRefusal>
         ensures told { OnOk result (EndsWith K.Journal.contents self.new.scribe (Line.Printed client number (words_of outcome.now))) }
+        ensures settled { OnOk result (IsSettled K.Journal.is_settled self.new.scribe) }
         ensures why { IfErr result IsOfJournal }
         ensures fails { OnErr result (IsSpent self.new.scribe) }
         ensures goes { GoesOn K.Journal.contents K.is_honest K.may_hold K.holds self.old self.new }
@@ -136,7 +137,7 @@ where
             return Err(self.spend());
         };
         self.write(&line)?;
-        self.flush()
+        self.settle()
     }
 
     // Hands in a request, whatever room the log has.
@@ -148,6 +149,7 @@ where
         text: &str,
     ) -> Result<Outcome, StoreRefusal>
         ensures told { IfOk result (λ o. EndsWith K.Journal.contents self.new.scribe (Line.Printed client number (words_of o))) }
+        ensures settled { OnOk result (IsSettled K.Journal.is_settled self.new.scribe) }
         ensures why { IfErr result IsOfJournal }
         ensures fails { OnErr result (IsSpent self.new.scribe ⊎ (self.new ≡ self.old)) }
         ensures goes { GoesOnSo K.Journal.contents K.is_honest K.may_hold K.holds Anywhere (λ gave. IfOk result (λ o. ComesOf client number o gave)) self.old self.new }
@@ -183,6 +185,7 @@ where
         text: &str,
     ) -> Result<Outcome, StoreRefusal>
         ensures told { IfOk result (λ o. EndsWith K.Journal.contents self.new.scribe (Line.Printed client number (words_of o))) }
+        ensures settled { OnOk result (IsSettled K.Journal.is_settled self.new.scribe) }
         ensures full { ¬ IsSpent self.old.scribe → 99000 ≤ longest self.old.seats.items (λ seat. entries_of seat.node seat.chain.links.items) → (result ≡ Err log_full) × (self.new ≡ self.old) }
         ensures room { result ≡ Err log_full → (99000 ≤ longest self.old.seats.items (λ seat. entries_of seat.node seat.chain.links.items)) × (self.new ≡ self.old) }
         ensures why { IfErr result (λ r. IsOfJournal r ⊎ (r ≡ log_full)) }
@@ -209,6 +212,7 @@ where
             Some(leader) => self.own_of(leader),
             None => self.own_most(),
         };
+        self.settle()?;
         Ok(own.saturating_add(1))
     }
 
@@ -238,6 +242,7 @@ where
         text: &str,
     ) -> Result<(RequestNumber, Outcome), StoreRefusal>
         ensures told { IfOk result (λ r. EndsWith K.Journal.contents self.new.scribe (Line.Printed 65535 r.0 (words_of r.1))) }
+        ensures settled { OnOk result (IsSettled K.Journal.is_settled self.new.scribe) }
         ensures full { ¬ IsSpent self.old.scribe → 99000 ≤ longest self.old.seats.items (λ seat. entries_of seat.node seat.chain.links.items) → (result ≡ Err log_full) × (self.new ≡ self.old) }
         ensures room { result ≡ Err log_full → (99000 ≤ longest self.old.seats.items (λ seat. entries_of seat.node seat.chain.links.items)) × (self.new ≡ self.old) }
         ensures goes { GoesOnSo K.Journal.contents K.is_honest K.may_hold K.holds Anywhere (λ gave. IfOk result (λ r. ComesOf 65535 r.0 r.1 gave)) self.old self.new }

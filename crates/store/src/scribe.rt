@@ -13,8 +13,8 @@ use journal::blocks::put_block;
 use journal::{Line, put_line};
 use std::alloc::Global;
 
-/// Writes a journal. Lines go to a buffer, which `flush` writes as one block: right before a member saves and right before anything
-/// is given out, and at no other time. After an error it is spent: it writes nothing any more.
+/// Writes a journal. Lines go to a buffer, which `flush` writes as one block: right before a member saves, and right before anything is
+/// given out, when `settle` also has all outlast a power cut; and at no other time. After an error it is spent: it writes nothing any more.
 #[derive(Drop)]
 pub struct Scribe<J: Device> {
     alloc: Global,
@@ -154,6 +154,7 @@ impl<J: Device> Scribe<J> {
     /// Writes what is in the buffer as one block, if anything is. After an error it is spent, and the device holds what it held and
     /// a beginning of that block at most. Its failure where it is spent, with nothing changed.
     pub fn flush(&mut self) -> Result<(), DeviceError>
+        ensures reading { self.new.reading ≡ self.old.reading }
         ensures ok { OnOk result (IsWritten (J.contents self.old.device) (J.contents self.new.device) self.old.sum (string_bytes self.old.buffer)) }
         ensures empty { OnOk result (string_bytes self.new.buffer ≡ []) }
         ensures sum { OnOk result (IsSummed self.old.sum self.new.sum (string_bytes self.old.buffer)) }
@@ -169,6 +170,31 @@ impl<J: Device> Scribe<J> {
             return Ok(());
         }
         match self.write() {
+            Ok(()) => Ok(()),
+            Err(failure) => {
+                self.failure = Some(failure);
+                Err(failure)
+            }
+        }
+    }
+
+    /// Writes what is in the buffer as one block, if anything is, and has all that was written outlast a power cut too. After an error it
+    /// is spent, and the device holds what it held and a beginning of that block at most, which may be all of it. Its failure where it is
+    /// spent, with nothing changed.
+    pub fn settle(&mut self) -> Result<(), DeviceError>
+        ensures ok { OnOk result (IsWritten (J.contents self.old.device) (J.contents self.new.device) self.old.sum (string_bytes self.old.buffer)) }
+        ensures settled { OnOk result (J.is_settled self.new.device) }
+        ensures empty { OnOk result (string_bytes self.new.buffer ≡ []) }
+        ensures sum { OnOk result (IsSummed self.old.sum self.new.sum (string_bytes self.old.buffer)) }
+        ensures up { OnOk result ((self.old.failure ≡ None) × (self.new.failure ≡ None)) }
+        ensures part { OnErr result (self.old.failure ≡ None → AppendsPart (J.contents self.old.device) (J.contents self.new.device) (block_text self.old.sum (string_bytes self.old.buffer) [])) }
+        ensures err { IfErr result (λ e. self.new.failure ≡ Some e) }
+        ensures spent { IsSome self.old.failure → IsErr result × (self.new ≡ self.old) }
+        ensures continues { OnOk result (IsBlockWritten J.contents self.old self.new) }
+        ensures lost { OnErr result (Continues J.contents self.old self.new no_lines) }
+    {
+        self.flush()?;
+        match self.device.settle() {
             Ok(()) => Ok(()),
             Err(failure) => {
                 self.failure = Some(failure);

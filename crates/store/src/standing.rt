@@ -60,7 +60,7 @@ where
     {
         self.write(&Line::Ends { member })?;
         self.fall(member);
-        self.flush()
+        self.settle()
     }
 
     // Starts a member's node: what it has stored; none where it was up before.
@@ -97,7 +97,7 @@ where
         };
         self.write(&Line::Life { member, stored })?;
         self.bring(reading)?;
-        self.flush()
+        self.settle()
     }
 
     // Each member is brought what it lacks, where one leads.

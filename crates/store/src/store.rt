@@ -6,7 +6,7 @@ ghost use Rattle.store.specs.Lines.{no_lines, waiting};
 ghost use Rattle.store.specs.Recording.{IsSilent};
 ghost use Rattle.store.specs.Going.{GoesOn, Publishes};
 ghost use Rattle.store.specs.Opening.{Begins, Files, longest_of};
-ghost use Rattle.store.specs.Journals.{IsSpent, IsAdded, IsLonger, IsFlushed, IsOpened, IsAllOn, IsPartOn, device_in};
+ghost use Rattle.store.specs.Journals.{IsSpent, IsAdded, IsLonger, IsFlushed, IsOpened, IsAllOn, IsPartOn, IsSettled, device_in};
 ghost use Rattle.store.specs.Refusals.{IsOfJournal};
 
 use crate::announcing::Announces;
@@ -30,9 +30,10 @@ use std::collections::VecDeque;
 /// decided and written to the journal, or says that it isn't.
 ///
 /// Every step is in the journal before its member's save can reach a database, and an outcome or an answer is there before it is
-/// given out. A call, whatever it returns, leaves on the journal's device what was there and whole blocks more, and after an error a
-/// beginning of one more at most. Once the journal can't be written the store is spent: each later call answers so, and changes
-/// nothing. What was told by then is not lost: an open of what the databases and the journal hold has it.
+/// given out, and outlasts a power cut with all before it, of a device that syncs. A call, whatever it returns, leaves on the journal's
+/// device what was there and whole blocks more, and after an error a beginning of one more at most. Once the journal can't be written the
+/// store is spent: each later call answers so, and changes nothing. What was told by then is not lost: an open of what the databases and
+/// the journal hold has it.
 #[derive(Drop)]
 pub struct Store<K: Announces>
 where
@@ -66,8 +67,8 @@ where
     K::Image: Drop,
 {
     /// Begins a session: the journal of this number, in which so many marks were given out before it, with its first line, which names
-    /// the sum of the block before it, what each member has, and a life of each that is up. Then one of them is elected, if they are a majority. The scribe stands at the
-    /// beginning of the journal; the clock shows `reading`, in microseconds since 1970.
+    /// the sum of the block before it, what each member has, and a life of each that is up. Then one of them is elected, if they are a
+    /// majority. The scribe stands at the beginning of the journal; the clock shows `reading`, in microseconds since 1970.
     ///
     /// 38, 40 and 43 where the journal can't be written.
     pub fn begin(
@@ -99,7 +100,7 @@ where
         };
         store.write_head(journal, marks)?;
         let _ = store.lead(reading)?;
-        store.flush()?;
+        store.settle()?;
         Ok(store)
     }
 
@@ -183,6 +184,24 @@ where
     {
         match &mut self.scribe {
             Some(scribe) => Ok(scribe.flush()?),
+            None => Err(spent()),
+        }
+    }
+
+    // Writes the journal's buffer to its device, and has all that is there outlast a power cut.
+    pub(crate) fn settle(&mut self) -> Result<(), StoreRefusal>
+        ensures ok { OnOk result (IsFlushed K.Journal.contents self.old.scribe self.new.scribe) }
+        ensures settled { OnOk result (IsSettled K.Journal.is_settled self.new.scribe) }
+        ensures part { OnErr result (IsPartOn K.Journal.contents self.old.scribe (device_in self.new.scribe)) }
+        ensures why { IfErr result IsOfJournal }
+        ensures fails { OnErr result (IsSpent self.new.scribe) }
+        ensures live { OnOk result (IsSpent self.old.scribe → ⊥) }
+        ensures same { self.new ≡ record self.old { scribe = self.new.scribe } }
+        ensures continues { IsKeptOn K.Journal.contents self.old.scribe self.new.scribe }
+        ensures goes { GoesOn K.Journal.contents K.is_honest K.may_hold K.holds self.old self.new }
+    {
+        match &mut self.scribe {
+            Some(scribe) => Ok(scribe.settle()?),
             None => Err(spent()),
         }
     }

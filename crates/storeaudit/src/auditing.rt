@@ -25,7 +25,7 @@ use store::announcing::Judging;
 use store::held::HeldLog;
 use store::known::KnownLog;
 use store::{Past, StoreRefusal};
-use storefolder::{Form, Journals, enter, find_journals, open_databases, tell_all};
+use storefolder::{Form, Journals, check_synced, enter, find_journals, open_databases, tell_all};
 
 /// What an audit that says yes found.
 #[derive(Drop)]
@@ -272,7 +272,7 @@ fn audit_whole<Q: Progress>(
 ///
 /// A fault is 49 of a database that holds something else, 55 of a journal that spells nothing or is missing, 51 of a member that began with
 /// what it did not have, 52 of a message that was not sent, 54 of an outcome or an answer that the events don't give. Refused is 46 to 48,
-/// and 40 and 43. How many journals are read is told to who asks for it.
+/// 57, and 40 and 43. How many journals are read is told to who asks for it.
 pub fn audit<Q: Progress>(
     rt: &HostRuntime,
     alloc: Global,
@@ -282,6 +282,7 @@ pub fn audit<Q: Progress>(
     ensures { IfOk result IsUpheld }
 {
     let folder = enter(rt, alloc, dir)?;
+    check_synced(rt, alloc, dir)?;
     let form = &folder.form;
     let journals = match find_journals(rt, alloc, dir) {
         Ok(journals) => journals,

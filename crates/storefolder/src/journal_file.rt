@@ -1,5 +1,5 @@
 //! The file of a journal.
-ghost use Rattle.std.specs.Prelude.{None};
+ghost use Rattle.std.specs.Prelude.{◌≡◌, None, OnOk, true};
 
 use crate::faults::device_error;
 use std::alloc::Global;
@@ -11,8 +11,19 @@ use store::{Device, DeviceError};
 /// How many bytes of room are written ahead at once.
 pub const ROOM: u64 = 65_536;
 
-/// The file of a journal. Room is written ahead as zeros: a block that goes over bytes that are there reaches the disk in a fraction of
-/// the time of one that makes the file longer.
+/// When what is written to a journal is brought to the disk.
+#[derive(Clone, Copy, PartialEq, Eq, Debug)]
+pub enum Syncs {
+    /// Not before the journal is finished.
+    AtTheEnd,
+    /// When it is settled.
+    WhenSettled,
+    /// Each block before the next step, which a database that syncs may rest on.
+    Always,
+}
+
+/// The file of a journal. Room is written ahead as zeros, which are brought to the disk before a block goes there: a block over bytes that
+/// are there reaches the disk in a fraction of the time of one that makes the file longer.
 #[derive(Drop)]
 pub struct JournalFile {
     alloc: Global,
@@ -21,27 +32,29 @@ pub struct JournalFile {
     at: u64,
     /// Up to where the file has bytes.
     room: u64,
-    /// Whether each block is brought to the disk before the next step.
-    syncs: bool,
+    syncs: Syncs,
+    /// Whether nothing was written since it settled.
+    is_settled: bool,
 }
 
 impl JournalFile {
-    /// Over a new file. Where it does not sync, a kill of the process loses nothing, but a power cut may.
-    pub(crate) fn new(alloc: Global, file: File, syncs: bool) -> JournalFile {
+    /// Over a new file. Where it syncs at the end alone, a kill of the process loses nothing, but a power cut may.
+    pub(crate) fn new(alloc: Global, file: File, syncs: Syncs) -> JournalFile {
         JournalFile {
             alloc,
             file,
             at: 0,
             room: 0,
             syncs,
+            is_settled: true,
         }
     }
 
+    // Brings what was written to the disk, unless that is for the end.
     fn sync(&self) -> io::Result<()> {
-        if self.syncs {
-            self.file.sync_data()
-        } else {
-            Ok(())
+        match self.syncs {
+            Syncs::AtTheEnd => Ok(()),
+            Syncs::WhenSettled | Syncs::Always => self.file.sync_data(),
         }
     }
 
@@ -63,9 +76,23 @@ impl JournalFile {
 
     fn put(&mut self, block: &[u8]) -> io::Result<()> {
         self.make_room(block.len() as u64)?;
+        self.is_settled = false;
         self.file.write_all(block)?;
-        self.sync()?;
         self.at = self.at.saturating_add(block.len() as u64);
+        match self.syncs {
+            Syncs::Always => self.settle_all(),
+            Syncs::AtTheEnd | Syncs::WhenSettled => Ok(()),
+        }
+    }
+
+    // Brings what was written since it settled to the disk.
+    fn settle_all(&mut self) -> io::Result<()>
+        ensures { OnOk result (self.new.is_settled ≡ true) }
+    {
+        if !self.is_settled {
+            self.sync()?;
+            self.is_settled = true;
+        }
         Ok(())
     }
 
@@ -79,8 +106,17 @@ impl JournalFile {
 impl Device for JournalFile {
     ghost contents = { λ _. None };
 
+    ghost is_settled = { λ file. file.is_settled ≡ true };
+
     fn write(&mut self, block: &[u8]) -> Result<(), DeviceError> {
         match self.put(block) {
+            Ok(()) => Ok(()),
+            Err(error) => Err(device_error(&error)),
+        }
+    }
+
+    fn settle(&mut self) -> Result<(), DeviceError> {
+        match self.settle_all() {
             Ok(()) => Ok(()),
             Err(error) => Err(device_error(&error)),
         }

@@ -2,6 +2,7 @@
 #![tactic(auto)]
 
 mod adopting;
+mod boot;
 mod clock;
 mod databases;
 mod faults;
@@ -17,6 +18,7 @@ mod task;
 mod torn;
 
 pub use adopting::adopt;
+pub use boot::{check_synced, forget_boot, is_unsynced};
 pub use clock::reading_of;
 pub use databases::{Database, find_database, open_databases};
 pub use faults::file_refusal;

@@ -2,30 +2,35 @@
 ghost use Rattle.std.specs.Prelude.{IfOk};
 ghost use Rattle.store.specs.Opening.{IsRunFrom};
 
-use crate::databases::{Database, open_databases};
+use crate::boot::{Noted, forget_boot, note_boot, noted_synced};
+use crate::databases::{Database, open_each};
 use crate::faults::file_refusal;
 use crate::form::Form;
-use crate::journal_file::JournalFile;
+use crate::journal_file::{JournalFile, Syncs};
 use crate::journals::tell_one;
 use crate::numbers::find_journals;
-use crate::place::{Folder, check_form, cut_journal, enter, new_journal, read_journal};
+use crate::place::{
+    Folder, check_form, cut_journal, enter, new_journal, read_journal, sync_journal,
+};
 use crate::torn::is_torn;
 use durable::SqlKeeper;
+use fault::Refusal;
 use journal::blocks::text_in;
 use model::member::Member;
-use sqlite::{Alter, Connection, File as DatabaseFile, FileStore};
+use sqlite::{Alter, Connection};
 use std::alloc::Global;
 use store::announcing::{Announces, Announcing};
 use store::members::Members;
 use store::past::End;
 use store::scribe::Scribe;
 use store::{Databases, Device, Past, Store, StoreRefusal};
+use unsynced::Stored;
 
 /// What keeps a member of a store: a database in S, and what it is about to store is told to a journal J first.
 pub type Kept<S, J> = Announcing<SqlKeeper<S>, J>;
 
 /// A store that is open in a folder.
-pub type FolderStore = Opened<Kept<FileStore<DatabaseFile>, JournalFile>>;
+pub type FolderStore = Opened<Kept<Stored, JournalFile>>;
 
 /// A journal whose end is torn: where its whole blocks end, and how many bytes follow that are not zero.
 #[derive(Clone, Copy, PartialEq, Eq, Debug)]
@@ -43,6 +48,8 @@ struct Before {
     next: u64,
     sum: u64,
     cut: Option<Cut>,
+    /// Whether the first journals are away, so that no database can be made anew.
+    is_later: bool,
 }
 
 /// What an opening found, and the folder, which is this process's own.
@@ -50,6 +57,8 @@ struct Before {
 pub struct Found {
     alloc: Global,
     folder: Folder,
+    /// The folder's name.
+    dir: String,
     /// The number of the journal that was begun.
     pub journal: u64,
     /// What was torn of the journal before, and is cut.
@@ -72,6 +81,8 @@ where
 #[derive(Drop)]
 struct Stopped<S: Alter + Drop, J: Device> {
     databases: Vec<Connection<S>>,
+    /// Whether that is each one that there was.
+    is_whole: bool,
     journal: Option<J>,
     /// What could not be written to the journal.
     closed: Result<(), StoreRefusal>,
@@ -122,6 +133,7 @@ fn read_alone(
         next: journal.saturating_add(1),
         sum: end.sum,
         cut: cut_of(journal, &bytes, end),
+        is_later: false,
     }))
 }
 
@@ -139,7 +151,8 @@ fn read_before(
     for back in 0..2u64 {
         let journal = journals.last.saturating_sub(back);
         if journals.has(journal) {
-            if let Some(before) = read_alone(rt, alloc, dir, form, journal)? {
+            if let Some(mut before) = read_alone(rt, alloc, dir, form, journal)? {
+                before.is_later = journals.is_later();
                 return Ok(before);
             }
         }
@@ -155,19 +168,34 @@ fn read_before(
         next: 1,
         sum: form.sum(),
         cut: None,
+        is_later: false,
     })
 }
 
-// Cuts what is torn at the last journal's end, and makes the next journal.
+// When the next journal is brought to the disk: where a power cut may lose nothing that was told, and where databases sync that it is
+// written ahead of.
+fn syncs_of(syncs: bool, databases_sync: bool) -> Syncs {
+    if !syncs {
+        Syncs::AtTheEnd
+    } else if databases_sync {
+        Syncs::Always
+    } else {
+        Syncs::WhenSettled
+    }
+}
+
+// Cuts what is torn at the last journal's end, has the rest of it on the disk, and makes the next journal.
 fn next_journal(
     rt: &HostRuntime,
     alloc: Global,
     dir: &str,
     before: &Before,
-    syncs: bool,
+    syncs: Syncs,
 ) -> Result<JournalFile, StoreRefusal> {
-    if let Some(cut) = before.cut {
-        cut_journal(rt, alloc, dir, cut.journal, cut.at)?;
+    match before.cut {
+        Some(cut) => cut_journal(rt, alloc, dir, cut.journal, cut.at)?,
+        None if before.next > 1 => sync_journal(rt, alloc, dir, before.next - 1)?,
+        None => {}
     }
     let file = new_journal(rt, alloc, dir, before.next)?;
     Ok(JournalFile::new(alloc, file, syncs))
@@ -196,42 +224,137 @@ where
     Ok((store, missing))
 }
 
-// Opens a store whose databases are in S.
-fn open_over<S: Alter + Drop, J: Device, F: FnOnce() -> Result<J, StoreRefusal>>(
+// The same over databases in S.
+fn go_on_over<S: Alter + Drop, J: Device, F: FnOnce() -> Result<J, StoreRefusal>>(
     alloc: Global,
-    folder: Folder,
+    form: &Form,
     before: &Before,
     databases: Vec<Option<Connection<S>>>,
     begin_journal: F,
     reading: i64,
-) -> Result<Opened<Kept<S, J>>, StoreRefusal>
+) -> Result<(Store<Kept<S, J>>, Vec<Member>), StoreRefusal>
     requires { F.IsAlwaysCallable begin_journal }
 {
-    let (store, missing) = go_on::<Kept<S, J>, F>(
-        alloc,
-        &folder.form,
-        before,
-        databases,
-        begin_journal,
-        reading,
-    )?;
-    Ok(Opened {
-        store,
-        found: Found {
-            alloc,
-            folder,
-            journal: before.next,
-            cut: before.cut,
-            missing,
-        },
+    go_on::<Kept<S, J>, F>(alloc, form, before, databases, begin_journal, reading)
+}
+
+// How a session keeps what it writes.
+#[derive(Clone, Copy)]
+struct Ways {
+    /// Whether each commit of a database is brought to the disk.
+    databases_sync: bool,
+    /// When the journal is.
+    journal: Syncs,
+    /// Whether nothing was noted of the databases before.
+    is_new: bool,
+}
+
+// How a session keeps what it writes. Where its databases need not sync that is noted before they are opened.
+fn ways_in(
+    rt: &HostRuntime,
+    alloc: Global,
+    dir: &str,
+    syncs: bool,
+    is_later: bool,
+    noted: Noted,
+) -> Result<Ways, StoreRefusal> {
+    let is_noted = !is_later && (noted == Noted::ThisBoot || note_boot(rt, alloc, dir)?);
+    Ok(Ways {
+        databases_sync: !is_noted,
+        journal: syncs_of(syncs, !is_noted),
+        is_new: noted == Noted::Nothing,
     })
 }
 
-/// Opens the store in a folder: reads what its last journal tells, which may be the only one that is there, looks whether each member's database is what that says, and only
-/// then cuts what is torn at the journal's end, begins the next journal, and has a member elected. The clock shows `reading`. Where it does
-/// not sync the journal, a kill of the process loses nothing, but a power cut may.
+// What was opened, unless what had to follow was refused.
+fn unless_refused<T: Drop>(
+    opened: Result<T, StoreRefusal>,
+    followed: Result<(), StoreRefusal>,
+) -> Result<T, StoreRefusal> {
+    let opened = opened?;
+    followed?;
+    Ok(opened)
+}
+
+// The databases in a folder. Those that sync are on the disk once they are open, behind the last journal, so that nothing has to be noted of
+// them any more.
+fn open_noted(
+    rt: &HostRuntime,
+    alloc: Global,
+    dir: &str,
+    before: &Before,
+    syncs: bool,
+) -> Result<Vec<Option<Database>>, StoreRefusal> {
+    if !syncs {
+        return open_each(rt, alloc, dir, &before.past, false);
+    }
+    if before.next > 1 {
+        sync_journal(rt, alloc, dir, before.next - 1)?;
+    }
+    let opened = open_each(rt, alloc, dir, &before.past, true);
+    let forgotten = match &opened {
+        Ok(_) => forget_boot(rt, alloc, dir),
+        Err(_) => Ok(()),
+    };
+    unless_refused(opened, forgotten)
+}
+
+// Goes on over the databases in a folder.
+fn go_on_in(
+    rt: &HostRuntime,
+    alloc: Global,
+    dir: &str,
+    form: &Form,
+    before: &Before,
+    ways: Ways,
+    reading: i64,
+) -> Result<(Store<Kept<Stored, JournalFile>>, Vec<Member>), StoreRefusal> {
+    let databases = open_noted(rt, alloc, dir, before, ways.databases_sync)?;
+    let begin_journal = || next_journal(rt, alloc, dir, before, ways.journal);
+    go_on_over(alloc, form, before, databases, begin_journal, reading)
+}
+
+// Whether a refusal of an opening comes before any member saved.
+fn is_before_saves(refusal: &StoreRefusal) -> bool {
+    !matches!(
+        refusal,
+        StoreRefusal::DiskFull | StoreRefusal::Refused(Refusal::StoreFault | Refusal::NoMemory)
+    )
+}
+
+// Takes a new note away where an opening is refused before anything was stored.
+fn withdraw_note(rt: &HostRuntime, alloc: Global, dir: &str, refusal: &StoreRefusal) {
+    if is_before_saves(refusal) {
+        let _ = forget_boot(rt, alloc, dir);
+    }
+}
+
+// Goes on, and takes the note away that is new where this is refused before anything was stored.
+fn go_on_noted(
+    rt: &HostRuntime,
+    alloc: Global,
+    dir: &str,
+    form: &Form,
+    before: &Before,
+    ways: Ways,
+    reading: i64,
+) -> Result<(Store<Kept<Stored, JournalFile>>, Vec<Member>), StoreRefusal> {
+    let opened = go_on_in(rt, alloc, dir, form, before, ways, reading);
+    match &opened {
+        Err(refusal) if ways.is_new => withdraw_note(rt, alloc, dir, refusal),
+        _ => {}
+    }
+    opened
+}
+
+/// Opens the store in a folder: reads what its last journal tells, which may be the only one that is there, looks whether each member's
+/// database is what that says, and only then cuts what is torn at the journal's end, begins the next journal, and has a member elected. The
+/// clock shows `reading`. Where it does not sync the journal, a kill of the process loses nothing, but a power cut may.
 ///
-/// 39, 46 to 49 and 55 as `StoreRefusal` says them; 38, 40 and 43 where files can't be read or written. After an error nothing is
+/// The databases are not brought to the disk before the store is closed, since they can be made anew from the journals: a note in the folder
+/// says so till then. Where the first journals are away, or the system does not say which start of the machine this is, they are.
+///
+/// 39, 46 to 49, 55 and 57 as `StoreRefusal` says them; 38, 40 and 43 where files can't be read or written. After an error nothing is
 /// changed but by 38, 40 and 43, and then what was there is not.
 pub fn open(
     rt: &HostRuntime,
@@ -240,11 +363,23 @@ pub fn open(
     syncs: bool,
     reading: i64,
 ) -> Result<FolderStore, StoreRefusal> {
+    let name = format!(in alloc; "{dir}")?;
     let folder = enter(rt, alloc, dir)?;
+    let noted = noted_synced(rt, alloc, dir)?;
     let before = read_before(rt, alloc, dir, &folder.form)?;
-    let databases = open_databases(rt, alloc, dir, &before.past)?;
-    let begin_journal = || next_journal(rt, alloc, dir, &before, syncs);
-    open_over(alloc, folder, &before, databases, begin_journal, reading)
+    let ways = ways_in(rt, alloc, dir, syncs, before.is_later, noted)?;
+    let (store, missing) = go_on_noted(rt, alloc, dir, &folder.form, &before, ways, reading)?;
+    Ok(Opened {
+        store,
+        found: Found {
+            alloc,
+            folder,
+            dir: name,
+            journal: before.next,
+            cut: before.cut,
+            missing,
+        },
+    })
 }
 
 // The databases that are there, in the order of the members. One for which there is no memory is closed without more.
@@ -262,10 +397,20 @@ where
     images
 }
 
-fn close_databases(databases: Vec<Database>) {
-    for database in databases {
-        let _ = database.close();
+// Ends each of these. Whether each one says that it ended well.
+fn end_each<T: Drop, F: Fn(T) -> bool>(all: Vec<T>, end: F) -> bool
+    requires { F.IsAlwaysCallable end }
+{
+    let mut are_well = true;
+    for one in all {
+        are_well = end(one) && are_well;
     }
+    are_well
+}
+
+// Closes databases, and has them on the disk. Whether each one is.
+fn close_databases(databases: Vec<Database>) -> bool {
+    end_each(databases, |database| unsynced::close(database).is_ok())
 }
 
 // Gives the room back that a journal does not need.
@@ -287,27 +432,43 @@ impl Found {
 fn stop<S: Alter + Drop, J: Device>(opened: Opened<Kept<S, J>>) -> Stopped<S, J> {
     let Opened { store, found } = opened;
     let (databases, journal, closed) = store.close();
+    let members = databases.members();
     let databases = images_of::<Kept<S, J>>(found.alloc, databases);
+    let is_whole = databases.len().saturating_add(found.missing.len()) == members;
     Stopped {
         databases,
+        is_whole,
         journal,
         closed,
         found,
     }
 }
 
-/// Stops every member, and gives the room back that the journal does not need. The refusal of what could not be written: nothing that
-/// was told is lost by it.
-pub fn close(opened: FolderStore) -> Result<(), StoreRefusal> {
+// Takes the note away where all is on the disk. The refusal of what could not be written first.
+fn end_note(
+    rt: &HostRuntime,
+    found: &Found,
+    written: Result<(), StoreRefusal>,
+    are_stored: bool,
+) -> Result<(), StoreRefusal> {
+    written?;
+    if are_stored {
+        forget_boot(rt, found.alloc, found.dir.as_str())?;
+    }
+    Ok(())
+}
+
+/// Stops every member, gives the room back that the journal does not need, and has all that was written on the disk. The refusal of what
+/// could not be written: nothing that was told is lost by it. Where a database could not be brought to the disk the note of that stays.
+pub fn close(rt: &HostRuntime, opened: FolderStore) -> Result<(), StoreRefusal> {
     let Stopped {
         databases,
+        is_whole,
         journal,
         closed,
         found,
     } = stop(opened);
-    close_databases(databases);
+    let are_stored = close_databases(databases) && is_whole;
     let finished = finish_journal(journal);
-    drop(found);
-    closed?;
-    finished
+    end_note(rt, &found, closed.and(finished), are_stored)
 }

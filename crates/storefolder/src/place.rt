@@ -221,6 +221,18 @@ pub(crate) fn cut_journal(
     file.sync_all().map_err(|error| file_refusal(&error))
 }
 
+/// Brings a journal to the disk, as it is.
+pub(crate) fn sync_journal(
+    rt: &HostRuntime,
+    alloc: Global,
+    dir: &str,
+    journal: u64,
+) -> Result<(), StoreRefusal> {
+    let path = journal_path(alloc, dir, journal)?;
+    let file = File::open(rt, path.as_str()).map_err(|error| file_refusal(&error))?;
+    file.sync_all().map_err(|error| file_refusal(&error))
+}
+
 /// A new journal; what stood under its number is gone.
 pub(crate) fn new_journal(
     rt: &HostRuntime,

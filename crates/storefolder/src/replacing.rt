@@ -50,7 +50,7 @@ pub fn begin_database(
     let path = next_path(alloc, dir, member)?;
     remove(rt, log_path(alloc, path.as_str())?.as_str())?;
     make_database(rt, alloc, dir, path.as_str())?;
-    open_file(rt, path.as_str())
+    open_file(rt, path.as_str(), true)
 }
 
 // The first of the names that a database of a member is kept under which no file has: `node1.db.old1` and so on. 56 where all are taken.

@@ -1,10 +1,11 @@
 //! What is done with a store while it is open.
 use crate::journal_file::JournalFile;
 use crate::opening::{Found, Kept, Opened, close, open};
-use sqlite::{Alter, File as DatabaseFile, FileStore};
+use sqlite::Alter;
 use std::alloc::Global;
 use store::announcing::Announces;
 use store::{Device, Store, StoreRefusal};
+use unsynced::Stored;
 
 /// What a program does with a store while it is open, whatever keeps its members.
 pub trait Task: Drop {
@@ -43,7 +44,7 @@ pub fn with_store<T: Task>(
     task: T,
 ) -> Result<T::Output, StoreRefusal> {
     let opened = open(rt, alloc, dir, syncs, reading)?;
-    let (output, opened) = work_over::<FileStore<DatabaseFile>, JournalFile, T>(rt, opened, task);
-    close(opened)?;
+    let (output, opened) = work_over::<Stored, JournalFile, T>(rt, opened, task);
+    close(rt, opened)?;
     Ok(output)
 }

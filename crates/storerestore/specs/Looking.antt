@@ -1,5 +1,5 @@
 -- Which databases may be made anew.
-use Rattle.std.specs.Prelude.{◌≡◌, ◌⊎◌, ◌↔◌, ◌<◌, ◌/◌, IsTrue, true, false, Option, Some, None, Result, Ok, Err, List, length}
+use Rattle.std.specs.Prelude.{◌≡◌, ◌⊎◌, ◌↔◌, ◌<◌, ◌/◌, IsTrue, true, false, Option, Some, None, Result, Ok, Err, ℕ, List, length}
 use Rattle.std.specs.List.{All, count_by}
 use Rattle.keep.specs.Durable.{Durable, blank}
 use Rattle.journal.specs.Digests.{summary_of}
@@ -12,7 +12,7 @@ use Rattle.store.specs.declared.refusal.StoreRefusal.{StoreRefusal}
 use Rattle.storeaudit.specs.Found.{IsFound}
 use Rattle.storerestore.specs.declared.looking.Looked.{Looked}
 
--- it can't be read
+-- it can't be read, or may hold anything
 abbrev pub unreadable : Looked
 unreadable = record { fits = false; log = None }
 
@@ -37,3 +37,7 @@ IsNoOther looked = (looked.fits ≡ true) ⊎ (looked.log ≡ None)
 -- one that can be read and holds something else is made anew only where most are what the journals tell
 abbrev pub MayBeMade : List Looked → Type 0
 MayBeMade all = MostFit all ⊎ All IsNoOther all
+
+-- each of so many may hold anything
+abbrev pub AllLost : List Looked → ℕ → Type 0
+AllLost all members = (length all ≡ members) × All (λ (looked : Looked). looked ≡ unreadable) all

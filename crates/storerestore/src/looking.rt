@@ -25,8 +25,8 @@ pub(crate) struct Looked {
 }
 
 impl Looked {
-    // Of a database that can't be read.
-    fn unreadable() -> Looked
+    /// Of a database that can't be read, or may hold anything.
+    pub(crate) fn unreadable() -> Looked
         ensures { result ≡ unreadable }
     {
         Looked {

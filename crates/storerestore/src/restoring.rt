@@ -1,6 +1,6 @@
 //! The restoring of a store's folder.
 ghost use Rattle.std.specs.Prelude.{◌≡◌, ◌↔◌, ℕ, None, map, IfErr, IfOk, IsTrue, OnErr, OnOk};
-ghost use Rattle.storerestore.specs.Looking.{MayBeMade, MostFit};
+ghost use Rattle.storerestore.specs.Looking.{AllLost, MayBeMade, MostFit};
 ghost use Rattle.storerestore.specs.declared.looking.Looked.{Looked as TheLooked};
 
 use crate::looking::{Looked, look_at_file};
@@ -14,7 +14,8 @@ use store::held::HeldLog;
 use store::known::KnownLog;
 use store::{Past, StoreRefusal};
 use storefolder::{
-    Form, Journals, begin_database, enter, find_database, find_journals, put_database, tell_all,
+    Form, Journals, begin_database, enter, find_database, find_journals, forget_boot, is_unsynced,
+    put_database, tell_all,
 };
 
 /// A database that was made anew.
@@ -44,6 +45,37 @@ fn look_at_all(
         all.push(look_at_file(alloc, database, form, &tale, member, &mut known)?)?;
     }
     Ok(all)
+}
+
+// Of databases that may hold anything none is looked at.
+fn look_at_none(alloc: Global, members: usize) -> Result<Vec<Looked>, StoreRefusal>
+    ensures { IfOk result (λ all. AllLost all.items members) }
+{
+    let mut all = Vec::new(alloc);
+    for _before in 0..members {
+        all.push(Looked::unreadable())?;
+    }
+    Ok(all)
+}
+
+// Looks at the databases, of which those that the machine stopped over may hold anything. 55 of the journal before the first one, where
+// that is away and they do.
+fn look(
+    rt: &HostRuntime,
+    alloc: Global,
+    dir: &str,
+    form: &Form,
+    journals: Journals,
+    past: &Past,
+    are_lost: bool,
+) -> Result<Vec<Looked>, StoreRefusal> {
+    if !are_lost {
+        return look_at_all(rt, alloc, dir, form, past);
+    }
+    if journals.is_later() {
+        return Err(journals.refusal_before());
+    }
+    look_at_none(alloc, form.members)
 }
 
 // Whether more than half of the databases are what the journals tell.
@@ -154,26 +186,19 @@ fn replace_all(
     Ok(all)
 }
 
-/// Makes each database of the store in a folder anew that is missing, can't be read, or is not what the last journal tells: with what all
-/// journals give. What was there is kept beside it. It gives those that were made, in the order of the members, and changes nothing else.
-/// Where the first journals are away, the log of another member has to begin as the journals tell.
-///
-/// 46 to 48 as `enter` refuses them; 49 of a database that can be read, where not more than half of all are what the journals tell, with
-/// nothing changed: it may be a journal that was changed; 50 to 52, 54 and 55 of journals that are not what their events give; 44 where
-/// these come to what no member can have stored; 38, 40 and 43 where files can't be read or written, and 56 where a thousand databases of
-/// a member are kept, after which it can be done again. How many journals were read and played is told to who asks for it.
-pub fn restore<Q: Progress>(
+// Makes the databases anew that are to be, and gives those.
+fn restore_in<Q: Progress>(
     rt: &HostRuntime,
     alloc: Global,
     dir: &str,
+    form: &Form,
+    are_lost: bool,
     progress: &Q,
 ) -> Result<Vec<Restored>, StoreRefusal> {
-    let folder = enter(rt, alloc, dir)?;
-    let form = &folder.form;
     let journals = find_journals(rt, alloc, dir)?;
     let mut past = Past::new(alloc, form.members)?;
     tell_all(rt, alloc, dir, form, journals, &mut past, progress)?;
-    let all = look_at_all(rt, alloc, dir, form, &past)?;
+    let all = look(rt, alloc, dir, form, journals, &past, are_lost)?;
     check_most(all.as_slice())?;
     let members = unfit_in(alloc, all.as_slice())?;
     if members.is_empty() {
@@ -182,4 +207,28 @@ pub fn restore<Q: Progress>(
     let mut play = new_play(alloc, form, journals, logs_in(alloc, all)?)?;
     tell_all(rt, alloc, dir, form, journals, &mut play, progress)?;
     replace_all(rt, alloc, dir, form, members.as_slice(), &mut play)
+}
+
+/// Makes each database of the store in a folder anew that is missing, can't be read, or is not what the last journal tells: with what all
+/// journals give. Where the machine stopped while the store was open, that is each one, whatever it holds. What was there is kept beside it.
+/// It gives those that were made, in the order of the members, and changes nothing else. Where the first journals are away, the log of
+/// another member has to begin as the journals tell.
+///
+/// 46 to 48 as `enter` refuses them; 49 of a database that can be read, where not more than half of all are what the journals tell, with
+/// nothing changed: it may be a journal that was changed; 50 to 52, 54 and 55 of journals that are not what their events give, or that are
+/// away; 44 where these come to what no member can have stored; 38, 40 and 43 where files can't be read or written, and 56 where a thousand
+/// databases of a member are kept, after which it can be done again. How many journals were read and played is told to who asks for it.
+pub fn restore<Q: Progress>(
+    rt: &HostRuntime,
+    alloc: Global,
+    dir: &str,
+    progress: &Q,
+) -> Result<Vec<Restored>, StoreRefusal> {
+    let folder = enter(rt, alloc, dir)?;
+    let are_lost = is_unsynced(rt, alloc, dir)?;
+    let restored = restore_in(rt, alloc, dir, &folder.form, are_lost, progress)?;
+    if are_lost {
+        forget_boot(rt, alloc, dir)?;
+    }
+    Ok(restored)
 }

@@ -9,10 +9,10 @@ returns-in_err-write-clause-late g c = λ first fell. ended_unsaid g.K.Journal.D
 
 pub returns-clause-goes : goal.returns-clause-goes
 returns-clause-goes g c =
-    goes_on g.K.Journal.Device.contents g.K.LogReader.is_honest g.K.LogReader.may_hold g.K.Keeper.holds c.args.self.now c.fall.new.self c.flush.new.self
-    (ended g.K.Journal.Device.contents g.K.LogReader.is_honest g.K.LogReader.may_hold g.K.Keeper.holds c.args.member c.args.self.now c.write.new.self c.fall.new.self c.write.ensures.same c.in_ok-write.ensures.live c.in_ok-write.ensures.continues c.fall.ensures.stops) c.flush.ensures.goes
+    goes_on g.K.Journal.Device.contents g.K.LogReader.is_honest g.K.LogReader.may_hold g.K.Keeper.holds c.args.self.now c.fall.new.self c.settle.new.self
+    (ended g.K.Journal.Device.contents g.K.LogReader.is_honest g.K.LogReader.may_hold g.K.Keeper.holds c.args.member c.args.self.now c.write.new.self c.fall.new.self c.write.ensures.same c.in_ok-write.ensures.live c.in_ok-write.ensures.continues c.fall.ensures.stops) c.settle.ensures.goes
 
 pub returns-clause-late : goal.returns-clause-late
 returns-clause-late g c = λ first fell.
-    goes_on g.K.Journal.Device.contents g.K.LogReader.is_honest g.K.LogReader.may_hold g.K.Keeper.holds first c.fall.new.self c.flush.new.self
-    (ended_late g.K.Journal.Device.contents g.K.LogReader.is_honest g.K.LogReader.may_hold g.K.Keeper.holds c.args.member first c.args.self.now c.write.new.self c.fall.new.self fell c.write.ensures.same c.in_ok-write.ensures.live c.in_ok-write.ensures.continues c.fall.ensures.stops) c.flush.ensures.goes
+    goes_on g.K.Journal.Device.contents g.K.LogReader.is_honest g.K.LogReader.may_hold g.K.Keeper.holds first c.fall.new.self c.settle.new.self
+    (ended_late g.K.Journal.Device.contents g.K.LogReader.is_honest g.K.LogReader.may_hold g.K.Keeper.holds c.args.member first c.args.self.now c.write.new.self c.fall.new.self fell c.write.ensures.same c.in_ok-write.ensures.live c.in_ok-write.ensures.continues c.fall.ensures.stops) c.settle.ensures.goes
