@@ -21,6 +21,7 @@ use Rattle.store.specs.Nodes.{Rests}
 use Rattle.store.specs.Seats.{HasMember, IsClean}
 use Rattle.store.specs.declared.scribe.Scribe.{Scribe}
 use Rattle.store.specs.Continuing.{IsContinued, reading_in}
+use Rattle.store.specs.Fullness.{longest}
 use Rattle.store.specs.Going.{AreClean, AreToldIn, IsIn, IsRunOf}
 use Rattle.store.specs.Journals.{IsSpent}
 use Rattle.store.specs.Lines.{Lines, lines_in}
@@ -45,7 +46,7 @@ module _ {K J I : Type 0} {an : _} {g : _} {s : _} {d : _} where
   abbrev pub starts_of : List (Seat K J I an g s d) → List Event
   starts_of seats = flat_map (λ (seat : Seat K J I an g s d). if is_none seat.node then [] else (Start seat.member ∷ [])) seats
 
-  -- how many entries the longest log of these members has, or so many
+  -- how many entries the longest log of these members has, or so many where none has as many: from 0 on it is `longest`
   abbrev pub longest_of : ℕ → List (Seat K J I an g s d) → ℕ
   longest_of entries seats = fold (λ (most : ℕ) (seat : Seat K J I an g s d). max most (length seat.chain.links.items)) entries seats
 
@@ -95,7 +96,7 @@ module _ {K J I : Type 0} {an : _} {g : _} {s : _} {d : _} where
     pub clean : AreClean honest holds store → All (IsClean honest holds) members.seats.items
     pub went : AreClean honest holds store → (u w : World) (starts : Goes (language_of members.schema) (length members.seats.items) u w) → starts.events ≡ starts_of members.seats.items → w.sent ≡ [] → AreMembers held holds members.schema (length members.seats.items) members.seats.items w →
         (v : World) × (goes : Goes (language_of members.schema) (length members.seats.items) w v) × IsIn held holds store v × AreRecorded (language_of members.schema) (length members.seats.items) u scribe.reading lines (starts.events ++ goes.events) (IsSpent store.scribe) × AreToldIn goes.gave (lines_in lines) ×
-        ((IsSpent store.scribe → ⊥) → AreWritten (longest_of 0 members.seats.items) (all_told goes.gave) (lines_in lines) store.noted)
+        ((IsSpent store.scribe → ⊥) → AreWritten (longest members.seats.items (λ (seat : Seat K J I an g s d). length seat.chain.links.items)) (all_told goes.gave) (lines_in lines) store.noted)
 
   -- while nothing wrong was taken as true, a store is the run of some events from what these databases held
   abbrev pub IsRunFrom : (honest : K → Type 0) (held : K → Durable → Type 0) (holds : I → Durable → Type 0) (images : List (Option I)) → Store K J I an g s d → Type 0

@@ -1,5 +1,5 @@
 //! Questions.
-ghost use Rattle.std.specs.Prelude.{◌≡◌, ◌-◌, IsErr, IfOk, IfErr, OnOk, OnErr, IfSome, MatchOption, slice_get, string_bytes};
+ghost use Rattle.std.specs.Prelude.{◌≡◌, ◌-◌, ℕ, List, Option, IsErr, IfOk, IfErr, OnOk, OnErr, IfSome, MatchOption, slice_get, string_bytes};
 ghost use Rattle.store.specs.Asking.{IsAnswerOf};
 ghost use Rattle.answertext.specs.Answers.{answer_text};
 ghost use Rattle.store.specs.Going.{GoesOn};
@@ -134,6 +134,7 @@ where
         ensures settled { OnOk result (IsSettled K.Journal.is_settled self.new.scribe) }
         ensures asked { IfOk result (λ a. MatchOption (slice_get self.new.seats.items (member - 1)) ⊥ (λ seat. MatchOption seat.node ⊥ (λ n. IsAnswerOf K.is_honest n self.new.schema text.now a))) }
         ensures unclosed { IfErr result (IsUnclosed K.Journal.contents self.new.scribe member text.now) }
+        ensures refused { IfErr result (λ r. (closed : Option (List ℕ)) → r ≡ StoreRefusal.Refused (Refusal.NotClosed closed) → IsSettled K.Journal.is_settled self.new.scribe) }
         ensures goes { GoesOn K.Journal.contents K.is_honest K.may_hold K.holds self.old self.new }
         ensures spent { IsSpent self.old.scribe → IsErr result × (self.new ≡ self.old) }
     {

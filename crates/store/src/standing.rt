@@ -3,7 +3,7 @@ ghost use Rattle.std.specs.Prelude.{◌≡◌, ◌≢◌, ◌⊎◌, ◌-◌, �
 ghost use Rattle.store.specs.Became.{EachBecame};
 ghost use Rattle.store.specs.Closing.{IsDownIn, MayRest};
 ghost use Rattle.store.specs.Going.{GoesOn, StartsOne, Stops};
-ghost use Rattle.store.specs.Journals.{IsAllOn, IsLonger, IsPartOn, IsSpent, device_in};
+ghost use Rattle.store.specs.Journals.{IsAllOn, IsLonger, IsPartOn, IsSettled, IsSpent, device_in};
 ghost use Rattle.store.specs.Lives.{HasStored};
 ghost use Rattle.store.specs.Refusals.{IsOfJournal};
 ghost use Rattle.store.specs.Statuses.{IsStatus, leads};
@@ -39,6 +39,7 @@ where
     /// spent then, and the member down, unless no memory was left to note its end (43).
     #[tactic(auto, using(crate::proofs::Going::stays))]
     pub fn stop(&mut self, member: Member) -> Result<(), StoreRefusal>
+        ensures settled { OnOk result (IsSettled K.Journal.is_settled self.new.scribe) }
         ensures others { (at : ℕ) → at ≢ member - 1 → slice_get self.new.seats.items at ≡ slice_get self.old.seats.items at }
         ensures fails { OnErr result (IsSpent self.new.scribe ⊎ (self.new ≡ self.old)) }
         ensures goes { GoesOn K.Journal.contents K.is_honest K.may_hold K.holds self.old self.new }
@@ -53,6 +54,7 @@ where
 
     // The journal says that a member ends, and its node is stopped, if it is not down before.
     pub(crate) fn end_now(&mut self, member: Member) -> Result<(), StoreRefusal>
+        ensures settled { OnOk result (IsSettled K.Journal.is_settled self.new.scribe) }
         ensures others { (at : ℕ) → at ≢ member - 1 → slice_get self.new.seats.items at ≡ slice_get self.old.seats.items at }
         ensures fails { OnErr result (IsSpent self.new.scribe) }
         ensures goes { GoesOn K.Journal.contents K.is_honest K.may_hold K.holds self.old self.new }

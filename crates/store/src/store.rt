@@ -80,6 +80,7 @@ where
     ) -> Result<Store<K>, StoreRefusal>
         ensures begins { IfOk result (Begins K.Journal.contents K.is_honest K.may_hold K.holds members scribe) }
         ensures journal { IfOk result (λ store. HasBegun K.Journal.contents scribe store.scribe journal marks) }
+        ensures settled { IfOk result (λ store. IsSettled K.Journal.is_settled store.scribe) }
     {
         let Members {
             alloc,

@@ -1,4 +1,6 @@
 //! The start of the machine in which databases were written that are not on the disk.
+ghost use Rattle.std.specs.Prelude.{◌≡◌, ◌≢◌, ◌↔◌, Some, option_map};
+
 use crate::faults::file_refusal;
 use crate::place::{exists, put_file, sync_folder};
 use std::alloc::{AllocError, Global};
@@ -36,6 +38,17 @@ pub(crate) enum Noted {
     Another,
 }
 
+// What a note says in this start of the machine, if the system says which it is.
+fn noted_of(note: &[u8], boot: Option<&str>) -> Noted
+    ensures this { result ≡ Noted.ThisBoot ↔ option_map (λ b. b.now) boot.entry ≡ Some note.now }
+    ensures another { result ≡ Noted.Another ↔ option_map (λ b. b.now) boot.entry ≢ Some note.now }
+{
+    match boot {
+        Some(boot) if note == boot.as_bytes() => Noted::ThisBoot,
+        _ => Noted::Another,
+    }
+}
+
 /// What is noted of the databases in a folder. 40 and 43 where that can't be told.
 pub(crate) fn noted_in(rt: &HostRuntime, alloc: Global, dir: &str) -> Result<Noted, StoreRefusal> {
     let path = note_path(alloc, dir)?;
@@ -44,8 +57,8 @@ pub(crate) fn noted_in(rt: &HostRuntime, alloc: Global, dir: &str) -> Result<Not
     }
     let bytes: Vec<u8> = fs::read(rt, path.as_str()).map_err(|error| file_refusal(&error))?;
     Ok(match this_boot(rt) {
-        Some(boot) if bytes.as_slice() == boot.as_bytes() => Noted::ThisBoot,
-        _ => Noted::Another,
+        Some(boot) => noted_of(&bytes, Some(boot.as_str())),
+        None => noted_of(&bytes, None),
     })
 }
 

@@ -19,7 +19,8 @@ ghost use Rattle.store.specs.Closing.{AreLeft, IsClosed, images_in};
 ghost use Rattle.store.specs.Going.{Anywhere, AreClean, ComesOf, GoesOn, GoesOnSo, IsIn};
 ghost use Rattle.store.specs.declared.outcome.Outcome.{Outcome};
 ghost use Rattle.store.specs.declared.scribe.Scribe.{Scribe};
-ghost use Rattle.store.specs.Opening.{AreFound, AreOpened, Begins, IsRunFrom, longest_of};
+ghost use Rattle.store.specs.Fullness.{longest};
+ghost use Rattle.store.specs.Opening.{AreFound, AreOpened, Begins, IsRunFrom};
 ghost use Rattle.store.specs.Tales.{Told};
 ghost use Rattle.storelaws.specs.Sessions.{Answers, AreAfter, Came, Further, HasAnswered, IsFiled, IsListed, IsOnFile, session_of, session_on};
 
@@ -62,7 +63,7 @@ pub fn is_filed<K: Announces>(members: &Members<K>, old: &Store<K>, new: &Store<
 where
     K::Image: Drop,
     ensures begins { (told : Told) (images : List (Option K.Image)) (found : List Node) (scribe : Scribe K.Journal) → AreFound K.holds images found → AreOpened K.is_honest K.may_hold K.holds told images members.now →
-        Begins K.Journal.contents K.is_honest K.may_hold K.holds members.now scribe new.now → AreClean K.is_honest K.holds new.now → IsFiled K.Journal.contents K.may_hold K.holds found scribe (longest_of 0 members.now.seats.items) new.now }
+        Begins K.Journal.contents K.is_honest K.may_hold K.holds members.now scribe new.now → AreClean K.is_honest K.holds new.now → IsFiled K.Journal.contents K.may_hold K.holds found scribe (longest members.now.seats.items (λ seat. length seat.chain.links.items)) new.now }
     ensures goes { (found : List Node) (scribe : Scribe K.Journal) (noted : ℕ) (before : IsFiled K.Journal.contents K.may_hold K.holds found scribe noted old.now) → GoesOn K.Journal.contents K.is_honest K.may_hold K.holds old.now new.now → AreClean K.is_honest K.holds new.now →
         (after : IsFiled K.Journal.contents K.may_hold K.holds found scribe noted new.now) × IsBeginning before.recorded.filed after.recorded.filed }
 {}
