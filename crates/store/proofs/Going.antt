@@ -32,20 +32,20 @@ use Rattle.journal.specs.declared.line.Line.TheVariants.{Ends, Life, Made, Takes
 use Rattle.journal.specs.declared.stored.Summary.{Summary}
 use Rattle.store.specs.declared.scribe.Scribe.{Scribe}
 use Rattle.store.specs.Lines.{Lines, and_then, lines_in, no_lines, waiting}
-use Rattle.store.specs.Recording.{AreRecorded, HasInShort, IsQuiet, IsSilent, IsStartOrStop, IsTrue, OneTells, Records, job_of, last_reading}
+use Rattle.store.specs.Recording.{AreRecorded, HasInShort, IsQuiet, IsSilent, IsStartOrStop, IsTrue, OneSays, Records, job_of, last_reading}
 use Rattle.store.specs.Continuing.{IsContinued, IsKeptOn, reading_in}
 use Rattle.store.specs.Journals.{IsSpent}
 use Rattle.store.specs.Seats.{HasMember, IsClean}
 use Rattle.node.specs.Work.{Work}
 use Rattle.store.proofs.Continuing.{continued_both, continued_reading, continued_same, continued_spent, kept_both, kept_is, kept_none, kept_same}
-use Rattle.store.proofs.Recording.{all_more, last_both, recorded_after, recorded_both, recorded_idle, recorded_late, recorded_silent, silent_quiet, silent_true}
+use Rattle.store.proofs.Recording.{all_more, last_both, line_behind, of_more, recorded_after, recorded_both, recorded_idle, recorded_late, recorded_silent, silent_quiet, silent_true}
 use Rattle.store.proofs.Lines.{lines_then}
 use Rattle.store.proofs.Storing.{idle_stores, short_same}
 use Rattle.store.specs.Lives.{HasStored}
 use Rattle.flight.specs.Telling.{outcomes_of}
-use Rattle.store.specs.Noting.{AreWritten, all_told, first_told, noted_after, outcomes_in}
-use Rattle.store.proofs.Noting.{none_told, outcomes_in-append, silent_none, written_amid, written_both, written_none, written_silent}
-use Rattle.store.specs.Going.{Anywhere, AreClean, AreFiled, AreToldIn, AreUnderWay, BeginsStep, Changes, ComesOf, EndsStep, GoesOn, GoesOnFrom, GoesOnSo, HasSent, Heard, Hears, IsAmong, IsBrought, IsIn, IsOutcome, Publishes, PublishesSo, StartsOne, Stops, WentOn, with_begun}
+use Rattle.store.specs.Noting.{AreWritten, IsEnd, first_told, noted_after}
+use Rattle.store.proofs.Noting.{end_written, life_written, made_end, written_both, written_silent}
+use Rattle.store.specs.Going.{Anywhere, AreClean, AreFiled, AreToldIn, AreUnderWay, BeginsStep, Changes, ComesOf, EndsStep, GoesOn, GoesOnFrom, GoesOnSo, HasSent, Heard, Hears, IsAmong, IsBrought, IsIn, IsOutcome, Publishes, PublishesSo, StartsOne, Stops, ToldIn, WentOn, with_begun}
 
 -- ---- what is heard
 
@@ -125,28 +125,30 @@ module _ (one two : List (List Output)) where
 -- outcomes in lines
 module _ (one two : List (List Output)) where
   pub lines_before : (lines : List Line) → AreToldIn one lines → AreToldIn (one ++ two) lines
-  lines_before lines t = all_more (λ m told. HasGiven one (Applied m told)) (λ m told. HasGiven (one ++ two) (Applied m told)) (λ m told g. given_before one two (Applied m told) g) lines t
+  lines_before lines t =
+      all_more (ToldIn one) (ToldIn (one ++ two)) (λ m outcomes o. of_more (λ told. HasGiven one (Applied m told)) (λ told. HasGiven (one ++ two) (Applied m told)) (λ told g. given_before one two (Applied m told) g) outcomes o) lines t
 
   pub lines_after : (lines : List Line) → AreToldIn two lines → AreToldIn (one ++ two) lines
-  lines_after lines t = all_more (λ m told. HasGiven two (Applied m told)) (λ m told. HasGiven (one ++ two) (Applied m told)) (λ m told g. given_then one two (Applied m told) g) lines t
+  lines_after lines t =
+      all_more (ToldIn two) (ToldIn (one ++ two)) (λ m outcomes o. of_more (λ told. HasGiven two (Applied m told)) (λ told. HasGiven (one ++ two) (Applied m told)) (λ told g. given_then one two (Applied m told) g) outcomes o) lines t
 
   -- those of two calls
   pub told_both : (early late : Lines) → AreToldIn one (lines_in early) → AreToldIn two (lines_in late) → AreToldIn (one ++ two) (lines_in (and_then early late))
   told_both early late a b =
       subst (AreToldIn (one ++ two)) (sym (lines_then early late))
-      (All-append (IsTrue (λ m told. HasGiven (one ++ two) (Applied m told))) (lines_in early) (lines_in late) (lines_before (lines_in early) a) (lines_after (lines_in late) b))
+      (All-append (IsTrue (ToldIn (one ++ two))) (lines_in early) (lines_in late) (lines_before (lines_in early) a) (lines_after (lines_in late) b))
 
 -- lines that have none
 pub told_silent : (gave : List (List Output)) (lines : List Line) → All IsSilent lines → AreToldIn gave lines
-told_silent gave lines s = silent_true (λ m told. HasGiven gave (Applied m told)) lines s
+told_silent gave lines s = silent_true (ToldIn gave) lines s
 
-pub one_told : (gave : List (List Output)) (line : Line) → IsTrue (λ m told. HasGiven gave (Applied m told)) line → AreToldIn gave (line ∷ [])
-one_told gave line t = All-cons (IsTrue (λ m told. HasGiven gave (Applied m told))) line [] t (All-nil (IsTrue (λ m told. HasGiven gave (Applied m told))))
+pub one_told : (gave : List (List Output)) (line : Line) → IsTrue (ToldIn gave) line → AreToldIn gave (line ∷ [])
+one_told gave line t = All-cons (IsTrue (ToldIn gave)) line [] t (All-nil (IsTrue (ToldIn gave)))
 
 -- a line that has none in front of others
-pub told_behind : (gave : List (List Output)) (line : Line) (lines : Lines) → IsTrue (λ m told. HasGiven gave (Applied m told)) line → AreToldIn gave (lines_in lines) → AreToldIn gave (lines_in (with_begun (line ∷ []) lines))
+pub told_behind : (gave : List (List Output)) (line : Line) (lines : Lines) → IsTrue (ToldIn gave) line → AreToldIn gave (lines_in lines) → AreToldIn gave (lines_in (with_begun (line ∷ []) lines))
 told_behind gave line lines a b =
-    subst (AreToldIn gave) (sym (lines_then (waiting (line ∷ [])) lines)) (All-cons (IsTrue (λ m told. HasGiven gave (Applied m told))) line (lines_in lines) a b)
+    subst (AreToldIn gave) (sym (lines_then (waiting (line ∷ [])) lines)) (All-cons (IsTrue (ToldIn gave)) line (lines_in lines) a b)
 
 told_rest : (gave : List (List Output)) (line : Line) (lines : Lines) → AreToldIn gave (lines_in (with_begun (line ∷ []) lines)) → AreToldIn gave (line ∷ lines_in lines)
 told_rest gave line lines t = subst (AreToldIn gave) (lines_then (waiting (line ∷ [])) lines) t
@@ -210,11 +212,11 @@ sent_one letters count number message sent is u =
 
 module _ {K J I : Type 0} {an : _} {g : _} {s : _} {d : _} (contents : J → Option (List ℕ)) where
   -- what was written, and then more
-  pub written_then : (from : ℕ) (b c : Store K J I an g s d) (one two : Lines) → IsContinued contents b.scribe c.scribe two → (early late : List (List Output)) → ((IsSpent b.scribe → ⊥) → AreWritten from (all_told early) (lines_in one) b.noted) → ((IsSpent c.scribe → ⊥) → AreWritten b.noted (all_told late) (lines_in two) c.noted) →
-      (IsSpent c.scribe → ⊥) → AreWritten from (all_told (early ++ late)) (lines_in (and_then one two)) c.noted
+  pub written_then : (from : ℕ) (b c : Store K J I an g s d) (one two : Lines) → IsContinued contents b.scribe c.scribe two → (early late : List (List Output)) → ((IsSpent b.scribe → ⊥) → AreWritten from early (lines_in one) b.noted) → ((IsSpent c.scribe → ⊥) → AreWritten b.noted late (lines_in two) c.noted) →
+      (IsSpent c.scribe → ⊥) → AreWritten from (early ++ late) (lines_in (and_then one two)) c.noted
   written_then from b c one two came early late x y live =
       let up : IsSpent b.scribe → ⊥ = λ spent. let stays = continued_spent contents b.scribe c.scribe two came spent in live (subst IsSpent (sym stays.0) spent) in
-      subst (λ (lines : List Line). AreWritten from (all_told (early ++ late)) lines c.noted) (sym (lines_then one two)) (written_both from b.noted c.noted early late (lines_in one) (lines_in two) (x up) (y live))
+      subst (λ (lines : List Line). AreWritten from (early ++ late) lines c.noted) (sym (lines_then one two)) (written_both from b.noted c.noted early late (lines_in one) (lines_in two) (x up) (y live))
 
 module _ {K J I : Type 0} {an : _} {g : _} {s : _} {d : _} (contents : J → Option (List ℕ)) (honest : K → Type 0) (held : K → Durable → Type 0) (holds : I → Durable → Type 0) where
   abbrev On : Store K J I an g s d → Store K J I an g s d → Type 0
@@ -241,7 +243,7 @@ module _ {K J I : Type 0} {an : _} {g : _} {s : _} {d : _} (contents : J → Opt
       let filed = recorded_both language n w x.world (reading_in a.scribe) (reading_in b.scribe) one two x.goes.events y.goes.events (IsSpent b.scribe) (IsSpent c.scribe) x.goes.leads (continued_reading contents a.scribe b.scribe one early)
       (λ spent. let stays = continued_spent contents b.scribe c.scribe two late spent in stays.1) (λ spent. let stays = continued_spent contents b.scribe c.scribe two late spent in subst IsSpent (sym stays.0) spent) x.events_are then_filed in
       record {
-        went = record { world = y.world; goes = both.goes; events_are = subst (AreFiled a c (and_then one two) w) (sym both.events_are) filed.0; outcomes_are = subst (λ (outs : List (List Output)). AreToldIn outs (lines_in (and_then one two))) (sym both.gave_is) (told_both x.goes.gave y.goes.gave one two x.outcomes_are y.outcomes_are); written = λ live. subst (λ (outs : List (List Output)). AreWritten a.noted (all_told outs) (lines_in (and_then one two)) c.noted) (sym both.gave_is) (written_then contents a.noted b c one two late x.goes.gave y.goes.gave x.written y.written live); is_in = y.is_in; hears = subst (λ (outs : List (List Output)). Hears (WasTold outs) a.watched c.watched) (sym both.gave_is) hears };
+        went = record { world = y.world; goes = both.goes; events_are = subst (AreFiled a c (and_then one two) w) (sym both.events_are) filed.0; outcomes_are = subst (λ (outs : List (List Output)). AreToldIn outs (lines_in (and_then one two))) (sym both.gave_is) (told_both x.goes.gave y.goes.gave one two x.outcomes_are y.outcomes_are); written = λ live. subst (λ (outs : List (List Output)). AreWritten a.noted outs (lines_in (and_then one two)) c.noted) (sym both.gave_is) (written_then contents a.noted b c one two late x.goes.gave y.goes.gave x.written y.written live); is_in = y.is_in; hears = subst (λ (outs : List (List Output)). Hears (WasTold outs) a.watched c.watched) (sym both.gave_is) hears };
         gave = both.gave_is;
       }
 
@@ -458,60 +460,52 @@ module _ {K J I : Type 0} {an : _} {g : _} {s : _} {d : _} (contents : J → Opt
     clean = λ k. subst (All (IsClean honest holds)) p.seats k;
     went = λ k w i.
         let goes = goes_nowhere (language_of a.schema) (length a.seats.items) w in
-        record { world = w; goes = goes; events_are = recorded_silent (language_of a.schema) (length a.seats.items) w (reading_in a.scribe) p.journal.0 goes.events (IsSpent b.scribe) (nowhere_events (language_of a.schema) (length a.seats.items) w) p.journal.1; outcomes_are = told_silent goes.gave (lines_in p.journal.0) p.journal.1; written = λ live. written_silent a.noted b.noted goes.gave (lines_in p.journal.0) (nowhere_gave (language_of a.schema) (length a.seats.items) w) p.journal.1 (p.noted live (λ m one none. none)); is_in = same_in a b [] p w i; hears = passes a b [] [] p (WasTold goes.gave) (nobody (WasTold goes.gave)) };
+        record { world = w; goes = goes; events_are = recorded_silent (language_of a.schema) (length a.seats.items) w (reading_in a.scribe) p.journal.0 goes.events (IsSpent b.scribe) (nowhere_events (language_of a.schema) (length a.seats.items) w) p.journal.1; outcomes_are = told_silent goes.gave (lines_in p.journal.0) p.journal.1; written = λ live. written_silent a.noted b.noted goes.gave (lines_in p.journal.0) (nowhere_gave (language_of a.schema) (length a.seats.items) w) p.journal.1 (p.noted live (λ m outcomes none. none)); is_in = same_in a b [] p w i; hears = passes a b [] [] p (WasTold goes.gave) (nobody (WasTold goes.gave)) };
   }
 
   -- ---- a step is over
 
   -- nothing that is told came to the journal
-  pub publishes_so : (tells : ℕ → Told → Type 0) (a b : Store K J I an g s d) (messages : List Message) (told : List Told) → Publishes contents a b messages told → PublishesSo contents tells a b messages told
-  publishes_so tells a b messages told p = record {
+  pub publishes_so : (says : ℕ → List Noted → Type 0) (a b : Store K J I an g s d) (messages : List Message) (told : List Told) → Publishes contents a b messages told → PublishesSo contents says a b messages told
+  publishes_so says a b messages told p = record {
     schema = p.schema;
     seats = p.seats;
-    journal = (p.journal.0, silent_quiet tells (lines_in p.journal.0) p.journal.1, p.journal.2);
+    journal = (p.journal.0, silent_quiet says (lines_in p.journal.0) p.journal.1, p.journal.2);
     spent = p.spent;
     letters = p.letters;
     hears = p.hears;
-    noted = λ live none. p.noted live (λ m one none. none);
-  }
-
-  -- nothing is told in a step, and none is written
-  pub ends_silent : (m : ℕ) (a b : Store K J I an g s d) (messages : List Message) → Publishes contents a b messages [] → EndsStep contents m a b messages []
-  unfolding publishes_so
-  ends_silent m a b messages p = record {
-    publishes = publishes_so (OneTells m []) a b messages [] p;
-    written = λ live. written_none a.noted b.noted [] (lines_in p.journal.0) (silent_none (lines_in p.journal.0) p.journal.1) refl (p.noted live (λ m one none. none));
+    noted = λ live none. p.noted live (λ m outcomes none. none);
   }
 
   -- the store was spent in it
   pub ends_spent : (m : ℕ) (a b : Store K J I an g s d) (messages : List Message) (told : List Told) → Publishes contents a b messages told → IsSpent b.scribe → EndsStep contents m a b messages told
   ends_spent m a b messages told p spent = record {
-    publishes = publishes_so (OneTells m told) a b messages told p;
+    publishes = publishes_so (OneSays m told) a b messages told p;
     written = λ live. absurd (live spent);
   }
 
   -- what is told for the first time was written first, and up to where outcomes are written is another
-  pub made_then : (m : ℕ) (outcomes : List Noted) (old first mid new : Store K J I an g s d) (messages : List Message) (told : List Told) → IsQuiet (OneTells m told) (Made m outcomes) → (outcomes ≡ outcomes_of (first_told old.noted told)) × (first.noted ≡ noted_after old.noted told) →
+  pub made_then : (m : ℕ) (outcomes : List Noted) (old first mid new : Store K J I an g s d) (messages : List Message) (told : List Told) → IsQuiet (OneSays m told) (Made m outcomes) → (outcomes ≡ outcomes_of (first_told old.noted told)) × (first.noted ≡ noted_after old.noted told) →
       first ≡ record old { noted = first.noted } → mid ≡ record first { scribe = mid.scribe } → (IsSpent first.scribe → ⊥) →
       IsContinued contents first.scribe mid.scribe (waiting (Made m outcomes ∷ [])) → Publishes contents mid new messages told → EndsStep contents m old new messages told
   made_then m outcomes old first mid new messages told quiet all is on live came p =
       let line = Made m outcomes in
-      let tells = OneTells m told in
+      let says = OneSays m told in
       let one : IsContinued contents old.scribe mid.scribe (waiting (line ∷ [])) = subst (λ (s : Option (Scribe J)). IsContinued contents s mid.scribe (waiting (line ∷ []))) (ap (λ t. t.scribe) is) came in
-      let quiets = All-cons (IsQuiet tells) line (lines_in p.journal.0) quiet (silent_quiet tells (lines_in p.journal.0) p.journal.1) in
+      let quiets = All-cons (IsQuiet says) line (lines_in p.journal.0) quiet (silent_quiet says (lines_in p.journal.0) p.journal.1) in
       let joined = lines_then (waiting (line ∷ [])) p.journal.0 in
-      let last : (IsSpent new.scribe → ⊥) → new.noted ≡ noted_after old.noted told = λ up. p.noted up (λ k one none. none) ∙ ap (λ t. t.noted) on ∙ all.1 in
+      let last : (IsSpent new.scribe → ⊥) → new.noted ≡ noted_after old.noted told = λ up. p.noted up (λ k os none. none) ∙ ap (λ t. t.noted) on ∙ all.1 in
       record {
         publishes = record {
           schema = p.schema ∙ ap (λ t. t.schema) on ∙ ap (λ t. t.schema) is;
           seats = p.seats ∙ ap (λ t. t.seats.items) on ∙ ap (λ t. t.seats.items) is;
-          journal = (and_then (waiting (line ∷ [])) p.journal.0, subst (All (IsQuiet tells)) (sym joined) quiets, continued_both contents old.scribe mid.scribe new.scribe (waiting (line ∷ [])) p.journal.0 one p.journal.2);
+          journal = (and_then (waiting (line ∷ [])) p.journal.0, subst (All (IsQuiet says)) (sym joined) quiets, continued_both contents old.scribe mid.scribe new.scribe (waiting (line ∷ [])) p.journal.0 one p.journal.2);
           spent = λ k. absurd (live (subst IsSpent (sym (ap (λ t. t.scribe) is)) k));
           letters = λ up before u. p.letters up before (under_same old.queue.items mid.queue.items old.sent mid.sent before (ap (λ t. t.queue.items) on ∙ ap (λ t. t.queue.items) is) (ap (λ t. t.sent) on ∙ ap (λ t. t.sent) is) u);
           hears = subst (λ (w : Option Watched). Hears (IsAmong told) w new.watched) (ap (λ t. t.watched) on ∙ ap (λ t. t.watched) is) p.hears;
-          noted = λ up none. last up ∙ ap (noted_after old.noted) (none_told m told none);
+          noted = λ up none. absurd (none m outcomes quiet);
         };
-        written = λ up. written_amid old.noted new.noted told [] (line ∷ []) (lines_in p.journal.0) (lines_in (and_then (waiting (line ∷ [])) p.journal.0)) refl (silent_none (lines_in p.journal.0) p.journal.1) joined (append-nil outcomes ∙ all.0, last up);
+        written = λ up. subst (λ (lines : List Line). IsEnd m old.noted told lines new.noted) (sym joined) (made_end m old.noted new.noted told outcomes (lines_in p.journal.0) all.0 (last up) p.journal.1);
       }
 
   -- nothing but who leads is another
@@ -587,14 +581,15 @@ module _ {K J I : Type 0} {an : _} {g : _} {s : _} {d : _} (contents : J → Opt
             (subst (λ (r : Option ℤ). AreRecorded (language_of old.schema) (length old.seats.items) w r (with_begun (Takes m taken ∷ []) y.lines) on.0.goes.events (IsSpent new.scribe)) (sym shown) on.0.events_are) in
             let gave = on.0.goes.gave in
             let front = before ++ Takes m taken ∷ [] in
-            let P : Line → Type 0 = IsTrue (λ k told. HasGiven gave (Applied k told)) in
+            let P : Line → Type 0 = IsTrue (ToldIn gave) in
             let rest = All-tail P (Takes m taken) (lines_in y.lines) (told_rest gave (Takes m taken) y.lines on.0.outcomes_are) in
             let told : AreToldIn gave (lines_in (and_then (waiting front) y.lines)) =
             subst (AreToldIn gave) (sym (lines_then (waiting front) y.lines)) (All-append P front (lines_in y.lines) (All-push P before (Takes m taken) (told_silent gave before silent) tt) rest) in
-            let bare : (IsSpent new.scribe → ⊥) → AreWritten old.noted (all_told gave) (lines_in y.lines) new.noted = λ up. (ap outcomes_in (sym (lines_then (waiting (Takes m taken ∷ [])) y.lines)) ∙ (on.0.written up).0, (on.0.written up).1) in
-            let none : outcomes_in front ≡ [] = outcomes_in-append before (Takes m taken ∷ []) ∙ append-nil (outcomes_in before) ∙ silent_none before silent in
-            let joined : lines_in (and_then (waiting front) y.lines) ≡ front ++ (lines_in y.lines ++ []) = lines_then (waiting front) y.lines ∙ ap (λ (l : List Line). front ++ l) (sym (append-nil (lines_in y.lines))) in
-            (record { world = on.0.world; goes = on.0.goes; events_are = filed; outcomes_are = told; written = λ up. written_amid old.noted new.noted (all_told gave) front (lines_in y.lines) [] (lines_in (and_then (waiting front) y.lines)) none refl joined (bare up); is_in = on.0.is_in; hears = on.0.hears }, on.1);
+            let whole : before ++ Takes m taken ∷ lines_in y.lines ≡ lines_in (and_then (waiting front) y.lines) = line_behind before (Takes m taken) (lines_in y.lines) ∙ sym (lines_then (waiting front) y.lines) in
+            let bare : (IsSpent new.scribe → ⊥) → AreWritten old.noted gave (Takes m taken ∷ lines_in y.lines) new.noted = λ up. subst (λ (lines : List Line). AreWritten old.noted gave lines new.noted) (lines_then (waiting (Takes m taken ∷ [])) y.lines) (on.0.written up) in
+            let written : (IsSpent new.scribe → ⊥) → AreWritten old.noted gave (lines_in (and_then (waiting front) y.lines)) new.noted =
+            λ up. subst (λ (lines : List Line). AreWritten old.noted gave lines new.noted) whole (written_both old.noted old.noted new.noted [] gave before (Takes m taken ∷ lines_in y.lines) (written_silent old.noted old.noted [] before refl silent refl) (bare up)) in
+            (record { world = on.0.world; goes = on.0.goes; events_are = filed; outcomes_are = told; written = written; is_in = on.0.is_in; hears = on.0.hears }, on.1);
       }
 
   -- ---- one event
@@ -604,10 +599,10 @@ module _ {K J I : Type 0} {an : _} {g : _} {s : _} {d : _} (contents : J → Opt
   one_idle old new line event w idle records = recorded_idle (language_of old.schema) (length old.seats.items) w (reading_in old.scribe) (waiting (line ∷ [])) (event ∷ []) (IsSpent new.scribe) (event ∷ [], [], records, refl, refl) (All-cons IsStartOrStop event [] idle (All-nil IsStartOrStop))
 
   -- an event happened, of a store in which nothing is heard
-  pub by_one : (event : Event) (land : World → World) (old new : Store K J I an g s d) → new.schema ≡ old.schema → length new.seats.items ≡ length old.seats.items → new.watched ≡ old.watched → new.noted ≡ old.noted → (AreClean honest holds new → AreClean honest holds old) →
-      (lines : Lines) → outcomes_in (lines_in lines) ≡ [] → IsContinued contents old.scribe new.scribe lines → ((gave : List (List Output)) → AreToldIn gave (lines_in lines)) → (AreClean honest holds new → (w : World) → IsIn held holds old w → AreFiled old new lines w (event ∷ [])) →
+  pub by_one : (event : Event) (land : World → World) (old new : Store K J I an g s d) → new.schema ≡ old.schema → length new.seats.items ≡ length old.seats.items → new.watched ≡ old.watched → (AreClean honest holds new → AreClean honest holds old) →
+      (lines : Lines) → ((gave : List (List Output)) → gave ≡ [] ∷ [] → (IsSpent new.scribe → ⊥) → AreWritten old.noted gave (lines_in lines) new.noted) → IsContinued contents old.scribe new.scribe lines → ((gave : List (List Output)) → AreToldIn gave (lines_in lines)) → (AreClean honest holds new → (w : World) → IsIn held holds old w → AreFiled old new lines w (event ∷ [])) →
       ((w : World) → By (language_of old.schema) (length old.seats.items) w (land w) event) → (AreClean honest holds new → (w : World) → IsIn held holds old w → IsIn held holds new (land w)) → On old new
-  by_one event land old new schema count watched noted clean lines none journal told filed by lands = record {
+  by_one event land old new schema count watched clean lines written journal told filed by lands = record {
     schema = schema;
     count = count;
     lines = lines;
@@ -615,7 +610,7 @@ module _ {K J I : Type 0} {an : _} {g : _} {s : _} {d : _} (contents : J → Opt
     clean = clean;
     went = λ k w i.
         let b = by w in
-        record { world = land w; goes = b.goes; events_are = subst (AreFiled old new lines w) (sym b.events_are) (filed k w i); outcomes_are = told b.goes.gave; written = λ live. written_none old.noted new.noted (all_told b.goes.gave) (lines_in lines) none (ap all_told b.gave_is) noted; is_in = lands k w i; hears = hears_same (WasTold b.goes.gave) old.watched new.watched watched };
+        record { world = land w; goes = b.goes; events_are = subst (AreFiled old new lines w) (sym b.events_are) (filed k w i); outcomes_are = told b.goes.gave; written = λ live. written b.goes.gave b.gave_is live; is_in = lands k w i; hears = hears_same (WasTold b.goes.gave) old.watched new.watched watched };
   }
 
   -- only lines came to the journal of a store that is not spent
@@ -627,7 +622,7 @@ module _ {K J I : Type 0} {an : _} {g : _} {s : _} {d : _} (contents : J → Opt
   ended m old mid new is live came stops =
       let as_old : Stops honest held holds m (record old { scribe = mid.scribe }) new = subst (λ (t : Store K J I an g s d). Stops honest held holds m t new) is stops in
       let first = reading_in old.scribe in
-      by_one (Stop m) (λ w. stops_of w m (nth w.nodes m)) old new as_old.schema as_old.count as_old.watched as_old.noted as_old.clean (waiting (Ends m ∷ [])) refl
+      by_one (Stop m) (λ w. stops_of w m (nth w.nodes m)) old new as_old.schema as_old.count as_old.watched as_old.clean (waiting (Ends m ∷ [])) (λ gave is up. end_written old.noted new.noted m gave is as_old.noted)
       (subst (λ (x : Option (Scribe J)). IsContinued contents old.scribe x (waiting (Ends m ∷ []))) (sym as_old.scribe) came)
       (λ gave. one_told gave (Ends m) tt)
       (λ k w i. one_idle old new (Ends m) (Stop m) w (m, inr refl) refl)
@@ -638,8 +633,8 @@ module _ {K J I : Type 0} {an : _} {g : _} {s : _} {d : _} (contents : J → Opt
   pub ended_late : (m : ℕ) (first old mid new : Store K J I an g s d) → Stops honest held holds m first old → mid ≡ record old { scribe = mid.scribe } → (IsSpent old.scribe → ⊥) → IsContinued contents old.scribe mid.scribe (waiting (Ends m ∷ [])) → Stops honest held holds m mid new → On first new
   ended_late m first old mid new fell is live came stops =
       let neat : AreClean honest holds new → AreClean honest holds old = λ k. subst (λ (t : Store K J I an g s d). AreClean honest holds t) is (stops.clean k) in
-      by_one (Stop m) (λ w. stops_of w m (nth w.nodes m)) first new (stops.schema ∙ ap (λ t. t.schema) is ∙ fell.schema) (stops.count ∙ ap (λ t. length t.seats.items) is ∙ fell.count) (stops.watched ∙ ap (λ t. t.watched) is ∙ fell.watched) (stops.noted ∙ ap (λ t. t.noted) is ∙ fell.noted)
-      (λ k. fell.clean (neat k)) (waiting (Ends m ∷ [])) refl
+      by_one (Stop m) (λ w. stops_of w m (nth w.nodes m)) first new (stops.schema ∙ ap (λ t. t.schema) is ∙ fell.schema) (stops.count ∙ ap (λ t. length t.seats.items) is ∙ fell.count) (stops.watched ∙ ap (λ t. t.watched) is ∙ fell.watched)
+      (λ k. fell.clean (neat k)) (waiting (Ends m ∷ [])) (λ gave given up. end_written first.noted new.noted m gave given (stops.noted ∙ ap (λ t. t.noted) is ∙ fell.noted))
       (subst (λ (x : Option (Scribe J)). IsContinued contents x new.scribe (waiting (Ends m ∷ []))) fell.scribe (subst (λ (x : Option (Scribe J)). IsContinued contents old.scribe x (waiting (Ends m ∷ []))) (sym stops.scribe) came))
       (λ gave. one_told gave (Ends m) tt)
       (λ k w i. one_idle first new (Ends m) (Stop m) w (m, inr refl) refl)
@@ -652,8 +647,8 @@ module _ {K J I : Type 0} {an : _} {g : _} {s : _} {d : _} (contents : J → Opt
   pub ended_unsaid : (m : ℕ) (first old new : Store K J I an g s d) → Stops honest held holds m first old → new ≡ record old { scribe = new.scribe } → IsContinued contents old.scribe new.scribe no_lines → IsSpent new.scribe → On first new
   ended_unsaid m first old new fell is came spent =
       let neat : AreClean honest holds new → AreClean honest holds old = λ k. subst (λ (t : Store K J I an g s d). AreClean honest holds t) is k in
-      by_one (Stop m) (λ w. stops_of w m (nth w.nodes m)) first new (ap (λ t. t.schema) is ∙ fell.schema) (ap (λ t. length t.seats.items) is ∙ fell.count) (ap (λ t. t.watched) is ∙ fell.watched) (ap (λ t. t.noted) is ∙ fell.noted)
-      (λ k. fell.clean (neat k)) no_lines refl
+      by_one (Stop m) (λ w. stops_of w m (nth w.nodes m)) first new (ap (λ t. t.schema) is ∙ fell.schema) (ap (λ t. length t.seats.items) is ∙ fell.count) (ap (λ t. t.watched) is ∙ fell.watched)
+      (λ k. fell.clean (neat k)) no_lines (λ gave given up. absurd (up spent))
       (subst (λ (x : Option (Scribe J)). IsContinued contents x new.scribe no_lines) fell.scribe came)
       (λ gave. told_silent gave [] (All-nil IsSilent))
       (λ k w i. recorded_late (language_of first.schema) (length first.seats.items) w (reading_in first.scribe) (Stop m) (IsSpent new.scribe) (m, inr refl) spent)
@@ -668,8 +663,8 @@ module _ {K J I : Type 0} {an : _} {g : _} {s : _} {d : _} (contents : J → Opt
   lives m stored old mid new starts has is live came =
       let language = language_of old.schema in
       let n = length old.seats.items in
-      by_one (Start m) (λ w. starts_of w m (nth w.nodes m)) old new (ap (λ t. t.schema) is ∙ starts.schema) (ap (λ t. length t.seats.items) is ∙ starts.count) (ap (λ t. t.watched) is ∙ starts.watched) (ap (λ t. t.noted) is ∙ starts.noted)
-      (λ k. starts.clean (subst (λ (t : Store K J I an g s d). AreClean honest holds t) is k)) (waiting (Life m stored ∷ [])) refl
+      by_one (Start m) (λ w. starts_of w m (nth w.nodes m)) old new (ap (λ t. t.schema) is ∙ starts.schema) (ap (λ t. length t.seats.items) is ∙ starts.count) (ap (λ t. t.watched) is ∙ starts.watched)
+      (λ k. starts.clean (subst (λ (t : Store K J I an g s d). AreClean honest holds t) is k)) (waiting (Life m stored ∷ [])) (λ gave given up. life_written old.noted new.noted m stored gave given (ap (λ t. t.noted) is ∙ starts.noted))
       (subst (λ (x : Option (Scribe J)). IsContinued contents x new.scribe (waiting (Life m stored ∷ []))) starts.scribe came)
       (λ gave. one_told gave (Life m stored) tt)
       (λ k w i.
@@ -684,8 +679,8 @@ module _ {K J I : Type 0} {an : _} {g : _} {s : _} {d : _} (contents : J → Opt
   pub lives_unsaid : (m : ℕ) (old mid new : Store K J I an g s d) → StartsOne honest held holds m old mid → new ≡ record mid { scribe = new.scribe } → IsContinued contents mid.scribe new.scribe no_lines → IsSpent new.scribe → On old new
   lives_unsaid m old mid new starts is came spent =
       let first = reading_in old.scribe in
-      by_one (Start m) (λ w. starts_of w m (nth w.nodes m)) old new (ap (λ t. t.schema) is ∙ starts.schema) (ap (λ t. length t.seats.items) is ∙ starts.count) (ap (λ t. t.watched) is ∙ starts.watched) (ap (λ t. t.noted) is ∙ starts.noted)
-      (λ k. starts.clean (subst (λ (t : Store K J I an g s d). AreClean honest holds t) is k)) no_lines refl
+      by_one (Start m) (λ w. starts_of w m (nth w.nodes m)) old new (ap (λ t. t.schema) is ∙ starts.schema) (ap (λ t. length t.seats.items) is ∙ starts.count) (ap (λ t. t.watched) is ∙ starts.watched)
+      (λ k. starts.clean (subst (λ (t : Store K J I an g s d). AreClean honest holds t) is k)) no_lines (λ gave given up. absurd (up spent))
       (subst (λ (x : Option (Scribe J)). IsContinued contents x new.scribe no_lines) starts.scribe came)
       (λ gave. told_silent gave [] (All-nil IsSilent))
       (λ k w i. recorded_late (language_of old.schema) (length old.seats.items) w (reading_in old.scribe) (Start m) (IsSpent new.scribe) (m, inl refl) spent)

@@ -12,8 +12,6 @@ use Rattle.model.specs.Lists.{nth, with_nth}
 use Rattle.model.specs.Members as model
 use Rattle.model.specs.Transactions.{Language}
 use Rattle.model.specs.Worlds.{World, Event, Output, Start, run, started, starts, with_node}
-use Rattle.model.specs.Worlds.Output.{Applied}
-use Rattle.model.specs.declared.entry.Told.{Told as Outcome}
 use Rattle.model.specs.declared.message.Message.{Message}
 use Rattle.journal.specs.declared.line.Line.{Line}
 use Rattle.journal.specs.declared.line.Line.TheVariants.{Life, Rests}
@@ -28,7 +26,7 @@ use Rattle.sessions.specs.Kills.{durable, opened}
 use Rattle.sessions.proofs.Lists.{further, get_short, get_there}
 use Rattle.sqlchecks.specs.Columns.{Tables}
 use Rattle.sqlread.specs.Meaning.{language_of}
-use Rattle.runlaws.specs.Going.{AreSeated, Goes, HasGiven}
+use Rattle.runlaws.specs.Going.{AreSeated, Goes}
 use Rattle.runlaws.proofs.Going.{further_events, goes_both, goes_further, goes_named, goes_nowhere, goes_to, nowhere_events, start_goes, starts_at, to_events}
 use Rattle.runlaws.proofs.Seats.{nth_next, seated, set_next}
 use Rattle.store.specs.declared.members.Members.{Members}
@@ -38,19 +36,19 @@ use Rattle.store.specs.declared.steps.Letter.{Letter}
 use Rattle.store.specs.declared.store.Store.{Store}
 use Rattle.store.specs.Became.{Became, EachBecame}
 use Rattle.store.specs.Continuing.{IsContinued, IsKeptOn, reading_in}
-use Rattle.store.specs.Going.{AreClean, AreToldIn, GoesOn, IsIn, IsRunOf}
+use Rattle.store.specs.Going.{AreClean, AreToldIn, GoesOn, IsIn, IsRunOf, ToldIn}
 use Rattle.node.specs.declared.node.Node.{Node}
 use Rattle.store.specs.Journals.{IsSpent}
 use Rattle.store.specs.Lines.{and_then, lines_in, waiting}
 use Rattle.store.specs.Nodes.{IsNodeOf, Rests as AreRests}
-use Rattle.store.specs.Recording.{AreRecorded, HasInShort, IsStartOrStop, IsTrue, NobodyTells, RecordAll, Records, last_reading}
+use Rattle.store.specs.Recording.{AreRecorded, HasInShort, IsStartOrStop, IsTrue, NobodySays, RecordAll, Records, last_reading}
 use Rattle.store.specs.Seats.{HasMember, IsClean}
-use Rattle.store.specs.Noting.{AreWritten, all_told}
+use Rattle.store.specs.Noting.{AreWritten}
 use Rattle.store.specs.Opening.{AreFound, AreLaid, AreMembers, AreOpened, Begins, Files, HasAsHere, Starts, longest_of, risen, starts_of}
 use Rattle.store.specs.Tales.{Told, tale_of}
 use Rattle.store.proofs.Continuing.{continued_both, continued_reading}
 use Rattle.store.proofs.Lines.{lines_then}
-use Rattle.store.proofs.Noting.{all_told-append, idle_none, untold_none, written_amid}
+use Rattle.store.proofs.Noting.{idle_written, written_both}
 use Rattle.store.proofs.Recording.{all_left, all_more, all_right, nobody_less, record_both, recorded_both, recorded_idle, silent_records, silent_true}
 use Rattle.store.proofs.Going.{lines_after, told_both}
 use Rattle.store.proofs.Stepping.{at_some, member_up, up_there}
@@ -147,7 +145,7 @@ module _ {K J I : Type 0} {an : _} {g : _} {s : _} {d : _} (contents : J → Opt
     lines,
     on,
     λ language n w has. subst (λ (xs : List (Seat K J I an g s d)). RecordAll language n w (reading_in t) (lines_in lines) (starts_of xs)) (sym nobody) (silent_records language n w (reading_in t) (lines_in lines) silent),
-    silent_true NobodyTells (lines_in lines) silent,
+    silent_true NobodySays (lines_in lines) silent,
   )
 
   pub files_both : (t u v : Option (Scribe J)) (a b : List (Seat K J I an g s d)) → Files contents honest t u a → Files contents honest u v b → Files contents honest t v (a ++ b)
@@ -164,7 +162,7 @@ module _ {K J I : Type 0} {an : _} {g : _} {s : _} {d : _} (contents : J → Opt
         record_both language n w (reading_in t) (lines_in one) (lines_in two) (starts_of a) (starts_of b) (x language n w before) then_those in
         subst (λ (lines : List Line). RecordAll language n w (reading_in t) lines (starts_of (a ++ b))) (sym (lines_then one two))
         (subst (RecordAll language n w (reading_in t) (lines_in one ++ lines_in two)) (sym (flat_map-append start_of a b)) all),
-    subst (All (IsTrue NobodyTells)) (sym (lines_then one two)) (All-append (IsTrue NobodyTells) (lines_in one) (lines_in two) none neither),
+    subst (All (IsTrue NobodySays)) (sym (lines_then one two)) (All-append (IsTrue NobodySays) (lines_in one) (lines_in two) none neither),
   )
 
   pub files_on : (t u v : Option (Scribe J)) (seats : List (Seat K J I an g s d)) → Files contents honest t u seats → IsKeptOn contents u v → Files contents honest t v seats
@@ -300,12 +298,12 @@ module _ {K J I : Type 0} {an : _} {g : _} {s : _} {d : _} where
           subst (λ (l : Line). Records w reading l (start_of seat)) (sym (up node is h.0 h.1)) (ap (λ (o : Option (Node K I g s)). if is_none o then [] else (Start seat.member ∷ [])) is, h.2)
 
   -- and has no outcome
-  head_true : (seat : Seat K J I an g s d) (line : Line) → (seat.node ≡ None → line ≡ Rests seat.member seat.tale.stored) → ForSome seat.node (λ node. (stored : Summary) × (line ≡ Life seat.member stored)) → IsTrue NobodyTells line
+  head_true : (seat : Seat K J I an g s d) (line : Line) → (seat.node ≡ None → line ≡ Rests seat.member seat.tale.stored) → ForSome seat.node (λ node. (stored : Summary) × (line ≡ Life seat.member stored)) → IsTrue NobodySays line
   head_true seat line down life = go seat.node refl
     where
-      go : (o : Option (Node K I g s)) → seat.node ≡ o → IsTrue NobodyTells line
-      go None is = subst (IsTrue NobodyTells) (sym (down is)) tt
-      go (Some node) is = let l = life node is in subst (IsTrue NobodyTells) (sym l.1) tt
+      go : (o : Option (Node K I g s)) → seat.node ≡ o → IsTrue NobodySays line
+      go None is = subst (IsTrue NobodySays) (sym (down is)) tt
+      go (Some node) is = let l = life node is in subst (IsTrue NobodySays) (sym l.1) tt
 
   -- the first of these seats, and the next one
   pub next_seats : (seats : List (Seat K J I an g s d)) (at : ℕ) → take (at + 1) seats ≡ take at seats ++ take 1 (drop at seats)
@@ -337,7 +335,7 @@ module _ {K J I : Type 0} {an : _} {g : _} {s : _} {d : _} where
     λ language n w has.
         let R : List (Seat K J I an g s d) → Type 0 = λ xs. All (HasAsHere honest w) xs → RecordAll language n w (reading_in old) (line ∷ []) (starts_of xs) in
         subst R (sym (one_there seats at seat there)) (λ h. head_records honest language n w seat line (reading_in old) down up (All-head (HasAsHere honest w) seat [] h)) has,
-    All-cons (IsTrue NobodyTells) line [] (head_true seat line down life) (All-nil (IsTrue NobodyTells)),
+    All-cons (IsTrue NobodySays) line [] (head_true seat line down life) (All-nil (IsTrue NobodySays)),
   )
 
   -- ---- members that were started are up
@@ -522,16 +520,19 @@ module _ {K J I : Type 0} {an : _} {g : _} {s : _} {d : _} (honest : K → Type 
         subst (λ (k : ℕ). AreRecorded language k w (reading_in head.scribe) later.lines went.goes.events (IsSpent last.scribe)) (ap length seats)
         (subst (λ (t : Tables). AreRecorded (language_of t) (length head.seats.items) w (reading_in head.scribe) later.lines went.goes.events (IsSpent last.scribe)) schema went.events_are) in
         let all = recorded_both language n u w scribe.reading (reading_in head.scribe) lines later.lines starts.events went.goes.events ⊥ (IsSpent last.scribe) starts.leads (continued_reading contents (Some scribe) head.scribe lines on) (λ never. absurd never) (λ never. absurd never) first after in
-        let told : AreToldIn went.goes.gave (lines_in (and_then lines later.lines)) = told_both [] went.goes.gave lines later.lines (all_more NobodyTells (λ m one. HasGiven [] (Applied m one)) (nobody_less (λ m one. HasGiven [] (Applied m one))) (lines_in lines) untold) went.outcomes_are in
-        let written : (IsSpent last.scribe → ⊥) → AreWritten (longest_of 0 members.seats.items) (all_told went.goes.gave) (lines_in (and_then lines later.lines)) last.noted =
-        λ live. written_amid (longest_of 0 members.seats.items) last.noted (all_told went.goes.gave) (lines_in lines) (lines_in later.lines) [] (lines_in (and_then lines later.lines)) (untold_none (lines_in lines) untold) refl (lines_then lines later.lines ∙ ap (λ (l : List Line). lines_in lines ++ l) (sym (append-nil (lines_in later.lines))))
-        (subst (λ (n : ℕ). AreWritten n (all_told went.goes.gave) (lines_in later.lines) last.noted) noted (went.written live)) in (
+        let told : AreToldIn went.goes.gave (lines_in (and_then lines later.lines)) = told_both [] went.goes.gave lines later.lines (all_more NobodySays (ToldIn []) (nobody_less (ToldIn [])) (lines_in lines) untold) went.outcomes_are in
+        let most = longest_of 0 members.seats.items in
+        let begun : AreWritten most starts.gave (lines_in lines) most =
+        idle_written language n (lines_in lines) u scribe.reading most starts.events starts.gave (subst (RecordAll language n u scribe.reading (lines_in lines)) (sym are) (recorded language n u here)) untold (subst (All IsStartOrStop) (sym are) (starts_idle members.seats.items)) starts.gives in
+        let written : (IsSpent last.scribe → ⊥) → AreWritten most (starts.gave ++ went.goes.gave) (lines_in (and_then lines later.lines)) last.noted =
+        λ live. subst (λ (all : List Line). AreWritten most (starts.gave ++ went.goes.gave) all last.noted) (sym (lines_then lines later.lines))
+        (written_both most most last.noted starts.gave went.goes.gave (lines_in lines) (lines_in later.lines) begun (subst (λ (n : ℕ). AreWritten n went.goes.gave (lines_in later.lines) last.noted) noted (went.written live))) in (
           went.world,
           named.goes,
           went.is_in,
           subst (λ (es : List Event). AreRecorded language n u scribe.reading (and_then lines later.lines) (starts.events ++ es) (IsSpent last.scribe)) (sym named.events_are) all.0,
           subst (λ (outs : List (List Output)). AreToldIn outs (lines_in (and_then lines later.lines))) (sym named.gave_is) told,
-          λ live. subst (λ (outs : List (List Output)). AreWritten (longest_of 0 members.seats.items) (all_told outs) (lines_in (and_then lines later.lines)) last.noted) (sym named.gave_is) (written live),
+          λ live. subst (λ (outs : List (List Output)). AreWritten most (starts.gave ++ outs) (lines_in (and_then lines later.lines)) last.noted) (sym named.gave_is) (written live),
         );
   }
 
@@ -539,7 +540,7 @@ module _ {K J I : Type 0} {an : _} {g : _} {s : _} {d : _} (honest : K → Type 
   -- record that run.
   pub runs_recorded : (contents : J → Option (List ℕ)) (told : Told) (images : List (Option I)) (members : Members K J I an g s d) (scribe : Scribe J) (store : Store K J I an g s d) → AreOpened honest held holds told images members → (B : Begins contents honest held holds members scribe store) → AreClean honest holds store →
       (found : List model.Node) → AreFound holds images found → (w : World) × (goes : Goes (language_of store.schema) (length store.seats.items) (opened found) w) × IsIn held holds store w × AreRecorded (language_of store.schema) (length store.seats.items) (opened found) scribe.reading B.lines goes.events (IsSpent store.scribe) × AreToldIn goes.gave (lines_in B.lines) ×
-      ((IsSpent store.scribe → ⊥) → AreWritten (longest_of 0 members.seats.items) (all_told goes.gave) (lines_in B.lines) store.noted)
+      ((IsSpent store.scribe → ⊥) → AreWritten (longest_of 0 members.seats.items) goes.gave (lines_in B.lines) store.noted)
   runs_recorded contents told images members scribe store O B k found F =
       let o : HasStarted members.schema (length members.seats.items) found members.seats.items = subst (λ (n : ℕ). HasStarted members.schema n found members.seats.items) (sym O.count) (O.went (B.clean k) found F) in
       let b = B.went k (opened found) o.0 o.1 o.2 o.3 o.4 in
@@ -549,10 +550,6 @@ module _ {K J I : Type 0} {an : _} {g : _} {s : _} {d : _} (honest : K → Type 
       let named = goes_named (language_of store.schema) language (length store.seats.items) n (opened found) b.0 (ap language_of (sym B.schema)) (sym B.count) all.goes in
       let events : named.goes.events ≡ o.1.events ++ b.1.events = named.events_are ∙ all.events_are in
       let gave : named.goes.gave ≡ o.1.gave ++ b.1.gave = named.gave_is ∙ all.gave_is in
-      let said : all_told named.goes.gave ≡ all_told b.1.gave =
-      ap all_told gave
-      ∙ all_told-append o.1.gave b.1.gave
-      ∙ ap (λ (t : List Outcome). t ++ all_told b.1.gave) (idle_none language n o.1.events (opened found) o.1.gave (subst (All IsStartOrStop) (sym o.2) (starts_idle members.seats.items)) o.1.gives) in
       let filed : AreRecorded (language_of store.schema) (length store.seats.items) (opened found) scribe.reading B.lines (o.1.events ++ b.1.events) (IsSpent store.scribe) =
       subst (λ (k : ℕ). AreRecorded (language_of store.schema) k (opened found) scribe.reading B.lines (o.1.events ++ b.1.events) (IsSpent store.scribe)) (sym B.count)
       (subst (λ (t : Tables). AreRecorded (language_of t) n (opened found) scribe.reading B.lines (o.1.events ++ b.1.events) (IsSpent store.scribe)) (sym B.schema) b.3) in (
@@ -561,7 +558,7 @@ module _ {K J I : Type 0} {an : _} {g : _} {s : _} {d : _} (honest : K → Type 
         b.2,
         subst (λ (es : List Event). AreRecorded (language_of store.schema) (length store.seats.items) (opened found) scribe.reading B.lines es (IsSpent store.scribe)) (sym events) filed,
         subst (λ (outs : List (List Output)). AreToldIn outs (lines_in B.lines)) (sym gave) (lines_after o.1.gave b.1.gave (lines_in B.lines) b.4),
-        λ live. subst (λ (t : List Outcome). AreWritten (longest_of 0 members.seats.items) t (lines_in B.lines) store.noted) (sym said) (b.5 live),
+        λ live. subst (λ (outs : List (List Output)). AreWritten (longest_of 0 members.seats.items) outs (lines_in B.lines) store.noted) (sym gave) (b.5 live),
       )
 
   pub runs : (contents : J → Option (List ℕ)) (told : Told) (images : List (Option I)) (members : Members K J I an g s d) (scribe : Scribe J) (store : Store K J I an g s d) → AreOpened honest held holds told images members → Begins contents honest held holds members scribe store → AreClean honest holds store →

@@ -17,7 +17,7 @@ use Rattle.journal.specs.declared.line.Line.{Line}
 use Rattle.journal.specs.declared.line.Line.TheVariants.{Opens, Rests, Life, Clock, Takes, Saves, Made, Ends, Answer, Printed}
 use Rattle.store.specs.Going.{with_begun}
 use Rattle.store.specs.Lines.{Lines, and_then, filed_in, lines_in, no_lines, waiting}
-use Rattle.store.specs.Recording.{AreOf, AreRecorded, IsQuiet, IsSilent, IsStartOrStop, IsTrue, NobodyTells, OneTells, RecordAll, Records, last_reading, reading_after}
+use Rattle.store.specs.Recording.{AreOf, AreRecorded, IsQuiet, IsSilent, IsStartOrStop, IsTrue, NobodySays, OneSays, RecordAll, Records, last_reading, reading_after}
 use Rattle.store.proofs.Lines.{then_none}
 use Rattle.store.proofs.Storing.{idle_left, idle_run, idle_stores}
 
@@ -53,14 +53,14 @@ module _ (language : Language) (n : ℕ) where
 
 -- ---- what lines tell of requests
 
--- what is told to some is told to more
-abbrev pub SaysLess : (few more : ℕ → Told → Type 0) → Type 0
-SaysLess few more = (m : ℕ) (told : Told) → few m told → more m told
+-- what is said by some is said by more
+abbrev pub SaysLess : (few more : ℕ → List Outcome → Type 0) → Type 0
+SaysLess few more = (m : ℕ) (outcomes : List Outcome) → few m outcomes → more m outcomes
 
 pub of_none : (tells : Told → Type 0) (outcomes : List Outcome) → outcomes ≡ [] → AreOf tells outcomes
 of_none tells outcomes none = subst (AreOf tells) (sym none) (All-nil (λ (o : Outcome). (told : Told) × tells told × (o ≡ outcome_of told)))
 
-of_more : (few more : Told → Type 0) → ((told : Told) → few told → more told) → (outcomes : List Outcome) → AreOf few outcomes → AreOf more outcomes
+pub of_more : (few more : Told → Type 0) → ((told : Told) → few told → more told) → (outcomes : List Outcome) → AreOf few outcomes → AreOf more outcomes
 of_more few more less outcomes t =
     All-weaker (λ (o : Outcome). (told : Told) × few told × (o ≡ outcome_of told)) (λ (o : Outcome). (told : Told) × more told × (o ≡ outcome_of told)) (λ o (told, says, is). (told, less told says, is)) outcomes t
 
@@ -69,82 +69,82 @@ pub of_one : (all : List Told) (outcomes : List Outcome) (one : Told) → Contai
 of_one all outcomes one has t = All-push (λ (o : Outcome). (told : Told) × Contains all told × (o ≡ outcome_of told)) outcomes (outcome_of one) t (one, has, refl)
 
 -- what is written of what one member told
-pub made_told : (member : ℕ) (told : List Told) (outcomes : List Outcome) → AreOf (Contains told) outcomes → IsQuiet (OneTells member told) (Made member outcomes)
-made_told member told outcomes t = of_more (Contains told) (OneTells member told member) (λ one has. (refl, has)) outcomes t
+pub made_told : (member : ℕ) (told : List Told) (outcomes : List Outcome) → AreOf (Contains told) outcomes → IsQuiet (OneSays member told) (Made member outcomes)
+made_told member told outcomes t = (refl, t)
 
-pub true_more : (few more : ℕ → Told → Type 0) → SaysLess few more → (line : Line) → IsTrue few line → IsTrue more line
+pub true_more : (few more : ℕ → List Outcome → Type 0) → SaysLess few more → (line : Line) → IsTrue few line → IsTrue more line
 true_more few more less (Opens journal sum marks) t = tt
 true_more few more less (Rests m stored) t = tt
 true_more few more less (Life m stored) t = tt
 true_more few more less (Clock now) t = tt
 true_more few more less (Takes m taken) t = tt
 true_more few more less (Saves m stored) t = tt
-true_more few more less (Made m outcomes) t = of_more (few m) (more m) (less m) outcomes t
+true_more few more less (Made m outcomes) t = less m outcomes t
 true_more few more less (Ends m) t = tt
 true_more few more less (Answer m query answer) t = tt
 true_more few more less (Printed client number words) t = tt
 
-pub quiet_true : (tells : ℕ → Told → Type 0) (line : Line) → IsQuiet tells line → IsTrue tells line
-quiet_true tells (Opens journal sum marks) q = tt
-quiet_true tells (Rests m stored) q = tt
-quiet_true tells (Life m stored) q = absurd q
-quiet_true tells (Clock now) q = tt
-quiet_true tells (Takes m taken) q = absurd q
-quiet_true tells (Saves m stored) q = tt
-quiet_true tells (Made m outcomes) q = q
-quiet_true tells (Ends m) q = absurd q
-quiet_true tells (Answer m query answer) q = tt
-quiet_true tells (Printed client number words) q = tt
+pub quiet_true : (says : ℕ → List Outcome → Type 0) (line : Line) → IsQuiet says line → IsTrue says line
+quiet_true says (Opens journal sum marks) q = tt
+quiet_true says (Rests m stored) q = tt
+quiet_true says (Life m stored) q = absurd q
+quiet_true says (Clock now) q = tt
+quiet_true says (Takes m taken) q = absurd q
+quiet_true says (Saves m stored) q = tt
+quiet_true says (Made m outcomes) q = q
+quiet_true says (Ends m) q = absurd q
+quiet_true says (Answer m query answer) q = tt
+quiet_true says (Printed client number words) q = tt
 
-quiet_more : (few more : ℕ → Told → Type 0) → SaysLess few more → (line : Line) → IsQuiet few line → IsQuiet more line
+quiet_more : (few more : ℕ → List Outcome → Type 0) → SaysLess few more → (line : Line) → IsQuiet few line → IsQuiet more line
 quiet_more few more less (Opens journal sum marks) q = tt
 quiet_more few more less (Rests m stored) q = tt
 quiet_more few more less (Life m stored) q = q
 quiet_more few more less (Clock now) q = tt
 quiet_more few more less (Takes m taken) q = q
 quiet_more few more less (Saves m stored) q = tt
-quiet_more few more less (Made m outcomes) q = of_more (few m) (more m) (less m) outcomes q
+quiet_more few more less (Made m outcomes) q = less m outcomes q
 quiet_more few more less (Ends m) q = q
 quiet_more few more less (Answer m query answer) q = tt
 quiet_more few more less (Printed client number words) q = tt
 
-pub nobody_less : (tells : ℕ → Told → Type 0) → SaysLess NobodyTells tells
-nobody_less tells m told none = absurd none
+pub nobody_less : (says : ℕ → List Outcome → Type 0) → SaysLess NobodySays says
+nobody_less says m outcomes none = absurd none
 
 -- the same of some lines
-pub all_more : (few more : ℕ → Told → Type 0) → SaysLess few more → (lines : List Line) → All (IsTrue few) lines → All (IsTrue more) lines
+pub all_more : (few more : ℕ → List Outcome → Type 0) → SaysLess few more → (lines : List Line) → All (IsTrue few) lines → All (IsTrue more) lines
 all_more few more less lines t = All-weaker (IsTrue few) (IsTrue more) (true_more few more less) lines t
 
-pub all_true : (few more : ℕ → Told → Type 0) → SaysLess few more → (lines : List Line) → All (IsQuiet few) lines → All (IsTrue more) lines
+pub all_true : (few more : ℕ → List Outcome → Type 0) → SaysLess few more → (lines : List Line) → All (IsQuiet few) lines → All (IsTrue more) lines
 all_true few more less lines q = All-weaker (IsQuiet few) (IsTrue more) (λ line quiet. true_more few more less line (quiet_true few line quiet)) lines q
 
-pub silent_true : (tells : ℕ → Told → Type 0) (lines : List Line) → All IsSilent lines → All (IsTrue tells) lines
-silent_true tells lines s = all_true NobodyTells tells (nobody_less tells) lines s
+pub silent_true : (says : ℕ → List Outcome → Type 0) (lines : List Line) → All IsSilent lines → All (IsTrue says) lines
+silent_true says lines s = all_true NobodySays says (nobody_less says) lines s
 
-pub silent_quiet : (tells : ℕ → Told → Type 0) (lines : List Line) → All IsSilent lines → All (IsQuiet tells) lines
-silent_quiet tells lines s = All-weaker IsSilent (IsQuiet tells) (quiet_more NobodyTells tells (nobody_less tells)) lines s
+pub silent_quiet : (says : ℕ → List Outcome → Type 0) (lines : List Line) → All IsSilent lines → All (IsQuiet says) lines
+silent_quiet says lines s = All-weaker IsSilent (IsQuiet says) (quiet_more NobodySays says (nobody_less says)) lines s
 
 -- ---- lines that record nothing
 
-quiet_none : (tells : ℕ → Told → Type 0) (w : World) (reading : Option ℤ) (line : Line) → IsQuiet tells line → Records w reading line []
-quiet_none tells w reading (Opens journal sum marks) q = refl
-quiet_none tells w reading (Rests m stored) q = refl
-quiet_none tells w reading (Life m stored) q = absurd q
-quiet_none tells w reading (Clock now) q = refl
-quiet_none tells w reading (Takes m taken) q = absurd q
-quiet_none tells w reading (Saves m stored) q = refl
-quiet_none tells w reading (Made m outcomes) q = refl
-quiet_none tells w reading (Ends m) q = absurd q
-quiet_none tells w reading (Answer m query answer) q = refl
-quiet_none tells w reading (Printed client number words) q = refl
+quiet_none : (says : ℕ → List Outcome → Type 0) (w : World) (reading : Option ℤ) (line : Line) → IsQuiet says line → Records w reading line []
+quiet_none says w reading (Opens journal sum marks) q = refl
+quiet_none says w reading (Rests m stored) q = refl
+quiet_none says w reading (Life m stored) q = absurd q
+quiet_none says w reading (Clock now) q = refl
+quiet_none says w reading (Takes m taken) q = absurd q
+quiet_none says w reading (Saves m stored) q = refl
+quiet_none says w reading (Made m outcomes) q = refl
+quiet_none says w reading (Ends m) q = absurd q
+quiet_none says w reading (Answer m query answer) q = refl
+quiet_none says w reading (Printed client number words) q = refl
 
 module _ (language : Language) (n : ℕ) (w : World) where
-  quiet_records : (tells : ℕ → Told → Type 0) (reading : Option ℤ) (lines : List Line) → All (IsQuiet tells) lines → RecordAll language n w reading lines []
-  quiet_records tells reading [] q = refl
-  quiet_records tells reading (line ∷ lines) q = ([], [], quiet_none tells w reading line (All-head (IsQuiet tells) line lines q), quiet_records tells (reading_after reading line) lines (All-tail (IsQuiet tells) line lines q), refl)
+  quiet_records : (says : ℕ → List Outcome → Type 0) (reading : Option ℤ) (lines : List Line) → All (IsQuiet says) lines → RecordAll language n w reading lines []
+  quiet_records says reading [] q = refl
+  quiet_records says reading (line ∷ lines) q = ([], [], quiet_none says w reading line (All-head (IsQuiet says) line lines q), quiet_records says (reading_after reading line) lines (All-tail (IsQuiet says) line lines q), refl)
 
   pub silent_records : (reading : Option ℤ) (lines : List Line) → All IsSilent lines → RecordAll language n w reading lines []
-  silent_records reading lines s = quiet_records NobodyTells reading lines s
+  silent_records reading lines s = quiet_records NobodySays reading lines s
 
 pub silent_both : (one two : List Line) → All IsSilent one → All IsSilent two → All IsSilent (one ++ two)
 silent_both one two a b = All-append IsSilent one two a b
@@ -175,7 +175,7 @@ filed_lines one rest group two =
     ∙ sym (append_assoc (flat_map (λ (g : List Line). g) one) rest (group ++ flat_map (λ (g : List Line). g) two))
 
 -- lines in front of a line and others
-line_behind : (before : List Line) (line : Line) (more : List Line) → before ++ line ∷ more ≡ (before ++ line ∷ []) ++ more
+pub line_behind : (before : List Line) (line : Line) (more : List Line) → before ++ line ∷ more ≡ (before ++ line ∷ []) ++ more
 line_behind before line more = sym (append_assoc before (line ∷ []) more)
 
 lines_behind : (before : List Line) (line : Line) (more rest : List Line) → before ++ line ∷ (more ++ rest) ≡ ((before ++ line ∷ []) ++ more) ++ rest
@@ -217,11 +217,11 @@ module _ (language : Language) (n : ℕ) where
   }
 
   -- a step that was begun, which stored nothing else unless a block was written
-  pub recorded_step : (tells : ℕ → Told → Type 0) (w : World) (reading : Option ℤ) (m : ℕ) (taken : Taken) (lines : Lines) (event : Event) (spent : Type 0) → Records w reading (Takes m taken) (event ∷ []) → All (IsQuiet tells) (lines_in lines) → (lines.groups ≡ [] → durable (happens language n w event) ≡ durable w) →
+  pub recorded_step : (says : ℕ → List Outcome → Type 0) (w : World) (reading : Option ℤ) (m : ℕ) (taken : Taken) (lines : Lines) (event : Event) (spent : Type 0) → Records w reading (Takes m taken) (event ∷ []) → All (IsQuiet says) (lines_in lines) → (lines.groups ≡ [] → durable (happens language n w event) ≡ durable w) →
       AreRecorded language n w reading (with_begun (Takes m taken ∷ []) lines) (event ∷ []) spent
-  recorded_step tells w reading m taken lines event spent r silent same = go lines.groups lines.rest silent same
+  recorded_step says w reading m taken lines event spent r silent same = go lines.groups lines.rest silent same
     where
-      go : (groups : List (List Line)) (rest : List Line) → All (IsQuiet tells) (flat_map (λ (g : List Line). g) groups ++ rest) → (groups ≡ [] → durable (happens language n w event) ≡ durable w) →
+      go : (groups : List (List Line)) (rest : List Line) → All (IsQuiet says) (flat_map (λ (g : List Line). g) groups ++ rest) → (groups ≡ [] → durable (happens language n w event) ≡ durable w) →
           AreRecorded language n w reading (with_begun (Takes m taken ∷ []) (record { groups = groups; rest = rest })) (event ∷ []) spent
       go [] rest quiet keeps = record {
         filed = [];
@@ -229,7 +229,7 @@ module _ (language : Language) (n : ℕ) where
         lost = [];
         events_are = refl;
         on_device = refl;
-        in_buffer = (event ∷ [], [], r, quiet_records language n (happens language n w event) tells reading rest quiet, refl);
+        in_buffer = (event ∷ [], [], r, quiet_records language n (happens language n w event) says reading rest quiet, refl);
         idle = All-nil IsStartOrStop;
         none = inl refl;
         stored = keeps refl;
@@ -241,8 +241,8 @@ module _ (language : Language) (n : ℕ) where
             waiting = [];
             lost = [];
             events_are = refl;
-            on_device = (event ∷ [], [], r, quiet_records language n (happens language n w event) tells reading more (all_left (IsQuiet tells) more rest quiet), refl);
-            in_buffer = quiet_records language n (happens language n w event) tells (last_reading reading (Takes m taken ∷ more)) rest (all_right (IsQuiet tells) more rest quiet);
+            on_device = (event ∷ [], [], r, quiet_records language n (happens language n w event) says reading more (all_left (IsQuiet says) more rest quiet), refl);
+            in_buffer = quiet_records language n (happens language n w event) says (last_reading reading (Takes m taken ∷ more)) rest (all_right (IsQuiet says) more rest quiet);
             idle = All-nil IsStartOrStop;
             none = inl refl;
             stored = refl;

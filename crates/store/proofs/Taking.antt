@@ -1,5 +1,5 @@
 -- A step of a member of a store, as events of a run.
-use Rattle.std.proofs.Common.{◌≡◌, ◌∙◌, ℕ, ◌+◌, ◌⊎◌, ⊎_elim, inl, inr, Bool, true, false, Option, Some, Result, Ok, Err, IsErr, MatchBool, List, [], ◌∷◌, ◌++◌, length, refl, sym, ap, subst, append-nil, arith}
+use Rattle.std.proofs.Common.{◌≡◌, ◌∙◌, ℕ, ◌+◌, ◌⊎◌, ⊎_elim, inl, inr, Bool, true, false, Option, Some, Result, Ok, Err, IsErr, MatchBool, List, [], ◌∷◌, ◌++◌, length, map, refl, sym, ap, subst, append-nil, arith}
 use Rattle.std.specs.List.{All, Contains}
 use Rattle.std.proofs.lemmas.List.Elements.{All-append}
 use Rattle.std.specs.Option.{option_map_or}
@@ -15,7 +15,7 @@ use Rattle.model.specs.declared.event.Job.{Job}
 use Rattle.model.specs.declared.event.Job.TheVariants.{Local as TheLocal, Delivery}
 use Rattle.model.specs.declared.message.Input.{Input}
 use Rattle.model.specs.declared.message.Message.{Message}
-use Rattle.model.specs.Worlds.{World, Event, Torn, Output, effect, is_for, node_left, run, stopped, with_node}
+use Rattle.model.specs.Worlds.{World, Event, Torn, Output, effect, is_for, node_left, numbered, run, stopped, with_node}
 use Rattle.model.specs.Worlds.Output.{Applied, Refused as Refuses}
 use Rattle.keep.specs.Durable.{Durable}
 use Rattle.keep.specs.declared.error.StoreError.{StoreError}
@@ -40,15 +40,16 @@ use Rattle.journal.specs.declared.line.Taken.{Taken}
 use Rattle.journal.specs.declared.line.Line.{Line}
 use Rattle.journal.specs.declared.line.Line.TheVariants.{Takes}
 use Rattle.store.specs.Lines.{Lines, and_then, behind, lines_in, waiting}
-use Rattle.store.specs.Noting.{AreWritten, all_told, outcomes_in}
-use Rattle.store.specs.Recording.{IsQuiet, IsStep, NobodyTells, OneTells, job_of}
+use Rattle.store.specs.Noting.{AreWritten, IsEnd, told_in}
+use Rattle.flight.specs.declared.outcome.Outcome.{Outcome as Noted}
+use Rattle.store.specs.Recording.{IsQuiet, IsStep, NobodySays, OneSays, job_of}
 use Rattle.store.specs.declared.scribe.Scribe.{Scribe}
 use Rattle.store.specs.Continuing.{IsContinued, reading_in}
-use Rattle.store.specs.Going.{AreFiled, Changes, EndsStep, GoesOnFrom, HasSent, HasStepped, Hears, IsAmong, IsBrought, IsIn, SaysWhy, Stops, with_begun}
+use Rattle.store.specs.Going.{AreFiled, Changes, EndsStep, GoesOnFrom, HasSent, HasStepped, Hears, IsAmong, IsBrought, IsIn, SaysWhy, Stops, ToldIn, with_begun}
 use Rattle.store.proofs.Continuing.{continued_both, kept_same}
 use Rattle.store.proofs.Lines.{lines_then, none_first}
-use Rattle.store.proofs.Noting.{silent_none, step_told, written_amid, written_none}
-use Rattle.store.proofs.Recording.{SaysLess, all_true, recorded_step, silent_quiet}
+use Rattle.store.proofs.Noting.{fall_written, step_told, step_written}
+use Rattle.store.proofs.Recording.{SaysLess, all_true, of_more, recorded_step, silent_quiet}
 use Rattle.store.proofs.Storing.{same_stored}
 use Rattle.store.proofs.Going.{TellsLess, ends_spent, from_weaker, hears_more, hears_same, same_count, seat_in, seats_as, sits, spent_publishes, tidy, told_behind, told_silent, was_tidy, world_with}
 
@@ -84,7 +85,7 @@ module _ (tables : Tables) (n m : ℕ) (work : Work) (w : World) (x : model.Node
     pub goes : Goes (language_of tables) n w (with_node w m y (messages_of result))
     pub events_are : (event : Event) × IsStep m job event × (goes.events ≡ event ∷ [])
     pub tells : (one : Told) → Contains (told_of result) one → HasGiven goes.gave (Applied m one)
-    pub told_are : all_told goes.gave ≡ told_of result
+    pub told_are : (outs : List Output) × (goes.gave ≡ outs ∷ []) × (told_in outs ≡ told_of result)
     pub says : Says m result goes.gave
 
   steps : x.up ≡ true → Steps w m job
@@ -100,23 +101,23 @@ module _ (tables : Tables) (n m : ℕ) (work : Work) (w : World) (x : model.Node
   unfolding told_between steps
   turn y (Ok out) s =
       let d = made (language_of tables) n w m job (steps s.0) y out.messages.items out.told.items (given y out s.1) s.2 in
-      record { goes = d.goes; events_are = (whole m job, inl refl, d.events_are); tells = d.tells; told_are = ap all_told d.gave_is ∙ step_told (length w.sent) m out.messages.items out.told.items; says = tt }
+      record { goes = d.goes; events_are = (whole m job, inl refl, d.events_are); tells = d.tells; told_are = (numbered (length w.sent) out.messages.items ++ map (Applied m) out.told.items, d.gave_is, step_told (length w.sent) m out.messages.items out.told.items); says = tt }
   turn y (Err (Kept reason)) s = go x.up refl s.1
     where
       go : (b : Bool) → x.up ≡ b → MatchBool b (Denies reason ≡ works tables n m work x) (reason ≡ NodeDown) → Turn y (Err (Kept reason))
       go true up is =
           let d = refused (language_of tables) n w m job (steps up) y reason (is ∙ sym (same x)) s.0 in
-          record { goes = d.goes; events_are = (whole m job, inl refl, d.events_are); tells = λ one has. absurd (nobody one has); told_are = ap all_told d.gave_is; says = d.says }
+          record { goes = d.goes; events_are = (whole m job, inl refl, d.events_are); tells = λ one has. absurd (nobody one has); told_are = (Refuses m reason ∷ [], d.gave_is, refl); says = d.says }
       go false down is =
           let d = turned (language_of tables) n w m job x at down for y s.0 in
-          record { goes = d.goes; events_are = (whole m job, inl refl, d.events_are); tells = λ one has. absurd (nobody one has); told_are = ap all_told d.gave_is; says = subst (λ (r : Reason). HasGiven d.goes.gave (Refuses m r)) (sym is) d.says }
+          record { goes = d.goes; events_are = (whole m job, inl refl, d.events_are); tells = λ one has. absurd (nobody one has); told_are = (Refuses m NodeDown ∷ [], d.gave_is, refl); says = subst (λ (r : Reason). HasGiven d.goes.gave (Refuses m r)) (sym is) d.says }
   turn y (Err (Down error)) s =
       let left = s.1.1 ∙ ap (λ (o : Effect). stopped (node_left s.1.0 x o)) (sym (same x)) in
       record {
         goes = torn (language_of tables) n w m job (steps s.0) y s.1.0 left;
         events_are = (Torn m job s.1.0, inr (s.1.0, refl), torn_events (language_of tables) n w m job (steps s.0) y s.1.0 left);
         tells = λ one has. absurd (nobody one has);
-        told_are = ap all_told (torn_gave (language_of tables) n w m job (steps s.0) y s.1.0 left);
+        told_are = ([], torn_gave (language_of tables) n w m job (steps s.0) y s.1.0 left, refl);
         says = tt;
       }
 
@@ -128,13 +129,13 @@ module _ {K J I : Type 0} {an : _} {g : _} {s : _} {d : _} (contents : J → Opt
   So m taken now work gives old new = GoesOnFrom contents honest held holds (Takes m taken ∷ []) (IsBrought old m (job_of now taken) work) gives old new
 
   -- the events of the step, in the lines
-  filed : (tells : ℕ → Told → Type 0) (old new : Store K J I an g s d) (m : ℕ) (taken : Taken) (now : ℤ) (lines : Lines) (w v : World) (goes : Goes (language_of old.schema) (length old.seats.items) w v) → reading_in old.scribe ≡ Some now → All (IsQuiet tells) (lines_in lines) → (event : Event) × IsStep m (job_of now taken) event × (goes.events ≡ event ∷ []) →
+  filed : (says : ℕ → List Noted → Type 0) (old new : Store K J I an g s d) (m : ℕ) (taken : Taken) (now : ℤ) (lines : Lines) (w v : World) (goes : Goes (language_of old.schema) (length old.seats.items) w v) → reading_in old.scribe ≡ Some now → All (IsQuiet says) (lines_in lines) → (event : Event) × IsStep m (job_of now taken) event × (goes.events ≡ event ∷ []) →
       (lines.groups ≡ [] → durable v ≡ durable w) → AreFiled old new (with_begun (Takes m taken ∷ []) lines) w goes.events
-  filed tells old new m taken now lines w v goes shown silent (event, is, are) same =
+  filed says old new m taken now lines w v goes shown silent (event, is, are) same =
       let language = language_of old.schema in
       let n = length old.seats.items in
       subst (AreFiled old new (with_begun (Takes m taken ∷ []) lines) w) (sym are)
-      (recorded_step language n tells w (reading_in old.scribe) m taken lines event (IsSpent new.scribe) (now, shown, event, is, refl) silent
+      (recorded_step language n says w (reading_in old.scribe) m taken lines event (IsSpent new.scribe) (now, shown, event, is, refl) silent
       (λ none. ap durable (sym (goes.leads ∙ ap (run language n w) are)) ∙ same none))
 
   -- a member took a step, what it sent came under way, and what it told was heard
@@ -145,8 +146,8 @@ module _ {K J I : Type 0} {an : _} {g : _} {s : _} {d : _} (contents : J → Opt
       let C = h.changes in
       let m = at + 1 in
       let lines = and_then C.journal.0 p.journal.0 in
-      let tells = OneTells m (told_of result) in
-      let quiet = subst (All (IsQuiet tells)) (sym (lines_then C.journal.0 p.journal.0)) (All-append (IsQuiet tells) (lines_in C.journal.0) (lines_in p.journal.0) (silent_quiet tells (lines_in C.journal.0) C.journal.1) p.journal.1) in
+      let says = OneSays m (told_of result) in
+      let quiet = subst (All (IsQuiet says)) (sym (lines_then C.journal.0 p.journal.0)) (All-append (IsQuiet says) (lines_in C.journal.0) (lines_in p.journal.0) (silent_quiet says (lines_in C.journal.0) C.journal.1) p.journal.1) in
       record {
         schema = p.schema ∙ C.schema;
         count = ap length p.seats ∙ same_count contents honest held holds old mid at h.before h.after C;
@@ -162,17 +163,20 @@ module _ {K J I : Type 0} {an : _} {g : _} {s : _} {d : _} (contents : J → Opt
             let turned = turn old.schema (length old.seats.items) m work w sat.0 sat.1 (job_of now taken) b.0 b.1 t.0 result t.1.1 in
             let there = seat_in contents honest held holds old mid at h.before h.after C (λ was. absurd (live was)) w t.0 i t.1.0 in
             let less : TellsLess (IsAmong (told_of result)) (WasTold turned.goes.gave) = λ client number o one. record { member = m; told = one.0; client_is = one.2; number_is = one.3; outcome_is = one.4; given = turned.tells one.0 one.1 } in
-            let given : SaysLess tells (λ k told. HasGiven turned.goes.gave (Applied k told)) = λ k told (is, has). subst (λ (i : ℕ). HasGiven turned.goes.gave (Applied i told)) (sym is) (turned.tells told has) in
+            let given : SaysLess says (ToldIn turned.goes.gave) = λ k outcomes (is, has). subst (λ (i : ℕ). ToldIn turned.goes.gave i outcomes) (sym is) (of_more (Contains (told_of result)) (λ told. HasGiven turned.goes.gave (Applied m told)) turned.tells outcomes has) in
             let hears = hears_more (IsAmong (told_of result)) (WasTold turned.goes.gave) less mid.watched new.watched p.hears in
             let v = with_node w m t.0 (messages_of result) in (
               record {
                 world = v;
                 goes = turned.goes;
-                events_are = filed tells old new m taken now lines w v turned.goes shown quiet turned.events_are (λ none. same_stored w m sat.0 t.0 (messages_of result) sat.1 (h.stored (none_first C.journal.0.groups (behind C.journal.0.rest p.journal.0.groups) none) seat_clean old.schema (length old.seats.items) m sat.0 t.0 sat.2 t.1.0 t.1.1));
-                outcomes_are = told_behind turned.goes.gave (Takes m taken) lines tt (all_true tells (λ k told. HasGiven turned.goes.gave (Applied k told)) given (lines_in lines) quiet);
-                written = λ up. written_amid old.noted new.noted (all_told turned.goes.gave) (Takes m taken ∷ lines_in C.journal.0) (lines_in p.journal.0) [] (lines_in (with_begun (Takes m taken ∷ []) lines)) (silent_none (lines_in C.journal.0) C.journal.1) refl
-                    (lines_then (waiting (Takes m taken ∷ [])) lines ∙ ap (λ (l : List Line). Takes m taken ∷ l) (lines_then C.journal.0 p.journal.0 ∙ ap (λ (l : List Line). lines_in C.journal.0 ++ l) (sym (append-nil (lines_in p.journal.0)))))
-                    (subst (λ (t : List Told). AreWritten old.noted t (lines_in p.journal.0) new.noted) (sym turned.told_are) (subst (λ (n : ℕ). AreWritten n (told_of result) (lines_in p.journal.0) new.noted) C.noted (e.written up)));
+                events_are = filed says old new m taken now lines w v turned.goes shown quiet turned.events_are (λ none. same_stored w m sat.0 t.0 (messages_of result) sat.1 (h.stored (none_first C.journal.0.groups (behind C.journal.0.rest p.journal.0.groups) none) seat_clean old.schema (length old.seats.items) m sat.0 t.0 sat.2 t.1.0 t.1.1));
+                outcomes_are = told_behind turned.goes.gave (Takes m taken) lines tt (all_true says (ToldIn turned.goes.gave) given (lines_in lines) quiet);
+                written = λ up.
+                    let ended = subst (λ (n : ℕ). IsEnd m n (told_of result) (lines_in p.journal.0) new.noted) C.noted (e.written up) in
+                    let joined : lines_in (with_begun (Takes m taken ∷ []) lines) ≡ Takes m taken ∷ (lines_in C.journal.0 ++ lines_in p.journal.0) = lines_then (waiting (Takes m taken ∷ [])) lines ∙ ap (λ (l : List Line). Takes m taken ∷ l) (lines_then C.journal.0 p.journal.0) in
+                    subst (λ (g : List (List Output)). AreWritten old.noted g (lines_in (with_begun (Takes m taken ∷ []) lines)) new.noted) (sym turned.told_are.1)
+                    (subst (λ (l : List Line). AreWritten old.noted (turned.told_are.0 ∷ []) l new.noted) (sym joined)
+                    (step_written old.noted new.noted m taken turned.told_are.0 (told_of result) (lines_in C.journal.0) (lines_in p.journal.0) turned.told_are.2 C.journal.1 ended));
                 is_in = record {
                   seated = seats_as contents honest held holds mid new p.schema p.seats (world_with (with_nth w.nodes m t.0) w.sent) there;
                   under_way = λ up. p.letters up w.sent (there.under_way (λ was. up (p.spent was)));
@@ -227,10 +231,12 @@ module _ {K J I : Type 0} {an : _} {g : _} {s : _} {d : _} (contents : J → Opt
                   record {
                     world = v;
                     goes = turned.goes;
-                    events_are = filed NobodyTells old new (at + 1) taken now C.journal.0 w v turned.goes shown C.journal.1 turned.events_are (λ none. same_stored w (at + 1) sat.0 t.0 [] sat.1 (h.stored none seat_clean old.schema (length old.seats.items) (at + 1) sat.0 t.0 sat.2 t.1.0 t.1.1));
+                    events_are = filed NobodySays old new (at + 1) taken now C.journal.0 w v turned.goes shown C.journal.1 turned.events_are (λ none. same_stored w (at + 1) sat.0 t.0 [] sat.1 (h.stored none seat_clean old.schema (length old.seats.items) (at + 1) sat.0 t.0 sat.2 t.1.0 t.1.1));
                     outcomes_are = told_behind turned.goes.gave (Takes (at + 1) taken) C.journal.0 tt (told_silent turned.goes.gave (lines_in C.journal.0) C.journal.1);
-                    written = λ up. written_none old.noted new.noted (all_told turned.goes.gave) (lines_in (with_begun (Takes (at + 1) taken ∷ []) C.journal.0))
-                        (ap outcomes_in (lines_then (waiting (Takes (at + 1) taken ∷ [])) C.journal.0) ∙ silent_none (lines_in C.journal.0) C.journal.1) turned.told_are (S.noted ∙ C.noted);
+                    written = λ up.
+                        subst (λ (g : List (List Output)). AreWritten old.noted g (lines_in (with_begun (Takes (at + 1) taken ∷ []) C.journal.0)) new.noted) (sym turned.told_are.1)
+                        (subst (λ (l : List Line). AreWritten old.noted (turned.told_are.0 ∷ []) l new.noted) (sym (lines_then (waiting (Takes (at + 1) taken ∷ [])) C.journal.0))
+                        (fall_written old.noted new.noted (at + 1) taken turned.told_are.0 (lines_in C.journal.0) turned.told_are.2 C.journal.1 (S.noted ∙ C.noted)));
                     is_in = subst (IsIn held holds new) still (S.went k v in_mid);
                     hears = hears_same (WasTold turned.goes.gave) old.watched new.watched (S.watched ∙ C.watched);
                   },

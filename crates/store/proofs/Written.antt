@@ -72,6 +72,13 @@ pub on_told : {J A E : Type 0} (contents : J → Option (List ℕ)) (r : Result 
 on_told contents (Ok x) s t u line told same added flushed = subst (λ (l : Line). EndsWith contents u l) same (told_last contents s t u line added flushed)
 on_told contents (Err e) s t u line told same added flushed = tt
 
+-- and stays so once nothing more is written
+pub on_settled : {J A E : Type 0} (contents : J → Option (List ℕ)) (r : Result A E) (s t : Option (Scribe J)) (line : Line) → EndsWith contents s line → OnOk r (IsFlushed contents s t) → OnOk r (EndsWith contents t line)
+on_settled contents (Err e) s t line ends flushed = tt
+on_settled contents (Ok x) None t line ends flushed = absurd ends
+on_settled contents (Ok x) (Some s) None line ends flushed = absurd flushed
+on_settled contents (Ok x) (Some s) (Some t) line ends flushed = (subst (λ (held : Option (List ℕ)). IsLastWritten held line) (sym (flushed.0.0 ends.1)) ends.0, flushed.1)
+
 -- ---- a journal that begins
 
 pub longer_none : {J : Type 0} (s : Option (Scribe J)) → IsLonger s s

@@ -2,12 +2,12 @@
 use Rattle.std.specs.Prelude.{◌≡◌, ◌≢◌, ℕ, ℤ, Option, Some, None, List, [], ◌∷◌, ◌++◌, All, IsSome, string_bytes}
 use Rattle.std.specs.Io.KnownBytes.{append_known}
 use Rattle.journal.specs.declared.line.Line.{Line}
-use Rattle.model.specs.declared.entry.Told.{Told}
+use Rattle.flight.specs.declared.outcome.Outcome.{Outcome}
 use Rattle.journal.specs.Blocks.{block_text, blocks_text, last_sum}
 use Rattle.store.specs.declared.scribe.Scribe.{Scribe}
 use Rattle.store.specs.Journals.{IsOpened}
 use Rattle.store.specs.Lines.{Lines, lines_in, no_lines, one_block, waiting}
-use Rattle.store.specs.Recording.{IsQuiet, IsSilent, NobodyTells, last_reading}
+use Rattle.store.specs.Recording.{IsQuiet, IsSilent, NobodySays, last_reading}
 use Rattle.store.specs.Writing.{lines_text}
 
 -- the bodies of blocks with these lines, the first one behind what a buffer had
@@ -40,13 +40,13 @@ module _ {J : Type 0} where
   IsContinued contents (Some s) None lines = ⊥
   IsContinued contents (Some s) (Some t) lines = Continues contents s t lines
 
-  -- lines came to it that record no event, and whose outcomes are true
-  abbrev pub IsKeptSo : (contents : J → Option (List ℕ)) → (ℕ → Told → Type 0) → Option (Scribe J) → Option (Scribe J) → Type 0
-  IsKeptSo contents tells old new = (lines : Lines) × All (IsQuiet tells) (lines_in lines) × IsContinued contents old new lines
+  -- lines came to it that record no event, and where they end steps, have what members say
+  abbrev pub IsKeptSo : (contents : J → Option (List ℕ)) → (ℕ → List Outcome → Type 0) → Option (Scribe J) → Option (Scribe J) → Type 0
+  IsKeptSo contents says old new = (lines : Lines) × All (IsQuiet says) (lines_in lines) × IsContinued contents old new lines
 
-  -- lines came to it that record no event and have no outcome
+  -- lines came to it that record no event and end no step
   abbrev pub IsKeptOn : (contents : J → Option (List ℕ)) → Option (Scribe J) → Option (Scribe J) → Type 0
-  IsKeptOn contents old new = IsKeptSo contents NobodyTells old new
+  IsKeptOn contents old new = IsKeptSo contents NobodySays old new
 
   -- and none of them went to the device
   abbrev pub IsUnfiled : (contents : J → Option (List ℕ)) → Option (Scribe J) → Option (Scribe J) → Type 0

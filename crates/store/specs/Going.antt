@@ -28,8 +28,9 @@ use Rattle.store.specs.declared.outcome.Outcome.TheVariants.{Accepted, Refused, 
 use Rattle.store.specs.declared.refusal.StoreRefusal.{StoreRefusal}
 use Rattle.store.specs.Continuing.{IsContinued, IsKeptOn, IsKeptSo, reading_in}
 use Rattle.store.specs.Lines.{Lines, behind, lines_in, rest_behind, waiting}
-use Rattle.store.specs.Noting.{AreWritten, all_told}
-use Rattle.store.specs.Recording.{AreRecorded, IsSilent, IsTrue, NobodyTells, OneTells}
+use Rattle.flight.specs.declared.outcome.Outcome.{Outcome as Noted}
+use Rattle.store.specs.Noting.{AreWritten, IsEnd}
+use Rattle.store.specs.Recording.{AreOf, AreRecorded, IsSilent, IsTrue, NobodySays, OneSays}
 use Rattle.journal.specs.declared.line.Taken.{Taken}
 use Rattle.journal.specs.declared.line.Line.{Line}
 use Rattle.journal.specs.declared.line.Line.TheVariants.{Takes}
@@ -75,9 +76,13 @@ ComesOf client number (Accepted stamp) gave = WasTold gave client number (Ok sta
 ComesOf client number (Refused reason) gave = WasTold gave client number (Err reason) ⊎ ((m : ℕ) × HasGiven gave (Refuses m reason))
 ComesOf client number Unanswered gave = Unit {0}
 
+-- a member told these outcomes in these events
+abbrev pub ToldIn : List (List Output) → ℕ → List Noted → Type 0
+ToldIn gave m outcomes = AreOf (λ told. HasGiven gave (Applied m told)) outcomes
+
 -- each outcome that these lines have of a member it told in one of these events
 abbrev pub AreToldIn : List (List Output) → List Line → Type 0
-AreToldIn gave lines = All (IsTrue (λ m told. HasGiven gave (Applied m told))) lines
+AreToldIn gave lines = All (IsTrue (ToldIn gave)) lines
 
 -- a refusal of a step is one that the member gave
 abbrev pub SaysWhy : ℕ → Result Stepped StoreRefusal → List (List Output) → Type 0
@@ -114,13 +119,13 @@ module _ {K J I : Type 0} {an : _} {g : _} {s : _} {d : _} where
   AreFiled old new lines w events = AreRecorded (language_of old.schema) (length old.seats.items) w (reading_in old.scribe) lines events (IsSpent new.scribe)
 
   -- A store was in this world, and is where events lead from there that these lines record. Each outcome in the lines its member told in these
-  -- events; unless the store is spent they are all that is told there for the first time, in order.
+  -- events. Unless the store is spent, what a step told for the first time stands in its end, and each end is that of the step before it.
   pub record WentOn (held : K → Durable → Type 0) (holds : I → Durable → Type 0) (lines : Lines) (old new : Store K J I an g s d) (w : World) : Type 0 where
     pub world : World
     pub goes : Goes (language_of old.schema) (length old.seats.items) w world
     pub events_are : AreFiled old new lines w goes.events
     pub outcomes_are : AreToldIn goes.gave (lines_in lines)
-    pub written : (IsSpent new.scribe → ⊥) → AreWritten old.noted (all_told goes.gave) (lines_in lines) new.noted
+    pub written : (IsSpent new.scribe → ⊥) → AreWritten old.noted goes.gave (lines_in lines) new.noted
     pub is_in : IsIn held holds new world
     pub hears : Hears (WasTold goes.gave) old.watched new.watched
 
@@ -170,26 +175,26 @@ module _ {K J I : Type 0} {an : _} {g : _} {s : _} {d : _} where
   -- ---- the parts of a step
 
   -- The members stay. These messages come under way, but in a spent store, and this is heard. What came to the journal records no event, and
-  -- its outcomes are true. Where nobody tells any, the entry up to which outcomes are written stays.
-  pub record PublishesSo (contents : J → Option (List ℕ)) (tells : ℕ → Told → Type 0) (old new : Store K J I an g s d) (messages : List Message) (told : List Told) : Type 0 where
+  -- where it ends steps, has what members say. Where nobody says anything the entry up to which outcomes are written stays.
+  pub record PublishesSo (contents : J → Option (List ℕ)) (says : ℕ → List Noted → Type 0) (old new : Store K J I an g s d) (messages : List Message) (told : List Told) : Type 0 where
     pub schema : new.schema ≡ old.schema
     pub seats : new.seats.items ≡ old.seats.items
-    pub journal : IsKeptSo contents tells old.scribe new.scribe
+    pub journal : IsKeptSo contents says old.scribe new.scribe
     pub spent : IsSpent old.scribe → IsSpent new.scribe
     pub letters : (IsSpent new.scribe → ⊥) → (sent : List Message) → AreUnderWay old.queue.items old.sent sent → AreUnderWay new.queue.items new.sent (sent ++ messages)
     pub hears : Hears (IsAmong told) old.watched new.watched
-    pub noted : (IsSpent new.scribe → ⊥) → ((m : ℕ) (one : Told) → tells m one → ⊥) → new.noted ≡ old.noted
+    pub noted : (IsSpent new.scribe → ⊥) → ((m : ℕ) (outcomes : List Noted) → says m outcomes → ⊥) → new.noted ≡ old.noted
 
-  -- the same where no outcome came to the journal
+  -- the same where no end of a step came to the journal
   abbrev pub Publishes : (contents : J → Option (List ℕ)) (old new : Store K J I an g s d) (messages : List Message) (told : List Told) → Type 0
-  Publishes contents old new messages told = PublishesSo contents NobodyTells old new messages told
+  Publishes contents old new messages told = PublishesSo contents NobodySays old new messages told
 
-  -- the same where a member ended a step: what it told for the first time is written, unless the store is spent
+  -- the same where a member ended a step: unless the store is spent, that is written with all that it told for the first time
   pub record EndsStep (contents : J → Option (List ℕ)) (m : ℕ) (old new : Store K J I an g s d) (messages : List Message) (told : List Told) : Type 0 where
-    pub publishes : PublishesSo contents (OneTells m told) old new messages told
-    pub written : (IsSpent new.scribe → ⊥) → AreWritten old.noted told (lines_in publishes.journal.0) new.noted
+    pub publishes : PublishesSo contents (OneSays m told) old new messages told
+    pub written : (IsSpent new.scribe → ⊥) → IsEnd m old.noted told (lines_in publishes.journal.0) new.noted
 
-  -- the seat of one member is another; nothing else is, but for the journal, to which lines came that record no event and have no outcome
+  -- the seat of one member is another; nothing else is, but for the journal, to which lines came that record no event and end no step
   pub record Changes (contents : J → Option (List ℕ)) (honest : K → Type 0) (holds : I → Durable → Type 0) (old new : Store K J I an g s d) (at : ℕ) (before after : Seat K J I an g s d) : Type 0 where
     pub there : slice_get old.seats.items at ≡ Some before
     pub seats : new.seats.items ≡ slice_set old.seats.items at after

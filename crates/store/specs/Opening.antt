@@ -25,8 +25,8 @@ use Rattle.store.specs.Fullness.{longest}
 use Rattle.store.specs.Going.{AreClean, AreToldIn, IsIn, IsRunOf}
 use Rattle.store.specs.Journals.{IsSpent}
 use Rattle.store.specs.Lines.{Lines, lines_in}
-use Rattle.store.specs.Noting.{AreWritten, all_told}
-use Rattle.store.specs.Recording.{AreRecorded, HasInShort, IsTrue, NobodyTells, RecordAll}
+use Rattle.store.specs.Noting.{AreWritten}
+use Rattle.store.specs.Recording.{AreRecorded, HasInShort, IsTrue, NobodySays, RecordAll}
 use Rattle.store.specs.Tales.{Told, tale_of}
 
 -- how many of these databases are there
@@ -54,11 +54,11 @@ module _ {K J I : Type 0} {an : _} {g : _} {s : _} {d : _} where
   abbrev pub HasAsHere : (honest : K → Type 0) → World → Seat K J I an g s d → Type 0
   HasAsHere honest w seat = ForSome seat.node (λ node. (node.is_up ≡ true) × honest node.keeper × HasInShort w seat.member (summary_of (durable_of (member_of node))))
 
-  -- lines came to the journal that have no outcome, and record the starts of these members from each world in which they have stored what they
+  -- lines came to the journal that end no step, and record the starts of these members from each world in which they have stored what they
   -- have stored here
   abbrev pub Files : (contents : J → Option (List ℕ)) → (honest : K → Type 0) → Option (Scribe J) → Option (Scribe J) → List (Seat K J I an g s d) → Type 0
   Files contents honest old new seats = (lines : Lines) × IsContinued contents old new lines × ((language : Language) (n : ℕ) (w : World) → All (HasAsHere honest w) seats → RecordAll language n w (reading_in old) (lines_in lines) (starts_of seats)) ×
-      All (IsTrue NobodyTells) (lines_in lines)
+      All (IsTrue NobodySays) (lines_in lines)
 
   -- a seat for each database, whose member is not started yet, with what is told of it
   pub record AreLaid (told : Told) (images : List (Option I)) (seats : List (Seat K J I an g s d)) : Type 0 where
@@ -86,8 +86,8 @@ module _ {K J I : Type 0} {an : _} {g : _} {s : _} {d : _} where
         (v : World) × (goes : Goes (language_of members.schema) (length images) (opened found) v) × (goes.events ≡ starts_of members.seats.items) × (v.sent ≡ []) × AreMembers held holds members.schema (length images) members.seats.items v
 
   -- From a world to which the starts of these members led, and in which no message is under way, events lead to one that the store is in. The
-  -- lines that came to the journal record the starts and these events. Each outcome in them its member told in these; unless the store is spent
-  -- they are all that is told there for the first time, past the longest log of these members.
+  -- lines that came to the journal record the starts and these events. Each outcome in them its member told in these. Unless the store is
+  -- spent, what a step told for the first time past the longest log of these members stands in its end, and each end is that of the step before.
   pub record Begins (contents : J → Option (List ℕ)) (honest : K → Type 0) (held : K → Durable → Type 0) (holds : I → Durable → Type 0) (members : Members K J I an g s d) (scribe : Scribe J) (store : Store K J I an g s d) : Type 0 where
     pub schema : store.schema ≡ members.schema
     pub count : length store.seats.items ≡ length members.seats.items
@@ -96,7 +96,7 @@ module _ {K J I : Type 0} {an : _} {g : _} {s : _} {d : _} where
     pub clean : AreClean honest holds store → All (IsClean honest holds) members.seats.items
     pub went : AreClean honest holds store → (u w : World) (starts : Goes (language_of members.schema) (length members.seats.items) u w) → starts.events ≡ starts_of members.seats.items → w.sent ≡ [] → AreMembers held holds members.schema (length members.seats.items) members.seats.items w →
         (v : World) × (goes : Goes (language_of members.schema) (length members.seats.items) w v) × IsIn held holds store v × AreRecorded (language_of members.schema) (length members.seats.items) u scribe.reading lines (starts.events ++ goes.events) (IsSpent store.scribe) × AreToldIn goes.gave (lines_in lines) ×
-        ((IsSpent store.scribe → ⊥) → AreWritten (longest members.seats.items (λ (seat : Seat K J I an g s d). length seat.chain.links.items)) (all_told goes.gave) (lines_in lines) store.noted)
+        ((IsSpent store.scribe → ⊥) → AreWritten (longest members.seats.items (λ (seat : Seat K J I an g s d). length seat.chain.links.items)) (starts.gave ++ goes.gave) (lines_in lines) store.noted)
 
   -- while nothing wrong was taken as true, a store is the run of some events from what these databases held
   abbrev pub IsRunFrom : (honest : K → Type 0) (held : K → Durable → Type 0) (holds : I → Durable → Type 0) (images : List (Option I)) → Store K J I an g s d → Type 0

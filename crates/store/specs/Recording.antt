@@ -65,29 +65,29 @@ RecordAll language n w reading (line ∷ lines) events = (first rest : List Even
 abbrev pub AreOf : (Told → Type 0) → List Outcome → Type 0
 AreOf tells outcomes = All (λ (o : Outcome). (told : Told) × tells told × (o ≡ outcome_of told)) outcomes
 
--- each outcome that a line has of a member is of something that this member tells
-abbrev pub IsTrue : (ℕ → Told → Type 0) → Line → Type 0
-IsTrue tells (Made m outcomes) = AreOf (tells m) outcomes
-IsTrue tells line = ⊤
+-- where a line ends a step of a member, this member says these outcomes
+abbrev pub IsTrue : (ℕ → List Outcome → Type 0) → Line → Type 0
+IsTrue says (Made m outcomes) = says m outcomes
+IsTrue says line = ⊤
 
--- it records no event, and its outcomes, if any, are true
-abbrev pub IsQuiet : (ℕ → Told → Type 0) → Line → Type 0
-IsQuiet tells (Life m stored) = ⊥
-IsQuiet tells (Takes m taken) = ⊥
-IsQuiet tells (Ends m) = ⊥
-IsQuiet tells line = IsTrue tells line
+-- it records no event, and where it ends a step, the member says its outcomes
+abbrev pub IsQuiet : (ℕ → List Outcome → Type 0) → Line → Type 0
+IsQuiet says (Life m stored) = ⊥
+IsQuiet says (Takes m taken) = ⊥
+IsQuiet says (Ends m) = ⊥
+IsQuiet says line = IsTrue says line
 
--- this member tells these
-abbrev pub OneTells : ℕ → List Told → ℕ → Told → Type 0
-OneTells member all m told = (m ≡ member) × Contains all told
+-- this member says outcomes of these
+abbrev pub OneSays : ℕ → List Told → ℕ → List Outcome → Type 0
+OneSays member all m outcomes = (m ≡ member) × AreOf (Contains all) outcomes
 
--- nobody tells anything
-abbrev pub NobodyTells : ℕ → Told → Type 0
-NobodyTells m told = ⊥
+-- nobody says anything
+abbrev pub NobodySays : ℕ → List Outcome → Type 0
+NobodySays m outcomes = ⊥
 
--- it records no event and has no outcome
+-- it records no event and ends no step
 abbrev pub IsSilent : Line → Type 0
-IsSilent line = IsQuiet NobodyTells line
+IsSilent line = IsQuiet NobodySays line
 
 -- it starts or stops a member, which stores nothing
 abbrev pub IsStartOrStop : Event → Type 0

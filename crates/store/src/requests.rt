@@ -118,7 +118,7 @@ where
         Ok(Outcome::Unanswered)
     }
 
-    // Writes the words of an outcome to the journal, and has it outlast a power cut, so that they may be given out.
+    // Writes the words of an outcome to the journal, behind which they may be given out once it has settled.
     #[tactic(auto, using(crate::proofs::Written::on_told))]
     fn print(
         &mut self,
@@ -127,7 +127,6 @@ where
         outcome: &Outcome,
     ) -> Result<(), StoreRefusal>
         ensures told { OnOk result (EndsWith K.Journal.contents self.new.scribe (Line.Printed client number (words_of outcome.now))) }
-        ensures settled { OnOk result (IsSettled K.Journal.is_settled self.new.scribe) }
         ensures why { IfErr result IsOfJournal }
         ensures fails { OnErr result (IsSpent self.new.scribe) }
         ensures goes { GoesOn K.Journal.contents K.is_honest K.may_hold K.holds self.old self.new }
@@ -137,10 +136,10 @@ where
             return Err(self.spend());
         };
         self.write(&line)?;
-        self.settle()
+        self.flush()
     }
 
-    // Hands in a request, whatever room the log has.
+    // Hands in a request, whatever room the log has. What it gives may be given out once the journal has settled.
     fn hand_in(
         &mut self,
         reading: i64,
@@ -149,7 +148,6 @@ where
         text: &str,
     ) -> Result<Outcome, StoreRefusal>
         ensures told { IfOk result (λ o. EndsWith K.Journal.contents self.new.scribe (Line.Printed client number (words_of o))) }
-        ensures settled { OnOk result (IsSettled K.Journal.is_settled self.new.scribe) }
         ensures why { IfErr result IsOfJournal }
         ensures fails { OnErr result (IsSpent self.new.scribe ⊎ (self.new ≡ self.old)) }
         ensures goes { GoesOnSo K.Journal.contents K.is_honest K.may_hold K.holds Anywhere (λ gave. IfOk result (λ o. ComesOf client number o gave)) self.old self.new }
@@ -195,7 +193,9 @@ where
     {
         self.check()?;
         self.check_room()?;
-        self.hand_in(reading, client, number, text)
+        let outcome = self.hand_in(reading, client, number, text)?;
+        self.settle()?;
+        Ok(outcome)
     }
 
     /// The number that the next request of the store's own client has: one more than the last one in the leader's log, or in the
@@ -208,11 +208,21 @@ where
         ensures spent { IsSpent self.old.scribe → IsErr result × (self.new ≡ self.old) }
     {
         self.check()?;
+        let next = self.find_next(reading)?;
+        self.settle()?;
+        Ok(next)
+    }
+
+    // The same, of a store that is not spent, whose journal need not settle.
+    fn find_next(&mut self, reading: i64) -> Result<u64, StoreRefusal>
+        ensures why { IfErr result IsOfJournal }
+        ensures fails { OnErr result (IsSpent self.new.scribe) }
+        ensures goes { GoesOn K.Journal.contents K.is_honest K.may_hold K.holds self.old self.new }
+    {
         let own = match self.lead(reading)? {
             Some(leader) => self.own_of(leader),
             None => self.own_most(),
         };
-        self.settle()?;
         Ok(own.saturating_add(1))
     }
 
@@ -248,9 +258,28 @@ where
         ensures goes { GoesOnSo K.Journal.contents K.is_honest K.may_hold K.holds Anywhere (λ gave. IfOk result (λ r. ComesOf 65535 r.0 r.1 gave)) self.old self.new }
         ensures spent { IsSpent self.old.scribe → IsErr result × (self.new ≡ self.old) }
     {
+        let came = self.execute_unsettled(reading, text)?;
+        self.settle()?;
+        Ok(came)
+    }
+
+    /// As `execute`, without a sync: a power cut may forget what it gives, which is not to be told before `settle`. So requests that are
+    /// handed in one after the other share a sync. What `execute` refuses.
+    #[tactic(auto, using(crate::proofs::Fullness::room_left))]
+    pub fn execute_unsettled(
+        &mut self,
+        reading: i64,
+        text: &str,
+    ) -> Result<(RequestNumber, Outcome), StoreRefusal>
+        ensures told { IfOk result (λ r. EndsWith K.Journal.contents self.new.scribe (Line.Printed 65535 r.0 (words_of r.1))) }
+        ensures full { ¬ IsSpent self.old.scribe → 99000 ≤ longest self.old.seats.items (λ seat. entries_of seat.node seat.chain.links.items) → (result ≡ Err log_full) × (self.new ≡ self.old) }
+        ensures room { result ≡ Err log_full → (99000 ≤ longest self.old.seats.items (λ seat. entries_of seat.node seat.chain.links.items)) × (self.new ≡ self.old) }
+        ensures goes { GoesOnSo K.Journal.contents K.is_honest K.may_hold K.holds Anywhere (λ gave. IfOk result (λ r. ComesOf 65535 r.0 r.1 gave)) self.old self.new }
+        ensures spent { IsSpent self.old.scribe → IsErr result × (self.new ≡ self.old) }
+    {
         self.check()?;
         self.check_room()?;
-        let next = self.next_number(reading)?;
+        let next = self.find_next(reading)?;
         let (Some(client), Some(number)) = (Client::new(OWN_CLIENT), RequestNumber::new(next))
         else {
             return Err(StoreRefusal::Refused(Refusal::Gap));

@@ -1,5 +1,5 @@
 //! The open store.
-ghost use Rattle.std.specs.Prelude.{◌≡◌, ◌↔◌, ◌⊎◌, ◌<◌, ◌+◌, ◌-◌, [], ◌∷◌, Some, false, IsOk, IsTrue, IfSome, IfNone, IfOk, IfErr, OnOk, OnErr, drop, length, slice_get, take};
+ghost use Rattle.std.specs.Prelude.{◌≡◌, ◌↔◌, ◌⊎◌, ◌<◌, ◌+◌, ◌-◌, [], ◌∷◌, Some, false, IsOk, IsErr, IsTrue, IfSome, IfNone, IfOk, IfErr, OnOk, OnErr, drop, length, slice_get, take};
 ghost use Rattle.store.specs.Closing.{ClosesTo, IsClosed, IsDownIn};
 ghost use Rattle.store.specs.Continuing.{HasBegun, IsContinued, IsKeptOn};
 ghost use Rattle.store.specs.Lines.{no_lines, waiting};
@@ -189,8 +189,9 @@ where
         }
     }
 
-    // Writes the journal's buffer to its device, and has all that is there outlast a power cut.
-    pub(crate) fn settle(&mut self) -> Result<(), StoreRefusal>
+    /// Has all that is in the journal outlast a power cut: what `execute_unsettled` gave may be told then. 38, 40 and 43 where the
+    /// journal can't be written; of a store that was spent before nothing changes then.
+    pub fn settle(&mut self) -> Result<(), StoreRefusal>
         ensures ok { OnOk result (IsFlushed K.Journal.contents self.old.scribe self.new.scribe) }
         ensures settled { OnOk result (IsSettled K.Journal.is_settled self.new.scribe) }
         ensures part { OnErr result (IsPartOn K.Journal.contents self.old.scribe (device_in self.new.scribe)) }
@@ -200,6 +201,7 @@ where
         ensures same { self.new ≡ record self.old { scribe = self.new.scribe } }
         ensures continues { IsKeptOn K.Journal.contents self.old.scribe self.new.scribe }
         ensures goes { GoesOn K.Journal.contents K.is_honest K.may_hold K.holds self.old self.new }
+        ensures spent { IsSpent self.old.scribe → IsErr result × (self.new ≡ self.old) }
     {
         match &mut self.scribe {
             Some(scribe) => Ok(scribe.settle()?),

@@ -47,7 +47,7 @@ use Rattle.store.specs.declared.members.Members.{Members}
 use Rattle.store.specs.declared.scribe.Scribe.{Scribe}
 use Rattle.store.specs.Continuing.{IsContinued, bodies_of, left_of, reading_in}
 use Rattle.store.specs.Journals.{IsSpent}
-use Rattle.store.specs.Noting.{AreWritten, all_told}
+use Rattle.store.specs.Noting.{AreWritten}
 use Rattle.store.specs.Opening.{AreFound, AreOpened, Begins, longest_of}
 use Rattle.store.specs.Lines.{and_then, filed_in, lines_in}
 use Rattle.store.specs.Recording.{AreRecorded, RecordAll, last_reading}
@@ -231,8 +231,8 @@ module _ {K J I : Type 0} {an : _} {g : _} {s : _} {d : _} (held : K → Durable
       let named : T (language_of new.schema) (length new.seats.items) after.0.goes.events = subst (λ (t : Tables). T (language_of t) (length new.seats.items) after.0.goes.events) (sym x.schema) counted in
       let told : AreToldIn after.0.goes.gave (lines_in lines) =
       subst (λ (outs : List (List Output)). AreToldIn outs (lines_in lines)) (sym after.1.gave_is) (told_both before.came.goes.gave on.goes.gave before.lines x.lines before.outcomes_are on.outcomes_are) in
-      let written : (IsSpent new.scribe → ⊥) → AreWritten noted (all_told after.0.goes.gave) (lines_in lines) new.noted =
-      λ live. subst (λ (outs : List (List Output)). AreWritten noted (all_told outs) (lines_in lines) new.noted) (sym after.1.gave_is) (written_then contents noted old new before.lines x.lines x.journal before.came.goes.gave on.goes.gave before.written on.written live) in
+      let written : (IsSpent new.scribe → ⊥) → AreWritten noted after.0.goes.gave (lines_in lines) new.noted =
+      λ live. subst (λ (outs : List (List Output)). AreWritten noted outs (lines_in lines) new.noted) (sym after.1.gave_is) (written_then contents noted old new before.lines x.lines x.journal before.came.goes.gave on.goes.gave before.written on.written live) in
       let all : IsFiled contents held holds found scribe noted new = record {
         lines = lines;
         journal = continued_both contents (Some scribe) old.scribe new.scribe before.lines x.lines before.journal x.journal;

@@ -26,7 +26,7 @@ use Rattle.store.specs.declared.scribe.Scribe.{Scribe}
 use Rattle.store.specs.Continuing.{IsContinued}
 use Rattle.store.specs.Journals.{IsSpent}
 use Rattle.store.specs.Lines.{Lines, lines_in}
-use Rattle.store.specs.Noting.{AreWritten, all_told}
+use Rattle.store.specs.Noting.{AreWritten}
 use Rattle.store.specs.Recording.{AreRecorded, RecordAll}
 use Rattle.store.specs.Writing.{lines_text}
 use Rattle.store.specs.declared.store.Store.{Store}
@@ -61,14 +61,14 @@ module _ {K J I : Type 0} {an : _} {g : _} {s : _} {d : _} where
     pub gives_so : gives gave
 
   -- The lines that came to its journal, since that was at this scribe, record how a store came to where it is. Each outcome in them its member
-  -- told on the way; unless it is spent they are all that was told there for the first time, past an entry.
+  -- told on the way. Unless it is spent, what a step told for the first time past an entry stands in its end, and each end is that of the step before.
   pub record IsFiled (contents : J → Option (List ℕ)) (held : K → Durable → Type 0) (holds : I → Durable → Type 0) (found : List Node) (scribe : Scribe J) (noted : ℕ) (store : Store K J I an g s d) : Type 0 where
     pub lines : Lines
     pub journal : IsContinued contents (Some scribe) store.scribe lines
     pub came : Came held holds found store
     pub recorded : AreRecorded (language_of store.schema) (length store.seats.items) (opened found) scribe.reading lines came.goes.events (IsSpent store.scribe)
     pub outcomes_are : AreToldIn came.goes.gave (lines_in lines)
-    pub written : (IsSpent store.scribe → ⊥) → AreWritten noted (all_told came.goes.gave) (lines_in lines) store.noted
+    pub written : (IsSpent store.scribe → ⊥) → AreWritten noted came.goes.gave (lines_in lines) store.noted
 
   -- What the file of its journal has of a session. Behind what was there as the store began come blocks, each with the lines of a group and the
   -- sum of the block before, none empty, and then a beginning of the next at most, which is nothing unless the journal is spent. The lines of

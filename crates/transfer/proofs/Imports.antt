@@ -1,5 +1,5 @@
 -- Requests that are handed in one after the other.
-use Rattle.std.proofs.Common.{◌≡◌, ◌≢◌, ◌⊎◌, ◌∙◌, ℕ, ◌+◌, ◌<◌, min, true, false, List, [], ◌∷◌, ◌++◌, length, take, get_or, refl, sym, ap, subst, inl, inr, arith}
+use Rattle.std.proofs.Common.{◌≡◌, ◌⊎◌, ◌∙◌, ℕ, ◌+◌, ◌<◌, min, true, false, List, [], ◌∷◌, ◌++◌, length, take, get_or, refl, sym, ap, subst, inl, inr, arith}
 use Rattle.std.specs.Prelude.{string_bytes, slice_get, Some}
 use Rattle.std.proofs.lemmas.List.{take_more}
 use Rattle.std.proofs.lemmas.List.Sums.{fold_more}
@@ -44,10 +44,12 @@ module _ {T : Type 0} (takes : T → List ℕ → Outcome → T → Type 0) wher
     pub done_stopped : (more : Came) → came.is_whole ≡ false → (more ≡ came) × IsStopped takes mid request new → IsDone takes old requests more new
     done_stopped more part (same, stopped) = subst (λ (x : Came). IsDone takes old requests x new) (sym same) (done_at part stopped)
 
-    pub far_either : (more : Came) → (more ≡ came) ⊎ IsCounted takes mid request came more new → (last : T) × IsFar takes old requests more last
-    far_either more (inl same) = (mid, subst (λ (x : Came). IsFar takes old requests x mid) (sym same) far)
-    far_either more (inr counted) = (new, far_on more counted)
-
     pub far_counted : (more : Came) (index : ℕ) → came.requests ≡ index → came.is_whole ≡ false → IsCounted takes mid request came more new
         → IsFar takes old requests more new × (more.requests ≡ index + 1) × (more.is_whole ≡ false)
     far_counted more index at part counted = (far_on more counted, counted.2 ∙ ap (λ (n : ℕ). n + 1) at, counted.4 ∙ part)
+
+  -- it fails at a request, which may have been accepted
+  pub far_either : (old mid : T) (requests : List Request) (came : Came) (request : Request) (far : IsFar takes old requests came mid) (less : came.requests < length requests) (is : request ≡ get_or requests came.requests request) (more : Came)
+      → (more ≡ came) ⊎ ((after : T) × IsCounted takes mid request came more after) → (last : T) × IsFar takes old requests more last
+  far_either old mid requests came request far less is more (inl same) = (mid, subst (λ (x : Came). IsFar takes old requests x mid) (sym same) far)
+  far_either old mid requests came request far less is more (inr (after, counted)) = (after, far_on old mid after requests came request far less is more counted)

@@ -1,5 +1,6 @@
 //! Rows of a CSV file into a store.
-ghost use Rattle.std.specs.Prelude.{◌≡◌, ◌≢◌, ◌<◌, ◌⊎◌, ℕ, false, IsTrue, IsFalse, IfOk, OnOk, OnErr};
+ghost use Rattle.std.specs.Prelude.{◌≡◌, ◌≢◌, ◌<◌, ◌⊎◌, List, [], ℕ, false, length, IsTrue, IsFalse, IfOk, OnOk, OnErr};
+ghost use Rattle.store.specs.declared.outcome.Outcome.{Outcome as Told};
 ghost use Rattle.transfer.specs.Imports.{IsCounted, IsDone, IsFar, IsImported, IsStopped, rows_in};
 
 use crate::asked::Import;
@@ -63,6 +64,26 @@ fn rows_of(requests: &[Request]) -> usize
     rows
 }
 
+/// How many requests share a sync at most.
+const SHARING_MOST: usize = 16;
+
+// What is done with each request.
+#[derive(Clone, Copy)]
+struct Task<'a> {
+    import: Import<'a>,
+    reading: i64,
+    all: usize,
+}
+
+// What is to be told once the store has settled, of so many requests, and how much was told to be stored.
+#[derive(Drop)]
+struct Held {
+    text: String,
+    requests: usize,
+    rows_told: usize,
+    requests_told: usize,
+}
+
 // How far an import came.
 #[derive(Drop)]
 struct Came {
@@ -78,50 +99,93 @@ fn is_accepted(outcome: &Outcome) -> bool
     matches!(outcome, Outcome::Accepted(_))
 }
 
-// Hands in a request, and tells what comes of it: whether it is accepted, and is counted then.
-fn store_one<T: Takes, Q: Progress>(
+// Has the store settle, and tells what is held.
+fn tell<T: Takes, Q: Progress>(
     rt: &HostRuntime,
-    import: Import<'_>,
+    store: &mut T,
+    came: &Came,
+    held: &mut Held,
+    progress: &Q,
+) -> Result<(), Fault>
+    ensures settled { OnOk result (T.is_settled store.new) }
+    ensures stays { OnOk result ((before : T) (text : List ℕ) (outcome : Told) → T.takes before text outcome store.old → T.takes before text outcome store.new) }
+{
+    store.settle()?;
+    held.rows_told = came.rows;
+    held.requests_told = came.requests;
+    held.requests = 0;
+    progress.hide();
+    print(rt, held.text.as_str())?;
+    held.text.clear();
+    Ok(())
+}
+
+// Hands in a request, and holds what comes of it: whether it is accepted, and is counted then.
+fn store_one<T: Takes>(
+    alloc: Global,
+    task: Task<'_>,
     request: &Request,
-    reading: i64,
     store: &mut T,
     came: &mut Came,
-    progress: &Q,
+    held: &mut Held,
 ) -> Result<bool, Fault>
     requires { came.old.requests < usize.MAX }
     ensures accepted { IfOk result (λ is_accepted. IsTrue is_accepted → IsCounted T.takes store.old request.now came.old came.new store.new) }
     ensures stopped { IfOk result (λ is_accepted. IsFalse is_accepted → (came.new ≡ came.old) × IsStopped T.takes store.old request.now store.new) }
     ensures failed { OnErr result ((came.new ≡ came.old) ⊎ IsCounted T.takes store.old request.now came.old came.new store.new) }
 {
-    let alloc: Global = rt.alloc();
-    let outcome = store.take(reading, request.text.as_str())?;
-    let text = outcome_text(alloc, import, request, &outcome)?;
+    let outcome = store.take(task.reading, request.text.as_str())?;
+    let text = outcome_text(alloc, task.import, request, &outcome)?;
     let is_accepted = is_accepted(&outcome);
     if is_accepted {
         came.rows = came.rows.saturating_add(request.rows);
         came.requests += 1;
     }
-    progress.hide();
-    print(rt, text.as_str())?;
+    held.requests = held.requests.saturating_add(1);
+    held.text.push_str(text.as_str())?;
+    Ok(is_accepted)
+}
+
+// Hands in a request, and tells what came of those that are held where enough are, it is not accepted, or all are.
+fn store_next<T: Takes, Q: Progress>(
+    rt: &HostRuntime,
+    task: Task<'_>,
+    request: &Request,
+    store: &mut T,
+    came: &mut Came,
+    held: &mut Held,
+    progress: &Q,
+) -> Result<bool, Fault>
+    requires { came.old.requests < usize.MAX }
+    ensures accepted { IfOk result (λ is_accepted. IsTrue is_accepted → IsCounted T.takes store.old request.now came.old came.new store.new) }
+    ensures stopped { IfOk result (λ is_accepted. IsFalse is_accepted → (came.new ≡ came.old) × IsStopped T.takes store.old request.now store.new) }
+    ensures failed { OnErr result ((came.new ≡ came.old) ⊎ ((after : T) × IsCounted T.takes store.old request.now came.old came.new after)) }
+    ensures settled { IfOk result (λ is_accepted. IsFalse is_accepted ⊎ (came.new.requests ≡ task.entry.all) → T.is_settled store.new) }
+{
+    let is_accepted = store_one(rt.alloc(), task, request, store, came, held)?;
+    if !is_accepted || came.requests == task.all || held.requests >= SHARING_MOST {
+        tell(rt, store, came, held, progress)?;
+    }
     Ok(is_accepted)
 }
 
 // Hands in requests, each when the one before it is accepted, and tells what comes of each.
 fn store_all<T: Takes, Q: Progress>(
     rt: &HostRuntime,
-    import: Import<'_>,
+    task: Task<'_>,
     requests: &[Request],
-    reading: i64,
     store: &mut T,
     came: &mut Came,
+    held: &mut Held,
     progress: &Q,
 ) -> Result<(), Fault>
     requires { (came.old.rows ≡ 0) × (came.old.requests ≡ 0) × (came.old.is_whole ≡ false) }
     ensures far { (mid : T) × IsFar T.takes store.old requests.now came.new mid }
     ensures done { OnOk result (IsDone T.takes store.old requests.now came.new store.new) }
+    ensures settled { OnOk result (task.entry.all ≡ length requests.now → requests.now ≢ [] → T.is_settled store.new) }
 {
     for request in requests {
-        if !store_one(rt, import, request, reading, store, came, progress)? {
+        if !store_next(rt, task, request, store, came, held, progress)? {
             return Ok(());
         }
         progress.tell(came.rows);
@@ -130,8 +194,20 @@ fn store_all<T: Takes, Q: Progress>(
     Ok(())
 }
 
-/// Stores the rows of a file, request by request up to one that is not accepted, and tells how many were stored. The exit status is 1
-/// where not all were.
+// Tells how many of the rows are stored.
+fn tell_count(
+    rt: &HostRuntime,
+    alloc: Global,
+    import: Import<'_>,
+    held: &Held,
+    rows: usize,
+) -> Result<(), Fault> {
+    let text = count_text(alloc, import.file, held.rows_told, rows, held.requests_told)?;
+    print(rt, text.as_str())
+}
+
+/// Stores the rows of a file, request by request up to one that is not accepted, and tells how many were stored. Up to 16 requests share a
+/// sync, after which they are told. The exit status is 1 where not all rows were stored.
 pub(crate) fn import_rows<T: Takes, Q: Progress>(
     rt: &HostRuntime,
     alloc: Global,
@@ -141,19 +217,35 @@ pub(crate) fn import_rows<T: Takes, Q: Progress>(
     store: &mut T,
     progress: &Q,
 ) -> Result<u8, Fault>
-    ensures { IfOk result (λ status. IsImported T.takes store.old requests.now status store.new) }
+    ensures imported { IfOk result (λ status. IsImported T.takes store.old requests.now status store.new) }
+    ensures settled { OnOk result (requests.now ≢ [] → T.is_settled store.new) }
 {
     let mut came = Came {
         rows: 0,
         requests: 0,
         is_whole: false,
     };
+    let mut held = Held {
+        text: String::new(alloc),
+        requests: 0,
+        rows_told: 0,
+        requests_told: 0,
+    };
+    let task = Task {
+        import,
+        reading,
+        all: requests.len(),
+    };
     let rows = rows_of(requests);
     progress.begin("rows", rows);
-    let stored = store_all(rt, import, requests, reading, store, &mut came, progress);
+    let stored = store_all(rt, task, requests, store, &mut came, &mut held, progress);
+    if let Err(fault) = stored {
+        let _ = tell(rt, store, &came, &mut held, progress);
+        progress.hide();
+        tell_count(rt, alloc, import, &held, rows)?;
+        return Err(fault);
+    }
     progress.hide();
-    let text = count_text(alloc, import.file, came.rows, rows, came.requests)?;
-    print(rt, text.as_str())?;
-    stored?;
+    tell_count(rt, alloc, import, &held, rows)?;
     Ok(if came.is_whole { 0 } else { 1 })
 }

@@ -1,42 +1,21 @@
-use Rattle.std.proofs.Common.{rules, ◌≡◌, IsErr, subst}
+use Rattle.std.proofs.Common.{rules, IsErr}
 use Rattle.std.proofs.lemmas.Result.{IfOk-from_err}
 use Rattle.store.specs.Going.{Anywhere, ComesOf}
-use Rattle.store.proofs.Going.{comes_then, goes_so, so_goes, goes_on, stays, then_so}
+use Rattle.store.proofs.Going.{comes_before, so_then, so_weaker}
 use Rattle.store.proofs.store.Store.execute.Goals as goal
 
-pub returns-in_err-check-clause-goes : goal.returns-in_err-check-clause-goes
-returns-in_err-check-clause-goes g c =
+pub returns-in_err-came-clause-goes : goal.returns-in_err-came-clause-goes
+returns-in_err-came-clause-goes g c =
     let err : IsErr c.from_residual.result = search rules in
-    goes_so g.K.Journal.Device.contents g.K.LogReader.is_honest g.K.LogReader.may_hold g.K.Keeper.holds Anywhere _ c.args.self.now c.args.self.now (λ gave. IfOk-from_err c.from_residual.result (λ r. ComesOf 65535 r.0 r.1 gave) err) (stays g.K.Journal.Device.contents g.K.LogReader.is_honest g.K.LogReader.may_hold g.K.Keeper.holds c.args.self.now)
+    so_weaker g.K.Journal.Device.contents g.K.LogReader.is_honest g.K.LogReader.may_hold g.K.Keeper.holds Anywhere Anywhere _ _ c.args.self.now c.execute_unsettled.new.self (λ w i. tt) (λ gave said. IfOk-from_err c.from_residual.result (λ r. ComesOf 65535 r.0 r.1 gave) err) c.execute_unsettled.ensures.goes
 
-pub returns-in_err-check_room-clause-goes : goal.returns-in_err-check_room-clause-goes
-returns-in_err-check_room-clause-goes g c =
-    let err : IsErr c.from_residual-in_err-check_room.result = search rules in
-    goes_so g.K.Journal.Device.contents g.K.LogReader.is_honest g.K.LogReader.may_hold g.K.Keeper.holds Anywhere _ c.args.self.now c.args.self.now (λ gave. IfOk-from_err c.from_residual-in_err-check_room.result (λ r. ComesOf 65535 r.0 r.1 gave) err) (stays g.K.Journal.Device.contents g.K.LogReader.is_honest g.K.LogReader.may_hold g.K.Keeper.holds c.args.self.now)
-
-pub returns-in_err-next-clause-goes : goal.returns-in_err-next-clause-goes
-returns-in_err-next-clause-goes g c =
-    let err : IsErr c.from_residual-in_err-next.result = search rules in
-    goes_so g.K.Journal.Device.contents g.K.LogReader.is_honest g.K.LogReader.may_hold g.K.Keeper.holds Anywhere _ c.args.self.now c.next_number.new.self (λ gave. IfOk-from_err c.from_residual-in_err-next.result (λ r. ComesOf 65535 r.0 r.1 gave) err) c.next_number.ensures.goes
-
-pub returns-in_default-clause-goes : goal.returns-in_default-clause-goes
-returns-in_default-clause-goes g c =
-    goes_so g.K.Journal.Device.contents g.K.LogReader.is_honest g.K.LogReader.may_hold g.K.Keeper.holds Anywhere _ c.args.self.now c.next_number.new.self (λ gave. tt) c.next_number.ensures.goes
-
-pub returns-in_err-outcome-clause-goes : goal.returns-in_err-outcome-clause-goes
-returns-in_err-outcome-clause-goes g c =
-    let old = c.args.self.now in
-    let mid = c.next_number.new.self in
-    let new = c.hand_in.new.self in
-    let err : IsErr c.from_residual-in_err-outcome.result = search rules in
-    goes_so g.K.Journal.Device.contents g.K.LogReader.is_honest g.K.LogReader.may_hold g.K.Keeper.holds Anywhere _ old new (λ gave. IfOk-from_err c.from_residual-in_err-outcome.result (λ r. ComesOf 65535 r.0 r.1 gave) err)
-    (goes_on g.K.Journal.Device.contents g.K.LogReader.is_honest g.K.LogReader.may_hold g.K.Keeper.holds old mid new c.next_number.ensures.goes (so_goes g.K.Journal.Device.contents g.K.LogReader.is_honest g.K.LogReader.may_hold g.K.Keeper.holds Anywhere _ mid new (λ w i. tt) c.hand_in.ensures.goes))
+pub returns-in_err-settle-clause-goes : goal.returns-in_err-settle-clause-goes
+returns-in_err-settle-clause-goes g c =
+    let err : IsErr c.from_residual-in_err-settle.result = search rules in
+    so_then g.K.Journal.Device.contents g.K.LogReader.is_honest g.K.LogReader.may_hold g.K.Keeper.holds Anywhere _ _ c.args.self.now c.execute_unsettled.new.self c.settle.new.self (λ one two said. IfOk-from_err c.from_residual-in_err-settle.result (λ r. ComesOf 65535 r.0 r.1 _) err) c.execute_unsettled.ensures.goes c.settle.ensures.goes
 
 pub returns-clause-goes : goal.returns-clause-goes
 returns-clause-goes g c =
-    let old = c.args.self.now in
-    let mid = c.next_number.new.self in
-    let new = c.hand_in.new.self in
-    let client : c.in-Some-Some.client ≡ 65535 = search rules in
-    then_so g.K.Journal.Device.contents g.K.LogReader.is_honest g.K.LogReader.may_hold g.K.Keeper.holds _ _ old mid new
-    (λ one two hears said. comes_then one two 65535 c.in-Some-Some.number c.in_ok-outcome.outcome (subst (λ k. ComesOf k c.in-Some-Some.number c.in_ok-outcome.outcome two) client said)) c.next_number.ensures.goes c.in_ok-outcome.ensures.goes
+    let came = c.in_ok-came.came in
+    so_then g.K.Journal.Device.contents g.K.LogReader.is_honest g.K.LogReader.may_hold g.K.Keeper.holds Anywhere _ _ c.args.self.now c.execute_unsettled.new.self c.settle.new.self
+    (λ one two said. comes_before one two 65535 came.0 came.1 said) c.in_ok-came.ensures.goes c.settle.ensures.goes

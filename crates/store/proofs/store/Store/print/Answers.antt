@@ -8,4 +8,4 @@ use Rattle.store.proofs.store.Store.print.Goals as goal
 pub returns-clause-goes : goal.returns-clause-goes
 returns-clause-goes g c =
     let printed : c.in-Ok.line ≡ Printed c.args.client c.args.number (words_of c.args.outcome.now) = search rules in
-    goes_on g.K.Journal.Device.contents g.K.LogReader.is_honest g.K.LogReader.may_hold g.K.Keeper.holds c.args.self.now c.write.new.self c.settle.new.self (c.write.ensures.goes (subst IsSilent (sym printed) tt)) c.settle.ensures.goes
+    goes_on g.K.Journal.Device.contents g.K.LogReader.is_honest g.K.LogReader.may_hold g.K.Keeper.holds c.args.self.now c.write.new.self c.flush.new.self (c.write.ensures.goes (subst IsSilent (sym printed) tt)) c.flush.ensures.goes

@@ -4,7 +4,7 @@ use Rattle.std.proofs.lemmas.List.Elements.{All-nil}
 use Rattle.journal.specs.declared.line.Line.TheVariants.{Opens}
 use Rattle.store.specs.Opening.{Files, longest_of}
 use Rattle.store.specs.Lines.{no_lines}
-use Rattle.store.specs.Recording.{IsTrue, NobodyTells}
+use Rattle.store.specs.Recording.{IsTrue, NobodySays}
 use Rattle.store.proofs.Continuing.{continued_same, kept_by}
 use Rattle.store.proofs.Opening.{files_both, files_on, files_silent, longest_both, next_seats, noted_by, only_both, only_then}
 use Rattle.store.proofs.Written.{longer_none, longer_more, on_opened, then_ok}
@@ -13,7 +13,7 @@ use Rattle.store.proofs.store.Store.write_head.Goals as goal
 pub loop-at-init : goal.loop-at-init
 loop-at-init g c = record {
   longer = longer_none c.write.new.self.scribe;
-  heads = (no_lines, continued_same g.K.Journal.Device.contents c.write.new.self.scribe, λ language n w has. refl, All-nil (IsTrue NobodyTells));
+  heads = (no_lines, continued_same g.K.Journal.Device.contents c.write.new.self.scribe, λ language n w has. refl, All-nil (IsTrue NobodySays));
   noted = refl;
   same = refl;
 }

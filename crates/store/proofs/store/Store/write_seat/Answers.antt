@@ -6,7 +6,7 @@ use Rattle.journal.specs.declared.line.Line.TheVariants.{Saves}
 use Rattle.store.specs.Continuing.{IsContinued}
 use Rattle.store.specs.Opening.{longest_of, starts_of}
 use Rattle.store.specs.Lines.{no_lines, waiting}
-use Rattle.store.specs.Recording.{IsTrue, NobodyTells}
+use Rattle.store.specs.Recording.{IsTrue, NobodySays}
 use Rattle.store.proofs.Continuing.{continued_same, kept_by}
 use Rattle.store.proofs.Opening.{files_on, head_files, none_there, noted_by, one_there, only_first, only_then}
 use Rattle.store.proofs.Written.{longer_none, longer_from, on_longer, then_ok}
@@ -20,7 +20,7 @@ pub returns-in_default-clause-heads : goal.returns-in_default-clause-heads
 returns-in_default-clause-heads g c =
     let old = c.args.self.now in
     let past = subst (λ xs. length xs ≤ c.args.at) c.deref.ensures.value c.in_default.ensures.lookup.3 in
-    (no_lines, continued_same g.K.Journal.Device.contents old.scribe, λ language n w has. ap starts_of (none_there old.seats.items c.args.at past), All-nil (IsTrue NobodyTells))
+    (no_lines, continued_same g.K.Journal.Device.contents old.scribe, λ language n w has. ap starts_of (none_there old.seats.items c.args.at past), All-nil (IsTrue NobodySays))
 
 pub returns-in_default-clause-noted : goal.returns-in_default-clause-noted
 returns-in_default-clause-noted g c =
