@@ -118,7 +118,7 @@ where
         Ok(Outcome::Unanswered)
     }
 
-    // Writes the words of an outcome to the journal, behind which they may be given out once it has settled.
+    // Writes the words of an outcome to the journal. Once it has settled they may be given out.
     #[tactic(auto, using(crate::proofs::Written::on_told))]
     fn print(
         &mut self,
@@ -213,7 +213,7 @@ where
         Ok(next)
     }
 
-    // The same, of a store that is not spent, whose journal need not settle.
+    // The same, without a sync.
     fn find_next(&mut self, reading: i64) -> Result<u64, StoreRefusal>
         ensures why { IfErr result IsOfJournal }
         ensures fails { OnErr result (IsSpent self.new.scribe) }
@@ -255,6 +255,7 @@ where
         ensures settled { OnOk result (IsSettled K.Journal.is_settled self.new.scribe) }
         ensures full { ¬ IsSpent self.old.scribe → 99000 ≤ longest self.old.seats.items (λ seat. entries_of seat.node seat.chain.links.items) → (result ≡ Err log_full) × (self.new ≡ self.old) }
         ensures room { result ≡ Err log_full → (99000 ≤ longest self.old.seats.items (λ seat. entries_of seat.node seat.chain.links.items)) × (self.new ≡ self.old) }
+        ensures why { IfErr result (λ r. IsOfJournal r ⊎ ((r ≡ log_full) ⊎ (r ≡ StoreRefusal.Refused Refusal.Gap))) }
         ensures goes { GoesOnSo K.Journal.contents K.is_honest K.may_hold K.holds Anywhere (λ gave. IfOk result (λ r. ComesOf 65535 r.0 r.1 gave)) self.old self.new }
         ensures spent { IsSpent self.old.scribe → IsErr result × (self.new ≡ self.old) }
     {
@@ -274,6 +275,7 @@ where
         ensures told { IfOk result (λ r. EndsWith K.Journal.contents self.new.scribe (Line.Printed 65535 r.0 (words_of r.1))) }
         ensures full { ¬ IsSpent self.old.scribe → 99000 ≤ longest self.old.seats.items (λ seat. entries_of seat.node seat.chain.links.items) → (result ≡ Err log_full) × (self.new ≡ self.old) }
         ensures room { result ≡ Err log_full → (99000 ≤ longest self.old.seats.items (λ seat. entries_of seat.node seat.chain.links.items)) × (self.new ≡ self.old) }
+        ensures why { IfErr result (λ r. IsOfJournal r ⊎ ((r ≡ log_full) ⊎ (r ≡ StoreRefusal.Refused Refusal.Gap))) }
         ensures goes { GoesOnSo K.Journal.contents K.is_honest K.may_hold K.holds Anywhere (λ gave. IfOk result (λ r. ComesOf 65535 r.0 r.1 gave)) self.old self.new }
         ensures spent { IsSpent self.old.scribe → IsErr result × (self.new ≡ self.old) }
     {
