@@ -11,17 +11,16 @@ use model::member::Member;
 use playback::Decided;
 use schema::Schema;
 use schemaread::schemas::read_schema;
-use sqlite::Alter;
 use std::alloc::{AllocError, Global};
 use std::fs::File;
 use std::io::{BufRead, BufReader, IsTerminal, Read};
 use std::{env, fs};
+use store::StoreRefusal;
 use store::announcing::Announces;
-use store::{Device, StoreRefusal};
 use storeaudit::{Audited, Later, Verdict};
 use storecommands::dot::Form;
 use storecommands::{Command, ExportRows, ImportRows, NewStore, OpenStore};
-use storefolder::{Kept, Opened, reading_of};
+use storefolder::{Holder, Opened, hold_store, reading_of};
 use transfer::{Export, Import, Order, Versions};
 
 // How many columns a terminal has, where nothing tells.
@@ -95,35 +94,40 @@ fn clock_of<'a>(open: OpenStore<'_>) -> Result<Option<i64>, Stop<'a>> {
     }
 }
 
-// A sitting at a store that is open: what came of it, the store, and whether something was refused.
-fn sit_at<R: BufRead + Drop, K: Announces>(
-    rt: &HostRuntime,
+// Somebody who sits at a store while it is open.
+#[derive(Drop)]
+struct Sitter<'a, R: BufRead + Drop> {
     alloc: Global,
-    place: Place<'_>,
-    input: &mut LineReader<R>,
-    opened: Opened<K>,
+    place: Place<'a>,
+    input: LineReader<R>,
     clock: Option<i64>,
-) -> (Result<(), Fault>, Opened<K>, bool)
-where
-    K::Image: Drop,
-{
-    let Opened { store, found } = opened;
-    let mut session = Session::new(alloc, place, store, &found, clock);
-    let played = session.play(rt, input);
-    let (store, is_refused) = session.end();
-    (played, Opened { store, found }, is_refused)
 }
 
-// The same of a store whose databases are in S.
-fn sit_over<R: BufRead + Drop, S: Alter + Drop, J: Device>(
-    rt: &HostRuntime,
-    alloc: Global,
-    place: Place<'_>,
-    input: &mut LineReader<R>,
-    opened: Opened<Kept<S, J>>,
-    clock: Option<i64>,
-) -> (Result<(), Fault>, Opened<Kept<S, J>>, bool) {
-    sit_at(rt, alloc, place, input, opened, clock)
+impl<R: BufRead + Drop> Holder for Sitter<'_, R> {
+    // What came of it, and whether something was refused.
+    type Output = (Result<(), Fault>, bool);
+
+    fn hold<K: Announces>(
+        self,
+        rt: &HostRuntime,
+        opened: Opened<K>,
+    ) -> ((Result<(), Fault>, bool), Opened<K>)
+    where
+        K::Image: Drop,
+    {
+        let Sitter {
+            alloc,
+            place,
+            input,
+            clock,
+        } = self;
+        let Opened { store, found } = opened;
+        let mut input = input;
+        let mut session = Session::new(alloc, place, store, &found, clock);
+        let played = session.play(rt, &mut input);
+        let (store, is_refused) = session.end();
+        ((played, is_refused), Opened { store, found })
+    }
 }
 
 // Makes a store of a folder with the flights of a run, and says so on standard error.
@@ -149,12 +153,16 @@ fn sit<R: Read + Drop>(
     let Ok(reader) = BufReader::new(alloc, reader) else {
         return Err(Fault::from(Refusal::NoMemory));
     };
-    let mut input = LineReader::new(alloc, reader);
+    let input = LineReader::new(alloc, reader);
     adopt(rt, alloc, place.dir)?;
     restore_unsynced(rt, alloc, place.dir)?;
-    let opened = storefolder::open(rt, alloc, place.dir, syncs, reading)?;
-    let (played, opened, is_refused) = sit_over(rt, alloc, place, &mut input, opened, clock);
-    let closed = storefolder::close(rt, opened);
+    let sitter = Sitter {
+        alloc,
+        place,
+        input,
+        clock,
+    };
+    let ((played, is_refused), closed) = hold_store(rt, alloc, place.dir, syncs, reading, sitter)?;
     played?;
     closed?;
     Ok(if is_refused && !place.is_terminal {

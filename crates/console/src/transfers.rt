@@ -2,13 +2,12 @@
 use crate::restores::restore_unsynced;
 use crate::room::warn_of_room;
 use fault::Refusal;
-use progressline::{Progress, ProgressLine};
-use sqlite::Alter;
+use progressline::ProgressLine;
 use std::alloc::Global;
 use std::io::IsTerminal;
-use store::Device;
+use store::announcing::Announces;
 use store::room::NEARLY_FULL;
-use storefolder::{Kept, Opened, reading_of};
+use storefolder::{Holder, Opened, hold_store, reading_of};
 use transfer::{Fault, Order, Work, look_at, work_on};
 
 /// What shows on standard error, where that is a terminal, how far a long work is.
@@ -26,25 +25,42 @@ fn work_of<'a>(
     look_at(rt, alloc, order, &folder.form.schema)
 }
 
-// Does it with a store that is open, and says where its log is nearly full: what came of it, and the store. 36 where the log has no room
-// for all of an import.
-fn work_at<S: Alter + Drop, J: Device, Q: Progress>(
-    rt: &HostRuntime,
+// Who imports or exports.
+#[derive(Drop)]
+struct Carrier<'a> {
     alloc: Global,
-    work: &Work<'_>,
+    work: Work<'a>,
     reading: i64,
-    opened: Opened<Kept<S, J>>,
-    progress: &Q,
-) -> (Result<u8, Fault>, Opened<Kept<S, J>>) {
-    let mut opened = opened;
-    if let Work::Import(_, requests) = work {
-        if !opened.store.room().takes(requests.len()) {
-            return (Err(Fault::from(Refusal::LogFull)), opened);
+}
+
+impl Holder for Carrier<'_> {
+    type Output = Result<u8, Fault>;
+
+    // Says where the log is nearly full. 36 where it has no room for all of an import.
+    fn hold<K: Announces>(
+        self,
+        rt: &HostRuntime,
+        opened: Opened<K>,
+    ) -> (Result<u8, Fault>, Opened<K>)
+    where
+        K::Image: Drop,
+    {
+        let Carrier {
+            alloc,
+            work,
+            reading,
+        } = self;
+        let mut opened = opened;
+        if let Work::Import(_, requests) = &work {
+            if !opened.store.room().takes(requests.len()) {
+                return (Err(Fault::from(Refusal::LogFull)), opened);
+            }
         }
+        let progress = progress_on(rt);
+        let done = work_on(rt, alloc, &work, reading, &mut opened.store, &progress);
+        let _ = warn_of_room(rt, alloc, &opened.store, NEARLY_FULL);
+        (done, opened)
     }
-    let done = work_on(rt, alloc, work, reading, &mut opened.store, progress);
-    let _ = warn_of_room(rt, alloc, &opened.store, NEARLY_FULL);
-    (done, opened)
 }
 
 /// Imports or exports over the store in a folder, on standard output, and gives the exit status: 0, or 1 where not all rows of a file
@@ -56,10 +72,12 @@ pub(crate) fn carry_out(rt: &HostRuntime, alloc: Global, order: Order<'_>) -> Re
     };
     restore_unsynced(rt, alloc, order.dir())?;
     let reading = reading_of(rt, None)?;
-    let opened = storefolder::open(rt, alloc, order.dir(), true, reading)?;
-    let progress = progress_on(rt);
-    let (done, opened) = work_at(rt, alloc, &work, reading, opened, &progress);
-    let closed = storefolder::close(rt, opened);
+    let carrier = Carrier {
+        alloc,
+        work,
+        reading,
+    };
+    let (done, closed) = hold_store(rt, alloc, order.dir(), true, reading, carrier)?;
     let status = done?;
     closed?;
     Ok(status)

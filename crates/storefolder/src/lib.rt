@@ -30,4 +30,4 @@ pub use numbers::{Journals, find_journals};
 pub use opening::{Cut, FolderStore, Found, Kept, Opened, close, open};
 pub use place::{Folder, enter, is_file, make};
 pub use replacing::{begin_database, put_database};
-pub use task::{Task, with_store};
+pub use task::{Holder, Task, hold_store, with_store};

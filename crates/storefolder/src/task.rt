@@ -23,15 +23,58 @@ pub trait Task: Drop {
         K::Image: Drop;
 }
 
-fn work_over<S: Alter + Drop, J: Device, T: Task>(
+/// What holds a store while it is open, whatever keeps its members, and gives it back.
+pub trait Holder: Drop {
+    /// What comes of it.
+    type Output: Drop;
+
+    /// Holds it.
+    fn hold<K: Announces>(self, rt: &HostRuntime, opened: Opened<K>) -> (Self::Output, Opened<K>)
+    where
+        K::Image: Drop;
+}
+
+// One that does a task with it.
+#[derive(Drop)]
+struct Worker<T: Task> {
+    task: T,
+}
+
+impl<T: Task> Holder for Worker<T> {
+    type Output = T::Output;
+
+    fn hold<K: Announces>(self, rt: &HostRuntime, opened: Opened<K>) -> (T::Output, Opened<K>)
+    where
+        K::Image: Drop,
+    {
+        let Worker { task } = self;
+        let Opened { store, found } = opened;
+        let mut store = store;
+        let output = task.work(rt, &mut store, &found);
+        (output, Opened { store, found })
+    }
+}
+
+fn hold_over<S: Alter + Drop, J: Device, H: Holder>(
     rt: &HostRuntime,
     opened: Opened<Kept<S, J>>,
-    task: T,
-) -> (T::Output, Opened<Kept<S, J>>) {
-    let Opened { store, found } = opened;
-    let mut store = store;
-    let output = task.work(rt, &mut store, &found);
-    (output, Opened { store, found })
+    holder: H,
+) -> (H::Output, Opened<Kept<S, J>>) {
+    holder.hold(rt, opened)
+}
+
+/// Opens the store in a folder, has it held, and closes it: what came of that, and of the closing. What `open` refuses.
+pub fn hold_store<H: Holder>(
+    rt: &HostRuntime,
+    alloc: Global,
+    dir: &str,
+    syncs: bool,
+    reading: i64,
+    holder: H,
+) -> Result<(H::Output, Result<(), StoreRefusal>), StoreRefusal> {
+    let opened = open(rt, alloc, dir, syncs, reading)?;
+    let (output, opened) = hold_over::<Stored, JournalFile, H>(rt, opened, holder);
+    Ok((output, close(rt, opened)))
 }
 
 /// Opens the store in a folder, has this done with it, and closes it. What `open` and `close` refuse.
@@ -43,8 +86,7 @@ pub fn with_store<T: Task>(
     reading: i64,
     task: T,
 ) -> Result<T::Output, StoreRefusal> {
-    let opened = open(rt, alloc, dir, syncs, reading)?;
-    let (output, opened) = work_over::<Stored, JournalFile, T>(rt, opened, task);
-    close(rt, opened)?;
+    let (output, closed) = hold_store(rt, alloc, dir, syncs, reading, Worker { task })?;
+    closed?;
     Ok(output)
 }

@@ -159,7 +159,7 @@ fn replace_database(
 ) -> Result<Restored, StoreRefusal> {
     let database = begin_database(rt, alloc, dir, member)?;
     let database = fill_database(alloc, database, form, member, stored)?;
-    if database.close().is_err() {
+    if unsynced::close(database).is_err() {
         return Err(StoreRefusal::Refused(Refusal::StoreFault));
     }
     Ok(Restored {

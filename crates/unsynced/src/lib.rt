@@ -5,4 +5,4 @@ mod disk;
 mod opening;
 
 pub use disk::Unsynced;
-pub use opening::{Database, Stored, close, open};
+pub use opening::{Database, Stored, close, close_files, open};

@@ -111,26 +111,55 @@ pub fn open(rt: &HostRuntime, path: &str, syncs: bool) -> Result<Database, Error
     connect(rt, files, options)
 }
 
-// Brings what a file holds to the disk.
-fn settle<D: Disk + Drop>(file: Unsynced<D>) -> io::Result<()>
+// A name for the disk that the files lie on: what is done over any is proved once.
+trait Under {
+    type Disk: Disk + Drop;
+}
+
+// The system's files.
+#[derive(Drop)]
+struct System;
+
+impl Under for System {
+    type Disk = File;
+}
+
+// Brings what a file holds to the disk, and gives it.
+fn settle<D: Disk + Drop>(file: Unsynced<D>) -> io::Result<D>
     requires { IsTrue (D.Disk.is_usable (inner_of file)) }
 {
     let mut inner = file.into_inner();
-    inner.sync()
+    inner.sync()?;
+    Ok(inner)
+}
+
+// Closes a database over any disk, brings its files there, and gives them.
+fn close_over<U: Under>(
+    database: Connection<FileStore<Unsynced<U::Disk>>>,
+) -> Result<Files<U::Disk>, Error> {
+    match database.close_files() {
+        Ok(Files { log, db }) => match (settle(db), settle(log)) {
+            (Ok(db), Ok(log)) => Ok(Files { log, db }),
+            _ => Err(failure(ErrorCode::SystemIoFailure)),
+        },
+        Err((error, store)) => {
+            drop(store.close());
+            Err(error)
+        }
+    }
+}
+
+/// Closes a database, brings its files to the disk, whether it syncs or not, and gives them: nobody else has it open before they are
+/// dropped. The error of what could not be written or brought there: then it may be only in part.
+pub fn close_files(database: Database) -> Result<Files<File>, Error> {
+    close_over::<System>(database)
 }
 
 /// Closes a database, and brings its files to the disk, whether it syncs or not. The error of what could not be written or brought there:
 /// then it may be only in part.
 pub fn close(database: Database) -> Result<(), Error> {
-    match database.close_files() {
-        Ok(Files { log, db }) => {
-            settle(db)
-                .and(settle(log))
-                .map_err(|_| failure(ErrorCode::SystemIoFailure))
-        }
-        Err((error, store)) => {
-            drop(store.close());
-            Err(error)
-        }
+    match close_files(database) {
+        Ok(_) => Ok(()),
+        Err(error) => Err(error),
     }
 }
