@@ -331,7 +331,7 @@ VERDICT = re.compile(rb"audit: (yes|5[1-4] .*)\n")
 def stored_groups():
     """Flights of the repository, of all versions."""
     found = []
-    for path in sorted(glob.glob(f"{ROOT}/crates/test_cases/data/*.flights")):
+    for path in sorted(glob.glob(f"{ROOT}/cases/flights/*.flights")):
         with open(path, "rb") as file:
             texts = re.split(rb"(?<=\nend\n)(?=bitable flight )", file.read())
         found.append([text for text in texts if text])

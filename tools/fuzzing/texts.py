@@ -187,7 +187,7 @@ def line_faults(script, tables, number, line):
 def stored_scripts():
     """Scripts of the repository that are short enough to be played often."""
     found = []
-    for path in sorted(glob.glob(f"{ROOT}/crates/test_cases/data/*.script") + glob.glob(f"{ROOT}/examples/*.script") + glob.glob(f"{ROOT}/cases/*.script")):
+    for path in sorted(glob.glob(f"{ROOT}/cases/scripts/*.script") + glob.glob(f"{ROOT}/examples/*.script") + glob.glob(f"{ROOT}/cases/*.script")):
         with open(path, "rb") as file:
             text = file.read()
         if len(text) < 20_000:

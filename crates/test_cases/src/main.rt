@@ -1,13 +1,8 @@
 //! Tries each case of the folder that it runs in, and tells how many print what they should, and which do not. Then it tries
 //! what an enemy would make, as `hostile` says.
 //!
-//! A case is an input, whose ending says how it is tried, and beside it NAME.output, which is what it prints. For a
-//! script NAME.told may stand in its place, which leaves out the messages that were sent.
+//! A case is an input, whose ending says how it is tried, and beside it NAME.output, which is what it prints.
 //!
-//! - `.script`: a script, which is played. Where it does not end well, a last line says why. One that does is played
-//!   again with a reader and with a writer that fail midway.
-//! - `.scripts`: each text is the end of a script, which is played.
-//! - `.audits`: each text says what is changed, as in `.changes`, in flights before they are audited.
 //! - `.schemas`: each text is a schema, which is read or refused.
 //! - `.changes`: each text says what is changed in a schema before it is read, as OLD | NEW | OLD | NEW and so on.
 //! - `.transactions`: each text is a transaction, which is written as it was read, or refused.
@@ -16,13 +11,11 @@
 //! - `.databases`: each text is a list of SQL statements, which are made on the database of a member that has nothing
 //!   stored. It is then opened: what it holds is told, or why it is refused and what is wrong first.
 //!
-//! All but a `.script` have a text in each line; a line that begins with `#` is a comment. The first line of
-//! `.scripts`, `.audits`, `.changes`, `.transactions`, `.queries` and `.databases` names another file: the beginning of the
-//! scripts, the flights one behind the other, or the schema. In a text `\0a` is the byte of these two hexadecimal digits,
-//! and `\{16 X}` is X 16 times.
+//! There is a text in each line; a line that begins with `#` is a comment. The first line of `.changes`, `.transactions`,
+//! `.queries` and `.databases` names the file of the schema. In a text `\0a` is the byte of these two hexadecimal digits, and
+//! `\{16 X}` is X 16 times.
 #![tactic(auto)]
 
-mod broken;
 mod databases;
 mod flights;
 mod frames;
@@ -35,15 +28,11 @@ mod tally;
 mod text;
 mod trial;
 
-use anyhow::Result;
-use broken::fault_where_broken;
+use anyhow::{Result, bail};
 use std::alloc::{AllocError, Global};
 use std::fs;
 use std::rt::Files;
-use trial::{Kind, play, tell};
-
-// How many bytes a short script has at most.
-const SHORT: usize = 20000;
+use trial::{Kind, tell};
 
 fn main(rt: HostRuntime) -> Result<()> {
     try_cases(&rt)?;
@@ -87,45 +76,15 @@ fn names_of_inputs<R: AllocGlobal + Files + Clone + Drop>(
 
 // How an input prints something else than it should, or none.
 fn fault_of<R: AllocGlobal + Files>(rt: &R, alloc: Global, input: &str) -> Result<Option<String>> {
-    let printed = try_input(rt, alloc, input)?;
-    if let Some(fault) = fault_of_script(rt, alloc, input, printed.as_str())? {
-        return Ok(Some(fault));
-    }
+    let Some(kind) = Kind::of(input) else {
+        bail!("this is no input");
+    };
+    let lines = fs::read_to_string(rt, input)?;
+    let printed = try_texts(rt, alloc, kind, lines.as_str())?;
     let (name, _) = input.rsplit_once('.').unwrap_or((input, ""));
     let output = format!(in alloc; "{name}.output")?;
-    if let Ok(wanted) = fs::read_to_string(rt, output.as_str()) {
-        return Ok(difference(alloc, printed.as_str(), wanted.as_str())?);
-    }
-    let told = format!(in alloc; "{name}.told")?;
-    let wanted = fs::read_to_string(rt, told.as_str())?;
-    let printed = without_messages(alloc, printed.as_str())?;
+    let wanted = fs::read_to_string(rt, output.as_str())?;
     Ok(difference(alloc, printed.as_str(), wanted.as_str())?)
-}
-
-// How a short script that ends well fares otherwise than it should where its reader or its writer fails, or none.
-fn fault_of_script<R: AllocGlobal + Files>(
-    rt: &R,
-    alloc: Global,
-    input: &str,
-    printed: &str,
-) -> Result<Option<String>> {
-    if !matches!(Kind::of(input), Some(Kind::Script)) || printed.contains("ended: ") {
-        return Ok(None);
-    }
-    let script = fs::read(rt, input)?;
-    if script.len() > SHORT {
-        return Ok(None);
-    }
-    Ok(fault_where_broken(alloc, script.as_slice(), printed)?)
-}
-
-// What an input prints.
-fn try_input<R: AllocGlobal + Files>(rt: &R, alloc: Global, input: &str) -> Result<String> {
-    let bytes = fs::read(rt, input)?;
-    match Kind::of(input) {
-        Some(Kind::Script) | None => play(alloc, bytes.as_slice()),
-        Some(kind) => try_texts(rt, alloc, kind, String::from_utf8(bytes)?.as_str()),
-    }
 }
 
 fn try_texts<R: AllocGlobal + Files>(
@@ -147,17 +106,6 @@ fn try_texts<R: AllocGlobal + Files>(
         }
     }
     Ok(printed)
-}
-
-fn without_messages(alloc: Global, printed: &str) -> Result<String, AllocError> {
-    let mut told = String::new(alloc);
-    for line in printed.lines() {
-        if !line.starts_with("sent ") {
-            told.push_str(line)?;
-            told.push('\n')?;
-        }
-    }
-    Ok(told)
 }
 
 // The first line that is printed and not wanted there, where the two differ.
