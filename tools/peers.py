@@ -237,25 +237,28 @@ class Live(Script):
 
 
 class Store:
-    """A store in a folder. Time is that of an opening with requests, without that of an opening."""
+    """A store in a folder. Each request is sent once the one before is told, so that each has a sync of its own. Time is that from the first
+    outcome to the last."""
 
     def __init__(self, program, folder):
         self.program, self.folder, self.text = program, folder, os.path.join(folder, "lines")
         with open(self.text, "w", encoding="ascii") as file:
             file.write(BITABLE)
-        self.store, other = (os.path.join(folder, name) for name in ("store", "empty"))
-        for it in (self.store, other):
-            said_by(program, "new", it, "--nodes", "3", "--schema", self.text)
-        _, self.opening = self.open(other, [])
+        self.store = os.path.join(folder, "store")
+        said_by(program, "new", self.store, "--nodes", "3", "--schema", self.text)
         self.told = []
 
-    def open(self, store, lines):
-        with open(self.text, "w", encoding="ascii") as file:
-            file.writelines(f"{it}\n" for it in lines)
-        begun = time.monotonic()
+    def hand_in(self, requests):
+        """The seconds that these take."""
+        times = []
         # (status 1 is of a request that was refused)
-        said = subprocess.run([self.program, "open", store, self.text], stdout=subprocess.PIPE, text=True).stdout
-        return said.splitlines(), time.monotonic() - begun
+        with subprocess.Popen([self.program, "open", self.store], stdin=subprocess.PIPE, stdout=subprocess.PIPE, text=True) as process:
+            for request in requests:
+                process.stdin.write(bitable_text(request) + "\n")
+                process.stdin.flush()
+                self.told.append(process.stdout.readline().rstrip("\n"))
+                times.append(time.monotonic())
+        return (times[-1] - times[0]) * len(times) / max(len(times) - 1, 1)
 
     def run(self, requests, limit=None, timed=True):
         """A part first, by which it is seen how many of the others there is time for."""
@@ -264,16 +267,16 @@ class Store:
             if limit and done:
                 some = some[:max(0, int((limit - took) * done / took))]
             if some:
-                said, seconds = self.open(self.store, map(bitable_text, some))
-                self.told += said
-                done, took = done + len(some), took + max(seconds - self.opening, 1e-9)
+                done, took = done + len(some), took + max(self.hand_in(some), 1e-9)
         return done, took
 
     def instants(self):
         return [line.split(" accepted ")[1] for line in self.told if " accepted " in line]
 
     def answers(self, questions):
-        return bitable_answers(self.open(self.store, [bitable_question(*it) for it in questions])[0])
+        with open(self.text, "w", encoding="ascii") as file:
+            file.writelines(f"{bitable_question(*it)}\n" for it in questions)
+        return bitable_answers(said_by(self.program, "open", self.store, self.text).splitlines())
 
 
 class Bitable(Peer):

@@ -1,5 +1,5 @@
 -- Texts that go over several lines.
-use Rattle.std.proofs.Common.{◌≡◌, ◌∙◌, ℕ, suc, ◌+◌, ◌<◌, Bool, true, false, List, [], ◌∷◌, ◌++◌, Option, None, Some, IfSome, sym, ap, subst, inl, inr, below_more, add-one}
+use Rattle.std.proofs.Common.{◌≡◌, ◌∙◌, ℕ, suc, ◌+◌, Bool, true, false, List, [], ◌∷◌, ◌++◌, Option, None, Some, IfSome, sym, ap, subst, inl, inr, below_more, add-one}
 use Rattle.std.specs.Io.BufRead.{drop_through}
 use Rattle.console.specs.Lines.{IsBegun, IsWhole, IsNextLine, IsNoLine, behind_lines, last_line, with_lines, is_ended}
 

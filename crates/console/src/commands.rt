@@ -1,4 +1,5 @@
 //! The commands.
+use crate::line_limit::LineLimit;
 use crate::line_reader::LineReader;
 use crate::printing::{counted, name_of, print};
 use crate::restores::{restore_unsynced, run_restore};
@@ -13,7 +14,7 @@ use schema::Schema;
 use schemaread::schemas::read_schema;
 use std::alloc::{AllocError, Global};
 use std::fs::File;
-use std::io::{BufRead, BufReader, IsTerminal, Read};
+use std::io::{BufReader, IsTerminal, Read};
 use std::{env, fs};
 use store::StoreRefusal;
 use store::announcing::Announces;
@@ -25,6 +26,9 @@ use transfer::{Export, Import, Order, Versions};
 
 // How many columns a terminal has, where nothing tells.
 const TERMINAL: usize = 80;
+
+// How many bytes of an input are read ahead at most: as many as a pipe holds.
+const READ_AHEAD: usize = 65_536;
 
 // The names of the tables.
 fn put_tables(schema: &Schema, line: &mut String) -> Result<(), AllocError> {
@@ -96,14 +100,14 @@ fn clock_of<'a>(open: OpenStore<'_>) -> Result<Option<i64>, Stop<'a>> {
 
 // Somebody who sits at a store while it is open.
 #[derive(Drop)]
-struct Sitter<'a, R: BufRead + Drop> {
+struct Sitter<'a, R: Read + Drop> {
     alloc: Global,
     place: Place<'a>,
     input: LineReader<R>,
     clock: Option<i64>,
 }
 
-impl<R: BufRead + Drop> Holder for Sitter<'_, R> {
+impl<R: Read + Drop> Holder for Sitter<'_, R> {
     // What came of it, and whether something was refused.
     type Output = (Result<(), Fault>, bool);
 
@@ -150,7 +154,7 @@ fn sit<R: Read + Drop>(
     clock: Option<i64>,
 ) -> Result<u8, Fault> {
     let reading = reading_of(rt, clock)?;
-    let Ok(reader) = BufReader::new(alloc, reader) else {
+    let Ok(reader) = BufReader::with_capacity(alloc, READ_AHEAD, LineLimit::new(reader)) else {
         return Err(Fault::from(Refusal::NoMemory));
     };
     let input = LineReader::new(alloc, reader);

@@ -3,7 +3,10 @@
 
 mod commands;
 mod drawing;
+mod gathered;
+mod held;
 mod help;
+mod line_limit;
 mod line_reader;
 mod members;
 mod outputs;
@@ -12,6 +15,7 @@ mod requests;
 mod restores;
 mod room;
 mod session;
+mod sharing;
 mod stop;
 mod taking;
 mod transfers;

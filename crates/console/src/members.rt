@@ -107,8 +107,11 @@ where
         print(rt, line.as_str())
     }
 
-    /// Obeys a command that is a line by itself. Whether the sitting goes on.
+    /// Obeys a command that is a line by itself, behind what is held unless it is a request too. Whether the sitting goes on.
     pub fn obey(&mut self, rt: &HostRuntime, command: DotCommand<'_>) -> Result<bool, Fault> {
+        if !matches!(command, DotCommand::Submit(_, _, _)) {
+            self.tell_held(rt)?;
+        }
         match command {
             DotCommand::Stop(member) => self.stop(rt, member)?,
             DotCommand::Start(member) => self.start(rt, member)?,

@@ -56,9 +56,9 @@ where
         text: &str,
     ) -> Result<(), Fault> {
         let reading = self.reading(rt)?;
-        match self.store.submit(reading, client, number, text) {
+        match self.store.submit_unsettled(reading, client, number, text) {
             Ok(outcome) => self.show_outcome(rt, client, number, outcome, text),
-            Err(refusal) => self.refuse(rt, "", refusal),
+            Err(refusal) => self.refuse_request(rt, refusal),
         }
     }
 
@@ -68,13 +68,19 @@ where
         let Some(client) = Client::new(OWN_CLIENT) else {
             return Ok(());
         };
-        match self.store.execute(reading, text) {
+        match self.store.execute_unsettled(reading, text) {
             Ok((number, outcome)) => self.show_outcome(rt, client, number, outcome, text),
-            Err(refusal) => self.refuse(rt, "", refusal),
+            Err(refusal) => self.refuse_request(rt, refusal),
         }
     }
 
-    // Shows what came of a request, and where its text is refused.
+    // Shows the store's refusal of a request, behind what is held.
+    fn refuse_request(&mut self, rt: &HostRuntime, refusal: StoreRefusal) -> Result<(), Fault> {
+        self.tell_held(rt)?;
+        self.refuse(rt, "", refusal)
+    }
+
+    // Holds what came of a request, to be shown once the store has settled; where its text is refused, that is shown at once.
     fn show_outcome(
         &mut self,
         rt: &HostRuntime,
@@ -88,8 +94,9 @@ where
         }
         let is_of_text = is_of_outcome(&outcome);
         let line = shown_outcome(self.alloc, self.manner, client, number, outcome)?;
-        print_bytes(rt, line.as_slice())?;
+        self.hold(rt, line.as_slice())?;
         if is_of_text {
+            self.tell_held(rt)?;
             let fault = fault_in_request(self.alloc, self.store.schema(), text);
             return self.show_place(rt, fault);
         }
@@ -143,8 +150,9 @@ where
         Ok(())
     }
 
-    // Asks a member, or if none is named the one that is asked first, and shows the answer.
+    // Asks a member, or if none is named the one that is asked first, and shows the answer, behind what is held.
     fn ask(&mut self, rt: &HostRuntime, member: Option<Member>, text: &str) -> Result<(), Fault> {
+        self.tell_held(rt)?;
         let reading = self.reading(rt)?;
         let member = match member {
             Some(member) => member,

@@ -3,6 +3,7 @@ ghost use Rattle.std.specs.Prelude.{◌≡◌, true, IfErr};
 ghost use Rattle.store.specs.Journals.{IsSpent};
 ghost use Rattle.console.specs.Sittings.{IsOfPrinting};
 
+use crate::held::Held;
 use crate::outputs::Manner;
 use crate::printing::{banner, name_of, print, refusal_lines, warnings};
 use crate::room::warn_of_room;
@@ -58,6 +59,8 @@ where
     /// What clocks show, if not the system's.
     pub clock: Option<i64>,
     pub manner: Manner,
+    /// What came of requests, and is not told yet.
+    pub held: Held,
     /// The line, from 1, at which what is taken begins.
     pub line: usize,
     /// Whether the last answer was shown as CSV.
@@ -90,6 +93,7 @@ where
                 is_terminal: place.is_terminal,
                 width: place.width,
             },
+            held: Held::none(alloc),
             line: 0,
             is_behind_csv: false,
             is_refused: false,
@@ -134,7 +138,9 @@ where
     }
 
     /// Says on standard error that the log is nearly full: once nine tenths of it are, and every thousand entries from then on.
-    pub fn warn(&mut self, rt: &HostRuntime) -> Result<(), Fault> {
+    pub fn warn(&mut self, rt: &HostRuntime) -> Result<(), Fault>
+        ensures { self.new ≡ record self.old { warns_from = self.new.warns_from } }
+    {
         self.warns_from = warn_of_room(rt, self.alloc, &self.store, self.warns_from)?;
         Ok(())
     }
@@ -176,6 +182,7 @@ where
 
     /// Says where a line is that asks for nothing.
     pub fn complain(&mut self, rt: &HostRuntime, line: usize) -> Result<(), Fault> {
+        self.tell_held(rt)?;
         self.is_refused = true;
         let alloc = self.alloc;
         let name = self.place.name;

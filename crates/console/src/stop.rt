@@ -94,7 +94,8 @@ fn found_otherwise(refusal: &Refusal) -> &'static str {
     match refusal {
         Refusal::NoMemory => "memory was refused, or room on its disk",
         Refusal::StoreFault => "a file of it can't be read or written",
-        Refusal::BadScript(_) => "it can't be read, or is no text",
+        Refusal::BadScript(_) =>
+            "it can't be read, is no text, or has a line of over a million bytes",
         other if other.number() < 20 => "it is refused",
         _ => "it was given up",
     }

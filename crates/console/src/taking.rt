@@ -1,14 +1,14 @@
 //! The lines of a sitting.
-ghost use Rattle.std.specs.Prelude.{◌≡◌, ◌++◌, ◌∷◌, IfOk, IfSome, OnOk, string_bytes};
-ghost use Rattle.console.specs.Lines.{IsWhole, is_ended as ends_so};
+ghost use Rattle.std.specs.Prelude.{◌≡◌, IfOk, IfSome, List, string_bytes, ℕ};
+ghost use Rattle.console.specs.Lines.{left_of, IsShortened, IsWhole, is_ended as ends_so};
 
+use crate::gathered::Gathered;
 use crate::line_reader::LineReader;
 use crate::printing::print;
 use crate::session::Session;
 use crate::stop::Fault;
 use fault::Refusal;
-use std::alloc::AllocError;
-use std::io::BufRead;
+use std::io::Read;
 use store::announcing::Announces;
 use storecommands::read_dot_command;
 
@@ -31,46 +31,38 @@ fn is_ended(line: &str) -> bool
     length > 0 && line[length - 1] == b';'
 }
 
-// Adds a line to a text, with LF before it.
-fn push_line(text: &mut String, line: &str) -> Result<(), AllocError>
-    ensures { OnOk result (string_bytes text.new ≡ string_bytes text.old ++ 10 ∷ line.now) }
-{
-    text.push('\n')?;
-    text.push_str(line)
-}
-
 impl<'a, K: Announces> Session<'a, K>
 where
     K::Image: Drop,
 {
     // The text whose first line this is: with LF between them, the next lines up to one that ends with a semicolon, or up to the end of
-    // the input.
-    fn whole_text<R: BufRead + Drop>(
-        &self,
+    // the input. Of one that is far too long for a request only the first lines are kept.
+    fn whole_text<R: Read + Drop>(
+        &mut self,
         rt: &HostRuntime,
         input: &mut LineReader<R>,
         first: &str,
     ) -> Result<String, Fault>
-        ensures { IfOk result (λ text. IfSome (R.remaining input.old.reader) (λ xs. IsWhole first.now xs (string_bytes text) (R.remaining input.new.reader))) }
+        ensures { IfOk result (λ text. IfSome (left_of R.remaining input.old.reader) (λ xs. (whole : List ℕ) × IsWhole first.now xs whole (left_of R.remaining input.new.reader) × IsShortened whole (string_bytes text))) }
     {
-        let mut text = String::from_str(self.alloc, first)?;
+        let mut gathered = Gathered::new(self.alloc, first)?;
         let mut is_whole = is_ended(first);
         for _more in 0..u64::MAX {
             if is_whole {
-                return Ok(text);
+                return Ok(gathered.into_text()?);
             }
             self.prompt(rt, false)?;
-            let Some(line) = input.next()? else {
-                return Ok(text);
+            let Some(line) = self.next_line(rt, input)? else {
+                return Ok(gathered.into_text()?);
             };
-            push_line(&mut text, line.as_str())?;
+            gathered.push(line.as_str())?;
             is_whole = is_ended(line.as_str());
         }
         Err(Fault::from(Refusal::NoMemory))
     }
 
     // A line that begins with a full stop, with those that a request in it goes over. Whether the sitting goes on.
-    fn take_dot<R: BufRead + Drop>(
+    fn take_dot<R: Read + Drop>(
         &mut self,
         rt: &HostRuntime,
         input: &mut LineReader<R>,
@@ -93,7 +85,7 @@ where
     }
 
     // One line, with those that it goes over. Whether the sitting goes on.
-    fn take_line<R: BufRead + Drop>(
+    fn take_line<R: Read + Drop>(
         &mut self,
         rt: &HostRuntime,
         input: &mut LineReader<R>,
@@ -116,17 +108,15 @@ where
         Ok(true)
     }
 
-    /// Greets, and takes lines until there are no more, or one says that it is over.
-    pub fn play<R: BufRead + Drop>(
+    // Takes lines until there are no more, or one says that it is over.
+    fn take_lines<R: Read + Drop>(
         &mut self,
         rt: &HostRuntime,
         input: &mut LineReader<R>,
     ) -> Result<(), Fault> {
-        self.greet(rt)?;
-        self.warn(rt)?;
         for _ in 0..u64::MAX {
             self.prompt(rt, true)?;
-            let Some(line) = input.next()? else {
+            let Some(line) = self.next_line(rt, input)? else {
                 return Ok(());
             };
             if !self.take_line(rt, input, line.as_str())? {
@@ -135,5 +125,22 @@ where
             self.warn(rt)?;
         }
         Ok(())
+    }
+
+    /// Greets, and takes lines until there are no more, or one says that it is over. What came of each that was taken is told, if the
+    /// store can settle. Nothing is held when it ends, whatever comes of it, unless something was held before.
+    pub fn play<R: Read + Drop>(
+        &mut self,
+        rt: &HostRuntime,
+        input: &mut LineReader<R>,
+    ) -> Result<(), Fault>
+        ensures held { self.old.held.requests ≡ 0 → self.new.held.requests ≡ 0 }
+    {
+        self.greet(rt)?;
+        self.warn(rt)?;
+        let taken = self.take_lines(rt, input);
+        let told = self.tell_held(rt);
+        taken?;
+        told
     }
 }

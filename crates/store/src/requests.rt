@@ -191,11 +191,31 @@ where
         ensures goes { GoesOnSo K.Journal.contents K.is_honest K.may_hold K.holds Anywhere (λ gave. IfOk result (λ o. ComesOf client number o gave)) self.old self.new }
         ensures spent { IsSpent self.old.scribe → IsErr result × (self.new ≡ self.old) }
     {
-        self.check()?;
-        self.check_room()?;
-        let outcome = self.hand_in(reading, client, number, text)?;
+        let outcome = self.submit_unsettled(reading, client, number, text)?;
         self.settle()?;
         Ok(outcome)
+    }
+
+    /// As `submit`, without a sync: a power cut may forget what it gives, which is not to be told before `settle`. What `submit` refuses.
+    #[tactic(auto, using(crate::proofs::Fullness::room_left))]
+    pub fn submit_unsettled(
+        &mut self,
+        reading: i64,
+        client: Client,
+        number: RequestNumber,
+        text: &str,
+    ) -> Result<Outcome, StoreRefusal>
+        ensures told { IfOk result (λ o. EndsWith K.Journal.contents self.new.scribe (Line.Printed client number (words_of o))) }
+        ensures full { ¬ IsSpent self.old.scribe → 99000 ≤ longest self.old.seats.items (λ seat. entries_of seat.node seat.chain.links.items) → (result ≡ Err log_full) × (self.new ≡ self.old) }
+        ensures room { result ≡ Err log_full → (99000 ≤ longest self.old.seats.items (λ seat. entries_of seat.node seat.chain.links.items)) × (self.new ≡ self.old) }
+        ensures why { IfErr result (λ r. IsOfJournal r ⊎ (r ≡ log_full)) }
+        ensures fails { OnErr result (IsSpent self.new.scribe ⊎ (self.new ≡ self.old)) }
+        ensures goes { GoesOnSo K.Journal.contents K.is_honest K.may_hold K.holds Anywhere (λ gave. IfOk result (λ o. ComesOf client number o gave)) self.old self.new }
+        ensures spent { IsSpent self.old.scribe → IsErr result × (self.new ≡ self.old) }
+    {
+        self.check()?;
+        self.check_room()?;
+        self.hand_in(reading, client, number, text)
     }
 
     /// The number that the next request of the store's own client has: one more than the last one in the leader's log, or in the
@@ -265,7 +285,7 @@ where
     }
 
     /// As `execute`, without a sync: a power cut may forget what it gives, which is not to be told before `settle`. So requests that are
-    /// handed in one after the other share a sync. What `execute` refuses.
+    /// handed in one after the other, by this or by `submit_unsettled`, share a sync. What `execute` refuses.
     #[tactic(auto, using(crate::proofs::Fullness::room_left))]
     pub fn execute_unsettled(
         &mut self,

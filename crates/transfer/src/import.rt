@@ -65,7 +65,7 @@ fn rows_of(requests: &[Request]) -> usize
 }
 
 /// How many requests share a sync at most.
-const SHARING_MOST: usize = 16;
+const SHARING_MOST: usize = 64;
 
 // What is done with each request.
 #[derive(Clone, Copy)]
@@ -206,7 +206,7 @@ fn tell_count(
     print(rt, text.as_str())
 }
 
-/// Stores the rows of a file, request by request up to one that is not accepted, and tells how many were stored. Up to 16 requests share a
+/// Stores the rows of a file, request by request up to one that is not accepted, and tells how many were stored. Up to 64 requests share a
 /// sync, after which they are told. The exit status is 1 where not all rows were stored.
 pub(crate) fn import_rows<T: Takes, Q: Progress>(
     rt: &HostRuntime,
