@@ -264,7 +264,7 @@ class Forged:
         kind, end = self.pieces[at].kind, at + 1
         if kind in ("outcome", "answer"):
             return at, at + (3 if kind == "outcome" else 5)
-        while kind == "step" and self.pieces[end].kind not in ("step", "torn", "up", "stopped"):
+        while kind == "step" and end < len(self.pieces) and self.pieces[end].kind not in ("step", "torn", "up", "stopped"):
             end += 1
         return at, end
 

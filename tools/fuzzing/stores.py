@@ -35,6 +35,11 @@ def is_clock(text):
     return bool(told) and -(2 ** 63) <= int(told[1]) < 2 ** 63
 
 
+# What a sitting may say on standard error: that its store's time is ahead of the clock, and where texts are refused, with their lines.
+PLACE = b": the text that begins here is refused\n"
+SAID = re.compile(rb"(?:the store's time is [^\n]*\n|-:[0-9]+" + PLACE + rb"(?:    [^\n]*\n)+)*")
+
+
 class Sitting:
     """What lines that go into `open` have to print, line by line of what is printed."""
 
@@ -275,10 +280,12 @@ class Store:
         self.outcomes_printed += [line for line in lines_of(ended.out) if line.startswith("request ")]
         if why:
             raise self.fault(why, ended)
-        if sitting.ended and self.program.refusal(ended) != sitting.ended:
+        places, texts = ended.err.count(PLACE), len(re.findall(rb"^(?:request|node) .* refused 1[0-8] ", ended.out, re.M))
+        last = ended._replace(err=ended.err[SAID.match(ended.err).end():])
+        if sitting.ended and self.program.refusal(last) != sitting.ended:
             raise self.fault(f"it says {ended.err!r}, and not {sitting.ended}", ended)
         refused = re.search(rb"^(-:|request .* refused |node .* refused |request .* unanswered)", ended.out, re.M)
-        if not is_killed and not sitting.ended and (ended.err or ended.status != bool(refused)):
+        if not is_killed and (places != texts or not sitting.ended and (last.err or ended.status != bool(refused))):
             raise self.fault(f"it ends with status {ended.status} and says {ended.err!r}", ended)
 
     def killed(self, text):
