@@ -35,8 +35,8 @@ impl Gathered {
         })
     }
 
-    #[tactic(auto, using(crate::proofs::Shortening::kept))]
     /// Adds a line, of which nothing is kept where the text is long enough.
+    #[tactic(auto, using(crate::proofs::Shortening::kept))]
     pub fn push(&mut self, line: &str) -> Result<(), AllocError>
         ensures gathers { OnOk result ((whole : List ℕ) → IsShortened whole (string_bytes self.old.text) → IsShortened (whole ++ 10 ∷ line.now) (string_bytes self.new.text)) }
         ensures long { 65536 < length (string_bytes self.old.text) → string_bytes self.new.text ≡ string_bytes self.old.text }

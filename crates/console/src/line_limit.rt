@@ -7,7 +7,7 @@ ghost use Rattle.console.specs.Lines.{IsBehindEnd};
 use std::io;
 use std::io::{ErrorKind, Read};
 
-/// From how many bytes on that no line's end is behind nothing more is read.
+/// How many bytes may stand behind the last line's end; then nothing more is read.
 const LINE_MOST: usize = 1_048_576;
 
 // How many bytes stand behind the last line's end, where so many stood there before these came.

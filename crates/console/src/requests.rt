@@ -1,4 +1,7 @@
 //! Requests and questions of a sitting.
+ghost use Rattle.std.specs.Prelude.{◌≡◌, ◌≢◌, true, IsErr, OnOk};
+ghost use Rattle.store.specs.Journals.{IsSettled, IsSpent};
+
 use crate::outputs::{shown_answer, shown_outcome};
 use crate::printing::{print, print_bytes};
 use crate::session::Session;
@@ -47,14 +50,17 @@ impl<'a, K: Announces> Session<'a, K>
 where
     K::Image: Drop,
 {
-    /// Hands in a request of a client, and shows what came of it.
+    /// Hands in a request of a client, and holds what came of it or shows it. What is held is let go only once the store has settled.
     pub fn submit(
         &mut self,
         rt: &HostRuntime,
         client: Client,
         number: RequestNumber,
         text: &str,
-    ) -> Result<(), Fault> {
+    ) -> Result<(), Fault>
+        ensures settled { OnOk result (self.old.held.requests ≢ 0 → self.new.held.requests ≡ 0 → IsSettled K.Journal.is_settled self.new.store.scribe) }
+        ensures spent { IsSpent self.old.store.scribe → IsErr result }
+    {
         let reading = self.reading(rt)?;
         match self.store.submit_unsettled(reading, client, number, text) {
             Ok(outcome) => self.show_outcome(rt, client, number, outcome, text),
@@ -62,8 +68,10 @@ where
         }
     }
 
-    // Hands in a request in the store's own name, and shows what came of it.
-    fn execute(&mut self, rt: &HostRuntime, text: &str) -> Result<(), Fault> {
+    // The same in the store's own name.
+    fn execute(&mut self, rt: &HostRuntime, text: &str) -> Result<(), Fault>
+        ensures settled { OnOk result (self.old.held.requests ≢ 0 → self.new.held.requests ≡ 0 → IsSettled K.Journal.is_settled self.new.store.scribe) }
+    {
         let reading = self.reading(rt)?;
         let Some(client) = Client::new(OWN_CLIENT) else {
             return Ok(());
@@ -75,7 +83,11 @@ where
     }
 
     // Shows the store's refusal of a request, behind what is held.
-    fn refuse_request(&mut self, rt: &HostRuntime, refusal: StoreRefusal) -> Result<(), Fault> {
+    fn refuse_request(&mut self, rt: &HostRuntime, refusal: StoreRefusal) -> Result<(), Fault>
+        ensures held { self.new.held.requests ≡ 0 }
+        ensures settled { OnOk result (self.old.held.requests ≢ 0 → IsSettled K.Journal.is_settled self.new.store.scribe) }
+        ensures spent { IsSpent self.old.store.scribe → IsErr result }
+    {
         self.tell_held(rt)?;
         self.refuse(rt, "", refusal)
     }
@@ -88,7 +100,9 @@ where
         number: RequestNumber,
         outcome: Outcome,
         text: &str,
-    ) -> Result<(), Fault> {
+    ) -> Result<(), Fault>
+        ensures settled { OnOk result (self.new.held.requests ≡ 0 → IsSettled K.Journal.is_settled self.new.store.scribe) }
+    {
         if !matches!(outcome, Outcome::Accepted(_)) {
             self.is_refused = true;
         }
@@ -138,7 +152,11 @@ where
         member: Member,
         text: &str,
         refusal: StoreRefusal,
-    ) -> Result<(), Fault> {
+    ) -> Result<(), Fault>
+        ensures held { self.new.held ≡ self.old.held }
+        ensures noted { OnOk result (self.new.is_refused ≡ true) }
+        ensures ends { IsSpent self.old.store.scribe → IsErr result }
+    {
         let alloc = self.alloc;
         let is_of_text = is_of_text(&refusal);
         let before = format!(in alloc; "node {member} ")?;
@@ -151,7 +169,9 @@ where
     }
 
     // Asks a member, or if none is named the one that is asked first, and shows the answer, behind what is held.
-    fn ask(&mut self, rt: &HostRuntime, member: Option<Member>, text: &str) -> Result<(), Fault> {
+    fn ask(&mut self, rt: &HostRuntime, member: Option<Member>, text: &str) -> Result<(), Fault>
+        ensures held { self.new.held.requests ≡ 0 }
+    {
         self.tell_held(rt)?;
         let reading = self.reading(rt)?;
         let member = match member {

@@ -1,6 +1,6 @@
 //! A sitting at a store: lines that come in, and what comes of them at once.
-ghost use Rattle.std.specs.Prelude.{◌≡◌, true, IfErr};
-ghost use Rattle.store.specs.Journals.{IsSpent};
+ghost use Rattle.std.specs.Prelude.{◌≡◌, ◌≢◌, true, false, IfErr, IfSome, IsOk, OnOk};
+ghost use Rattle.store.specs.Journals.{IsSettled, IsSpent};
 ghost use Rattle.console.specs.Sittings.{IsOfPrinting};
 
 use crate::held::Held;
@@ -81,7 +81,11 @@ where
         store: Store<K>,
         found: &'a Found,
         clock: Option<i64>,
-    ) -> Session<'a, K> {
+    ) -> Session<'a, K>
+        ensures store { result.store ≡ store }
+        ensures nothing { (result.held.requests ≡ 0) × (result.line ≡ 0) × (result.is_refused ≡ false) }
+        ensures place { (result.place ≡ place.entry) × (result.clock ≡ clock) }
+    {
         Session {
             alloc,
             place,
@@ -102,7 +106,9 @@ where
     }
 
     /// Ends the sitting: the store, and whether anything was refused.
-    pub fn end(self) -> (Store<K>, bool) {
+    pub fn end(self) -> (Store<K>, bool)
+        ensures { (result.0 ≡ self.entry.store) × (result.1 ≡ self.entry.is_refused) }
+    {
         let Session {
             store,
             is_refused,
@@ -146,7 +152,10 @@ where
     }
 
     /// At a terminal: the store's name or, for a line that goes on, an arrow.
-    pub fn prompt(&self, rt: &HostRuntime, is_first: bool) -> Result<(), Fault> {
+    pub fn prompt(&self, rt: &HostRuntime, is_first: bool) -> Result<(), Fault>
+        ensures elsewhere { self.now.place.is_terminal ≡ false → IsOk result }
+        ensures why { IfErr result IsOfPrinting }
+    {
         if !self.place.is_terminal {
             return Ok(());
         }
@@ -180,8 +189,12 @@ where
         print(rt, text.as_str())
     }
 
-    /// Says where a line is that asks for nothing.
-    pub fn complain(&mut self, rt: &HostRuntime, line: usize) -> Result<(), Fault> {
+    /// Says, behind what is held, where a line is that asks for nothing.
+    pub fn complain(&mut self, rt: &HostRuntime, line: usize) -> Result<(), Fault>
+        ensures held { self.new.held.requests ≡ 0 }
+        ensures settled { OnOk result (self.old.held.requests ≢ 0 → IsSettled K.Journal.is_settled self.new.store.scribe) }
+        ensures noted { OnOk result (self.new.is_refused ≡ true) }
+    {
         self.tell_held(rt)?;
         self.is_refused = true;
         let alloc = self.alloc;
@@ -196,7 +209,9 @@ where
     }
 
     /// What clocks show.
-    pub fn reading(&self, rt: &HostRuntime) -> Result<i64, StoreRefusal> {
+    pub fn reading(&self, rt: &HostRuntime) -> Result<i64, StoreRefusal>
+        ensures { IfSome self.now.clock (λ reading. result ≡ Ok reading) }
+    {
         reading_of(rt, self.clock)
     }
 }

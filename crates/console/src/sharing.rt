@@ -35,6 +35,7 @@ where
         ensures held { self.new.held.requests ≡ 0 }
         ensures settled { OnOk result (self.old.held.requests ≢ 0 → IsSettled K.Journal.is_settled self.new.store.scribe) }
         ensures idle { self.old.held.requests ≡ 0 → IsOk result × (self.new ≡ self.old) }
+        ensures spent { IsSpent self.old.store.scribe → self.old.held.requests ≢ 0 → IsErr result }
     {
         if self.held.requests == 0 {
             return Ok(());
